@@ -1,0 +1,28 @@
+//! The calls of PKCS #11 that this token has, and what they answer.
+//!
+//! - `Call` has a variant for each of the 41 calls, with named fields, and `Function` names them alone.
+//! - `Reply` is what a call answers: a code, or what comes with `CKR_OK`, with `CKR_BUFFER_TOO_SMALL` or
+//!   with the codes of C_GetAttributeValue.
+//! - `need` says how many random bytes a call takes, by the call alone.
+//!
+//! ```
+//! let call = Call::GenerateRandom { session: 1, len: 16 };
+//! let bytes = need(&call); // 16
+//! let function = Function::of(&call); // Function::GenerateRandom, whose number is 41
+//! ```
+#![tactic(auto)]
+
+mod call;
+mod fields;
+mod function;
+mod random;
+mod reply;
+
+pub use call::Call;
+pub use fields::{AttributeQuery, Mechanism, Query};
+pub use function::Function;
+pub use random::{MAX_RANDOM_LEN, MAX_SECRET_LEN, UNIQUE_ID_BYTES, need};
+pub use reply::{
+    AttributeValue, LABEL_LEN, MAX_PIN_LEN, MAX_SESSION_COUNT, MIN_PIN_LEN, MechanismInfo, Output,
+    Reply, SessionInfo, TokenInfo,
+};

@@ -1,0 +1,44 @@
+//! The numbers of PKCS #11 as types, the values that its calls are made of, and their one encoding.
+//!
+//! - `Rv`, `AttrType`, `MechType`, `UserType`, `SessionState`, `ObjectClass` and `KeyType` are the codes
+//!   and types of the standard that this token knows. `number` and `from_number` are each other's
+//!   inverse: `from_number(n)` is the one value with the number `n`, or none where no value has it.
+//! - `Items<T>` is a list that contracts see as a list, so that a call or a reply is itself the value
+//!   that a contract speaks of. `Bytes`, `Entry` and `Template` are made of it.
+//! - `Codec` is a value's encoding. One definition, a `Format`, says both how a value is encoded and
+//!   how it is decoded. Each format is canonical: what is decoded is encoded by just the bytes that
+//!   were taken, and what is encoded is decoded again, whatever follows.
+//!
+//! ```
+//! let (flags, rest) = u64::decode(alloc, bytes)?;
+//! flags.encode(&mut out)?;
+//! let code = Rv::from_number(0x54); // Some(Rv::FunctionNotSupported)
+//! ```
+#![tactic(auto)]
+
+mod attr_type;
+mod codec;
+mod entry;
+mod fault;
+mod items;
+mod key_type;
+mod list;
+mod mech_type;
+mod numbered;
+mod object_class;
+mod rv;
+mod session_state;
+mod user_type;
+
+pub use attr_type::AttrType;
+pub use codec::{Codec, decode_u32, decode_whole, encode_len, split_first};
+pub use entry::{Bytes, Entry, Template};
+pub use fault::CodecFault;
+pub use items::Items;
+pub use key_type::KeyType;
+pub use list::ListItem;
+pub use mech_type::MechType;
+pub use object_class::ObjectClass;
+pub use rv::Rv;
+pub use session_state::SessionState;
+pub use user_type::UserType;
