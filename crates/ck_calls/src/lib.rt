@@ -13,6 +13,7 @@
 #![tactic(auto)]
 
 mod call;
+mod codec;
 mod fields;
 mod function;
 mod random;
@@ -23,6 +24,6 @@ pub use fields::{AttributeQuery, Mechanism, Query};
 pub use function::Function;
 pub use random::{MAX_RANDOM_LEN, MAX_SECRET_LEN, UNIQUE_ID_BYTES, need};
 pub use reply::{
-    AttributeValue, LABEL_LEN, MAX_PIN_LEN, MAX_SESSION_COUNT, MIN_PIN_LEN, MechanismInfo, Output,
-    Reply, SessionInfo, TokenInfo,
+    AttributeValue, MAX_PIN_LEN, MAX_SESSION_COUNT, MIN_PIN_LEN, MechanismInfo, Output, Reply,
+    SessionInfo, TokenInfo,
 };

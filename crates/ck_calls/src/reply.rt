@@ -1,6 +1,6 @@
 //! The replies.
 
-use ck_types::{Bytes, Items, Rv, SessionState};
+use ck_types::{Bytes, Items, Label, Rv, SessionState};
 
 /// The greatest number of sessions of an application.
 pub const MAX_SESSION_COUNT: u64 = 64;
@@ -10,14 +10,10 @@ pub const MAX_PIN_LEN: u64 = 64;
 
 pub const MIN_PIN_LEN: u64 = 4;
 
-/// The length of a token's label, in bytes.
-pub const LABEL_LEN: usize = 32;
-
 /// What a token tells of itself: the parts of a `CK_TOKEN_INFO` (PKCS #11 v3.1, 3.2) that may differ.
-#[derive(Debug, Drop, PartialEq)]
+#[derive(Clone, Copy, Debug, PartialEq, Eq)]
 pub struct TokenInfo {
-    /// 32 bytes, padded with blanks.
-    pub label: Bytes,
+    pub label: Label,
     pub flags: u64,
     pub session_count: u64,
     pub rw_session_count: u64,

@@ -1,6 +1,6 @@
 //! Values as bytes: one format for both directions.
 
-ghost use Rattle.std.specs.Prelude.{◌≡◌, ◌+◌, ◌≤◌, ◌∷◌, length, take};
+ghost use Rattle.std.specs.Prelude.{◌≡◌, ◌+◌, ◌≤◌, ◌∷◌, length, take, IfOk};
 ghost use Rattle.std.specs.Int.{from_be_bytes, to_be_bytes, w32, w64};
 ghost use Rattle.ck_types.specs.Format.{Format, number32, number64, first_bytes, byte_string, pair, optional, whole};
 ghost use Rattle.ck_types.specs.Canonical.{IsCanonical, number64_canonical, byte_string_canonical, pair_canonical, optional_canonical};
@@ -39,7 +39,8 @@ pub fn decode_whole<T: Codec>(alloc: Global, bytes: &[u8]) -> Result<T, CodecFau
 
 /// The first `len` bytes, and those after them.
 pub fn split_first(bytes: &[u8], len: usize) -> Result<(&[u8], &[u8]), CodecFault>
-    ensures { Decodes (λ x. (x.0.now, x.1.now)) result (first_bytes len bytes.now) }
+    ensures decoded { Decodes (λ x. (x.0.now, x.1.now)) result (first_bytes len bytes.now) }
+    ensures length { IfOk result (λ x. length x.0.now ≡ len) }
 {
     if bytes.len() < len {
         return Err(CodecFault::Malformed);

@@ -79,6 +79,15 @@ impl ListItem for Entry {
     }
 }
 
+/// A list of numbers, as of handles, has at most 1,024.
+impl ListItem for u64 {
+    ghost most = { 1024 };
+
+    fn max_count() -> u32 {
+        1024
+    }
+}
+
 impl Codec for Entry {
     ghost format = { entry };
 
