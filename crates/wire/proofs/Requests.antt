@@ -1,7 +1,7 @@
 -- What the fields of a request decode to is encoded so, and what is encoded is decoded.
 use Rattle.std.proofs.Common.{◌≡◌, ℕ, List, Option, Some, refl, sym, subst, ◌∙◌}
 use Rattle.ck_types.specs.Numbers.{first_with}
-use Rattle.ck_types.specs.Format.{Format, ◌>>=◌, number64, byte_string, pair, whole}
+use Rattle.ck_types.specs.Format.{Format, ◌>>=◌, number64, byte_string, pair, optional, whole}
 use Rattle.ck_types.specs.Canonical.{IsCanonical, IsBytes, bind_some, some_is, number64_canonical, byte_string_canonical, pair_canonical, whole_sound, whole_complete}
 use Rattle.ck_types.specs.Numbered.{first_with-inverse, first_with-number}
 use Rattle.ck_types.specs.Numbers.{IsInverse}

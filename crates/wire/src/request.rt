@@ -39,8 +39,14 @@ pub(crate) fn decode_fields(
             Ok(Call::InitPin { session, pin })
         }
         Function::SetPin => {
-            let (session, (old_pin, new_pin)) = decode_whole::<(u64, (Bytes, Bytes))>(alloc, bytes)?;
-            Ok(Call::SetPin { session, old_pin, new_pin })
+            let (session, (old_pin, new_pin)) = decode_whole::<(u64, (Bytes, Bytes))>(
+                alloc, bytes,
+            )?;
+            Ok(Call::SetPin {
+                session,
+                old_pin,
+                new_pin,
+            })
         }
         Function::OpenSession => {
             let (slot, flags) = decode_whole::<(u64, u64)>(alloc, bytes)?;
@@ -60,7 +66,11 @@ pub(crate) fn decode_fields(
         }
         Function::Login => {
             let (session, (user_type, pin)) = decode_whole::<(u64, (u64, Bytes))>(alloc, bytes)?;
-            Ok(Call::Login { session, user_type, pin })
+            Ok(Call::Login {
+                session,
+                user_type,
+                pin,
+            })
         }
         Function::Logout => {
             let session = decode_whole::<u64>(alloc, bytes)?;
@@ -71,8 +81,14 @@ pub(crate) fn decode_fields(
             Ok(Call::CreateObject { session, template })
         }
         Function::CopyObject => {
-            let (session, (object, template)) = decode_whole::<(u64, (u64, Template))>(alloc, bytes)?;
-            Ok(Call::CopyObject { session, object, template })
+            let (session, (object, template)) = decode_whole::<(u64, (u64, Template))>(
+                alloc, bytes,
+            )?;
+            Ok(Call::CopyObject {
+                session,
+                object,
+                template,
+            })
         }
         Function::DestroyObject => {
             let (session, object) = decode_whole::<(u64, u64)>(alloc, bytes)?;
@@ -84,11 +100,21 @@ pub(crate) fn decode_fields(
         }
         Function::GetAttributeValue => {
             let (session, (object, query)) = decode_whole::<(u64, (u64, Query))>(alloc, bytes)?;
-            Ok(Call::GetAttributeValue { session, object, query })
+            Ok(Call::GetAttributeValue {
+                session,
+                object,
+                query,
+            })
         }
         Function::SetAttributeValue => {
-            let (session, (object, template)) = decode_whole::<(u64, (u64, Template))>(alloc, bytes)?;
-            Ok(Call::SetAttributeValue { session, object, template })
+            let (session, (object, template)) = decode_whole::<(u64, (u64, Template))>(
+                alloc, bytes,
+            )?;
+            Ok(Call::SetAttributeValue {
+                session,
+                object,
+                template,
+            })
         }
         Function::FindObjectsInit => {
             let (session, template) = decode_whole::<(u64, Template)>(alloc, bytes)?;
@@ -103,44 +129,92 @@ pub(crate) fn decode_fields(
             Ok(Call::FindObjectsFinal { session })
         }
         Function::EncryptInit => {
-            let (session, (mechanism, key)) = decode_whole::<(u64, (Option<Mechanism>, u64))>(alloc, bytes)?;
-            Ok(Call::EncryptInit { session, mechanism, key })
+            let (session, (mechanism, key)) = decode_whole::<(u64, (Option<Mechanism>, u64))>(
+                alloc, bytes,
+            )?;
+            Ok(Call::EncryptInit {
+                session,
+                mechanism,
+                key,
+            })
         }
         Function::Encrypt => {
-            let (session, (data, room)) = decode_whole::<(u64, (Bytes, Option<u64>))>(alloc, bytes)?;
-            Ok(Call::Encrypt { session, data, room })
+            let (session, (data, room)) = decode_whole::<(u64, (Bytes, Option<u64>))>(
+                alloc, bytes,
+            )?;
+            Ok(Call::Encrypt {
+                session,
+                data,
+                room,
+            })
         }
         Function::EncryptUpdate => {
-            let (session, (part, room)) = decode_whole::<(u64, (Bytes, Option<u64>))>(alloc, bytes)?;
-            Ok(Call::EncryptUpdate { session, part, room })
+            let (session, (part, room)) = decode_whole::<(u64, (Bytes, Option<u64>))>(
+                alloc, bytes,
+            )?;
+            Ok(Call::EncryptUpdate {
+                session,
+                part,
+                room,
+            })
         }
         Function::EncryptFinal => {
             let (session, room) = decode_whole::<(u64, Option<u64>)>(alloc, bytes)?;
             Ok(Call::EncryptFinal { session, room })
         }
         Function::DecryptInit => {
-            let (session, (mechanism, key)) = decode_whole::<(u64, (Option<Mechanism>, u64))>(alloc, bytes)?;
-            Ok(Call::DecryptInit { session, mechanism, key })
+            let (session, (mechanism, key)) = decode_whole::<(u64, (Option<Mechanism>, u64))>(
+                alloc, bytes,
+            )?;
+            Ok(Call::DecryptInit {
+                session,
+                mechanism,
+                key,
+            })
         }
         Function::Decrypt => {
-            let (session, (encrypted_data, room)) = decode_whole::<(u64, (Bytes, Option<u64>))>(alloc, bytes)?;
-            Ok(Call::Decrypt { session, encrypted_data, room })
+            let (session, (encrypted_data, room)) = decode_whole::<(u64, (Bytes, Option<u64>))>(
+                alloc, bytes,
+            )?;
+            Ok(Call::Decrypt {
+                session,
+                encrypted_data,
+                room,
+            })
         }
         Function::DecryptUpdate => {
-            let (session, (encrypted_part, room)) = decode_whole::<(u64, (Bytes, Option<u64>))>(alloc, bytes)?;
-            Ok(Call::DecryptUpdate { session, encrypted_part, room })
+            let (session, (encrypted_part, room)) = decode_whole::<(u64, (Bytes, Option<u64>))>(
+                alloc, bytes,
+            )?;
+            Ok(Call::DecryptUpdate {
+                session,
+                encrypted_part,
+                room,
+            })
         }
         Function::DecryptFinal => {
             let (session, room) = decode_whole::<(u64, Option<u64>)>(alloc, bytes)?;
             Ok(Call::DecryptFinal { session, room })
         }
         Function::SignInit => {
-            let (session, (mechanism, key)) = decode_whole::<(u64, (Option<Mechanism>, u64))>(alloc, bytes)?;
-            Ok(Call::SignInit { session, mechanism, key })
+            let (session, (mechanism, key)) = decode_whole::<(u64, (Option<Mechanism>, u64))>(
+                alloc, bytes,
+            )?;
+            Ok(Call::SignInit {
+                session,
+                mechanism,
+                key,
+            })
         }
         Function::Sign => {
-            let (session, (data, room)) = decode_whole::<(u64, (Bytes, Option<u64>))>(alloc, bytes)?;
-            Ok(Call::Sign { session, data, room })
+            let (session, (data, room)) = decode_whole::<(u64, (Bytes, Option<u64>))>(
+                alloc, bytes,
+            )?;
+            Ok(Call::Sign {
+                session,
+                data,
+                room,
+            })
         }
         Function::SignUpdate => {
             let (session, part) = decode_whole::<(u64, Bytes)>(alloc, bytes)?;
@@ -151,12 +225,22 @@ pub(crate) fn decode_fields(
             Ok(Call::SignFinal { session, room })
         }
         Function::VerifyInit => {
-            let (session, (mechanism, key)) = decode_whole::<(u64, (Option<Mechanism>, u64))>(alloc, bytes)?;
-            Ok(Call::VerifyInit { session, mechanism, key })
+            let (session, (mechanism, key)) = decode_whole::<(u64, (Option<Mechanism>, u64))>(
+                alloc, bytes,
+            )?;
+            Ok(Call::VerifyInit {
+                session,
+                mechanism,
+                key,
+            })
         }
         Function::Verify => {
             let (session, (data, signature)) = decode_whole::<(u64, (Bytes, Bytes))>(alloc, bytes)?;
-            Ok(Call::Verify { session, data, signature })
+            Ok(Call::Verify {
+                session,
+                data,
+                signature,
+            })
         }
         Function::VerifyUpdate => {
             let (session, part) = decode_whole::<(u64, Bytes)>(alloc, bytes)?;
@@ -167,16 +251,38 @@ pub(crate) fn decode_fields(
             Ok(Call::VerifyFinal { session, signature })
         }
         Function::GenerateKey => {
-            let (session, (mechanism, template)) = decode_whole::<(u64, (Mechanism, Template))>(alloc, bytes)?;
-            Ok(Call::GenerateKey { session, mechanism, template })
+            let (session, (mechanism, template)) = decode_whole::<(u64, (Mechanism, Template))>(
+                alloc, bytes,
+            )?;
+            Ok(Call::GenerateKey {
+                session,
+                mechanism,
+                template,
+            })
         }
         Function::WrapKey => {
-            let (session, (mechanism, (wrapping_key, (key, room)))) = decode_whole::<(u64, (Mechanism, (u64, (u64, Option<u64>))))>(alloc, bytes)?;
-            Ok(Call::WrapKey { session, mechanism, wrapping_key, key, room })
+            let (session, (mechanism, (wrapping_key, (key, room)))) = decode_whole::<
+                (u64, (Mechanism, (u64, (u64, Option<u64>)))),
+            >(alloc, bytes)?;
+            Ok(Call::WrapKey {
+                session,
+                mechanism,
+                wrapping_key,
+                key,
+                room,
+            })
         }
         Function::UnwrapKey => {
-            let (session, (mechanism, (unwrapping_key, (wrapped_key, template)))) = decode_whole::<(u64, (Mechanism, (u64, (Bytes, Template))))>(alloc, bytes)?;
-            Ok(Call::UnwrapKey { session, mechanism, unwrapping_key, wrapped_key, template })
+            let (session, (mechanism, (unwrapping_key, (wrapped_key, template)))) = decode_whole::<
+                (u64, (Mechanism, (u64, (Bytes, Template)))),
+            >(alloc, bytes)?;
+            Ok(Call::UnwrapKey {
+                session,
+                mechanism,
+                unwrapping_key,
+                wrapped_key,
+                template,
+            })
         }
         Function::GenerateRandom => {
             let (session, len) = decode_whole::<(u64, u64)>(alloc, bytes)?;
@@ -195,41 +301,124 @@ pub(crate) fn encode_fields(call: &Call, out: &mut Vec<u8>) -> Result<(), CodecF
         Call::GetMechanismInfo { slot, mechanism } => encode_2(slot, mechanism, out),
         Call::InitToken { slot, pin, label } => encode_3(slot, pin, label, out),
         Call::InitPin { session, pin } => encode_2(session, pin, out),
-        Call::SetPin { session, old_pin, new_pin } => encode_3(session, old_pin, new_pin, out),
+        Call::SetPin {
+            session,
+            old_pin,
+            new_pin,
+        } => encode_3(session, old_pin, new_pin, out),
         Call::OpenSession { slot, flags } => encode_2(slot, flags, out),
         Call::CloseSession { session } => session.encode(out),
         Call::CloseAllSessions { slot } => slot.encode(out),
         Call::GetSessionInfo { session } => session.encode(out),
-        Call::Login { session, user_type, pin } => encode_3(session, user_type, pin, out),
+        Call::Login {
+            session,
+            user_type,
+            pin,
+        } => encode_3(session, user_type, pin, out),
         Call::Logout { session } => session.encode(out),
         Call::CreateObject { session, template } => encode_2(session, template, out),
-        Call::CopyObject { session, object, template } => encode_3(session, object, template, out),
+        Call::CopyObject {
+            session,
+            object,
+            template,
+        } => encode_3(session, object, template, out),
         Call::DestroyObject { session, object } => encode_2(session, object, out),
         Call::GetObjectSize { session, object } => encode_2(session, object, out),
-        Call::GetAttributeValue { session, object, query } => encode_3(session, object, query, out),
-        Call::SetAttributeValue { session, object, template } => encode_3(session, object, template, out),
+        Call::GetAttributeValue {
+            session,
+            object,
+            query,
+        } => encode_3(session, object, query, out),
+        Call::SetAttributeValue {
+            session,
+            object,
+            template,
+        } => encode_3(session, object, template, out),
         Call::FindObjectsInit { session, template } => encode_2(session, template, out),
         Call::FindObjects { session, max_count } => encode_2(session, max_count, out),
         Call::FindObjectsFinal { session } => session.encode(out),
-        Call::EncryptInit { session, mechanism, key } => encode_3(session, mechanism, key, out),
-        Call::Encrypt { session, data, room } => encode_3(session, data, room, out),
-        Call::EncryptUpdate { session, part, room } => encode_3(session, part, room, out),
+        Call::EncryptInit {
+            session,
+            mechanism,
+            key,
+        } => encode_3(session, mechanism, key, out),
+        Call::Encrypt {
+            session,
+            data,
+            room,
+        } => encode_3(session, data, room, out),
+        Call::EncryptUpdate {
+            session,
+            part,
+            room,
+        } => encode_3(session, part, room, out),
         Call::EncryptFinal { session, room } => encode_2(session, room, out),
-        Call::DecryptInit { session, mechanism, key } => encode_3(session, mechanism, key, out),
-        Call::Decrypt { session, encrypted_data, room } => encode_3(session, encrypted_data, room, out),
-        Call::DecryptUpdate { session, encrypted_part, room } => encode_3(session, encrypted_part, room, out),
+        Call::DecryptInit {
+            session,
+            mechanism,
+            key,
+        } => encode_3(session, mechanism, key, out),
+        Call::Decrypt {
+            session,
+            encrypted_data,
+            room,
+        } => encode_3(session, encrypted_data, room, out),
+        Call::DecryptUpdate {
+            session,
+            encrypted_part,
+            room,
+        } => encode_3(session, encrypted_part, room, out),
         Call::DecryptFinal { session, room } => encode_2(session, room, out),
-        Call::SignInit { session, mechanism, key } => encode_3(session, mechanism, key, out),
-        Call::Sign { session, data, room } => encode_3(session, data, room, out),
+        Call::SignInit {
+            session,
+            mechanism,
+            key,
+        } => encode_3(session, mechanism, key, out),
+        Call::Sign {
+            session,
+            data,
+            room,
+        } => encode_3(session, data, room, out),
         Call::SignUpdate { session, part } => encode_2(session, part, out),
         Call::SignFinal { session, room } => encode_2(session, room, out),
-        Call::VerifyInit { session, mechanism, key } => encode_3(session, mechanism, key, out),
-        Call::Verify { session, data, signature } => encode_3(session, data, signature, out),
+        Call::VerifyInit {
+            session,
+            mechanism,
+            key,
+        } => encode_3(session, mechanism, key, out),
+        Call::Verify {
+            session,
+            data,
+            signature,
+        } => encode_3(session, data, signature, out),
         Call::VerifyUpdate { session, part } => encode_2(session, part, out),
         Call::VerifyFinal { session, signature } => encode_2(session, signature, out),
-        Call::GenerateKey { session, mechanism, template } => encode_3(session, mechanism, template, out),
-        Call::WrapKey { session, mechanism, wrapping_key, key, room } => encode_5(session, mechanism, wrapping_key, key, room, out),
-        Call::UnwrapKey { session, mechanism, unwrapping_key, wrapped_key, template } => encode_5(session, mechanism, unwrapping_key, wrapped_key, template, out),
+        Call::GenerateKey {
+            session,
+            mechanism,
+            template,
+        } => encode_3(session, mechanism, template, out),
+        Call::WrapKey {
+            session,
+            mechanism,
+            wrapping_key,
+            key,
+            room,
+        } => encode_5(session, mechanism, wrapping_key, key, room, out),
+        Call::UnwrapKey {
+            session,
+            mechanism,
+            unwrapping_key,
+            wrapped_key,
+            template,
+        } => encode_5(
+            session,
+            mechanism,
+            unwrapping_key,
+            wrapped_key,
+            template,
+            out,
+        ),
         Call::GenerateRandom { session, len } => encode_2(session, len, out),
     }
 }

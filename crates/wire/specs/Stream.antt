@@ -1,0 +1,61 @@
+-- A stream of frames.
+use Rattle.std.specs.Prelude.{◌≡◌, ℕ, ◌+◌, ◌<◌, ◌≤◌, List, [], ◌++◌, length, take, drop, Option, Some, None, Result, Ok, Err, Bool, true, false, ◌⊎◌}
+use Rattle.std.specs.Global.{Vec}
+use Rattle.std.proofs.Common.{Bor}
+use Rattle.std.specs.List.{flat_map, AllByRecursion}
+use Rattle.std.specs.Int.{w32, from_be_bytes}
+use Rattle.wire.specs.declared.fault.WireFault.{WireFault}
+use Rattle.wire.specs.declared.fault.WireFault.TheVariants as faults
+use Rattle.wire.specs.Messages.{frame, most}
+
+-- the length that the first four bytes say
+abbrev pub length_at : List ℕ → ℕ
+length_at bytes = from_be_bytes w32 (take 4 bytes)
+
+-- less than a whole frame, whose length is within the limit as far as it has come
+abbrev pub IsPartial : List ℕ → Type 0
+IsPartial bytes = (length bytes < 4) ⊎ ((4 ≤ length bytes) × (length_at bytes ≤ most) × (length bytes < 4 + length_at bytes))
+
+-- a length above the limit stands at the front
+pub record IsTooLong (bytes : List ℕ) : Type 0 where
+  pub has_length : 4 ≤ length bytes
+  pub above : most < length_at bytes
+
+-- what a reader holds: the bytes of which no payload was given yet, and whether it has failed
+pub record Held : Type 0 where
+  pub bytes : List ℕ
+  pub failed : Bool
+
+-- a reader took a piece
+abbrev pub Feeds : {U : Type 0} → List ℕ → Held → Held → Result U WireFault → Type 0
+Feeds piece old new (Ok done) = (old.failed ≡ false) × (new ≡ record { bytes = old.bytes ++ piece; failed = false })
+Feeds piece old new (Err faults.Memory) = (old.failed ≡ false) × (new ≡ old)
+Feeds piece old new (Err faults.TooLong) = (old.failed ≡ true) × (new ≡ old)
+Feeds piece old new (Err faults.Malformed) = ⊥
+Feeds piece old new (Err faults.UnknownFunction) = ⊥
+
+-- a reader was asked for the next payload
+abbrev pub Nexts : Held → Held → Result (Option (Vec ℕ)) WireFault → Type 0
+Nexts old new (Ok (Some v)) = (old.failed ≡ false) × (new.failed ≡ false) × (old.bytes ≡ frame v.items ++ new.bytes) × (length v.items ≤ most)
+Nexts old new (Ok None) = (old.failed ≡ false) × (new ≡ old) × IsPartial old.bytes
+Nexts old new (Err faults.Memory) = (old.failed ≡ false) × (new ≡ old)
+Nexts old new (Err faults.TooLong) = (new ≡ record { bytes = old.bytes; failed = true }) × (old.failed ≡ false → IsTooLong old.bytes)
+Nexts old new (Err faults.Malformed) = ⊥
+Nexts old new (Err faults.UnknownFunction) = ⊥
+
+-- what stands at the front of the bytes
+abbrev pub Finds : Result (Option (Bor (List ℕ))) WireFault → List ℕ → Type 0
+Finds (Ok (Some payload)) bytes = (length payload.now ≤ most) × (4 + length payload.now ≤ length bytes) × (bytes ≡ frame payload.now ++ drop (4 + length payload.now) bytes)
+Finds (Ok None) bytes = IsPartial bytes
+Finds (Err faults.TooLong) bytes = IsTooLong bytes
+Finds (Err faults.Memory) bytes = ⊥
+Finds (Err faults.Malformed) bytes = ⊥
+Finds (Err faults.UnknownFunction) bytes = ⊥
+
+-- less than a whole frame, or a length above the limit
+abbrev pub IsRest : List ℕ → Type 0
+IsRest bytes = IsPartial bytes ⊎ IsTooLong bytes
+
+-- a stream is the frames of these payloads, and a rest that is no whole frame
+abbrev pub Splits : List ℕ → List (List ℕ) → List ℕ → Type 0
+Splits stream payloads rest = (stream ≡ flat_map frame payloads ++ rest) × AllByRecursion (λ p. length p ≤ most) payloads × IsRest rest

@@ -1,0 +1,112 @@
+//! Payloads out of a stream that comes in pieces.
+
+ghost use Rattle.std.specs.Prelude.{◌≡◌, ◌==◌, ◌≤◌, ℕ, List, [], drop, length, false};
+ghost use Rattle.wire.specs.Stream.{Feeds, Finds, Nexts, Splits};
+
+use crate::fault::WireFault;
+use crate::frame::MAX_PAYLOAD_LEN;
+use std::alloc::Global;
+use std::marker::Model;
+
+/// Holds what has come of a stream, and gives its payloads.
+#[derive(Debug, Drop)]
+pub struct FrameReader {
+    pending: Vec<u8>,
+    start: usize,
+    failed: bool,
+}
+
+impl Model for FrameReader {
+    ghost use Rattle.std.specs.Prelude.{◌≤◌, drop, length};
+    ghost use Rattle.wire.specs.Stream.{Held};
+
+    ghost Value = { Held };
+
+    ghost view = { λ r. record { bytes = drop r.start r.pending.items; failed = r.failed } };
+
+    ghost invariant = { λ r. r.start ≤ length r.pending.items };
+}
+
+/// Takes bytes off the front.
+fn drop_front(bytes: &mut Vec<u8>, count: usize)
+    requires { count ≤ length bytes.old.items }
+    ensures { bytes.new.items ≡ drop count bytes.old.items }
+{
+    let len = bytes.len();
+    bytes.copy_within(count..len, 0);
+    bytes.truncate(len - count);
+}
+
+/// The payload of the frame at the front of the bytes, without a copy.
+fn payload_at(bytes: &[u8]) -> Result<Option<&[u8]>, WireFault>
+    ensures { Finds result bytes.now }
+{
+    if bytes.len() < 4 {
+        return Ok(None);
+    }
+    let (front, rest) = bytes.split_at(4);
+    let len = u32::from_be_bytes([front[0], front[1], front[2], front[3]]) as usize;
+    if len > MAX_PAYLOAD_LEN {
+        return Err(WireFault::TooLong);
+    }
+    if rest.len() < len {
+        return Ok(None);
+    }
+    Ok(Some(&rest[..len]))
+}
+
+impl FrameReader {
+    pub fn new(alloc: Global) -> FrameReader
+        ensures { result ≡ record { bytes = []; failed = false } }
+    {
+        FrameReader {
+            pending: Vec::new(alloc),
+            start: 0,
+            failed: false,
+        }
+    }
+
+    /// Whether no byte is held.
+    pub fn is_empty(&self) -> bool
+        ensures { result ≡ (length self.now.bytes == 0) }
+    {
+        self.start == self.pending.len()
+    }
+
+    /// Takes the next piece of the stream.
+    pub fn feed(&mut self, piece: &[u8]) -> Result<(), WireFault>
+        ensures { Feeds piece.now self.old self.new result }
+    {
+        if self.failed {
+            return Err(WireFault::TooLong);
+        }
+        drop_front(&mut self.pending, self.start);
+        self.start = 0;
+        self.pending.extend_from_slice(piece)?;
+        Ok(())
+    }
+
+    /// The next whole payload, or none yet.
+    pub fn next(&mut self, alloc: Global) -> Result<Option<Vec<u8>>, WireFault>
+        ensures { Nexts self.old self.new result }
+    {
+        if self.failed {
+            return Err(WireFault::TooLong);
+        }
+        let payload = match payload_at(&self.pending[self.start..]) {
+            Ok(None) => return Ok(None),
+            Ok(Some(payload)) => Vec::from_slice(alloc, payload)?,
+            Err(fault) => {
+                self.failed = true;
+                return Err(fault);
+            }
+        };
+        self.start += 4 + payload.len();
+        Ok(Some(payload))
+    }
+}
+
+/// A stream is split in one way only, however it came in pieces.
+pub fn one_split()
+    ensures { (stream : List ℕ) (ps qs : List (List ℕ)) (a b : List ℕ) → Splits stream ps a → Splits stream qs b → (ps ≡ qs) × (a ≡ b) }
+{}
