@@ -1,4 +1,22 @@
-//! Calls and replies as bytes.
+//! Calls and replies as bytes, and the frames that carry them.
+//!
+//! A frame is a length of 32 bits, big-endian, and so many bytes of payload, at most
+//! `MAX_PAYLOAD_LEN`. The payload of a call is its function's number in 16 bits and its fields; that of a
+//! reply is its code in 64 bits and its fields.
+//!
+//! - `read_call` and `read_reply` read just what `write_call` and `write_reply` write: what is read is
+//!   encoded so, what is encoded so is read, and each fault comes just where its condition stands.
+//! - `FrameReader` gives the payloads of a stream that comes in pieces, however it is cut, and no
+//!   others. After a length above the limit it answers `TooLong` for ever.
+//!
+//! ```
+//! let frame = write_call(alloc, &Call::CloseSession { session: 1 })?;
+//! let mut frames = FrameReader::new(alloc);
+//! frames.feed(&frame)?;
+//! if let Some(payload) = frames.next(alloc)? {
+//!     let call = read_call(alloc, &payload)?; // Call::CloseSession { session: 1 }
+//! }
+//! ```
 #![tactic(auto)]
 
 mod call;
@@ -15,3 +33,6 @@ pub use fault::WireFault;
 pub use frame::MAX_PAYLOAD_LEN;
 pub use reply::{read_reply, write_reply};
 pub use stream::{FrameReader, one_split};
+
+#[cfg(test)]
+mod tests;

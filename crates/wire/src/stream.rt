@@ -8,7 +8,8 @@ use crate::frame::MAX_PAYLOAD_LEN;
 use std::alloc::Global;
 use std::marker::Model;
 
-/// Holds what has come of a stream, and gives its payloads.
+/// Holds what has come of a stream, and gives its payloads. After a length above the limit it has
+/// failed for good.
 #[derive(Debug, Drop)]
 pub struct FrameReader {
     pending: Vec<u8>,
@@ -56,6 +57,7 @@ fn payload_at(bytes: &[u8]) -> Result<Option<&[u8]>, WireFault>
 }
 
 impl FrameReader {
+    /// A reader to which nothing has come.
     pub fn new(alloc: Global) -> FrameReader
         ensures { result ≡ record { bytes = []; failed = false } }
     {
@@ -73,7 +75,11 @@ impl FrameReader {
         self.start == self.pending.len()
     }
 
-    /// Takes the next piece of the stream.
+    /// Takes the next piece of the stream, of any length.
+    ///
+    /// # Errors
+    ///
+    /// `TooLong` where the reader has failed, `Memory` with the piece not taken.
     pub fn feed(&mut self, piece: &[u8]) -> Result<(), WireFault>
         ensures { Feeds piece.now self.old self.new result }
     {
@@ -87,6 +93,11 @@ impl FrameReader {
     }
 
     /// The next whole payload, or none yet.
+    ///
+    /// # Errors
+    ///
+    /// `TooLong` for a length above the limit, at this call and every later one, `Memory` with nothing
+    /// changed.
     pub fn next(&mut self, alloc: Global) -> Result<Option<Vec<u8>>, WireFault>
         ensures { Nexts self.old self.new result }
     {

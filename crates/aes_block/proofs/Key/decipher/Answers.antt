@@ -1,0 +1,35 @@
+use Rattle.std.proofs.Common.{arith, ◌∙◌, ap, sym}
+use Rattle.aes_block.specs.Encipher.{enciphered_block}
+use Rattle.aes_block.specs.Cipher.{cipher}
+use Rattle.aes_block.specs.InverseCipher.{inverse_cipher}
+use Rattle.aes_block.specs.Words.{words_bytes}
+use Rattle.aes_block.proofs.Inverses.{cipher-inverse_cipher, inverse_cipher-cipher}
+use Rattle.aes_block.proofs.StoredKeys.{rounds-bounds, IsBlock-stored, enciphered-stored}
+use Rattle.aes_block.proofs.Key.decipher.Goals as goal
+
+pub decipher-requires-clause-low : goal.decipher-requires-clause-low
+decipher-requires-clause-low c = omega (arith, rounds-bounds c.self.inside c.self.invariant)
+
+pub decipher-requires-clause-high : goal.decipher-requires-clause-high
+decipher-requires-clause-high c = omega (arith, rounds-bounds c.self.inside c.self.invariant)
+
+pub returns-clause-back : goal.returns-clause-back
+returns-clause-back c =
+    let k = c.self.inside in
+    let w = words_bytes k.schedule in
+    ap (λ key. enciphered_block key c.decipher.result) (sym c.self.view_is)
+    ∙ sym (enciphered-stored k c.decipher.result c.self.invariant)
+    ∙ ap (λ b. cipher w k.rounds b) c.decipher.ensures.value
+    ∙ cipher-inverse_cipher w k.rounds (λ r le. IsBlock-stored k r c.self.invariant le)
+    (omega (arith, rounds-bounds k c.self.invariant))
+    c.args.block c.decipher.ensures.blocks.0
+
+pub returns-clause-only : goal.returns-clause-only
+returns-clause-only c = λ x block e.
+    let k = c.self.inside in
+    let w = words_bytes k.schedule in
+    sym (inverse_cipher-cipher w k.rounds (λ r le. IsBlock-stored k r c.self.invariant le)
+    (omega (arith, rounds-bounds k c.self.invariant)) x block)
+    ∙ ap (inverse_cipher w k.rounds)
+    (enciphered-stored k x c.self.invariant ∙ ap (λ key. enciphered_block key x) c.self.view_is ∙ e)
+    ∙ sym c.decipher.ensures.value

@@ -1,0 +1,15 @@
+pub mod Checks
+pub mod FieldLaws
+pub mod SBoxEntries
+pub mod MixEntries
+pub mod Blocks
+pub mod WordProducts
+pub mod Steps
+pub mod Inverses
+pub mod RoundWords
+pub mod WordsInRow
+pub mod ExpansionTerms
+pub mod KeySchedules
+pub mod ScheduleWords
+pub mod StoredKeys
+pub mod StandardFacts

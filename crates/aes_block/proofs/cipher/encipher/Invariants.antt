@@ -1,0 +1,7 @@
+use Rattle.std.proofs.Common.{◌≡◌, ◌-◌}
+use Rattle.aes_block.specs.Cipher.{state_after}
+use Rattle.aes_block.specs.Words.{words_bytes, state_bytes}
+use Rattle.aes_block.proofs.cipher.encipher.Given as goal
+
+abbrev pub invariant-rounds : goal.invariant-rounds
+invariant-rounds l = state_bytes l.s ≡ state_after (words_bytes l.schedule) l.fn.block (l.r - 1)

@@ -1,0 +1,13 @@
+use Rattle.std.proofs.Common.{◌∙◌, ap}
+use Rattle.aes_block.specs.WordPolynomial.{word_product}
+use Rattle.aes_block.specs.InverseCipher.{inverse_mix_polynomial}
+use Rattle.aes_block.proofs.RoundWords.{mixed_column-of, inverse_substituted_diagonal}
+use Rattle.aes_block.proofs.inverse_round.inverse_mixed_column.Goals as goal
+
+pub returns : goal.returns
+returns c =
+    mixed_column-of inverse_mix_polynomial _ _ _ _ _ _ _ _
+    c.inverse_mixed_row.ensures c.inverse_mixed_row-2.ensures c.inverse_mixed_row-3.ensures c.inverse_mixed_row-4.ensures
+    ∙ ap (word_product inverse_mix_polynomial)
+    (inverse_substituted_diagonal c.args.a c.args.b c.args.c c.args.d _ _ _ _ c.byte_0.ensures c.byte_1.ensures
+    c.byte_2.ensures c.byte_3.ensures)

@@ -1,0 +1,151 @@
+//! AES, the block cipher of FIPS 197, with keys of 128, 192 and 256 bits.
+//!
+//! ```rust
+//! use aes_block::{Key, xor_blocks};
+//!
+//! let Some(key) = Key::new(b"sixteen byte key") else {
+//!     return;
+//! };
+//! let block = key.encipher(*b"exactly a block.");
+//! assert_eq!(rt; key.decipher(block), *b"exactly a block.");
+//! assert_eq!(rt; xor_blocks(block, block), [0; 16]);
+//! ```
+//!
+//! Proved, for every key and every block:
+//!
+//! - `Key::new` gives a key exactly where it is given 16, 24 or 32 bytes, and the key is those
+//!   bytes.
+//! - `encipher` is the cipher as `specs/` writes it down from FIPS 197: the field of 256
+//!   elements, the S-box by inverse and affine transformation, the rows, the columns as
+//!   polynomials, the key expansion and the rounds. Each entry of each table is the definition's.
+//! - `decipher` gives the block that is enciphered to the one given, and no other block is.
+//! - `xor_blocks` is the exclusive or, byte by byte.
+//! - No call takes memory, and none can fail but `Key::new`, for the length.
+//!
+//! Section numbers are those of FIPS 197 of November 2001; its update of May 2023 keeps the
+//! algorithm.
+//!
+//! The time that a call takes depends on secrets: the cipher reads tables at places that depend
+//! on the key and the block, and so whoever shares the processor's cache may learn of both. A key
+//! is not overwritten when it is dropped.
+#![tactic(auto)]
+
+mod cipher;
+mod inverse_round;
+mod key_expansion;
+mod round;
+mod state;
+mod tables;
+#[cfg(test)]
+mod tests;
+mod word;
+
+ghost use Rattle.std.specs.Prelude.{◌≡◌, ℕ, ◌+◌, ◌/◌, ◌↔◌, List, length, IsSome, IfSome};
+ghost use Rattle.aes_block.specs.Bytes.{IsBlock, xor_bytes};
+ghost use Rattle.aes_block.specs.KeyExpansion.{IsKey, IsKeyLength};
+ghost use Rattle.aes_block.specs.Encipher.{enciphered_block};
+
+use key_expansion::Schedule;
+use state::State;
+use std::marker::Model;
+
+/// A block: the 16 bytes that the cipher takes and gives (FIPS 197, 3.1).
+pub type Block = [u8; 16];
+
+/// A key of 128, 192 or 256 bits, expanded for enciphering and deciphering. Contracts see it as the
+/// list of its bytes.
+#[derive(Drop)]
+pub struct Key {
+    rounds: usize,
+    schedule: Schedule,
+    inverse_schedule: Schedule,
+}
+
+impl Model for Key {
+    ghost use Rattle.std.specs.Prelude.{ℕ, List};
+
+    ghost Value = { List ℕ };
+
+    ghost use Rattle.aes_block.specs.StoredKey.{key_bytes, IsExpanded};
+
+    ghost view = { key_bytes };
+
+    ghost invariant = { IsExpanded };
+}
+
+impl Key {
+    /// The key of these bytes, or none where they are not 16, 24 or 32.
+    pub fn new(bytes: &[u8]) -> Option<Key>
+        ensures length { IsSome result ↔ IsKeyLength (length bytes.now) }
+        ensures value { IfSome result (λ key. key ≡ bytes.now) }
+    {
+        let rounds = rounds_of(bytes.len())?;
+        let schedule = key_expansion::expanded(bytes);
+        let inverse_schedule = key_expansion::inverse_mixed(&schedule, rounds);
+        Some(Key {
+            rounds,
+            schedule,
+            inverse_schedule,
+        })
+    }
+
+    /// The same key once more. It takes no memory and cannot fail.
+    pub fn copied(&self) -> Key
+        ensures { result ≡ self.now }
+    {
+        Key {
+            rounds: self.rounds,
+            schedule: self.schedule,
+            inverse_schedule: self.inverse_schedule,
+        }
+    }
+
+    /// The key's length in bytes: 16, 24 or 32.
+    pub fn size(&self) -> usize
+        ensures value { result ≡ length self.now }
+        ensures key { IsKey self.now }
+    {
+        4 * (self.rounds - 6)
+    }
+
+    /// The block that `block` is enciphered to (FIPS 197, 5.1).
+    pub fn encipher(&self, block: Block) -> Block
+        ensures value { result ≡ enciphered_block self.now block }
+        ensures blocks { IsBlock block × IsBlock result }
+    {
+        cipher::encipher(&self.schedule, self.rounds, block)
+    }
+
+    /// The block that is enciphered to `block` (FIPS 197, 5.3): there is one, and one only.
+    pub fn decipher(&self, block: Block) -> Block
+        ensures back { enciphered_block self.now result ≡ block }
+        ensures only { (x : List ℕ) → IsBlock x → enciphered_block self.now x ≡ block → x ≡ result }
+        ensures blocks { IsBlock block × IsBlock result }
+    {
+        cipher::decipher(&self.schedule, &self.inverse_schedule, self.rounds, block)
+    }
+}
+
+// The number of rounds for a key of so many bytes (FIPS 197, 5, figure 4).
+fn rounds_of(size: usize) -> Option<usize>
+    ensures some { IsSome result ↔ IsKeyLength size }
+    ensures value { IfSome result (λ rounds. rounds ≡ size / 4 + 6) }
+{
+    match size {
+        16 => Some(10),
+        24 => Some(12),
+        32 => Some(14),
+        _ => None,
+    }
+}
+
+/// The exclusive or of two blocks, byte by byte.
+#[inline(always)]
+pub fn xor_blocks(x: Block, y: Block) -> Block
+    ensures value { result ≡ xor_bytes x y }
+    ensures blocks { IsBlock x × IsBlock y × IsBlock result }
+{
+    State::from_block(x)
+        .add_round_key(State::from_block(y))
+        .to_block()
+}

@@ -1,0 +1,7 @@
+pub mod Table
+pub mod Objects
+pub mod ObjectLaws
+pub mod Masking
+pub mod MaskingLaws
+pub mod Stored
+pub mod StoredLaws

@@ -1,0 +1,69 @@
+//! The speed of `aes_block`, printed as a table. What it prints is measured, and nothing of it is
+//! proved but that the program is safe and ends.
+//!
+//! With no argument it works, for each key length, on 64 MiB or a million keys a row, and prints
+//! nanoseconds of processor time for a block or a key, and millions of bytes or keys a second:
+//!
+//! - blocks apart: a text of 64 KiB, enciphered over and over, whose blocks do not depend on one
+//!   another;
+//! - a chain: each block is what the one before was enciphered to, so that none begins before
+//!   that is done;
+//! - keys that are made and kept, and keys that are made for one block each.
+//!
+//! With the argument `small` it works on 64 KiB or 4,096 keys a row, and prints the exclusive or
+//! of the blocks that were made in place of times: they are the same on each machine, so that the
+//! gate can run it.
+//!
+//! OpenSSL measures the same ciphers, in processor time too, without the AES instructions of the
+//! processor where the bits that announce these and the carry-less product are masked. Its ECB is
+//! blocks apart, its CBC a chain:
+//!
+//! ```sh
+//! OPENSSL_ia32cap='~0x200000200000000' openssl speed -evp aes-128-ecb
+//! OPENSSL_ia32cap='~0x200000200000000' openssl speed -evp aes-128-cbc
+//! ```
+#![tactic(auto)]
+
+mod run;
+
+use run::{Report, blocks_apart, chain, chain_back, keys_for_a_block, keys_kept};
+use std::rt::Env;
+use std::{env, io};
+
+/// The batches of 64 KiB, and of 4,096 keys, of a row of the full table: 64 MiB, and a million
+/// keys.
+const BLOCK_BATCHES: u32 = 1024;
+
+const KEY_BATCHES: u32 = 256;
+
+/// The lengths of keys in bytes.
+const KEY_SIZES: [usize; 3] = [16, 24, 32];
+
+// Whether the argument is `small`: there is that one or none.
+fn is_small(rt: &(impl Env + Alloc)) -> io::Result<bool> {
+    let mut words = env::args(rt)?;
+    words.next();
+    match words.next() {
+        None => Ok(false),
+        Some(word) if word.as_str() == "small" => Ok(true),
+        Some(_) => Err(io::Error::from(io::ErrorKind::InvalidInput)),
+    }
+}
+
+fn main(rt: HostRuntime) -> io::Result<()> {
+    let (block_batches, key_batches, report) = if is_small(&rt)? {
+        println!(rt; "bits  work                          count  exclusive or of the blocks")?;
+        (1, 1, Report::Sums)
+    } else {
+        println!(rt; "bits  work                          count   ns each      rate")?;
+        (BLOCK_BATCHES, KEY_BATCHES, Report::Times)
+    };
+    for size in KEY_SIZES {
+        blocks_apart(&rt, rt.alloc(), size, block_batches)?.print(&rt, size, report)?;
+        chain(&rt, size, block_batches)?.print(&rt, size, report)?;
+        chain_back(&rt, size, block_batches)?.print(&rt, size, report)?;
+        keys_kept(&rt, rt.alloc(), size, key_batches)?.print(&rt, size, report)?;
+        keys_for_a_block(&rt, size, key_batches)?.print(&rt, size, report)?;
+    }
+    Ok(())
+}

@@ -1,0 +1,18 @@
+-- Which objects a search template finds (PKCS #11 v3.1, 5.7.5).
+use Rattle.std.specs.Prelude.{ℕ, Bool, false, ◌&&◌, List, Option, Some, None}
+use Rattle.std.specs.List.{list_all}
+use Rattle.std.specs.Str.{bytes_eq}
+use Rattle.ck_types.specs.declared.entry.Entry.{Entry}
+use Rattle.attrs.specs.Objects.{attribute}
+use Rattle.attrs.specs.Masking.{reveals}
+
+abbrev pub has_value : Option (List ℕ) → List ℕ → Bool
+has_value None wanted = false
+has_value (Some value) wanted = bytes_eq value wanted
+
+-- the object has the attribute, may show it, and the bytes are equal
+abbrev pub entry_matches : List Entry → Entry → Bool
+entry_matches object e = reveals object e.number && has_value (attribute object e.number) e.value
+
+abbrev pub template_matches : List Entry → List Entry → Bool
+template_matches template object = list_all (entry_matches object) template

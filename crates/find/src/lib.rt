@@ -1,0 +1,19 @@
+//! Which objects a search template finds (PKCS #11 v3.1, 5.7.5 to 5.7.7: C_FindObjectsInit and on).
+//!
+//! `matches` says whether an object has each attribute that the template gives, with just that value,
+//! and may show it. So a search by CKA_VALUE never finds a sensitive or unextractable key, and no
+//! search tells anything of its value. An attribute of an unknown type matches nothing, and an empty
+//! template matches every object.
+//!
+//! ```
+//! if guard::visible(state, &object) && find::matches(&template, &object) {
+//!     found.push(handle)?;
+//! }
+//! ```
+#![tactic(auto)]
+
+mod matching;
+#[cfg(test)]
+mod tests;
+
+pub use matching::matches;

@@ -1,0 +1,42 @@
+//! The access table.
+
+ghost use Rattle.std.specs.Prelude.{◌≡◌};
+ghost use Rattle.attrs.specs.Masking.{mask};
+ghost use Rattle.guard.specs.Access.{is_rw, is_user, is_visible, is_writable};
+
+use attrs::Object;
+use ck_types::{AttrType, SessionState};
+
+fn is_user_state(state: SessionState) -> bool
+    ensures { result ≡ is_user state }
+{
+    match state {
+        SessionState::RoUser | SessionState::RwUser => true,
+        SessionState::RoPublic | SessionState::RwPublic | SessionState::RwSo => false,
+    }
+}
+
+fn is_read_write(state: SessionState) -> bool
+    ensures { result ≡ is_rw state }
+{
+    match state {
+        SessionState::RwPublic | SessionState::RwUser | SessionState::RwSo => true,
+        SessionState::RoPublic | SessionState::RoUser => false,
+    }
+}
+
+/// Whether a session in a state sees the object (PKCS #11 v3.1, 4.4, CKA_PRIVATE).
+pub fn visible(state: SessionState, object: &Object) -> bool
+    ensures access { result ≡ is_visible state object.now }
+    ensures on_mask { result ≡ is_visible state (mask object.now) }
+{
+    is_user_state(state) || !object.flag(AttrType::Private)
+}
+
+/// Whether a session in a state may change the object or destroy it (PKCS #11 v3.1, 4.4, CKA_TOKEN).
+pub fn writable(state: SessionState, object: &Object) -> bool
+    ensures access { result ≡ is_writable state object.now }
+    ensures on_mask { result ≡ is_writable state (mask object.now) }
+{
+    visible(state, object) && (is_read_write(state) || !object.flag(AttrType::Token))
+}

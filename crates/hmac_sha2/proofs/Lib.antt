@@ -1,0 +1,3 @@
+pub mod Iterates
+pub mod Keys
+pub mod XorBytes

@@ -1,0 +1,3 @@
+pub mod Hmac
+pub mod Stepwise
+pub mod Pbkdf2

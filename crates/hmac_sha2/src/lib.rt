@@ -1,0 +1,81 @@
+//! HMAC (FIPS 198-1) with SHA-224, SHA-256, SHA-384 and SHA-512, and PBKDF2 (RFC 8018) with
+//! HMAC-SHA-256 for a key of 32 bytes.
+//!
+//! `hmac224`, `hmac256`, `hmac384` and `hmac512` give the code of a message under a key, each for
+//! all keys and messages. `Hmac` does the same for a message that comes in pieces. `pbkdf2` makes a
+//! key from a password and a salt. Each is proved to be its standard's function, as `specs/` writes
+//! it over the digests of the crate `sha2`. None takes memory or fails.
+//!
+//! ```rust
+//! use hmac_sha2::{Hmac, hmac256, pbkdf2};
+//! use sha2::Sha256;
+//!
+//! let code: [u8; 32] = hmac256(b"key", b"Hi There");
+//!
+//! let mut hmac = Hmac::<Sha256>::new(b"key");
+//! hmac.update(b"Hi ");
+//! hmac.update(b"There");
+//! assert_eq!(rt; hmac.finalize(), code);
+//!
+//! let key: [u8; 32] = pbkdf2(b"password", b"salt", 10_000);
+//! ```
+//!
+//! A clause speaks of the state of an `Hmac<Sha256>` by `HoldsMessage256 h key message` of
+//! `specs/Stepwise.antt`, and so for the other three: it has taken this message under this key.
+//! Nothing is said of secrecy, of time, or of what stays in memory.
+#![tactic(auto)]
+
+ghost use Rattle.std.specs.Prelude.{◌≡◌};
+ghost use Rattle.hmac_sha2.specs.Hmac.{hmac, hmac224, hmac256, hmac384, hmac512};
+
+use sha2::{Sha224, Sha256, Sha384, Sha512};
+
+mod hash_function;
+mod key_derivation;
+mod stepwise;
+#[cfg(test)]
+mod tests;
+mod xor;
+
+pub use hash_function::HashFunction;
+pub use key_derivation::pbkdf2;
+pub use stepwise::Hmac;
+
+// The code of a message under any of the hash functions.
+fn code_of<D: HashFunction>(key: &[u8], message: &[u8]) -> D::Output
+where
+    D::Output: Drop,
+    ensures { D.bytes result ≡ hmac D.hash D.BLOCK_SIZE key.now message.now }
+{
+    let mut hmac = Hmac::<D>::new(key);
+    hmac.update(message);
+    hmac.finalize()
+}
+
+/// HMAC-SHA-224: the code of `message` under `key`, both of any length (FIPS 198-1, section 4).
+pub fn hmac224(key: &[u8], message: &[u8]) -> [u8; 28]
+    ensures { result ≡ hmac224 key.now message.now }
+{
+    code_of::<Sha224>(key, message)
+}
+
+/// HMAC-SHA-256: the code of `message` under `key`, both of any length (FIPS 198-1, section 4).
+pub fn hmac256(key: &[u8], message: &[u8]) -> [u8; 32]
+    ensures { result ≡ hmac256 key.now message.now }
+{
+    code_of::<Sha256>(key, message)
+}
+
+/// HMAC-SHA-384: the code of `message` under `key`, both of any length (FIPS 198-1, section 4).
+pub fn hmac384(key: &[u8], message: &[u8]) -> [u8; 48]
+    ensures { result ≡ hmac384 key.now message.now }
+{
+    code_of::<Sha384>(key, message)
+}
+
+/// HMAC-SHA-512: the code of `message` under `key`, both of any length (FIPS 198-1, section 4).
+pub fn hmac512(key: &[u8], message: &[u8]) -> [u8; 64]
+    ensures { result ≡ hmac512 key.now message.now }
+{
+    code_of::<Sha512>(key, message)
+}

@@ -1,0 +1,2 @@
+pub mod FirstRow
+pub mod OnePlace

@@ -1,0 +1,41 @@
+//! How a run ends, if not well.
+
+ghost use Rattle.std.specs.Prelude.{◌≡◌};
+ghost use Rattle.programs.specs.Statuses.{status_of, IsStatus};
+
+use line::LineFault;
+use thiserror::Error;
+
+/// Why a run failed. Its text stands on the output for errors.
+#[derive(Clone, Copy, Debug, PartialEq, Eq, Error)]
+pub(crate) enum Failure {
+    #[error("bad input")]
+    BadInput,
+    #[error("out of memory")]
+    Memory,
+    #[error("the line ended badly")]
+    Line,
+}
+
+impl Failure {
+    /// The exit status.
+    pub(crate) fn status(self) -> u8
+        ensures value { result ≡ status_of self }
+        ensures known { IsStatus result }
+    {
+        match self {
+            Failure::BadInput => 5,
+            Failure::Memory => 6,
+            Failure::Line => 7,
+        }
+    }
+}
+
+impl From<LineFault> for Failure {
+    fn from(fault: LineFault) -> Failure {
+        match fault {
+            LineFault::Memory => Failure::Memory,
+            _ => Failure::Line,
+        }
+    }
+}

@@ -1,0 +1,20 @@
+//! The program `tokend`, all but the process's own arguments and streams.
+//!
+//! `tokend_with` runs a command line over an input, an output and an output for errors, and answers
+//! the exit status: 0 where it ended as asked, 2 for a command line that is refused, 5 for a bad seed,
+//! 6 where memory ran out, 7 where the line ended badly. This crate is safe and tested, and states no
+//! theorem.
+//!
+//! ```
+//! let status = tokend_with(&rt, &args, &mut input, &mut output, &mut errors);
+//! ```
+#![tactic(auto)]
+
+mod command;
+mod failure;
+mod run;
+
+pub use run::tokend_with;
+
+#[cfg(test)]
+mod tests;

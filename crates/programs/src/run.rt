@@ -1,0 +1,91 @@
+//! Runs a command line.
+
+ghost use Rattle.programs.specs.Statuses.{IsStatus};
+
+use crate::command::{command, seed_of};
+use crate::failure::Failure;
+use clap::error::ErrorKind;
+use clap::{ArgMatches, Error};
+use line::{Words, serve_one};
+use std::alloc::Global;
+use std::io::{Read, Write};
+use token::Token;
+
+/// The application of standard input.
+const STDIO_APP: u64 = 0;
+
+/// The exit status for a command line that is refused.
+const REFUSED: u8 = 2;
+
+fn stdio<I: Read, O: Write>(
+    alloc: Global,
+    matches: &ArgMatches<'_>,
+    input: &mut I,
+    output: &mut O,
+) -> Result<(), Failure> {
+    let mut words = Words::for_app(seed_of(matches)?, STDIO_APP);
+    let mut token = Token::new(alloc);
+    let _replies = serve_one(alloc, input, output, &mut token, &mut words)?;
+    Ok(())
+}
+
+fn run<I: Read, O: Write>(
+    alloc: Global,
+    matches: &ArgMatches<'_>,
+    input: &mut I,
+    output: &mut O,
+) -> Result<(), Failure> {
+    match matches.subcommand() {
+        Some(("stdio", matches)) => stdio(alloc, matches, input, output),
+        _ => Err(Failure::BadInput),
+    }
+}
+
+/// Writes what the parser of the command line has to say: help and version to the output, and a
+/// refusal to the output for errors.
+fn tell<O: Write, E: Write>(error: &Error, output: &mut O, errors: &mut E) -> u8
+    ensures { IsStatus result }
+{
+    match error.kind() {
+        ErrorKind::DisplayHelp | ErrorKind::DisplayVersion => match write!(output, "{error}") {
+            Ok(()) => 0,
+            Err(_) => Failure::Line.status(),
+        },
+        ErrorKind::OutOfMemory => {
+            let _ = writeln!(errors, "tokend: {}", Failure::Memory);
+            Failure::Memory.status()
+        }
+        _ => {
+            let _ = write!(errors, "{error}");
+            REFUSED
+        }
+    }
+}
+
+/// Runs the command line `args`, whose first word is the program's name, and answers the exit status.
+pub fn tokend_with<'a, R: AllocGlobal, I: Read, O: Write, E: Write>(
+    rt: &R,
+    args: &'a [String],
+    input: &mut I,
+    output: &mut O,
+    errors: &mut E,
+) -> u8
+    ensures { IsStatus result }
+{
+    let alloc = rt.alloc();
+    let parsed: Result<ArgMatches<'a>, Error> = match command(alloc) {
+        Ok(command) => command.try_get_matches_from(args),
+        Err(error) => Err(error),
+    };
+    let matches = match parsed {
+        Ok(matches) => matches,
+        Err(error) => return tell(&error, output, errors),
+    };
+    match run(alloc, &matches, input, output) {
+        Ok(()) => 0,
+        Err(failure) => {
+            let _ = writeln!(errors, "tokend: {failure}");
+            failure.status()
+        }
+    }
+}

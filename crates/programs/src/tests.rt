@@ -1,0 +1,128 @@
+use crate::tokend_with;
+use std::test::*;
+
+/// What a command line answered and wrote.
+#[derive(Drop)]
+struct Ended {
+    status: u8,
+    output: Vec<u8>,
+    errors: Vec<u8>,
+}
+
+fn run(rt: &HostRuntime, words: &[&str], mut input: &[u8]) -> Result<Ended, Fail> {
+    let alloc = rt.alloc();
+    let mut args = Vec::new(alloc);
+    args.push(String::from_str(alloc, "tokend")?)?;
+    for word in words {
+        args.push(String::from_str(alloc, word)?)?;
+    }
+    let mut output = Vec::<u8>::new(alloc);
+    let mut errors = Vec::<u8>::new(alloc);
+    let status = tokend_with(rt, &args, &mut input, &mut output, &mut errors);
+    Ok(Ended {
+        status,
+        output,
+        errors,
+    })
+}
+
+const OPEN_SESSION: &[u8] =
+    b"\x00\x00\x00\x12\x00\x07\x00\x00\x00\x00\x00\x00\x00\x00\x00\x00\x00\x00\x00\x00\x00\x06";
+
+const SESSION_ONE: &[u8] =
+    b"\x00\x00\x00\x10\x00\x00\x00\x00\x00\x00\x00\x00\x00\x00\x00\x00\x00\x00\x00\x01";
+
+/// Opens a session, makes an AES key, begins ECB, and encrypts the block of FIPS 197, C.1.
+const FIRST_RUN: &[u8] =
+    b"\x00\x00\x00\x12\x00\x07\x00\x00\x00\x00\x00\x00\x00\x00\x00\x00\x00\x00\x00\x00\x00\x06\
+\x00\x00\x00\x5f\x00\x0d\x00\x00\x00\x00\x00\x00\x00\x01\x00\x00\x00\x04\
+\x00\x00\x00\x00\x00\x00\x00\x00\x00\x00\x00\x08\x00\x00\x00\x00\x00\x00\x00\x04\
+\x00\x00\x00\x00\x00\x00\x01\x00\x00\x00\x00\x08\x00\x00\x00\x00\x00\x00\x00\x1f\
+\x00\x00\x00\x00\x00\x00\x00\x02\x00\x00\x00\x01\x00\
+\x00\x00\x00\x00\x00\x00\x00\x11\x00\x00\x00\x10\x00\x01\x02\x03\x04\x05\x06\x07\x08\x09\x0a\x0b\x0c\x0d\x0e\x0f\
+\x00\x00\x00\x1f\x00\x16\x00\x00\x00\x00\x00\x00\x00\x01\x01\x00\x00\x00\x00\x00\x00\x10\x81\x00\x00\x00\x00\x00\x00\x00\x00\x00\x00\x00\x01\
+\x00\x00\x00\x27\x00\x17\x00\x00\x00\x00\x00\x00\x00\x01\x00\x00\x00\x10\
+\x00\x11\x22\x33\x44\x55\x66\x77\x88\x99\xaa\xbb\xcc\xdd\xee\xff\x01\x00\x00\x00\x00\x00\x00\x00\x10";
+
+const FIRST_REPLIES: &[u8] =
+    b"\x00\x00\x00\x10\x00\x00\x00\x00\x00\x00\x00\x00\x00\x00\x00\x00\x00\x00\x00\x01\
+\x00\x00\x00\x10\x00\x00\x00\x00\x00\x00\x00\x00\x00\x00\x00\x00\x00\x00\x00\x01\
+\x00\x00\x00\x08\x00\x00\x00\x00\x00\x00\x00\x00\
+\x00\x00\x00\x1d\x00\x00\x00\x00\x00\x00\x00\x00\x01\x00\x00\x00\x10\
+\x69\xc4\xe0\xd8\x6a\x7b\x04\x30\xd8\xcd\xb7\x80\x70\xb4\xc5\x5a";
+
+#[test]
+fn stdio_answers_the_first_run_byte_for_byte(rt: HostRuntime) -> Result<(), Fail> {
+    let ended = run(&rt, &["stdio"], FIRST_RUN)?;
+    assert_eq!(rt; ended.output.as_slice(), FIRST_REPLIES);
+    assert_eq!(rt; ended.errors.len(), 0);
+    assert_eq!(rt; ended.status, 0);
+    Ok(())
+}
+
+#[test]
+fn a_line_that_ends_badly_has_its_status_and_text(rt: HostRuntime) -> Result<(), Fail> {
+    let endings: [&[u8]; 3] = [
+        // A frame that is cut, and lengths above the limit.
+        b"\x00\x00\x00\x12\x00",
+        b"\x00\x10\x00\x01",
+        b"\xff\xff\xff\xff",
+    ];
+    for ending in endings {
+        let mut input = Vec::from_slice(rt.alloc(), OPEN_SESSION)?;
+        input.extend_from_slice(ending)?;
+        let ended = run(&rt, &["stdio"], &input)?;
+        assert_eq!(rt; ended.status, 7);
+        assert_eq!(rt; ended.output.as_slice(), SESSION_ONE);
+        assert_eq!(rt;
+            ended.errors.as_slice(),
+            b"tokend: the line ended badly\n".as_slice()
+        );
+    }
+    Ok(())
+}
+
+#[test]
+fn a_seed_is_64_hexadecimal_digits(rt: HostRuntime) -> Result<(), Fail> {
+    let digits = "000102030405060708090a0b0c0d0e0f101112131415161718191A1B1C1D1E1F";
+    let ended = run(&rt, &["stdio", "--seed", digits], OPEN_SESSION)?;
+    assert_eq!(rt; ended.status, 0);
+    assert_eq!(rt; ended.output.as_slice(), SESSION_ONE);
+    for seed in [
+        "",
+        "0g",
+        "00",
+        "000102030405060708090a0b0c0d0e0f101112131415161718191a1b1c1d1e1f00",
+    ] {
+        let ended = run(&rt, &["stdio", "--seed", seed], OPEN_SESSION)?;
+        assert_eq!(rt; ended.status, 5, "seed {seed:?}");
+        assert_eq!(rt; ended.output.len(), 0);
+        assert_eq!(rt; ended.errors.as_slice(), b"tokend: bad input\n".as_slice());
+    }
+    Ok(())
+}
+
+#[test]
+fn help_and_version_go_to_the_output(rt: HostRuntime) -> Result<(), Fail> {
+    for word in ["--help", "--version"] {
+        let ended = run(&rt, &[word], &[])?;
+        assert_eq!(rt; ended.status, 0);
+        assert!(rt; !ended.output.is_empty());
+        assert_eq!(rt; ended.errors.len(), 0);
+    }
+    let ended = run(&rt, &["--version"], &[])?;
+    assert_eq!(rt; ended.output.as_slice(), b"tokend 0.1.0\n".as_slice());
+    Ok(())
+}
+
+#[test]
+fn a_command_line_that_is_refused_says_why(rt: HostRuntime) -> Result<(), Fail> {
+    let lines: [&[&str]; 4] = [&[], &["serve"], &["stdio", "--sed"], &["stdio", "more"]];
+    for line in lines {
+        let ended = run(&rt, line, OPEN_SESSION)?;
+        assert_eq!(rt; ended.status, 2);
+        assert_eq!(rt; ended.output.len(), 0);
+        assert!(rt; !ended.errors.is_empty());
+    }
+    Ok(())
+}

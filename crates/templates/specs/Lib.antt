@@ -1,0 +1,4 @@
+pub mod Call
+pub mod Faults
+pub mod Made
+pub mod Guarded

@@ -1,0 +1,159 @@
+-- The object that a template makes (PKCS #11 v3.1, 4.1, 4.4, 4.7 and 4.10): each attribute of its class,
+-- as the template gives it, else as the original has it, else by default or by the token.
+use Rattle.std.specs.Prelude.{◌≡◌, ℕ, ◌+◌, Bool, true, false, ◌&&◌, ◌==◌, nat_le, not, List, [], ◌∷◌, length, take, drop, map, Option, Some, None, Result, Ok, Err, unwrap_or, if◌then◌else◌}
+use Rattle.std.specs.Int.{w64, to_be_bytes}
+use Rattle.ck_types.specs.declared.entry.Entry.{Entry}
+use Rattle.ck_types.specs.declared.attr_type.AttrType.{AttrType}
+use Rattle.ck_types.specs.declared.attr_type.AttrType.TheVariants as attr
+use Rattle.ck_types.specs.declared.object_class.ObjectClass.{ObjectClass}
+use Rattle.ck_types.specs.declared.object_class.ObjectClass.TheVariants.{Data, SecretKey}
+use Rattle.ck_types.specs.declared.key_type.KeyType.{KeyType}
+use Rattle.ck_types.specs.declared.key_type.KeyType.TheVariants.{GenericSecret, Aes}
+use Rattle.ck_types.specs.declared.rv.Rv.{Rv}
+use Rattle.ck_types.specs.declared.rv.Rv.TheVariants as rv
+use Rattle.ck_types.specs.Numbers.{attr_type_number, key_type_number, mech_type_number, object_class_number}
+use Rattle.hex.specs.Hex.{encode_lower}
+use Rattle.attrs.specs.declared.table.AttributeRow.{AttributeRow}
+use Rattle.attrs.specs.declared.table.DefaultValue.{DefaultValue}
+use Rattle.attrs.specs.declared.table.DefaultValue.TheVariants.{ByToken, False, True, TrueForKey, TrueUnwrapped, Empty}
+use Rattle.attrs.specs.Table.{row_number, rows_of}
+use Rattle.attrs.specs.Objects.{attribute, attribute_of, is_true, number_of, class_of}
+use Rattle.templates.specs.declared.call.Call.{Call}
+use Rattle.templates.specs.declared.call.Call.TheVariants as call
+use Rattle.templates.specs.Call.{generated_type}
+
+abbrev pub truth : Bool → List ℕ
+truth true = 1 ∷ []
+truth false = 0 ∷ []
+
+abbrev pub number_bytes : ℕ → List ℕ
+number_bytes n = to_be_bytes w64 n
+
+abbrev pub is_generate : Call → Bool
+is_generate call.Create = false
+is_generate (call.Generate mechanism) = true
+is_generate (call.Unwrap len) = false
+is_generate call.Copy = false
+is_generate call.Set = false
+
+abbrev pub is_unwrap : Call → Bool
+is_unwrap call.Create = false
+is_unwrap (call.Generate mechanism) = false
+is_unwrap (call.Unwrap len) = true
+is_unwrap call.Copy = false
+is_unwrap call.Set = false
+
+abbrev pub is_key_class : ObjectClass → Bool
+is_key_class Data = false
+is_key_class SecretKey = true
+
+-- the mechanism that generated a key, or CK_UNAVAILABLE_INFORMATION
+abbrev pub generator : Call → ℕ
+generator call.Create = 0xffff_ffff_ffff_ffff
+generator (call.Generate mechanism) = mech_type_number mechanism
+generator (call.Unwrap len) = 0xffff_ffff_ffff_ffff
+generator call.Copy = 0xffff_ffff_ffff_ffff
+generator call.Set = 0xffff_ffff_ffff_ffff
+
+-- the key type where the template needn't give one
+abbrev pub type_by_call : Call → KeyType
+type_by_call call.Create = GenericSecret
+type_by_call (call.Generate mechanism) = generated_type mechanism
+type_by_call (call.Unwrap len) = GenericSecret
+type_by_call call.Copy = GenericSecret
+type_by_call call.Set = GenericSecret
+
+-- whether a generated key is sensitive, and whether it is extractable
+abbrev pub is_sensitive : List Entry → Bool
+is_sensitive template = is_true (Some (unwrap_or (attribute_of template attr.Sensitive) (truth true)))
+
+abbrev pub is_extractable : List Entry → Bool
+is_extractable template = is_true (Some (unwrap_or (attribute_of template attr.Extractable) (truth false)))
+
+-- what the token finds: the value of a key is handed in
+abbrev pub by_token : Call → List Entry → List ℕ → AttrType → List ℕ
+by_token c template value attr.Class = number_bytes (object_class_number SecretKey)
+by_token c template value attr.KeyType = number_bytes (key_type_number (type_by_call c))
+by_token c template value attr.Value = value
+by_token c template value attr.ValueLen = number_bytes (length value)
+by_token c template value attr.Local = truth (is_generate c)
+by_token c template value attr.NeverExtractable = truth (is_generate c && not (is_extractable template))
+by_token c template value attr.AlwaysSensitive = truth (is_generate c && is_sensitive template)
+by_token c template value attr.KeyGenMechanism = number_bytes (generator c)
+by_token c template value _ = []
+
+abbrev pub by_default : DefaultValue → Call → ObjectClass → List Entry → List ℕ → AttrType → List ℕ
+by_default ByToken c class template value t = by_token c template value t
+by_default False c class template value t = truth false
+by_default True c class template value t = truth true
+by_default TrueForKey c class template value t = truth (is_key_class class)
+by_default TrueUnwrapped c class template value t = truth (is_unwrap c)
+by_default Empty c class template value t = []
+
+-- what is not given: as the original has it, or in a new object the default
+abbrev pub not_given : Call → ObjectClass → List Entry → List Entry → List ℕ → AttributeRow → List ℕ
+not_given call.Create class original template value r = by_default r.default call.Create class template value r.attribute
+not_given (call.Generate m) class original template value r = by_default r.default (call.Generate m) class template value r.attribute
+not_given (call.Unwrap n) class original template value r = by_default r.default (call.Unwrap n) class template value r.attribute
+not_given call.Copy class original template value r = unwrap_or (attribute original (row_number r)) []
+not_given call.Set class original template value r = unwrap_or (attribute original (row_number r)) []
+
+-- each call but C_SetAttributeValue gives a new CKA_UNIQUE_ID
+abbrev pub renews : Call → Bool
+renews call.Create = true
+renews (call.Generate mechanism) = true
+renews (call.Unwrap len) = true
+renews call.Copy = true
+renews call.Set = false
+
+abbrev pub is_renewed : Call → AttributeRow → Bool
+is_renewed c r = renews c && (row_number r == attr_type_number attr.UniqueId)
+
+-- the value of an attribute: CKA_UNIQUE_ID is 32 hexadecimal digits of 16 random bytes
+abbrev pub made_value : Call → ObjectClass → List Entry → List Entry → List ℕ → List ℕ → AttributeRow → List ℕ
+made_value c class original template random value r =
+    if is_renewed c r then encode_lower (take 16 random)
+    else unwrap_or (attribute template (row_number r)) (not_given c class original template value r)
+
+abbrev pub made_entry : Call → ObjectClass → List Entry → List Entry → List ℕ → List ℕ → AttributeRow → Entry
+made_entry c class original template random value r = record { number = row_number r; value = made_value c class original template random value r }
+
+abbrev pub made_entries : Call → ObjectClass → List Entry → List Entry → List ℕ → List ℕ → List Entry
+made_entries c class original template random value = map (made_entry c class original template random value) (rows_of class)
+
+abbrev pub made_class : Call → List Entry → List Entry → Option ObjectClass
+made_class call.Create original template = class_of template
+made_class (call.Generate m) original template = Some SecretKey
+made_class (call.Unwrap n) original template = Some SecretKey
+made_class call.Copy original template = class_of original
+made_class call.Set original template = class_of original
+
+abbrev pub made_of : Option ObjectClass → Call → List Entry → List Entry → List ℕ → List ℕ → List Entry
+made_of None c original template random value = []
+made_of (Some class) c original template random value = made_entries c class original template random value
+
+abbrev pub object_made : Call → List Entry → List Entry → List ℕ → List ℕ → List Entry
+object_made c original template random value = made_of (made_class c original template) c original template random value
+
+-- the value of a created key
+abbrev pub given_value : List Entry → List ℕ
+given_value template = unwrap_or (attribute_of template attr.Value) []
+
+-- how long a value C_GenerateKey is asked for, where a key may be that long
+abbrev pub asked_len : Option ℕ → ℕ
+asked_len None = 0
+asked_len (Some n) = if nat_le n 512 then n else 0
+
+abbrev pub generated_len : List Entry → ℕ
+generated_len template = asked_len (number_of (attribute_of template attr.ValueLen))
+
+-- the random bytes after the first sixteen
+abbrev pub generated_value : List Entry → List ℕ → List ℕ
+generated_value template random = take (generated_len template) (drop 16 random)
+
+-- the code of the first condition that holds, else the object, unless memory for it runs out
+abbrev pub Answers : Result (List Entry) Rv → Option Rv → List Entry → Type 0
+Answers (Ok object) None made = object ≡ made
+Answers (Ok object) (Some code) made = ⊥
+Answers (Err e) None made = e ≡ rv.HostMemory
+Answers (Err e) (Some code) made = e ≡ code

@@ -1,0 +1,42 @@
+//! How a template makes or changes an object, and why it doesn't (PKCS #11 v3.1, 4.1).
+//!
+//! `created`, `generated`, `unwrapped`, `copied` and `changed` are what C_CreateObject, C_GenerateKey,
+//! C_UnwrapKey, C_CopyObject and C_SetAttributeValue make of a template. Each answers the object, or the
+//! code of the first of these conditions that holds, each tried over the whole template before the
+//! next one:
+//!
+//! 1. a type that no object has, or that the copied or changed object doesn't have:
+//!    CKR_ATTRIBUTE_TYPE_INVALID;
+//! 2. a value of the wrong form, a byte string above 1,024 bytes, a class or key type that is unknown
+//!    here: CKR_ATTRIBUTE_VALUE_INVALID;
+//! 3. two entries of one type with unequal values: CKR_TEMPLATE_INCONSISTENT;
+//! 4. an attribute that only the token sets, or a change that isn't allowed: CKR_ATTRIBUTE_READ_ONLY;
+//! 5. an attribute that doesn't go with the call, the class, the mechanism or the unwrapped length:
+//!    CKR_TEMPLATE_INCONSISTENT;
+//! 6. a required attribute is missing: CKR_TEMPLATE_INCOMPLETE;
+//! 7. a length that the key type doesn't have: CKR_ATTRIBUTE_VALUE_INVALID, and of an unwrapped value
+//!    CKR_WRAPPED_KEY_LEN_RANGE.
+//!
+//! A copied or changed key that is sensitive or unextractable stays so: what is kept back of it is kept
+//! back of the copy. `unwrap_fault` and its kin tell of an unwrapped key before its value is known.
+//!
+//! Only where none holds and memory for the object ran out, the code is CKR_HOST_MEMORY. Which
+//! attributes a call takes, and the defaults, are the table of the crate `attrs`.
+//!
+//! ```
+//! let key = templates::created(alloc, state, &template, &random)?;
+//! let copy = templates::copied(alloc, state, &key, &changes, &more_random)?;
+//! ```
+#![tactic(auto)]
+
+mod ahead;
+mod call;
+mod conditions;
+mod fault;
+mod make;
+mod value;
+#[cfg(test)]
+mod tests;
+
+pub use ahead::{unwrap_fault, unwraps_private_key, unwraps_token_key};
+pub use make::{changed, copied, created, generated, random_len, unwrapped};

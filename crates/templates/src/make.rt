@@ -1,0 +1,223 @@
+//! The five calls that make or change an object.
+
+ghost use Rattle.std.specs.Prelude.{◌≡◌, ◌+◌, ◌≤◌, [], IfOk, MatchResult, length};
+ghost use Rattle.attrs.specs.Objects.{IsObject};
+ghost use Rattle.ck_types.specs.declared.rv.Rv.TheVariants as rv;
+ghost use Rattle.templates.specs.declared.call.Call.TheVariants as calls;
+ghost use Rattle.templates.specs.Faults.{template_fault};
+ghost use Rattle.templates.specs.Guarded.{IsAsGuarded};
+ghost use Rattle.templates.specs.Made.{Answers, asked_len, generated_len, generated_value, given_value, made_entries, made_entry, object_made};
+
+use crate::call::Call;
+use crate::fault::find_fault;
+use crate::value::{Making, value_made};
+use attrs::{AttributeRow, Object, Template, attribute_in, attributes, class_in, number_in};
+use ck_types::{AttrType, Entry, Items, MechType, ObjectClass, Rv, SessionState};
+use std::alloc::{AllocError, Global};
+
+/// How many random bytes a unique identifier takes.
+const UNIQUE_ID_BYTES: usize = 16;
+
+/// The longest generated value, in bytes.
+const MAX_VALUE: u64 = 512;
+
+fn make_entry(alloc: Global, making: &Making, row: &AttributeRow) -> Result<Entry, AllocError>
+    requires { 16 ≤ length making.now.random.now }
+    ensures { IfOk result (λ entry. entry ≡ made_entry making.now.call making.now.class making.now.original.now making.now.template.now making.now.random.now making.now.value.now row.now) }
+{
+    let number = row.attribute.number();
+    let value = value_made(alloc, making, row)?;
+    Ok(Entry { number, value })
+}
+
+fn make_entries(alloc: Global, making: &Making) -> Result<Items<Entry>, AllocError>
+    requires { 16 ≤ length making.now.random.now }
+    ensures { IfOk result (λ entries. entries ≡ made_entries making.now.call making.now.class making.now.original.now making.now.template.now making.now.random.now making.now.value.now) }
+{
+    let mut entries = Items::new(alloc);
+    for row in attributes() {
+        if row.is_held_by(making.class) {
+            entries.push(make_entry(alloc, making, row)?)?;
+        }
+    }
+    Ok(entries)
+}
+
+fn make(alloc: Global, making: &Making) -> Result<Object, Rv>
+    requires random { 16 ≤ length making.now.random.now }
+    requires object { IsObject (made_entries making.now.call making.now.class making.now.original.now making.now.template.now making.now.random.now making.now.value.now) }
+    ensures { MatchResult result (λ object. object ≡ made_entries making.now.call making.now.class making.now.original.now making.now.template.now making.now.random.now making.now.value.now) (λ code. code ≡ rv.HostMemory) }
+{
+    match make_entries(alloc, making) {
+        Ok(entries) => Ok(Object::new(entries)),
+        Err(_) => Err(Rv::HostMemory),
+    }
+}
+
+fn value_given(template: &[Entry]) -> &[u8]
+    ensures { result.now ≡ given_value template.now }
+{
+    match attribute_in(template, AttrType::Value) {
+        Some(value) => value,
+        None => &[],
+    }
+}
+
+/// The object that C_CreateObject makes of a template. The first 16 random bytes make CKA_UNIQUE_ID.
+pub fn created(
+    alloc: Global,
+    state: SessionState,
+    template: &Template,
+    random: &[u8],
+) -> Result<Object, Rv>
+    requires { 16 ≤ length random.now }
+    ensures { Answers result (template_fault calls.Create state [] template.now) (object_made calls.Create [] template.now random.now (given_value template.now)) }
+{
+    let template = template.as_slice();
+    if let Some(code) = find_fault(Call::Create, state, &[], template) {
+        return Err(code);
+    }
+    let Some(class) = class_in(template) else {
+        unreachable!()
+    };
+    let making = Making {
+        call: Call::Create,
+        class,
+        original: &[],
+        template,
+        random,
+        value: value_given(template),
+    };
+    make(alloc, &making)
+}
+
+fn len_asked_for(template: &[Entry]) -> usize
+    ensures { result ≡ generated_len template.now }
+{
+    match number_in(attribute_in(template, AttrType::ValueLen)) {
+        Some(len) if len <= MAX_VALUE => len as usize,
+        Some(_) | None => 0,
+    }
+}
+
+/// How many random bytes `generated` needs for a template: 16, and as many as CKA_VALUE_LEN says where
+/// that is at most 512.
+pub fn random_len(template: &Template) -> usize
+    ensures { result ≡ 16 + generated_len template.now }
+{
+    UNIQUE_ID_BYTES + len_asked_for(template.as_slice())
+}
+
+/// The key that C_GenerateKey makes of a template by a mechanism that generates keys. The first 16
+/// random bytes make CKA_UNIQUE_ID, those that follow are the value; `random_len` says how many.
+pub fn generated(
+    alloc: Global,
+    state: SessionState,
+    mechanism: MechType,
+    template: &Template,
+    random: &[u8],
+) -> Result<Object, Rv>
+    requires { 16 + generated_len template.now ≤ length random.now }
+    ensures { Answers result (template_fault (calls.Generate mechanism) state [] template.now) (object_made (calls.Generate mechanism) [] template.now random.now (generated_value template.now random.now)) }
+{
+    let template = template.as_slice();
+    let call = Call::Generate(mechanism);
+    if let Some(code) = find_fault(call, state, &[], template) {
+        return Err(code);
+    }
+    let (_, after) = random.split_at(UNIQUE_ID_BYTES);
+    let (value, _) = after.split_at(len_asked_for(template));
+    let making = Making {
+        call,
+        class: ObjectClass::SecretKey,
+        original: &[],
+        template,
+        random,
+        value,
+    };
+    make(alloc, &making)
+}
+
+/// The key that C_UnwrapKey makes of a template and the unwrapped value. The first 16 random bytes make
+/// CKA_UNIQUE_ID. Where the value isn't known yet, `unwrap_fault` tells from its length whether there
+/// will be a key.
+pub fn unwrapped(
+    alloc: Global,
+    state: SessionState,
+    template: &Template,
+    value: &[u8],
+    random: &[u8],
+) -> Result<Object, Rv>
+    requires { 16 ≤ length random.now }
+    ensures { Answers result (template_fault (calls.Unwrap (length value.now)) state [] template.now) (object_made (calls.Unwrap (length value.now)) [] template.now random.now value.now) }
+{
+    let template = template.as_slice();
+    let call = Call::Unwrap(value.len());
+    if let Some(code) = find_fault(call, state, &[], template) {
+        return Err(code);
+    }
+    let making = Making {
+        call,
+        class: ObjectClass::SecretKey,
+        original: &[],
+        template,
+        random,
+        value,
+    };
+    make(alloc, &making)
+}
+
+/// The copy that C_CopyObject makes of an object, with the template's changes. The first 16 random
+/// bytes make its CKA_UNIQUE_ID. A value that is kept back is kept back in the copy too.
+pub fn copied(
+    alloc: Global,
+    state: SessionState,
+    original: &Object,
+    template: &Template,
+    random: &[u8],
+) -> Result<Object, Rv>
+    requires { 16 ≤ length random.now }
+    ensures made { Answers result (template_fault calls.Copy state original.now template.now) (object_made calls.Copy original.now template.now random.now []) }
+    ensures guarded { IfOk result (λ object. IsAsGuarded state original.now object) }
+{
+    let template = template.as_slice();
+    if let Some(code) = find_fault(Call::Copy, state, original.entries(), template) {
+        return Err(code);
+    }
+    let making = Making {
+        call: Call::Copy,
+        class: original.class(),
+        original: original.entries(),
+        template,
+        random,
+        value: &[],
+    };
+    make(alloc, &making)
+}
+
+/// What C_SetAttributeValue makes of an object, with the template's changes. A value that is kept back
+/// stays so.
+pub fn changed(
+    alloc: Global,
+    state: SessionState,
+    original: &Object,
+    template: &Template,
+) -> Result<Object, Rv>
+    ensures made { Answers result (template_fault calls.Set state original.now template.now) (object_made calls.Set original.now template.now [] []) }
+    ensures guarded { IfOk result (λ object. IsAsGuarded state original.now object) }
+{
+    let template = template.as_slice();
+    if let Some(code) = find_fault(Call::Set, state, original.entries(), template) {
+        return Err(code);
+    }
+    let making = Making {
+        call: Call::Set,
+        class: original.class(),
+        original: original.entries(),
+        template,
+        // CKA_UNIQUE_ID stays: these are not read.
+        random: &[0; UNIQUE_ID_BYTES],
+        value: &[],
+    };
+    make(alloc, &making)
+}

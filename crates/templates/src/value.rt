@@ -1,0 +1,226 @@
+//! The value of each attribute of the object that is made.
+
+ghost use Rattle.std.specs.Prelude.{◌≡◌, ◌≤◌, [], IfOk, Some, length, unwrap_or};
+ghost use Rattle.attrs.specs.Objects.{attribute, attribute_of, is_true};
+ghost use Rattle.attrs.specs.Table.{row_number};
+ghost use Rattle.templates.specs.Made.{by_default, by_token, generator, is_extractable, is_generate, is_key_class, is_sensitive, is_renewed, is_unwrap, made_value, not_given, number_bytes, renews, truth, type_by_call};
+
+use crate::call::{Call, generated_type_of};
+use attrs::{AttributeRow, DefaultValue, attribute_in, find_attribute};
+use ck_types::{AttrType, Bytes, Entry, KeyType, ObjectClass};
+use std::alloc::{AllocError, Global};
+
+/// CK_UNAVAILABLE_INFORMATION.
+const UNAVAILABLE: u64 = u64::MAX;
+
+/// What an object is made of.
+#[derive(Clone, Copy)]
+pub(crate) struct Making<'a> {
+    pub call: Call,
+    pub class: ObjectClass,
+    /// The object that is copied or changed; empty where a new one is made.
+    pub original: &'a [Entry],
+    pub template: &'a [Entry],
+    /// The first sixteen bytes make CKA_UNIQUE_ID.
+    pub random: &'a [u8],
+    /// The value of a key that is created, generated or unwrapped.
+    pub value: &'a [u8],
+}
+
+fn truth_bytes(alloc: Global, is_true: bool) -> Result<Bytes, AllocError>
+    ensures { IfOk result (λ bytes. bytes ≡ truth is_true) }
+{
+    if is_true {
+        Bytes::from_slice(alloc, &[1])
+    } else {
+        Bytes::from_slice(alloc, &[0])
+    }
+}
+
+fn bytes_of_number(alloc: Global, number: u64) -> Result<Bytes, AllocError>
+    ensures { IfOk result (λ bytes. bytes ≡ number_bytes number) }
+{
+    Bytes::from_slice(alloc, &number.to_be_bytes())
+}
+
+fn generates(call: Call) -> bool
+    ensures { result ≡ is_generate call }
+{
+    match call {
+        Call::Generate(_) => true,
+        Call::Create | Call::Unwrap(_) | Call::Copy | Call::Set => false,
+    }
+}
+
+fn unwraps(call: Call) -> bool
+    ensures { result ≡ is_unwrap call }
+{
+    match call {
+        Call::Unwrap(_) => true,
+        Call::Create | Call::Generate(_) | Call::Copy | Call::Set => false,
+    }
+}
+
+fn is_key(class: ObjectClass) -> bool
+    ensures { result ≡ is_key_class class }
+{
+    match class {
+        ObjectClass::Data => false,
+        ObjectClass::SecretKey => true,
+    }
+}
+
+fn generator_of(call: Call) -> u64
+    ensures { result ≡ generator call }
+{
+    match call {
+        Call::Generate(mechanism) => mechanism.number(),
+        Call::Create | Call::Unwrap(_) | Call::Copy | Call::Set => UNAVAILABLE,
+    }
+}
+
+fn key_type_by_call(call: Call) -> KeyType
+    ensures { result ≡ type_by_call call }
+{
+    match call {
+        Call::Generate(mechanism) => generated_type_of(mechanism),
+        Call::Create | Call::Unwrap(_) | Call::Copy | Call::Set => KeyType::GenericSecret,
+    }
+}
+
+fn is_true_value(value: &[u8]) -> bool
+    ensures { result ≡ is_true (Some value.now) }
+{
+    value.len() == 1 && value[0] == 1
+}
+
+/// Whether a flag is given as true, or isn't given and true by default.
+pub(crate) fn flag_or(template: &[Entry], attribute: AttrType, default: bool) -> bool
+    ensures { result ≡ is_true (Some (unwrap_or (attribute_of template.now attribute) (truth default))) }
+{
+    match attribute_in(template, attribute) {
+        Some(value) => is_true_value(value),
+        None => default,
+    }
+}
+
+fn is_sensitive_key(template: &[Entry]) -> bool
+    ensures { result ≡ is_sensitive template.now }
+{
+    flag_or(template, AttrType::Sensitive, true)
+}
+
+fn is_extractable_key(template: &[Entry]) -> bool
+    ensures { result ≡ is_extractable template.now }
+{
+    flag_or(template, AttrType::Extractable, false)
+}
+
+fn value_by_token(
+    alloc: Global,
+    call: Call,
+    template: &[Entry],
+    value: &[u8],
+    attribute: AttrType,
+) -> Result<Bytes, AllocError>
+    ensures { IfOk result (λ bytes. bytes ≡ by_token call template.now value.now attribute) }
+{
+    match attribute {
+        AttrType::Class => bytes_of_number(alloc, ObjectClass::SecretKey.number()),
+        AttrType::KeyType => bytes_of_number(alloc, key_type_by_call(call).number()),
+        AttrType::Value => Bytes::from_slice(alloc, value),
+        AttrType::ValueLen => bytes_of_number(alloc, value.len() as u64),
+        AttrType::Local => truth_bytes(alloc, generates(call)),
+        AttrType::NeverExtractable => {
+            truth_bytes(alloc, generates(call) && !is_extractable_key(template))
+        }
+        AttrType::AlwaysSensitive => {
+            truth_bytes(alloc, generates(call) && is_sensitive_key(template))
+        }
+        AttrType::KeyGenMechanism => bytes_of_number(alloc, generator_of(call)),
+        _ => Ok(Bytes::new(alloc)),
+    }
+}
+
+fn default_value(
+    alloc: Global,
+    making: &Making,
+    row: &AttributeRow,
+) -> Result<Bytes, AllocError>
+    ensures { IfOk result (λ bytes. bytes ≡ by_default row.now.default making.now.call making.now.class making.now.template.now making.now.value.now row.now.attribute) }
+{
+    match row.default {
+        DefaultValue::ByToken => value_by_token(
+            alloc,
+            making.call,
+            making.template,
+            making.value,
+            row.attribute,
+        ),
+        DefaultValue::False => truth_bytes(alloc, false),
+        DefaultValue::True => truth_bytes(alloc, true),
+        DefaultValue::TrueForKey => truth_bytes(alloc, is_key(making.class)),
+        DefaultValue::TrueUnwrapped => truth_bytes(alloc, unwraps(making.call)),
+        DefaultValue::Empty => Ok(Bytes::new(alloc)),
+    }
+}
+
+fn original_value(
+    alloc: Global,
+    making: &Making,
+    row: &AttributeRow,
+) -> Result<Bytes, AllocError>
+    ensures { IfOk result (λ bytes. bytes ≡ unwrap_or (attribute making.now.original.now (row_number row.now)) []) }
+{
+    match find_attribute(making.original, row.attribute.number()) {
+        Some(value) => Bytes::from_slice(alloc, value),
+        None => Ok(Bytes::new(alloc)),
+    }
+}
+
+fn value_not_given(
+    alloc: Global,
+    making: &Making,
+    row: &AttributeRow,
+) -> Result<Bytes, AllocError>
+    ensures { IfOk result (λ bytes. bytes ≡ not_given making.now.call making.now.class making.now.original.now making.now.template.now making.now.value.now row.now) }
+{
+    match making.call {
+        Call::Create | Call::Generate(_) | Call::Unwrap(_) => default_value(alloc, making, row),
+        Call::Copy | Call::Set => original_value(alloc, making, row),
+    }
+}
+
+fn renews_unique_id(call: Call) -> bool
+    ensures { result ≡ renews call }
+{
+    match call {
+        Call::Create | Call::Generate(_) | Call::Unwrap(_) | Call::Copy => true,
+        Call::Set => false,
+    }
+}
+
+fn is_renewed_by(call: Call, row: &AttributeRow) -> bool
+    ensures { result ≡ is_renewed call row.now }
+{
+    renews_unique_id(call) && row.attribute.number() == AttrType::UniqueId.number()
+}
+
+/// The value of an attribute of the object that is made.
+pub(crate) fn value_made(
+    alloc: Global,
+    making: &Making,
+    row: &AttributeRow,
+) -> Result<Bytes, AllocError>
+    requires { 16 ≤ length making.now.random.now }
+    ensures { IfOk result (λ bytes. bytes ≡ made_value making.now.call making.now.class making.now.original.now making.now.template.now making.now.random.now making.now.value.now row.now) }
+{
+    if is_renewed_by(making.call, row) {
+        let digits = hex::encode(alloc, making.random.split_at(16).0)?;
+        return Ok(Bytes::from_vec(digits.into_bytes()));
+    }
+    match find_attribute(making.template, row.attribute.number()) {
+        Some(value) => Bytes::from_slice(alloc, value),
+        None => value_not_given(alloc, making, row),
+    }
+}

@@ -1,0 +1,25 @@
+//! `tokend`: a PKCS #11 software token. What it does stands in the library `programs`; here are the
+//! process's own arguments and streams.
+#![tactic(auto)]
+
+use programs::tokend_with;
+use std::process::ExitCode;
+use std::{env, io};
+
+fn words(rt: &HostRuntime) -> io::Result<Vec<String>> {
+    let mut words = Vec::new(rt.alloc());
+    for word in env::args(rt)? {
+        words.push(word)?;
+    }
+    Ok(words)
+}
+
+fn main(rt: HostRuntime) -> ExitCode {
+    let Ok(words) = words(&rt) else {
+        return ExitCode::from(2);
+    };
+    let mut input = rt.stdin();
+    let mut output = rt.stdout();
+    let mut errors = rt.stderr();
+    ExitCode::from(tokend_with(&rt, &words, &mut input, &mut output, &mut errors))
+}
