@@ -1,13 +1,13 @@
 -- What others may see of an object: all but the value of a sensitive or unextractable key
 -- (PKCS #11 v3.1, 4.7 and 4.10; a key's length is no secret).
-use Rattle.std.specs.Prelude.{◌≡◌, ◌≢◌, ℕ, Bool, true, false, ◌&&◌, ◌||◌, ◌==◌, not, List, [], ◌∷◌, Option, Some, None, filter, refl, if◌then◌else◌}
+use Rattle.std.specs.Prelude.{ℕ, Bool, true, false, ◌&&◌, ◌||◌, ◌==◌, not, List, Option, Some, None, filter, if◌then◌else◌}
 use Rattle.ck_types.specs.declared.entry.Entry.{Entry}
 use Rattle.ck_types.specs.declared.attr_type.AttrType.{AttrType}
 use Rattle.ck_types.specs.declared.attr_type.AttrType.TheVariants as attr
 use Rattle.ck_types.specs.declared.object_class.ObjectClass.{ObjectClass}
 use Rattle.ck_types.specs.declared.object_class.ObjectClass.TheVariants.{Data, SecretKey}
 use Rattle.ck_types.specs.Numbers.{attr_type_number}
-use Rattle.attrs.specs.Objects.{attribute, attribute_of, flag, class_of}
+use Rattle.attrs.specs.Objects.{flag, class_of}
 
 abbrev pub is_secret_key : Option ObjectClass → Bool
 is_secret_key None = false

@@ -1,13 +1,12 @@
 -- What masking leaves as it is.
-use Rattle.std.proofs.Common.{◌≡◌, ◌≢◌, ℕ, Bool, true, false, cond, ◌&&◌, ◌||◌, not, eqb, List, [], ◌∷◌, Option, Some, None, refl, sym, ap, subst, ◌∙◌, arith}
-use Rattle.std.specs.Prelude.{filter}
-use Rattle.std.proofs.lemmas.Bool.{eqb-true, ne_eqb, eq-eqb}
+use Rattle.std.proofs.Common.{◌≡◌, ◌≢◌, ℕ, Bool, true, false, cond, ◌&&◌, not, eqb, List, [], ◌∷◌, Option, Some, None, refl, sym, ap, ◌∙◌, arith}
+use Rattle.std.proofs.lemmas.Bool.{eqb-true, ne_eqb}
 use Rattle.ck_types.specs.declared.entry.Entry.{Entry}
 use Rattle.ck_types.specs.declared.attr_type.AttrType.{AttrType}
 use Rattle.ck_types.specs.declared.attr_type.AttrType.TheVariants as attr
 use Rattle.ck_types.specs.Numbers.{attr_type_number}
 use Rattle.attrs.specs.Objects.{attribute, attribute_of, flag, class_of, number_of, class_at, is_true}
-use Rattle.attrs.specs.Masking.{is_masked, is_secret_key, without, mask, reveals}
+use Rattle.attrs.specs.Masking.{is_masked, without, mask, reveals}
 
 -- the attributes of other types stay
 pub attribute-without : (t : AttrType) (es : List Entry) (n : ℕ) → n ≢ attr_type_number t → attribute (without t es) n ≡ attribute es n

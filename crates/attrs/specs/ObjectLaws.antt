@@ -1,6 +1,6 @@
 -- What follows from being an object.
-use Rattle.std.proofs.Common.{◌≡◌, ◌≢◌, ℕ, suc, zero, ◌+◌, ◌<◌, ◌≤◌, ◌^◌, Bool, true, false, cond, ◌&&◌, ◌||◌, not, eqb, ltb, leb, List, [], ◌∷◌, ◌++◌, length, get_or, Option, Some, None, refl, sym, ap, subst, ◌∙◌, arith, lit≤}
-use Rattle.std.specs.Prelude.{filter, map, nat_le}
+use Rattle.std.proofs.Common.{◌≡◌, ℕ, ◌≤◌, Bool, true, false, cond, ◌&&◌, ◌||◌, eqb, ltb, List, [], ◌∷◌, length, get_or, Option, Some, None, refl, sym, ap, subst, arith, lit≤}
+use Rattle.std.specs.Prelude.{filter}
 use Rattle.std.specs.List.{AllByRecursion, list_any}
 use Rattle.std.proofs.lemmas.Bool.{eqb-true, leb-true}
 use Rattle.ck_types.specs.declared.entry.Entry.{Entry}
@@ -16,7 +16,7 @@ use Rattle.attrs.specs.declared.table.AttributeRow.{AttributeRow}
 use Rattle.attrs.specs.declared.table.Form.{Form}
 use Rattle.attrs.specs.declared.table.Form.TheVariants.{Truth, Number, Bytes}
 use Rattle.attrs.specs.Table.{attribute_table, row_number, rows_of, is_held_by}
-use Rattle.attrs.specs.Objects.{attribute, attribute_of, class_at, class_of, classes, key_type_at, key_types, fits_rows, has_form, is_of_class, is_object, IsObject, has_key_value}
+use Rattle.attrs.specs.Objects.{attribute, attribute_of, class_at, class_of, classes, key_type_at, key_types, fits_rows, has_form, is_of_class, IsObject, has_key_value}
 
 -- ---- classes and key types by their numbers
 

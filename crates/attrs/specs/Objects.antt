@@ -1,5 +1,5 @@
 -- What an object is: the list of its attributes by rising number (PKCS #11 v3.1, 4.1, 4.4, 4.5, 4.7, 4.10).
-use Rattle.std.specs.Prelude.{◌≡◌, ℕ, Bool, true, false, ◌&&◌, ◌||◌, ◌==◌, nat_lt, nat_le, List, [], ◌∷◌, length, Option, Some, None, slice_index, unwrap_or, if◌then◌else◌}
+use Rattle.std.specs.Prelude.{◌≡◌, ℕ, Bool, true, false, ◌&&◌, ◌||◌, ◌==◌, nat_lt, nat_le, List, [], ◌∷◌, length, Option, Some, None, slice_index, if◌then◌else◌}
 use Rattle.std.specs.Int.{w64, from_be_bytes}
 use Rattle.ck_types.specs.declared.entry.Entry.{Entry}
 use Rattle.ck_types.specs.declared.attr_type.AttrType.{AttrType}
@@ -12,7 +12,7 @@ use Rattle.ck_types.specs.Numbers.{attr_type_number, object_class_number, key_ty
 use Rattle.attrs.specs.declared.table.AttributeRow.{AttributeRow}
 use Rattle.attrs.specs.declared.table.Form.{Form}
 use Rattle.attrs.specs.declared.table.Form.TheVariants.{Truth, Number, Bytes}
-use Rattle.attrs.specs.Table.{attribute_table, row_number, rows_of}
+use Rattle.attrs.specs.Table.{row_number, rows_of}
 
 -- The value of an attribute type, in an object or in a template: that of the first entry of the type.
 abbrev pub attribute : List Entry → ℕ → Option (List ℕ)

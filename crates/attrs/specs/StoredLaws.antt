@@ -1,5 +1,5 @@
 -- What is decoded is an object that is stored so, and what is stored is decoded.
-use Rattle.std.proofs.Common.{◌≡◌, ℕ, suc, ◌+◌, ◌<◌, ◌≤◌, ◌^◌, Bool, true, false, cond, eqb, List, [], ◌∷◌, ◌++◌, length, get_or, take, Option, Some, None, Result, Ok, Err, refl, sym, ap, subst, ◌∙◌, arith, All}
+use Rattle.std.proofs.Common.{◌≡◌, ℕ, suc, ◌+◌, ◌<◌, Bool, cond, eqb, List, [], ◌∷◌, ◌++◌, length, get_or, take, Option, Some, None, Result, Ok, Err, refl, sym, ap, subst, ◌∙◌, arith, All}
 use Rattle.std.specs.Prelude.{IfOk}
 use Rattle.std.specs.List.{AllByRecursion, flat_map}
 use Rattle.std.proofs.lemmas.Grind.{flat_map-append}
@@ -8,7 +8,7 @@ use Rattle.std.proofs.lemmas.List.Concat.{flat_map-cons}
 use Rattle.std.proofs.lemmas.Bool.{eqb-true}
 use Rattle.std.proofs.lemmas.List.Elements.{All-from_recursion}
 use Rattle.ck_types.specs.declared.entry.Entry.{Entry}
-use Rattle.ck_types.specs.Format.{Format, number16, number32, byte_string, pair, whole}
+use Rattle.ck_types.specs.Format.{number16, number32, byte_string, pair, whole}
 use Rattle.ck_types.specs.Canonical.{IsCanonical, IsBytes, number16_canonical, number32_canonical, byte_string_canonical, pair_canonical, mapped_canonical, counted_canonical, whole_sound, whole_complete, some_is, when_ok}
 use Rattle.attrs.specs.declared.fault.DecodeFault.{DecodeFault}
 use Rattle.attrs.specs.Objects.{is_object, IsObject}

@@ -15,62 +15,71 @@ fn default_value(alloc: Global, row: &AttributeRow) -> Result<Bytes, AllocError>
     }
 }
 
-/// The entries of a class by the table, those given first of all.
-fn entries_with(
-    alloc: Global,
-    class: ObjectClass,
-    given: &[(AttrType, &[u8])],
-) -> Result<Items<Entry>, AllocError> {
+const SECRET_KEY: [u8; 8] = [0, 0, 0, 0, 0, 0, 0, 4];
+
+const GENERIC: [u8; 8] = [0, 0, 0, 0, 0, 0, 0, 0x10];
+
+const AES: [u8; 8] = [0, 0, 0, 0, 0, 0, 0, 0x1f];
+
+const LEN_16: [u8; 8] = [0, 0, 0, 0, 0, 0, 0, 16];
+
+const LEN_5: [u8; 8] = [0, 0, 0, 0, 0, 0, 0, 5];
+
+/// The attributes of a data object, all by default.
+fn data_entries(alloc: Global) -> Result<Items<Entry>, AllocError> {
     let mut entries = Items::new(alloc);
     for row in attributes() {
-        if !row.is_held_by(class) {
-            continue;
+        if row.is_held_by(ObjectClass::Data) {
+            let value = default_value(alloc, row)?;
+            let number = row.attribute.number();
+            entries.push(Entry { number, value })?;
         }
-        let mut value = default_value(alloc, row)?;
-        for (attribute, bytes) in given {
-            if *attribute == row.attribute {
-                value = Bytes::from_slice(alloc, bytes)?;
-            }
-        }
-        let number = row.attribute.number();
-        entries.push(Entry { number, value })?;
     }
     Ok(entries)
 }
 
-const SECRET_KEY: [u8; 8] = [0, 0, 0, 0, 0, 0, 0, 4];
-const GENERIC: [u8; 8] = [0, 0, 0, 0, 0, 0, 0, 0x10];
-const AES: [u8; 8] = [0, 0, 0, 0, 0, 0, 0, 0x1f];
-const LEN_16: [u8; 8] = [0, 0, 0, 0, 0, 0, 0, 16];
-const LEN_5: [u8; 8] = [0, 0, 0, 0, 0, 0, 0, 5];
-
+/// The attributes of a key, but for its type, value and length all by default.
 fn key_entries(
     alloc: Global,
     key_type: &[u8],
     value: &[u8],
     len: &[u8],
 ) -> Result<Items<Entry>, AllocError> {
-    let given: [(AttrType, &[u8]); 4] = [
-        (AttrType::Class, &SECRET_KEY),
-        (AttrType::KeyType, key_type),
-        (AttrType::Value, value),
-        (AttrType::ValueLen, len),
-    ];
-    entries_with(alloc, ObjectClass::SecretKey, &given)
+    let mut entries = Items::new(alloc);
+    for row in attributes() {
+        if row.is_held_by(ObjectClass::SecretKey) {
+            let value = match row.attribute {
+                AttrType::Class => Bytes::from_slice(alloc, &SECRET_KEY)?,
+                AttrType::KeyType => Bytes::from_slice(alloc, key_type)?,
+                AttrType::Value => Bytes::from_slice(alloc, value)?,
+                AttrType::ValueLen => Bytes::from_slice(alloc, len)?,
+                _ => default_value(alloc, row)?,
+            };
+            let number = row.attribute.number();
+            entries.push(Entry { number, value })?;
+        }
+    }
+    Ok(entries)
 }
 
 #[test]
 fn an_aes_key_has_309_bytes_and_a_data_object_128(rt: HostRuntime) -> Result<(), Fail> {
     let alloc = rt.alloc();
     let key = Object::from_entries(key_entries(alloc, &AES, &[7; 16], &LEN_16)?).ok_or("key")?;
-    let data = Object::from_entries(entries_with(alloc, ObjectClass::Data, &[])?).ok_or("data")?;
+    let data = Object::from_entries(data_entries(alloc)?).ok_or("data")?;
     assert_eq!(rt; key.entries().len(), 26);
     assert_eq!(rt; data.entries().len(), 10);
     assert_eq!(rt; (size(&key), size(&data)), (309, 128));
     assert_eq!(rt; encode(alloc, &key)?.len(), 309);
     assert_eq!(rt; encode(alloc, &data)?.len(), 128);
-    assert_eq!(rt; (key.class(), data.class()), (ObjectClass::SecretKey, ObjectClass::Data));
-    assert_eq!(rt; (key.key_type(), data.key_type()), (Some(KeyType::Aes), None));
+    assert_eq!(rt;
+        (key.class(), data.class()),
+        (ObjectClass::SecretKey, ObjectClass::Data)
+    );
+    assert_eq!(rt;
+        (key.key_type(), data.key_type()),
+        (Some(KeyType::Aes), None)
+    );
     assert_eq!(rt; key.value(), [7; 16].as_slice());
     assert_eq!(rt; key.number(AttrType::ValueLen), Some(16));
     assert_eq!(rt; data.number(AttrType::ValueLen), None);

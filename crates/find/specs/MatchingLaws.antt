@@ -1,6 +1,5 @@
 -- What a search finds does not depend on a value that is kept back.
 use Rattle.std.proofs.Common.{◌≡◌, ℕ, ◌&&◌, not, Bool, true, false, cond, List, [], ◌∷◌, Option, eqb, ap, refl, sym, ◌∙◌}
-use Rattle.std.specs.List.{list_all}
 use Rattle.std.proofs.lemmas.Bool.{eq-eqb}
 use Rattle.ck_types.specs.declared.entry.Entry.{Entry}
 use Rattle.ck_types.specs.declared.attr_type.AttrType.TheVariants as attr

@@ -1,6 +1,6 @@
 -- The access table: which sessions see an object, and which may write it (PKCS #11 v3.1, 3.3, 4.4 and
 -- 5.6; the SO sees public objects alone).
-use Rattle.std.specs.Prelude.{ℕ, Bool, true, false, ◌&&◌, ◌||◌, not, List}
+use Rattle.std.specs.Prelude.{Bool, true, false, ◌&&◌, ◌||◌, not, List}
 use Rattle.ck_types.specs.declared.entry.Entry.{Entry}
 use Rattle.ck_types.specs.declared.attr_type.AttrType.TheVariants as attr
 use Rattle.ck_types.specs.declared.session_state.SessionState.{SessionState}

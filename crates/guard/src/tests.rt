@@ -46,7 +46,11 @@ fn private_objects_are_seen_by_the_user_and_token_objects_written_in_rw_sessions
     // For the five states in order: seen, written.
     let cases: [(&[AttrType], [bool; 5], [bool; 5]); 4] = [
         (&[], [true; 5], [true; 5]),
-        (&[AttrType::Token], [true; 5], [false, false, true, true, true]),
+        (
+            &[AttrType::Token],
+            [true; 5],
+            [false, false, true, true, true],
+        ),
         (
             &[AttrType::Private],
             [false, true, false, true, false],
@@ -61,8 +65,16 @@ fn private_objects_are_seen_by_the_user_and_token_objects_written_in_rw_sessions
     for (is_true, seen, written) in cases {
         let object = key(alloc, is_true)?.ok_or("no key")?;
         for (i, state) in STATES.into_iter().enumerate() {
-            assert_eq!(rt; Some(&visible(state, &object)), seen.get(i), "{is_true:?} {state:?}");
-            assert_eq!(rt; Some(&writable(state, &object)), written.get(i), "{is_true:?} {state:?}");
+            assert_eq!(rt;
+                Some(&visible(state, &object)),
+                seen.get(i),
+                "{is_true:?} {state:?}"
+            );
+            assert_eq!(rt;
+                Some(&writable(state, &object)),
+                written.get(i),
+                "{is_true:?} {state:?}"
+            );
         }
     }
     Ok(())
@@ -80,7 +92,11 @@ fn sensitive_and_unextractable_keys_keep_their_value_back(rt: HostRuntime) -> Re
     for (is_true, is_masked) in cases {
         let object = key(alloc, is_true)?.ok_or("no key")?;
         assert_eq!(rt; masked(&object), is_masked, "{is_true:?}");
-        assert_eq!(rt; reveals(&object, AttrType::Value), !is_masked, "{is_true:?}");
+        assert_eq!(rt;
+            reveals(&object, AttrType::Value),
+            !is_masked,
+            "{is_true:?}"
+        );
         assert!(rt; reveals(&object, AttrType::ValueLen), "{is_true:?}");
     }
     Ok(())

@@ -1,22 +1,18 @@
 -- Where no condition holds, a copy or a changed object is an object.
-use Rattle.std.proofs.Common.{◌≡◌, ℕ, ◌≤◌, Bool, true, false, cond, ◌&&◌, ◌||◌, not, eqb, List, [], ◌∷◌, length, Option, Some, None, refl, sym, ap, subst, ◌∙◌, arith}
+use Rattle.std.proofs.Common.{◌≡◌, ℕ, true, eqb, List, [], ◌∷◌, Option, Some, None, refl, sym, ap, ◌∙◌}
 use Rattle.std.specs.Prelude.{unwrap_or}
 use Rattle.std.specs.List.{list_any, AllByRecursion}
 use Rattle.ck_types.specs.declared.entry.Entry.{Entry}
 use Rattle.ck_types.specs.declared.attr_type.AttrType.TheVariants as attr
 use Rattle.ck_types.specs.declared.object_class.ObjectClass.{ObjectClass}
 use Rattle.ck_types.specs.declared.object_class.ObjectClass.TheVariants.{Data, SecretKey}
-use Rattle.ck_types.specs.declared.key_type.KeyType.{KeyType}
 use Rattle.ck_types.specs.declared.session_state.SessionState.{SessionState}
 use Rattle.ck_types.specs.Numbers.{attr_type_number}
 use Rattle.attrs.specs.declared.table.AttributeRow.{AttributeRow}
-use Rattle.attrs.specs.Table.{attribute_table, row_number, rows_of, is_held_by, row}
-use Rattle.attrs.specs.Objects.{attribute, attribute_of, class_of, class_at, number_of, key_type_at, has_form, is_object, is_of_class, IsObject, fits_rows, is_key_value, has_key_value}
+use Rattle.attrs.specs.Table.{attribute_table, row_number, rows_of, is_held_by}
+use Rattle.attrs.specs.Objects.{attribute, attribute_of, class_of, class_at, number_of, key_type_at, has_form, is_of_class, IsObject, fits_rows, is_key_value, has_key_value}
 use Rattle.attrs.specs.ObjectLaws.{fits_rows-held}
-use Rattle.templates.specs.declared.call.Call.{Call}
 use Rattle.templates.specs.declared.call.Call.TheVariants as call
-use Rattle.templates.specs.Faults.{is_about, refuses}
-use Rattle.templates.specs.Call.{rule}
 use Rattle.templates.specs.Made.{made_entries}
 use Rattle.templates.proofs.Entries.{both_true, AllByRecursion-filter}
 use Rattle.templates.proofs.Formed.{IsFormed, table_formed, held_formed, row_formed}

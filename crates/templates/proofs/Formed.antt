@@ -1,19 +1,18 @@
 -- The values of the object that is made have their forms.
-use Rattle.std.proofs.Common.{◌≡◌, ℕ, ◌≤◌, ◌+◌, ◌*◌, Bool, true, false, cond, ◌&&◌, ◌||◌, not, eqb, leb, List, [], ◌∷◌, length, take, Option, Some, None, refl, sym, ap, subst, ◌∙◌, arith}
-use Rattle.std.specs.Prelude.{unwrap_or, map, filter, nat_le}
+use Rattle.std.proofs.Common.{◌≡◌, ℕ, Bool, true, false, cond, ◌&&◌, not, eqb, List, [], ◌∷◌, Option, Some, None, refl, sym, subst, ◌∙◌}
+use Rattle.std.specs.Prelude.{unwrap_or}
 use Rattle.std.specs.List.{list_any, AllByRecursion}
-use Rattle.std.proofs.lemmas.Bool.{eqb-true, eq-eqb, le-leb}
+use Rattle.std.proofs.lemmas.Bool.{eqb-true}
 use Rattle.ck_types.specs.declared.entry.Entry.{Entry}
 use Rattle.ck_types.specs.declared.object_class.ObjectClass.{ObjectClass}
 use Rattle.attrs.specs.declared.table.AttributeRow.{AttributeRow}
-use Rattle.attrs.specs.declared.table.Form.{Form}
-use Rattle.attrs.specs.declared.table.Form.TheVariants.{Truth, Number, Bytes}
-use Rattle.attrs.specs.Table.{attribute_table, row_number, rows_of, is_held_by, row}
+use Rattle.attrs.specs.declared.table.Form.TheVariants.{Truth, Bytes}
+use Rattle.attrs.specs.Table.{attribute_table, row_number}
 use Rattle.attrs.specs.Objects.{attribute, fits_rows, has_form}
 use Rattle.templates.specs.declared.call.Call.{Call}
 use Rattle.templates.specs.Faults.{form_in, fits_form_of, is_ill_formed, is_unlisted}
 use Rattle.templates.specs.Made.{truth, by_default, is_key_class, is_unwrap, is_generate, is_extractable, is_sensitive}
-use Rattle.templates.proofs.Entries.{both_true, both_false, not_false, any_false-attribute, Gives}
+use Rattle.templates.proofs.Entries.{both_true, both_false, not_false, any_false-attribute}
 
 -- the row says what form its attribute type has
 abbrev pub IsFormed : AttributeRow → Type 0

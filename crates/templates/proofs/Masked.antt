@@ -1,5 +1,5 @@
 -- A masked key stays masked in its copies and changes.
-use Rattle.std.proofs.Common.{◌≡◌, ℕ, Bool, true, false, cond, ◌&&◌, ◌||◌, not, eqb, List, [], ◌∷◌, length, Option, Some, None, Result, Ok, Err, refl, sym, ap, subst, ◌∙◌, arith}
+use Rattle.std.proofs.Common.{◌≡◌, ℕ, Bool, true, false, cond, ◌&&◌, ◌||◌, not, eqb, List, [], ◌∷◌, Option, Some, None, Result, Ok, Err, refl, sym, ap, subst, ◌∙◌}
 use Rattle.std.specs.Prelude.{unwrap_or, MatchResult, IfOk}
 use Rattle.std.specs.List.{list_any}
 use Rattle.std.specs.Str.{bytes_eq}
@@ -14,9 +14,9 @@ use Rattle.ck_types.specs.declared.rv.Rv.TheVariants as rv
 use Rattle.ck_types.specs.declared.session_state.SessionState.{SessionState}
 use Rattle.ck_types.specs.Numbers.{attr_type_number}
 use Rattle.attrs.specs.declared.table.AttributeRow.{AttributeRow}
-use Rattle.attrs.specs.Table.{attribute_table, row_number, rows_of, is_held_by, row}
+use Rattle.attrs.specs.Table.{attribute_table, row_number, rows_of}
 use Rattle.attrs.specs.Objects.{attribute, attribute_of, class_of, class_at, number_of, flag, is_true, fits_rows, has_form, IsObject}
-use Rattle.attrs.specs.Masking.{is_masked, is_secret_key}
+use Rattle.attrs.specs.Masking.{is_secret_key}
 use Rattle.templates.specs.declared.call.Call.{Call}
 use Rattle.templates.specs.declared.call.Call.TheVariants as call
 use Rattle.templates.specs.Faults.{is_about, is_read_only, refuses, is_set, is_present, is_so}
@@ -24,7 +24,7 @@ use Rattle.templates.specs.Call.{rule}
 use Rattle.templates.specs.Made.{made_entries}
 use Rattle.templates.specs.Guarded.{IsAsGuarded}
 use Rattle.templates.proofs.Changes.{copied_keeps_class, changed_keeps_class, key_fits, data_rows_fit}
-use Rattle.templates.proofs.Entries.{both_true, both_false, not_false, any_false-attribute, Gives}
+use Rattle.templates.proofs.Entries.{both_true, both_false, not_false, any_false-attribute}
 use Rattle.templates.proofs.NoFault.{IsFaultless}
 
 -- what the rule of a given attribute says

@@ -1,10 +1,9 @@
 -- Where no condition holds, a new object is an object.
-use Rattle.std.proofs.Common.{◌≡◌, ℕ, ◌+◌, ◌<◌, ◌≤◌, ◌^◌, Bool, true, false, cond, ◌&&◌, ◌||◌, not, eqb, leb, List, [], ◌∷◌, length, take, drop, Option, Some, None, refl, sym, ap, subst, ◌∙◌, arith, lit<}
+use Rattle.std.proofs.Common.{◌≡◌, ℕ, ◌<◌, ◌≤◌, ◌^◌, Bool, true, false, cond, ◌||◌, eqb, List, [], length, Option, Some, None, refl, sym, ap, subst, ◌∙◌, arith, lit<}
 use Rattle.std.specs.Prelude.{unwrap_or, is_none}
-use Rattle.std.specs.List.{list_any, AllByRecursion}
+use Rattle.std.specs.List.{list_any}
 use Rattle.std.specs.Int.{w64, from_be_bytes}
-use Rattle.std.proofs.lemmas.Bool.{eqb-true, eq-eqb, le-leb, leb-true}
-use Rattle.std.proofs.lemmas.List.{length-take, length-drop}
+use Rattle.std.proofs.lemmas.Bool.{eqb-true, le-leb, leb-true}
 use Rattle.ck_types.specs.declared.entry.Entry.{Entry}
 use Rattle.ck_types.specs.declared.attr_type.AttrType.TheVariants as attr
 use Rattle.ck_types.specs.declared.mech_type.MechType.{MechType}
@@ -13,18 +12,17 @@ use Rattle.ck_types.specs.declared.object_class.ObjectClass.TheVariants.{Data, S
 use Rattle.ck_types.specs.declared.key_type.KeyType.{KeyType}
 use Rattle.ck_types.specs.declared.key_type.KeyType.TheVariants.{GenericSecret, Aes}
 use Rattle.ck_types.specs.declared.session_state.SessionState.{SessionState}
-use Rattle.ck_types.specs.Numbers.{attr_type_number, key_type_number, object_class_number}
+use Rattle.ck_types.specs.Numbers.{attr_type_number, key_type_number}
 use Rattle.attrs.specs.declared.table.Form.{Form}
-use Rattle.attrs.specs.declared.table.Form.TheVariants.{Truth, Number, Bytes}
-use Rattle.attrs.specs.Table.{attribute_table, row_number, rows_of, is_held_by, row}
-use Rattle.attrs.specs.Objects.{attribute, attribute_of, class_of, class_at, number_of, key_type_of, key_type_at, is_key_len, has_form, IsObject, fits_rows, flag, is_true}
+use Rattle.attrs.specs.declared.table.Form.TheVariants.{Number, Bytes}
+use Rattle.attrs.specs.Table.{attribute_table, rows_of}
+use Rattle.attrs.specs.Objects.{attribute_of, class_of, class_at, number_of, key_type_of, key_type_at, is_key_len, IsObject, fits_rows, flag, is_true}
 use Rattle.attrs.specs.ObjectLaws.{class_at-none, key_type_at-none}
-use Rattle.templates.specs.declared.call.Call.{Call}
 use Rattle.templates.specs.declared.call.Call.TheVariants as call
 use Rattle.templates.specs.Call.{generated_type}
 use Rattle.templates.specs.Faults.{form_in, fits_form_of, is_ill_formed, is_other, is_of_other_class, is_missing, is_bad_len, len_of}
-use Rattle.templates.specs.Made.{made_entries, truth, number_bytes, given_value, generated_len, generated_value, asked_len}
-use Rattle.templates.proofs.Entries.{both_true, both_false, not_false}
+use Rattle.templates.specs.Made.{made_entries, truth, number_bytes, given_value, generated_len, asked_len}
+use Rattle.templates.proofs.Entries.{both_false, not_false}
 use Rattle.templates.proofs.Formed.{given_formed}
 use Rattle.templates.proofs.NoFault.{IsFaultless, not_excluded, is_given, complete_at, listed_class, listed_type, number_again, number_formed, is_that, len_small}
 use Rattle.templates.proofs.Whole.{made_fit, defaults_fit, is_data_object, is_key_object, key_value_is}

@@ -1,30 +1,25 @@
 -- What a template says on which no condition holds.
-use Rattle.std.proofs.Common.{◌≡◌, ℕ, ◌<◌, ◌≤◌, ◌^◌, Bool, true, false, cond, ◌&&◌, ◌||◌, not, eqb, leb, List, [], ◌∷◌, length, Option, Some, None, refl, sym, ap, subst, ◌∙◌, arith}
+use Rattle.std.proofs.Common.{◌≡◌, ℕ, ◌<◌, ◌≤◌, ◌^◌, Bool, true, false, cond, ◌&&◌, ◌||◌, not, eqb, leb, List, Option, Some, None, refl, sym, ap, subst, ◌∙◌, arith}
 use Rattle.std.specs.Prelude.{is_none}
-use Rattle.std.specs.Int.{w64, from_be_bytes, to_be_bytes}
+use Rattle.std.specs.Int.{w64, from_be_bytes}
 use Rattle.std.specs.List.{list_any}
 use Rattle.std.proofs.lemmas.Bool.{eqb-true, eq-eqb, leb-true}
 use Rattle.std.proofs.lemmas.Nat.{from_be_bytes-to_be_bytes_8}
 use Rattle.ck_types.specs.declared.entry.Entry.{Entry}
 use Rattle.ck_types.specs.declared.attr_type.AttrType.TheVariants as attr
 use Rattle.ck_types.specs.declared.object_class.ObjectClass.{ObjectClass}
-use Rattle.ck_types.specs.declared.object_class.ObjectClass.TheVariants.{Data, SecretKey}
 use Rattle.ck_types.specs.declared.key_type.KeyType.{KeyType}
 use Rattle.ck_types.specs.declared.key_type.KeyType.TheVariants.{GenericSecret, Aes}
 use Rattle.ck_types.specs.declared.session_state.SessionState.{SessionState}
-use Rattle.ck_types.specs.declared.rv.Rv.{Rv}
-use Rattle.ck_types.specs.Numbers.{attr_type_number, key_type_number, object_class_number}
-use Rattle.attrs.specs.declared.table.Form.{Form}
-use Rattle.attrs.specs.declared.table.Form.TheVariants.{Truth, Number, Bytes}
-use Rattle.attrs.specs.Table.{attribute_table, row_number, row}
-use Rattle.attrs.specs.Objects.{attribute, attribute_of, number_of, class_at, class_of, key_type_at, key_type_of, is_key_len, has_form}
-use Rattle.attrs.specs.ObjectLaws.{class_at-none, key_type_at-none}
+use Rattle.ck_types.specs.Numbers.{attr_type_number}
+use Rattle.attrs.specs.declared.table.Form.TheVariants.{Number}
+use Rattle.attrs.specs.Table.{attribute_table, row_number}
+use Rattle.attrs.specs.Objects.{attribute, attribute_of, number_of, class_at, class_of, key_type_at, is_key_len, has_form}
 use Rattle.templates.specs.declared.call.Call.{Call}
 use Rattle.templates.specs.Call.{rule}
-use Rattle.templates.specs.Faults.{template_fault, is_unknown, is_ill_formed, is_unlisted, contradicts, is_read_only, is_excluded, disagrees, is_missing, has_bad_len, has_bad_unwrapped_len, is_about, is_held, is_inconsistent, is_required, refuses, is_other, is_of_other_class, form_in, fits_form_of}
+use Rattle.templates.specs.Faults.{template_fault, is_unknown, is_ill_formed, is_unlisted, contradicts, is_read_only, is_excluded, disagrees, is_missing, has_bad_len, has_bad_unwrapped_len, is_about, is_held, is_inconsistent, is_required, refuses, is_other, form_in, fits_form_of}
 use Rattle.templates.specs.Made.{number_bytes}
-use Rattle.templates.proofs.Entries.{both_true, both_false, not_false, any_false-attribute, Gives}
-use Rattle.templates.proofs.Formed.{given_formed}
+use Rattle.templates.proofs.Entries.{both_true, both_false, not_false, any_false-attribute}
 
 cond_none : {A : Type 0} (b : Bool) (x : A) (o : Option A) → cond b (Some x) o ≡ None → (b ≡ false) × (o ≡ None)
 cond_none true x o e = absurd cc
@@ -63,22 +58,22 @@ when_given template n none =
 pub not_excluded : (c : Call) (k : Option ObjectClass) (original template : List Entry) (n : ℕ) → class_of original ≡ k → list_any (λ r. is_about k n r && is_inconsistent (rule c r)) attribute_table ≡ true → list_any (is_excluded c original) template ≡ false → attribute template n ≡ None
 not_excluded c k original template n class refused included =
     when_given template n (λ v given.
-      let g = any_false-attribute (is_excluded c original) template n v included given in
-      let at_class : list_any (λ r. is_about k g.entry.number r && is_inconsistent (rule c r)) attribute_table ≡ false = subst (λ (j : Option ObjectClass). list_any (λ r. is_about j g.entry.number r && is_inconsistent (rule c r)) attribute_table ≡ false) class g.fails in
-      let at_number : list_any (λ r. is_about k n r && is_inconsistent (rule c r)) attribute_table ≡ false = subst (λ (m : ℕ). list_any (λ r. is_about k m r && is_inconsistent (rule c r)) attribute_table ≡ false) g.number_is at_class in
-      let no : true ≡ false = sym refused ∙ at_number in
-      cc)
+    let g = any_false-attribute (is_excluded c original) template n v included given in
+    let at_class : list_any (λ r. is_about k g.entry.number r && is_inconsistent (rule c r)) attribute_table ≡ false = subst (λ (j : Option ObjectClass). list_any (λ r. is_about j g.entry.number r && is_inconsistent (rule c r)) attribute_table ≡ false) class g.fails in
+    let at_number : list_any (λ r. is_about k n r && is_inconsistent (rule c r)) attribute_table ≡ false = subst (λ (m : ℕ). list_any (λ r. is_about k m r && is_inconsistent (rule c r)) attribute_table ≡ false) g.number_is at_class in
+    let no : true ≡ false = sym refused ∙ at_number in
+    cc)
 
 pub not_read_only : (c : Call) (s : SessionState) (k : Option ObjectClass) (original template : List Entry) (n : ℕ) → class_of original ≡ k
     → ((present : Option (List ℕ)) (v : List ℕ) → list_any (λ r. is_about k n r && refuses (rule c r) s present v) attribute_table ≡ true) → list_any (is_read_only c s original) template ≡ false → attribute template n ≡ None
 not_read_only c s k original template n class refused writable =
     when_given template n (λ v given.
-      let g = any_false-attribute (is_read_only c s original) template n v writable given in
-      let present = attribute original g.entry.number in
-      let at_class : list_any (λ r. is_about k g.entry.number r && refuses (rule c r) s present g.entry.value) attribute_table ≡ false = subst (λ (j : Option ObjectClass). list_any (λ r. is_about j g.entry.number r && refuses (rule c r) s present g.entry.value) attribute_table ≡ false) class g.fails in
-      let at_number : list_any (λ r. is_about k n r && refuses (rule c r) s present g.entry.value) attribute_table ≡ false = subst (λ (m : ℕ). list_any (λ r. is_about k m r && refuses (rule c r) s present g.entry.value) attribute_table ≡ false) g.number_is at_class in
-      let no : true ≡ false = sym (refused present g.entry.value) ∙ at_number in
-      cc)
+    let g = any_false-attribute (is_read_only c s original) template n v writable given in
+    let present = attribute original g.entry.number in
+    let at_class : list_any (λ r. is_about k g.entry.number r && refuses (rule c r) s present g.entry.value) attribute_table ≡ false = subst (λ (j : Option ObjectClass). list_any (λ r. is_about j g.entry.number r && refuses (rule c r) s present g.entry.value) attribute_table ≡ false) class g.fails in
+    let at_number : list_any (λ r. is_about k n r && refuses (rule c r) s present g.entry.value) attribute_table ≡ false = subst (λ (m : ℕ). list_any (λ r. is_about k m r && refuses (rule c r) s present g.entry.value) attribute_table ≡ false) g.number_is at_class in
+    let no : true ≡ false = sym (refused present g.entry.value) ∙ at_number in
+    cc)
 
 -- ---- what is given
 

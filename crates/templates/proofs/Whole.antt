@@ -1,6 +1,6 @@
 -- When entries that are made of the rows of a class are an object.
-use Rattle.std.proofs.Common.{◌≡◌, ℕ, ◌≤◌, ◌*◌, Bool, true, false, cond, ◌&&◌, ◌||◌, not, eqb, leb, List, [], ◌∷◌, length, take, Option, Some, None, refl, sym, ap, subst, ◌∙◌, arith}
-use Rattle.std.specs.Prelude.{unwrap_or, map, filter}
+use Rattle.std.proofs.Common.{◌≡◌, ℕ, ◌≤◌, Bool, true, false, cond, ◌&&◌, eqb, List, [], ◌∷◌, length, take, Option, Some, refl, sym, ap, subst, ◌∙◌, arith}
+use Rattle.std.specs.Prelude.{unwrap_or}
 use Rattle.std.specs.List.{list_any, AllByRecursion}
 use Rattle.std.proofs.lemmas.Bool.{eqb-true, eq-eqb, le-leb}
 use Rattle.std.proofs.lemmas.List.{length-take}
@@ -14,12 +14,12 @@ use Rattle.ck_types.specs.declared.key_type.KeyType.{KeyType}
 use Rattle.ck_types.specs.Numbers.{attr_type_number}
 use Rattle.attrs.specs.declared.table.AttributeRow.{AttributeRow}
 use Rattle.attrs.specs.declared.table.Form.{Form}
-use Rattle.attrs.specs.declared.table.Form.TheVariants.{Truth, Number, Bytes}
-use Rattle.attrs.specs.Table.{attribute_table, row_number, rows_of, is_held_by, row}
-use Rattle.attrs.specs.Objects.{attribute, attribute_of, class_of, number_of, key_type_of, key_type_at, is_key_len, is_key_value, has_key_value, is_of_class, IsObject, fits_rows, has_form}
+use Rattle.attrs.specs.declared.table.Form.TheVariants.{Bytes}
+use Rattle.attrs.specs.Table.{attribute_table, row_number, rows_of, is_held_by}
+use Rattle.attrs.specs.Objects.{attribute, attribute_of, class_of, number_of, key_type_of, is_key_len, is_key_value, has_key_value, is_of_class, IsObject, fits_rows, has_form}
 use Rattle.templates.specs.declared.call.Call.{Call}
-use Rattle.templates.specs.Faults.{form_in, fits_form_of, is_ill_formed}
-use Rattle.templates.specs.Made.{made_value, made_entry, made_entries, not_given, is_renewed, renews, by_default}
+use Rattle.templates.specs.Faults.{form_in, is_ill_formed}
+use Rattle.templates.specs.Made.{made_value, made_entries, not_given, is_renewed, renews, by_default}
 use Rattle.templates.proofs.Entries.{both_true, AllByRecursion-filter, fits_rows-map}
 use Rattle.templates.proofs.Formed.{IsFormed, table_formed, default_formed, chosen_formed}
 

@@ -1,5 +1,4 @@
 -- The calls that a template is given to, and the columns of the table of attributes that are theirs.
-use Rattle.std.specs.Prelude.{Bool, true, false}
 use Rattle.ck_types.specs.declared.key_type.KeyType.{KeyType}
 use Rattle.ck_types.specs.declared.key_type.KeyType.TheVariants.{GenericSecret, Aes}
 use Rattle.ck_types.specs.declared.mech_type.MechType.{MechType}

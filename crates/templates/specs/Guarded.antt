@@ -1,5 +1,5 @@
 -- What no copy and no change takes away (PKCS #11 v3.1, 4.1.2, 4.1.3 and 4.10).
-use Rattle.std.specs.Prelude.{◌≡◌, ℕ, true, false, List}
+use Rattle.std.specs.Prelude.{◌≡◌, true, false, List}
 use Rattle.ck_types.specs.declared.entry.Entry.{Entry}
 use Rattle.ck_types.specs.declared.attr_type.AttrType.TheVariants as attr
 use Rattle.ck_types.specs.declared.session_state.SessionState.{SessionState}

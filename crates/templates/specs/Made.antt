@@ -1,6 +1,6 @@
 -- The object that a template makes (PKCS #11 v3.1, 4.1, 4.4, 4.7 and 4.10): each attribute of its class,
 -- as the template gives it, else as the original has it, else by default or by the token.
-use Rattle.std.specs.Prelude.{◌≡◌, ℕ, ◌+◌, Bool, true, false, ◌&&◌, ◌==◌, nat_le, not, List, [], ◌∷◌, length, take, drop, map, Option, Some, None, Result, Ok, Err, unwrap_or, if◌then◌else◌}
+use Rattle.std.specs.Prelude.{◌≡◌, ℕ, Bool, true, false, ◌&&◌, ◌==◌, nat_le, not, List, [], ◌∷◌, length, take, drop, map, Option, Some, None, Result, Ok, Err, unwrap_or, if◌then◌else◌}
 use Rattle.std.specs.Int.{w64, to_be_bytes}
 use Rattle.ck_types.specs.declared.entry.Entry.{Entry}
 use Rattle.ck_types.specs.declared.attr_type.AttrType.{AttrType}
@@ -8,7 +8,7 @@ use Rattle.ck_types.specs.declared.attr_type.AttrType.TheVariants as attr
 use Rattle.ck_types.specs.declared.object_class.ObjectClass.{ObjectClass}
 use Rattle.ck_types.specs.declared.object_class.ObjectClass.TheVariants.{Data, SecretKey}
 use Rattle.ck_types.specs.declared.key_type.KeyType.{KeyType}
-use Rattle.ck_types.specs.declared.key_type.KeyType.TheVariants.{GenericSecret, Aes}
+use Rattle.ck_types.specs.declared.key_type.KeyType.TheVariants.{GenericSecret}
 use Rattle.ck_types.specs.declared.rv.Rv.{Rv}
 use Rattle.ck_types.specs.declared.rv.Rv.TheVariants as rv
 use Rattle.ck_types.specs.Numbers.{attr_type_number, key_type_number, mech_type_number, object_class_number}

@@ -93,16 +93,17 @@ pub(crate) fn any_ill_formed(template: &[Entry]) -> bool
 fn is_contradicted(entry: &Entry, template: &[Entry]) -> bool
     ensures { result ≡ list_any (contradicts entry.now) template.now }
 {
-    template
-        .iter()
-        .any(|other| entry.number == other.number && entry.value.as_slice() != other.value.as_slice())
+    template.iter().any(|other| entry.number == other.number
+        && entry.value.as_slice() != other.value.as_slice())
 }
 
 /// Whether two entries of one type have unequal values.
 pub(crate) fn any_contradicted(template: &[Entry]) -> bool
     ensures { result ≡ list_any (λ e. list_any (contradicts e) template.now) template.now }
 {
-    template.iter().any(|entry| is_contradicted(entry, template))
+    template
+        .iter()
+        .any(|entry| is_contradicted(entry, template))
 }
 
 fn is_set_value(value: &[u8]) -> bool

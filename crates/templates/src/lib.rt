@@ -34,9 +34,9 @@ mod call;
 mod conditions;
 mod fault;
 mod make;
-mod value;
 #[cfg(test)]
 mod tests;
+mod value;
 
 pub use ahead::{unwrap_fault, unwraps_private_key, unwraps_token_key};
 pub use make::{changed, copied, created, generated, random_len, unwrapped};

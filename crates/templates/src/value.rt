@@ -142,11 +142,7 @@ fn value_by_token(
     }
 }
 
-fn default_value(
-    alloc: Global,
-    making: &Making,
-    row: &AttributeRow,
-) -> Result<Bytes, AllocError>
+fn default_value(alloc: Global, making: &Making, row: &AttributeRow) -> Result<Bytes, AllocError>
     ensures { IfOk result (λ bytes. bytes ≡ by_default row.now.default making.now.call making.now.class making.now.template.now making.now.value.now row.now.attribute) }
 {
     match row.default {
@@ -165,11 +161,7 @@ fn default_value(
     }
 }
 
-fn original_value(
-    alloc: Global,
-    making: &Making,
-    row: &AttributeRow,
-) -> Result<Bytes, AllocError>
+fn original_value(alloc: Global, making: &Making, row: &AttributeRow) -> Result<Bytes, AllocError>
     ensures { IfOk result (λ bytes. bytes ≡ unwrap_or (attribute making.now.original.now (row_number row.now)) []) }
 {
     match find_attribute(making.original, row.attribute.number()) {
@@ -178,11 +170,7 @@ fn original_value(
     }
 }
 
-fn value_not_given(
-    alloc: Global,
-    making: &Making,
-    row: &AttributeRow,
-) -> Result<Bytes, AllocError>
+fn value_not_given(alloc: Global, making: &Making, row: &AttributeRow) -> Result<Bytes, AllocError>
     ensures { IfOk result (λ bytes. bytes ≡ not_given making.now.call making.now.class making.now.original.now making.now.template.now making.now.value.now row.now) }
 {
     match making.call {

@@ -35,13 +35,7 @@ impl Token {
         }
     }
 
-    fn serve(
-        &mut self,
-        alloc: Global,
-        app: u64,
-        call: Call,
-        words: &[u8],
-    ) -> Result<Out, Fault> {
+    fn serve(&mut self, alloc: Global, app: u64, call: Call, words: &[u8]) -> Result<Out, Fault> {
         if !self.desks.contains_key(&app) {
             self.desks
                 .insert(app, Desk::new(alloc))

@@ -44,7 +44,11 @@ pub(crate) fn serve(
         return code(Rv::FunctionFailed);
     }
     // Nobody can log in yet, so every session is a public one.
-    let state = if read_write { SessionState::RwPublic } else { SessionState::RoPublic };
+    let state = if read_write {
+        SessionState::RwPublic
+    } else {
+        SessionState::RoPublic
+    };
     match created(alloc, state, template, words) {
         Ok(object) => keep(desk, read_write, object),
         Err(fault) => code(fault),

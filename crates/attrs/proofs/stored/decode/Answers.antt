@@ -1,4 +1,4 @@
-use Rattle.std.proofs.Common.{Some, ap, subst, ◌∙◌, arith}
+use Rattle.std.proofs.Common.{ap, subst, ◌∙◌, arith}
 use Rattle.attrs.specs.Stored.{Decodes, object_stored}
 use Rattle.attrs.specs.StoredLaws.{is_found, object_stored-complete}
 use Rattle.attrs.proofs.stored.decode.Goals as goal

@@ -1,4 +1,3 @@
-use Rattle.std.proofs.Common.{◌≡◌}
 use Rattle.std.proofs.lemmas.Result.{err_from_is_err_and}
 use Rattle.ck_types.specs.Format.{decode_many}
 use Rattle.ck_types.proofs.Loop.{goes_on, ends_so, is_done}

@@ -1,4 +1,3 @@
-use Rattle.std.proofs.Common.{sym}
 use Rattle.templates.proofs.NewKey.{unwrapped_private}
 use Rattle.templates.proofs.ahead.unwraps_private_key.Goals as goal
 

@@ -1,4 +1,3 @@
-use Rattle.std.proofs.Common.{sym}
 use Rattle.templates.proofs.NewKey.{unwrapped_token}
 use Rattle.templates.proofs.ahead.unwraps_token_key.Goals as goal
 

@@ -1,4 +1,4 @@
-use Rattle.std.proofs.Common.{sym, ◌∙◌, ap, []}
+use Rattle.std.proofs.Common.{sym, ◌∙◌, []}
 use Rattle.templates.specs.declared.call.Call.TheVariants as call
 use Rattle.templates.proofs.NoFault.{faultless}
 use Rattle.templates.proofs.NewKey.{generated_is_object}

@@ -1,4 +1,4 @@
-use Rattle.std.proofs.Common.{◌≡◌, None, sym}
+use Rattle.std.proofs.Common.{sym}
 use Rattle.attrs.specs.ObjectLaws.{IsObject-value}
 use Rattle.attrs.proofs.object.Object.value.Goals as goal
 
