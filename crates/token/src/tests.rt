@@ -17,38 +17,8 @@ const SECRET_KEY: &[u8] = b"\x00\x00\x00\x00\x00\x00\x00\x04";
 
 const AES: &[u8] = b"\x00\x00\x00\x00\x00\x00\x00\x1f";
 
-const GENERIC: &[u8] = b"\x00\x00\x00\x00\x00\x00\x00\x10";
-
-const NO: &[u8] = b"\x00";
-
-const YES: &[u8] = b"\x01";
-
-fn template(alloc: Global, entries: &[(u64, &[u8])]) -> Result<Template, Fail> {
-    let mut template = Template::new(alloc);
-    for (number, value) in entries {
-        let value = Bytes::from_slice(alloc, value)?;
-        template.push(Entry {
-            number: *number,
-            value,
-        })?;
-    }
-    Ok(template)
-}
-
 fn aes_key(alloc: Global) -> Result<Call, Fail> {
-    let template = template(
-        alloc,
-        &[
-            (AttrType::Class.number(), SECRET_KEY),
-            (AttrType::KeyType.number(), AES),
-            (AttrType::Private.number(), NO),
-            (AttrType::Value.number(), KEY),
-        ],
-    )?;
-    Ok(Call::CreateObject {
-        session: 1,
-        template,
-    })
+    key_with(alloc, AttrType::Private.number(), 0)
 }
 
 fn encrypt_init(alloc: Global, key: u64) -> Call {
@@ -78,85 +48,47 @@ fn reply_to(alloc: Global, token: &mut Token, call: Call) -> Result<Reply, Fail>
     }
 }
 
-#[test]
-fn a_template_is_refused_by_its_first_fault(rt: HostRuntime) -> Result<(), Fail> {
-    let alloc = rt.alloc();
-    let class = (AttrType::Class.number(), SECRET_KEY);
-    let aes = (AttrType::KeyType.number(), AES);
-    let public = (AttrType::Private.number(), NO);
-    let value = (AttrType::Value.number(), KEY);
-    let label: (u64, &[u8]) = (AttrType::Label.number(), b"a");
-    let other: (u64, &[u8]) = (AttrType::Label.number(), b"b");
-    let data: (u64, &[u8]) = (0, b"\x00\x00\x00\x00\x00\x00\x00\x00");
-    let rows: [(&[(u64, &[u8])], Reply); 16] = [
-        (&[class, aes, public, value, label, label], Reply::Object(1)),
-        (&[data], Reply::Object(1)),
-        (
-            &[class, aes, public, value, (0x9999_9999, KEY)],
-            Reply::Code(Rv::AttributeTypeInvalid),
-        ),
-        (
-            &[class, aes, (AttrType::Private.number(), b"\x02"), value],
-            Reply::Code(Rv::AttributeValueInvalid),
-        ),
-        (
-            &[(0, GENERIC), aes, value],
-            Reply::Code(Rv::AttributeValueInvalid),
-        ),
-        (
-            &[class, aes, public, value, label, other],
-            Reply::Code(Rv::TemplateInconsistent),
-        ),
-        (
-            &[class, aes, public, value, (AttrType::Local.number(), NO)],
-            Reply::Code(Rv::AttributeReadOnly),
-        ),
-        (
-            &[class, aes, public, value, (AttrType::Trusted.number(), YES)],
-            Reply::Code(Rv::AttributeReadOnly),
-        ),
-        (
-            &[
-                class,
-                aes,
-                public,
-                value,
-                (AttrType::ValueLen.number(), AES),
-            ],
-            Reply::Code(Rv::TemplateInconsistent),
-        ),
-        (
-            &[
-                class,
-                aes,
-                public,
-                value,
-                (AttrType::Application.number(), b"a"),
-            ],
-            Reply::Code(Rv::TemplateInconsistent),
-        ),
-        (&[data, aes], Reply::Code(Rv::TemplateInconsistent)),
-        (&[aes, public, value], Reply::Code(Rv::TemplateIncomplete)),
-        (&[class, aes, public], Reply::Code(Rv::TemplateIncomplete)),
-        (
-            &[class, aes, public, (AttrType::Value.number(), b"short")],
-            Reply::Code(Rv::AttributeValueInvalid),
-        ),
-        (&[class, aes, value], Reply::Code(Rv::UserNotLoggedIn)),
-        (
-            &[class, aes, public, value, (AttrType::Token.number(), YES)],
-            Reply::Code(Rv::FunctionNotSupported),
-        ),
-    ];
-    for (entries, wanted) in rows {
-        let mut token = Token::new(alloc);
-        reply_to(alloc, &mut token, Call::OpenSession { slot: 0, flags: 6 })?;
-        let call = Call::CreateObject {
-            session: 1,
-            template: template(alloc, entries)?,
-        };
-        assert_eq!(rt; reply_to(alloc, &mut token, call)?, wanted);
+/// An AES key, with a flag more.
+fn key_with(alloc: Global, number: u64, flag: u8) -> Result<Call, Fail> {
+    let mut entries = Template::new(alloc);
+    for (number, value) in [
+        (AttrType::Class.number(), SECRET_KEY),
+        (AttrType::KeyType.number(), AES),
+        (AttrType::Value.number(), KEY),
+    ] {
+        let value = Bytes::from_slice(alloc, value)?;
+        entries.push(Entry { number, value })?;
     }
+    let value = Bytes::from_slice(alloc, &[flag])?;
+    entries.push(Entry { number, value })?;
+    Ok(Call::CreateObject {
+        session: 1,
+        template: entries,
+    })
+}
+
+#[test]
+fn public_session_objects_alone_are_made(rt: HostRuntime) -> Result<(), Fail> {
+    let alloc = rt.alloc();
+    let mut token = Token::new(alloc);
+    reply_to(alloc, &mut token, Call::OpenSession { slot: 0, flags: 6 })?;
+    let public = key_with(alloc, AttrType::Private.number(), 0)?;
+    assert_eq!(rt; reply_to(alloc, &mut token, public)?, Reply::Object(1));
+    let private = key_with(alloc, AttrType::Private.number(), 1)?;
+    assert_eq!(rt;
+        reply_to(alloc, &mut token, private)?,
+        Reply::Code(Rv::UserNotLoggedIn)
+    );
+    let trusted = key_with(alloc, AttrType::Trusted.number(), 1)?;
+    assert_eq!(rt;
+        reply_to(alloc, &mut token, trusted)?,
+        Reply::Code(Rv::AttributeReadOnly)
+    );
+    let unknown = key_with(alloc, 0x9999_9999, 1)?;
+    assert_eq!(rt;
+        reply_to(alloc, &mut token, unknown)?,
+        Reply::Code(Rv::AttributeTypeInvalid)
+    );
     Ok(())
 }
 

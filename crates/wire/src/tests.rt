@@ -20,7 +20,7 @@ fn template(alloc: Global, count: u64) -> Result<Template, Fail> {
     Ok(entries)
 }
 
-/// Calls that have each kind of field, and the length of their payloads.
+/// Calls that have each kind of field, and the length of their frames.
 fn calls(alloc: Global) -> Result<Vec<(Call, usize)>, Fail> {
     let mechanism = Mechanism {
         number: 0x1082,
@@ -40,21 +40,21 @@ fn calls(alloc: Global) -> Result<Vec<(Call, usize)>, Fail> {
         room: None,
     })?;
     Ok(vec![in alloc;
-        (Call::GetTokenInfo { slot: 0 }, 10),
+        (Call::GetTokenInfo { slot: 0 }, 14),
         (
             Call::Login {
                 session: 1,
                 user_type: 1,
                 pin: bytes(alloc, b"1234")?
             },
-            26
+            30
         ),
         (
             Call::CreateObject {
                 session: 1,
                 template: template(alloc, 32)?
             },
-            558
+            562
         ),
         (
             Call::GetAttributeValue {
@@ -62,7 +62,7 @@ fn calls(alloc: Global) -> Result<Vec<(Call, usize)>, Fail> {
                 object: 2,
                 query
             },
-            48
+            52
         ),
         (
             Call::EncryptInit {
@@ -70,7 +70,7 @@ fn calls(alloc: Global) -> Result<Vec<(Call, usize)>, Fail> {
                 mechanism: Some(mechanism),
                 key: 2
             },
-            47
+            51
         ),
         (
             Call::EncryptInit {
@@ -78,7 +78,7 @@ fn calls(alloc: Global) -> Result<Vec<(Call, usize)>, Fail> {
                 mechanism: None,
                 key: 2
             },
-            19
+            23
         ),
         (
             Call::Verify {
@@ -86,7 +86,7 @@ fn calls(alloc: Global) -> Result<Vec<(Call, usize)>, Fail> {
                 data: bytes(alloc, b"data")?,
                 signature: bytes(alloc, &[])?
             },
-            22
+            26
         ),
         (
             Call::WrapKey {
@@ -96,31 +96,35 @@ fn calls(alloc: Global) -> Result<Vec<(Call, usize)>, Fail> {
                 key: 3,
                 room: None
             },
-            39
+            43
         ),
         (
             Call::GenerateRandom {
                 session: 1,
                 len: 16
             },
-            18
+            22
         ),
     ]?)
 }
 
+/// Whether the call has a frame of so many bytes, and is read from it.
+fn is_read_again(alloc: Global, call: &Call, len: usize) -> Result<bool, Fail> {
+    let frame = write_call(alloc, call)?;
+    let again = read_call(alloc, frame.get(4..).unwrap_or(&[]))?;
+    Ok(frame.len() == len && again == *call)
+}
+
 #[test]
 fn a_call_that_is_written_is_read(rt: HostRuntime) -> Result<(), Fail> {
-    let alloc = rt.alloc();
-    for (call, len) in calls(alloc)? {
-        let frame = write_call(alloc, &call)?;
-        assert_eq!(rt; frame.len(), 4 + len);
-        let again = read_call(alloc, frame.get(4..).unwrap_or(&[]))?;
-        assert_eq!(rt; again, call);
+    let calls = calls(rt.alloc())?;
+    for (call, len) in &calls {
+        assert!(rt; is_read_again(rt.alloc(), call, *len)?);
     }
     Ok(())
 }
 
-/// Replies of each shape, with a function that has it and the length of their payloads.
+/// Replies of each shape, with a function that has it and the length of their frames.
 fn replies(alloc: Global) -> Result<Vec<(Reply, Function, usize)>, Fail> {
     let info = TokenInfo {
         label: Label::BLANK,
@@ -150,43 +154,43 @@ fn replies(alloc: Global) -> Result<Vec<(Reply, Function, usize)>, Fail> {
     let mut handles = Items::new(alloc);
     handles.push(7)?;
     Ok(vec![in alloc;
-        (Reply::Code(Rv::Ok), Function::CloseSession, 8),
-        (Reply::Code(Rv::PinLocked), Function::GetTokenInfo, 8),
-        (Reply::TokenInfo(info), Function::GetTokenInfo, 96),
+        (Reply::Code(Rv::Ok), Function::CloseSession, 12),
+        (Reply::Code(Rv::PinLocked), Function::GetTokenInfo, 12),
+        (Reply::TokenInfo(info), Function::GetTokenInfo, 100),
         (
             Reply::MechanismList(Items::new(alloc)),
             Function::GetMechanismList,
-            12
+            16
         ),
         (
             Reply::MechanismInfo(mechanism),
             Function::GetMechanismInfo,
-            32
+            36
         ),
-        (Reply::Session(1), Function::OpenSession, 16),
-        (Reply::SessionInfo(session), Function::GetSessionInfo, 40),
-        (Reply::Object(2), Function::UnwrapKey, 16),
-        (Reply::ObjectSize(309), Function::GetObjectSize, 16),
+        (Reply::Session(1), Function::OpenSession, 20),
+        (Reply::SessionInfo(session), Function::GetSessionInfo, 44),
+        (Reply::Object(2), Function::UnwrapKey, 20),
+        (Reply::ObjectSize(309), Function::GetObjectSize, 20),
         (
             Reply::AttributeValues {
                 code: Rv::AttributeSensitive,
                 values
             },
             Function::GetAttributeValue,
-            32
+            36
         ),
-        (Reply::Objects(handles), Function::FindObjects, 20),
-        (Reply::Output(Output::Length(16)), Function::Encrypt, 17),
+        (Reply::Objects(handles), Function::FindObjects, 24),
+        (Reply::Output(Output::Length(16)), Function::Encrypt, 21),
         (
             Reply::Output(Output::Data(bytes(alloc, &[9; 16])?)),
             Function::WrapKey,
-            29
+            33
         ),
-        (Reply::BufferTooSmall(16), Function::SignFinal, 17),
+        (Reply::BufferTooSmall(16), Function::SignFinal, 21),
         (
             Reply::Random(bytes(alloc, &[1; 5])?),
             Function::GenerateRandom,
-            17
+            21
         ),
     ]?)
 }
@@ -196,7 +200,7 @@ fn a_reply_that_is_written_is_read(rt: HostRuntime) -> Result<(), Fail> {
     let alloc = rt.alloc();
     for (reply, function, len) in replies(alloc)? {
         let frame = write_reply(alloc, &reply)?;
-        assert_eq!(rt; frame.len(), 4 + len);
+        assert_eq!(rt; frame.len(), len);
         let again = read_reply(alloc, function.number(), frame.get(4..).unwrap_or(&[]))?;
         assert_eq!(rt; again, reply);
     }

@@ -1,0 +1,3 @@
+pub mod InOrderLemmas
+pub mod HandleLemmas
+pub mod Retaining

@@ -1,0 +1,10 @@
+use Rattle.std.proofs.Common.{eqb, rules, tests}
+use Rattle.std.proofs.lemmas.Iterator.Consumers.{YieldsList-from_first}
+use Rattle.std.proofs.lemmas.Iterator.Search.{find_from_yields_List}
+use Rattle.slab.specs.Slab.{entries}
+use Rattle.handles.proofs.find_number.Goals as goal
+
+pub returns : goal.returns
+returns c =
+    let found = find_from_yields_List (λ e. eqb e.1.number c.args.number) _ _ c.find.result c.find.ensures.ran (YieldsList-from_first (λ item. (item.0, item.1.now)) (λ rest. rest) (entries c.args.handles.now) c.iter.ensures.rest) (λ x b q k. search (rules, tests)) in
+    rw (← found) (search rules)

@@ -1,0 +1,2 @@
+pub mod StoredLaws
+pub mod Counting

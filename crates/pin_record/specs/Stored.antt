@@ -1,0 +1,90 @@
+-- The stored form of a record, format 2: a byte 2, a byte that says whether the token is initialised,
+-- the label in 32 bytes, then for the SO and for the user: a byte 0, or a byte 1 and the verifier, and
+-- a byte of tries. A verifier is 16 bytes of salt, the rounds in 32 bits, and 32 bytes of key. All
+-- numbers are big-endian.
+use Rattle.std.specs.Prelude.{◌≡◌, ℕ, ◌<◌, ◌==◌, Bool, true, nat_le, List, [], ◌∷◌, Option, Some, None, Result, Ok, Err, is_some, if◌then◌else◌}
+use Rattle.ck_types.specs.Format.{Format, ◌>>=◌, number32, fixed, pair, mapped, narrowed, optional, whole}
+use Rattle.pin_record.specs.declared.fault.DecodeFault.{DecodeFault}
+use Rattle.pin_record.specs.declared.fault.DecodeFault.TheVariants as faults
+use Rattle.pin_record.specs.Verifiers.{PinVerifier, is_rounds}
+use Rattle.pin_record.specs.Records.{PinState, TokenRecord, is_coherent, tries_fit, tries_limit}
+
+-- a number below 256
+abbrev pub decode_byte : List ℕ → Option (ℕ × List ℕ)
+decode_byte [] = None
+decode_byte (b ∷ rest) = Some (b, rest)
+
+abbrev pub byte : Format ℕ
+byte = record { encode = λ n. n ∷ []; Fits = λ n. n < 256; decode = decode_byte }
+
+-- the values of a format that pass a test
+abbrev pub restricted : {A : Type 0} → (A → Bool) → Format A → Format A
+restricted test c = record {
+  encode = c.encode;
+  Fits = λ x. (test x ≡ true) × c.Fits x;
+  decode = λ bytes. c.decode bytes >>= λ x. if test x.0 then Some x else None;
+}
+
+-- a byte that is always the same, and a value
+abbrev pub headed : {A : Type 0} → ℕ → Format A → Format A
+headed head c = record {
+  encode = λ x. head ∷ c.encode x;
+  Fits = c.Fits;
+  decode = λ bytes. byte.decode bytes >>= λ b. if b.0 == head then c.decode b.1 else None;
+}
+
+abbrev pub verifier_form : Format PinVerifier
+verifier_form =
+    mapped (pair (fixed 16) (pair (restricted is_rounds number32) (fixed 32)))
+    (λ p. record { salt = p.0; rounds = p.1.0; key = p.1.1 }) (λ v. (v.salt, (v.rounds, v.key)))
+
+abbrev pub tries_form : Format ℕ
+tries_form = restricted (λ n. nat_le n tries_limit) byte
+
+abbrev pub pin_form : Format PinState
+pin_form =
+    restricted tries_fit
+    (mapped (pair (optional verifier_form) tries_form) (λ p. record { verifier = p.0; tries = p.1 }) (λ p. (p.verifier, p.tries)))
+
+abbrev pub flag_byte : Bool → ℕ
+flag_byte initialized = if initialized then 1 else 0
+
+-- the byte that says whether the token is initialised, the label, and the two PINs
+abbrev pub Parts : Type 0
+Parts = ℕ × (List ℕ × (PinState × PinState))
+
+abbrev pub parts_form : Format Parts
+parts_form = pair byte (pair (fixed 32) (pair pin_form pin_form))
+
+abbrev pub parts_of : TokenRecord → Parts
+parts_of r = (flag_byte (is_some r.so.verifier), (r.label, (r.so, r.user)))
+
+-- the byte is that of the SO's PIN
+abbrev pub record_of : Parts → Option TokenRecord
+record_of p =
+    if p.0 == flag_byte (is_some p.1.1.0.verifier) then Some (record { label = p.1.0; so = p.1.1.0; user = p.1.1.1 }) else None
+
+abbrev pub record_form : Format TokenRecord
+record_form = headed 2 (restricted is_coherent (narrowed parts_form record_of parts_of))
+
+-- the records that there are: those with a stored form
+abbrev pub IsRecord : TokenRecord → Type 0
+IsRecord r = record_form.Fits r
+
+abbrev pub stored_form : TokenRecord → List ℕ
+stored_form r = record_form.encode r
+
+-- the record with a stored form
+unfoldable pub record_stored : List ℕ → Option TokenRecord
+record_stored bytes = whole record_form bytes
+
+-- What a decoder answers is the record. It takes no memory.
+abbrev pub Decodes : {X : Type 0} → Result X DecodeFault → Option X → Type 0
+Decodes (Ok x) decoded = decoded ≡ Some x
+Decodes (Err faults.Form) decoded = decoded ≡ None
+Decodes (Err faults.Memory) decoded = ⊥
+
+-- a value at the front, and the bytes after it, are what a format decodes
+abbrev pub Reads : {X Y : Type 0} → (X → Y) → Option X → Option Y → Type 0
+Reads view (Some x) decoded = decoded ≡ Some (view x)
+Reads view None decoded = decoded ≡ None

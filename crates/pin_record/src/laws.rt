@@ -1,0 +1,26 @@
+//! Laws of the definitions that the contracts cite.
+
+ghost use Rattle.std.specs.Prelude.{◌≡◌, ℕ, ◌<◌, ◌≤◌, List, length, true};
+ghost use Rattle.ck_types.specs.declared.user_type.UserType.{UserType as Who};
+ghost use Rattle.pin_record.specs.Records.{TokenRecord, tries_limit, tries_of};
+ghost use Rattle.pin_record.specs.Charges.{Charges, Event, IsCharged, after, checks_of, is_under_way, opened, spent, without};
+
+/// However checks of the PINs overlap, the tries of each PIN are the checks of it that ended otherwise
+/// than right since the last reset, and those under way. So at most ten end otherwise than right
+/// between two resets. It begins so with each record that is read.
+///
+/// Hence what `end_check`, `Record::with_pin` and `Record::initialized` ask of the checks under way:
+/// once a check ends, those that are left are fewer than the tries, and they are always ten at most.
+pub fn ten_tries()
+    ensures begins { (who : Who) (r : TokenRecord) → tries_of r who ≤ tries_limit
+        → IsCharged who (tries_of r who) (opened r) }
+    ensures goes_on { (who : Who) (s : ℕ) (c : Charges) (es : List Event) → IsCharged who s c
+        → IsCharged who (spent who s c es) (after c es) }
+    ensures ten { (who : Who) (s : ℕ) (c : Charges) (es : List Event) → IsCharged who s c
+        → spent who s c es ≤ tries_limit }
+    ensures fewer { (who : Who) (s : ℕ) (c : Charges) (number : ℕ) → IsCharged who s c
+        → is_under_way (checks_of c who) number ≡ true
+        → length (without (checks_of c who) number) < tries_of c.stored who }
+    ensures few { (who : Who) (s : ℕ) (c : Charges) → IsCharged who s c
+        → length (checks_of c who) ≤ tries_limit }
+{}

@@ -1,0 +1,166 @@
+//! The stored form of a record.
+
+ghost use Rattle.std.specs.Prelude.{◌≡◌, ◌++◌, IfOk, OnOk, OnSome, Some, length};
+ghost use Rattle.ck_types.specs.Format.{first_bytes, optional};
+ghost use Rattle.pin_record.specs.declared.record.Record.{Record as ARecord};
+ghost use Rattle.pin_record.specs.Stored.{IsRecord, Decodes, Reads, byte, flag_byte, pin_form, record_form, record_stored, stored_form, verifier_form};
+
+use crate::fault::DecodeFault;
+use crate::pin::{Pin, TRIES_LIMIT};
+use crate::record::Record;
+use crate::verifier::Verifier;
+use ck_types::{Label, UserType};
+use std::alloc::{AllocError, Global};
+
+/// The format of the stored form, its first byte.
+const FORMAT: u8 = 2;
+
+fn decode_byte(bytes: &[u8]) -> Option<(u8, &[u8])>
+    ensures { Reads (λ x. (x.0, x.1.now)) result (byte.decode bytes.now) }
+{
+    match bytes {
+        [] => None,
+        [first, rest @ ..] => Some((*first, rest)),
+    }
+}
+
+/// The first `N` bytes, and those after them.
+fn split_array<const N: usize>(bytes: &[u8]) -> Option<([u8; N], &[u8])>
+    ensures { Reads (λ x. (x.0, x.1.now)) result (first_bytes N bytes.now) }
+{
+    if bytes.len() < N {
+        return None;
+    }
+    let (front, rest) = bytes.split_at(N);
+    let mut array = [0; N];
+    array.copy_from_slice(front);
+    Some((array, rest))
+}
+
+fn decode_verifier(bytes: &[u8]) -> Option<(Verifier, &[u8])>
+    ensures { Reads (λ x. (x.0, x.1.now)) result (verifier_form.decode bytes.now) }
+{
+    let (salt, rest) = split_array::<16>(bytes)?;
+    let (rounds, rest) = split_array::<4>(rest)?;
+    let (key, rest) = split_array::<32>(rest)?;
+    let verifier = Verifier::from_parts(salt, u32::from_be_bytes(rounds), key)?;
+    Some((verifier, rest))
+}
+
+fn decode_optional(bytes: &[u8]) -> Option<(Option<Verifier>, &[u8])>
+    ensures { Reads (λ x. (x.0, x.1.now)) result ((optional verifier_form).decode bytes.now) }
+{
+    match bytes {
+        [0, rest @ ..] => Some((None, rest)),
+        [1, rest @ ..] => {
+            // `?` isn't proved at a pair of a value with a model and a borrow.
+            let Some((verifier, rest)) = decode_verifier(rest) else {
+                return None;
+            };
+            Some((Some(verifier), rest))
+        }
+        [] | [_, ..] => None,
+    }
+}
+
+fn decode_pin(bytes: &[u8]) -> Option<(Pin, &[u8])>
+    ensures { Reads (λ x. (x.0, x.1.now)) result (pin_form.decode bytes.now) }
+{
+    let Some((verifier, rest)) = decode_optional(bytes) else {
+        return None;
+    };
+    let (tries, rest) = decode_byte(rest)?;
+    if tries > TRIES_LIMIT {
+        return None;
+    }
+    let pin = Pin::from_parts(verifier, tries)?;
+    Some((pin, rest))
+}
+
+fn decode_record(bytes: &[u8]) -> Option<(Record, &[u8])>
+    ensures { Reads (λ x. (x.0, x.1.now)) result (record_form.decode bytes.now) }
+{
+    let (format, rest) = decode_byte(bytes)?;
+    if format != FORMAT {
+        return None;
+    }
+    let (initialized, rest) = decode_byte(rest)?;
+    let (label, rest) = split_array::<32>(rest)?;
+    let Some((so, rest)) = decode_pin(rest) else {
+        return None;
+    };
+    let Some((user, rest)) = decode_pin(rest) else {
+        return None;
+    };
+    if initialized != flag_byte(so.verifier().is_some()) {
+        return None;
+    }
+    let label = Label::from_slice(&label)?;
+    let record = Record::from_parts(label, so, user)?;
+    Some((record, rest))
+}
+
+fn flag_byte(initialized: bool) -> u8
+    ensures { result ≡ flag_byte initialized }
+{
+    if initialized { 1 } else { 0 }
+}
+
+#[tactic(auto, unfolding(crate::specs::Stored::record_stored))]
+fn decoded(bytes: &[u8]) -> Result<Record, DecodeFault>
+    ensures { Decodes result (record_stored bytes.now) }
+{
+    match decode_record(bytes) {
+        Some((record, [])) => Ok(record),
+        Some(_) | None => Err(DecodeFault::Form),
+    }
+}
+
+/// The record with a stored form. `Form` where the bytes are no record's stored form. No memory is
+/// taken.
+pub fn decode(bytes: &[u8]) -> Result<Record, DecodeFault>
+    ensures found { IfOk result (λ r. IsRecord r × (bytes.now ≡ stored_form r)) }
+    ensures only { (r : ARecord) → IsRecord r → bytes.now ≡ stored_form r → Decodes result (Some r) }
+    ensures exact { Decodes result (record_stored bytes.now) }
+{
+    decoded(bytes)
+}
+
+fn encode_verifier(verifier: &Verifier, out: &mut Vec<u8>) -> Result<(), AllocError>
+    ensures bytes { OnOk result (out.new.items ≡ out.old.items ++ verifier_form.encode verifier.now) }
+    ensures fits { OnOk result (verifier_form.Fits verifier.now) }
+{
+    out.extend_from_slice(verifier.salt())?;
+    out.extend_from_slice(&verifier.rounds().to_be_bytes())?;
+    out.extend_from_slice(verifier.key())?;
+    Ok(())
+}
+
+fn encode_pin(pin: &Pin, out: &mut Vec<u8>) -> Result<(), AllocError>
+    ensures bytes { OnOk result (out.new.items ≡ out.old.items ++ pin_form.encode pin.now) }
+    ensures fits { OnOk result (pin_form.Fits pin.now) }
+{
+    match pin.verifier() {
+        None => out.push(0)?,
+        Some(verifier) => {
+            out.push(1)?;
+            encode_verifier(verifier, out)?;
+        }
+    }
+    out.push(pin.tries())?;
+    Ok(())
+}
+
+/// The stored form of a record: 38 bytes for a new store, 142 where both PINs are set.
+pub fn encode(alloc: Global, record: &Record) -> Result<Vec<u8>, AllocError>
+    ensures bytes { IfOk result (λ bytes. bytes.items ≡ stored_form «record».now) }
+    ensures fits { OnOk result (IsRecord «record».now) }
+{
+    let mut out = Vec::new(alloc);
+    out.push(FORMAT)?;
+    out.push(flag_byte(record.is_initialized()))?;
+    out.extend_from_slice(record.label().as_slice())?;
+    encode_pin(record.pin(UserType::So), &mut out)?;
+    encode_pin(record.pin(UserType::User), &mut out)?;
+    Ok(out)
+}

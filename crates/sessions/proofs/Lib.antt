@@ -1,0 +1,4 @@
+pub mod InOrderLemmas
+pub mod ChangeLemmas
+pub mod SessionLemmas
+pub mod Retaining
