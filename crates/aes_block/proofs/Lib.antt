@@ -1,7 +1,9 @@
 pub mod Checks
 pub mod FieldLaws
 pub mod SBoxEntries
+pub mod WordTests
 pub mod MixEntries
+pub mod RoundConstants
 pub mod Blocks
 pub mod WordProducts
 pub mod Steps

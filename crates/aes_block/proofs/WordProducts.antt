@@ -1,10 +1,10 @@
 -- The products of polynomials modulo x^4 + 1: by the columns of a matrix, through a sum, and those of the
 -- two polynomials of the cipher, which undo each other.
-use Rattle.std.proofs.Common.{◌≡◌, ℕ, ◌+◌, ◌*◌, ◌%◌, ◌<◌, ◌==◌, ◌&&◌, Bool, true, List, [], ◌∷◌, ◌++◌, get_or, bit_xor, ap, refl, sym, ◌∙◌, eqb-true}
+use Rattle.std.proofs.Common.{◌≡◌, ℕ, ◌+◌, ◌*◌, ◌%◌, ◌<◌, ◌==◌, Bool, true, List, [], ◌∷◌, ◌++◌, get_or, bit_xor, ap, refl, sym, ◌∙◌}
 use Rattle.std.specs.Prelude.{if◌then◌else◌}
 use Rattle.std.specs.Int.Bits.{xor_zero_l, xor_zero_r}
 use Rattle.std.proofs.lemmas.Nat.{xor_lt}
-use Rattle.std.proofs.lemmas.Bool.{agree_below, agree_below_at, and_parts}
+use Rattle.std.proofs.lemmas.Bool.{agree_below, agree_below_at}
 use Rattle.aes_block.specs.Bytes.{AreBytes, IsBlock, xor_bytes}
 use Rattle.aes_block.specs.Field.{bit, terms_product, remainder, product}
 use Rattle.aes_block.specs.State.{byte_at, column, columns}
@@ -13,6 +13,7 @@ use Rattle.aes_block.specs.Cipher.{multiply_columns, mix_polynomial}
 use Rattle.aes_block.specs.InverseCipher.{inverse_mix_polynomial}
 use Rattle.aes_block.specs.Words.{matrix_column, multiples}
 use Rattle.aes_block.proofs.FieldLaws.{swapped_middle, product-xor, product-lt}
+use Rattle.aes_block.proofs.WordTests.{same_word, same_word-tells}
 use Rattle.aes_block.proofs.Blocks.{AreBytes-at, AreBytes-four, IsBlock-columns, get_or-xor_bytes, by_bytes}
 
 -- the product by the columns of the matrix of a
@@ -90,24 +91,6 @@ multiply_columns-xor p s t hs ht =
 
 -- ---- two polynomials whose product is 1
 
--- whether two words are the same
-unfoldable same_word : List ℕ → List ℕ → Bool
-same_word s t = (get_or s 0 0 == get_or t 0 0) &&
-    ((get_or s 1 0 == get_or t 1 0) && ((get_or s 2 0 == get_or t 2 0) && (get_or s 3 0 == get_or t 3 0)))
-
-word-of : (a b c d e f g h : ℕ) → same_word (a ∷ b ∷ c ∷ d ∷ []) (e ∷ f ∷ g ∷ h ∷ []) ≡ true → a ∷ b ∷ c ∷ d ∷ []
-    ≡ e ∷ f ∷ g ∷ h ∷ []
-unfolding same_word
-word-of a b c d e f g h same =
-    let one = and_parts (a == e) ((b == f) && ((c == g) && (d == h))) same in
-    let two = and_parts (b == f) ((c == g) && (d == h)) one.1 in
-    let three = and_parts (c == g) (d == h) two.1 in
-    let at0 : a ≡ e = eqb-true a e one.0 in
-    let at1 : b ≡ f = eqb-true b f two.0 in
-    let at2 : c ≡ g = eqb-true c g three.0 in
-    let at3 : d ≡ h = eqb-true d h three.1 in
-    λ i. at0 i ∷ at1 i ∷ at2 i ∷ at3 i ∷ []
-
 -- the word with x at place k and zeros beside it
 unfoldable alone : ℕ → ℕ → List ℕ
 alone k x = (if k == 0 then x else 0) ∷ (if k == 1 then x else 0) ∷ (if k == 2 then x else 0) ∷ (if k == 3 then x else 0) ∷ []
@@ -127,7 +110,7 @@ undone-at : (p q : List ℕ) (k x : ℕ) → undoes_at p q k ≡ true → x < 25
     → word_product p (multiples (matrix_column q k) x) ≡ alone k x
 unfolding undoes_at word_product multiples matrix_column alone
 undone-at p q k x h lt =
-    word-of _ _ _ _ _ _ _ _
+    same_word-tells _ _ _ _ _ _ _ _
     (agree_below_at (λ b. same_word (word_product p (multiples (matrix_column q k) b)) (alone k b)) (λ _. true) 256 x h lt)
 
 together : (a b c d : ℕ) → xor_bytes (xor_bytes (xor_bytes (alone 0 a) (alone 1 b)) (alone 2 c)) (alone 3 d) ≡ a ∷ b ∷ c ∷ d ∷ []

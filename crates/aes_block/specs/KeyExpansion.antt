@@ -8,7 +8,7 @@ use Rattle.aes_block.specs.Cipher.{substitute_bytes}
 abbrev pub IsKeyLength : ℕ → Type 0
 IsKeyLength n = (n ≡ 16) ⊎ ((n ≡ 24) ⊎ (n ≡ 32))
 
--- a key
+-- the bytes of a key
 pub record IsKey (key : List ℕ) : Type 0 where
   pub size : IsKeyLength (length key)
   pub bytes : AreBytes key

@@ -9,7 +9,6 @@ ghost use Rattle.aes_block.specs.Words.{word_bytes, words_bytes};
 
 use crate::inverse_round::inverse_mixed_word;
 use crate::round::{s_box, substituted_column};
-use crate::tables::ROUND_CONSTANTS;
 use crate::word::{byte_0, byte_1, byte_2, byte_3, word_of};
 
 /// The words of the longest key schedule: four for each of 14 rounds, and four before them.
@@ -17,6 +16,12 @@ pub(crate) const SCHEDULE_WORDS: usize = 60;
 
 /// A key schedule, and zeros after it where it is not of the longest.
 pub(crate) type Schedule = [u32; SCHEDULE_WORDS];
+
+// The words Rcon[1] to Rcon[10].
+static ROUND_CONSTANTS: [u32; 10] = [
+    0x01000000, 0x02000000, 0x04000000, 0x08000000, 0x10000000, 0x20000000, 0x40000000, 0x80000000,
+    0x1b000000, 0x36000000,
+];
 
 // Rcon[i].
 fn round_constant(i: usize) -> u32

@@ -22,6 +22,12 @@
 //! - `xor_blocks` is the exclusive or, byte by byte.
 //! - No call takes memory, and none can fail but `Key::new`, for the length.
 //!
+//! Of the definitions themselves, `proofs/` shows that each byte but 0 has an inverse and
+//! `inverse` is it (`FieldLaws`), that each word of the key schedule is the standard's sum of
+//! earlier ones (`KeySchedules`), and that they give the standard's examples, C.1 to C.3 among
+//! them (`StandardFacts`). A proof above may cite `IsBlock-enciphered_block` (`KeySchedules`) and
+//! what is known of `xor_bytes` and `IsBlock` (`Blocks`).
+//!
 //! Section numbers are those of FIPS 197 of November 2001; its update of May 2023 keeps the
 //! algorithm.
 //!
@@ -111,6 +117,8 @@ impl Key {
     /// The block that `block` is enciphered to (FIPS 197, 5.1).
     pub fn encipher(&self, block: Block) -> Block
         ensures value { result ≡ enciphered_block self.now block }
+
+        // What the types say, as facts on lists.
         ensures blocks { IsBlock block × IsBlock result }
     {
         cipher::encipher(&self.schedule, self.rounds, block)
@@ -120,6 +128,8 @@ impl Key {
     pub fn decipher(&self, block: Block) -> Block
         ensures back { enciphered_block self.now result ≡ block }
         ensures only { (x : List ℕ) → IsBlock x → enciphered_block self.now x ≡ block → x ≡ result }
+
+        // What the types say, as facts on lists.
         ensures blocks { IsBlock block × IsBlock result }
     {
         cipher::decipher(&self.schedule, &self.inverse_schedule, self.rounds, block)
@@ -143,6 +153,8 @@ fn rounds_of(size: usize) -> Option<usize>
 #[inline(always)]
 pub fn xor_blocks(x: Block, y: Block) -> Block
     ensures value { result ≡ xor_bytes x y }
+
+    // What the types say, as facts on lists.
     ensures blocks { IsBlock x × IsBlock y × IsBlock result }
 {
     State::from_block(x)

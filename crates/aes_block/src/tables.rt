@@ -41,12 +41,6 @@ pub(crate) static INVERSE_S_BOX: [u8; 256] = [
     0x17, 0x2b, 0x04, 0x7e, 0xba, 0x77, 0xd6, 0x26, 0xe1, 0x69, 0x14, 0x63, 0x55, 0x21, 0x0c, 0x7d,
 ];
 
-/// The words Rcon[1] to Rcon[10] (5.2).
-pub(crate) static ROUND_CONSTANTS: [u32; 10] = [
-    0x01000000, 0x02000000, 0x04000000, 0x08000000, 0x10000000, 0x20000000, 0x40000000, 0x80000000,
-    0x1b000000, 0x36000000,
-];
-
 /// What a byte of row r adds to a column that is mixed (5.1.3), after the S-box: entry x of row r
 /// is column r of the matrix of {03} x^3 + {01} x^2 + {01} x + {02}, times the S-box at x.
 pub(crate) static MIXED_ROWS: [[u32; 256]; 4] = [

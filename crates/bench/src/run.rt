@@ -16,8 +16,11 @@ const PLAIN: Block = [
     0x00, 0x11, 0x22, 0x33, 0x44, 0x55, 0x66, 0x77, 0x88, 0x99, 0xaa, 0xbb, 0xcc, 0xdd, 0xee, 0xff,
 ];
 
-/// The blocks of a text of 64 KiB, and the keys that are kept at once.
+/// The blocks of a text of 64 KiB; keys are counted by as many.
 const BATCH: u32 = 4096;
+
+/// The keys that are kept at once: few enough for the nearest cache.
+const KEPT: usize = 32;
 
 /// What a run makes.
 #[derive(Clone, Copy)]
@@ -119,22 +122,23 @@ pub(crate) fn chain_back(rt: &impl CpuClock, size: usize, batches: u32) -> io::R
     })
 }
 
-/// Keys that are kept, a batch of them at once.
+/// Keys that are kept, a few at once.
 pub(crate) fn keys_kept(
     rt: &impl CpuClock,
     alloc: Global,
     size: usize,
     batches: u32,
 ) -> io::Result<Run> {
-    let mut kept = Vec::with_capacity(alloc, BATCH as usize)?;
+    let mut kept = Vec::with_capacity(alloc, KEPT)?;
+    let count = batches.saturating_mul(BATCH);
     let mut bytes = KEY;
     let start = rt.thread_cpu_time()?;
-    for batch in 0..batches {
-        kept.clear();
-        for i in 0..BATCH {
-            bytes[..4].copy_from_slice(&(batch ^ i).to_be_bytes());
-            kept.push(key_of(&bytes, size)?)?;
+    for i in 0..count {
+        if kept.len() == KEPT {
+            kept.clear();
         }
+        bytes[..4].copy_from_slice(&i.to_be_bytes());
+        kept.push(key_of(&bytes, size)?)?;
     }
     let time = rt.thread_cpu_time()?.saturating_sub(start);
     let sum = kept
@@ -143,7 +147,7 @@ pub(crate) fn keys_kept(
     Ok(Run {
         what: "Key::new",
         unit: Unit::Key,
-        count: batches.saturating_mul(BATCH),
+        count,
         sum,
         time,
     })

@@ -1,4 +1,4 @@
-use Rattle.aes_block.proofs.MixEntries.{ROUND_CONSTANTS-at}
+use Rattle.aes_block.proofs.RoundConstants.{ROUND_CONSTANTS-at}
 use Rattle.aes_block.proofs.key_expansion.round_constant.Goals as goal
 
 pub returns : goal.returns
