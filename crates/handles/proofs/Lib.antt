@@ -1,3 +1,2 @@
-pub mod InOrderLemmas
 pub mod HandleLemmas
 pub mod Retaining

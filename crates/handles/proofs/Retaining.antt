@@ -3,8 +3,8 @@ use Rattle.std.proofs.Common.{◌≡◌, ℕ, ◌+◌, Bool, cond, List, [], ◌
 use Rattle.slab.specs.Slab.{RetainsFrom}
 use Rattle.std.specs.Prelude.{filter}
 use Rattle.std.proofs.lemmas.Bool.{cases_Bool}
-use Rattle.handles.specs.InOrder.{in_order}
-use Rattle.handles.proofs.InOrderLemmas.{IsOrdered-in_order, filter-placed}
+use Rattle.in_order.specs.InOrder.{in_order}
+use Rattle.in_order.proofs.InOrderLemmas.{IsOrdered-in_order, filter-placed}
 
 -- a slot, if what it has passes the test
 abbrev pub left_in : {E : Type 0} → (E → Bool) → Option E → Option E

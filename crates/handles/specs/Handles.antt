@@ -3,7 +3,7 @@ use Rattle.std.specs.Prelude.{◌≡◌, ℕ, ◌+◌, ◌≤◌, ◌==◌, Bool
 use Rattle.std.specs.Option.{option_map}
 use Rattle.std.specs.List.{AllByRecursion}
 use Rattle.handles.specs.declared.Handle.{Handle}
-use Rattle.handles.specs.InOrder.{NumbersRise}
+use Rattle.in_order.specs.InOrder.{NumbersRise}
 
 -- one application's handles in the order in which they were given, the number of the next one, and
 -- how many fit with no allocation

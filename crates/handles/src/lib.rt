@@ -20,7 +20,7 @@
 
 ghost use Rattle.std.specs.Prelude.{◌≡◌, ◌+◌, ◌^◌, ◌<◌, ◌≤◌, ◌==◌, find, nat_lt, Some, option_map, IsOk, IfSome, OnOk};
 ghost use Rattle.slab.specs.Slab.{entries};
-ghost use Rattle.handles.specs.InOrder.{in_order};
+ghost use Rattle.in_order.specs.InOrder.{in_order};
 ghost use Rattle.handles.specs.Handles.{no_handles, object_of, number_of, with_handle, without_object, public_handles, HasRoomFor, IsTable};
 
 #[cfg(test)]
@@ -50,7 +50,7 @@ pub struct Handles {
 }
 
 impl Model for Handles {
-    ghost use Rattle.handles.specs.InOrder.{in_order};
+    ghost use Rattle.in_order.specs.InOrder.{in_order};
     ghost use Rattle.handles.specs.Handles.{HandleTable, IsTable};
 
     ghost Value = { HandleTable };

@@ -1,4 +1,3 @@
-pub mod InOrderLemmas
 pub mod ChangeLemmas
 pub mod SessionLemmas
 pub mod Retaining

@@ -26,7 +26,7 @@ ghost use Rattle.std.specs.Prelude.{◌≡◌, ◌<◌, ◌==◌, [], length, fi
 ghost use Rattle.std.specs.Option.{option_copied_mut};
 ghost use Rattle.std.specs.Borrow.{sem};
 ghost use Rattle.slab.specs.Slab.{entries};
-ghost use Rattle.sessions.specs.InOrder.{in_order};
+ghost use Rattle.in_order.specs.InOrder.{in_order};
 ghost use Rattle.sessions.specs.Sessions.{no_sessions, session_at, state_of, has_read_only, with_session, without_session, busy_with, logged_out, IsTable};
 
 #[cfg(test)]
@@ -71,7 +71,7 @@ pub struct Sessions<W> {
 }
 
 impl<W> Model for Sessions<W> {
-    ghost use Rattle.sessions.specs.InOrder.{in_order};
+    ghost use Rattle.in_order.specs.InOrder.{in_order};
     ghost use Rattle.sessions.specs.Sessions.{SessionTable, IsTable};
 
     ghost Value = { SessionTable W };

@@ -1,7 +1,7 @@
 use Rattle.std.proofs.Common.{◌≡◌, None, refl, sym, ◌∙◌}
-use Rattle.handles.specs.InOrder.{in_order}
+use Rattle.in_order.specs.InOrder.{in_order}
 use Rattle.handles.specs.Handles.{number_of}
-use Rattle.handles.proofs.InOrderLemmas.{length-in_order, in_order-next}
+use Rattle.in_order.proofs.InOrderLemmas.{length-in_order, in_order-next}
 use Rattle.handles.proofs.HandleLemmas.{IsTable-push, number_of-push}
 use Rattle.handles.proofs.Handles.give.Goals as goal
 

@@ -1,5 +1,5 @@
 use Rattle.std.proofs.Common.{eqb, ◌∙◌, rules}
-use Rattle.handles.proofs.InOrderLemmas.{find-in_order}
+use Rattle.in_order.proofs.InOrderLemmas.{find-in_order}
 use Rattle.handles.proofs.HandleLemmas.{IfSome-number_of, PassesOnce-object}
 use Rattle.handles.proofs.Handles.number_of.Goals as goal
 

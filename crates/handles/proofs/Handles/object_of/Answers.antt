@@ -1,5 +1,5 @@
 use Rattle.std.proofs.Common.{eqb, ◌∙◌, rules}
-use Rattle.handles.proofs.InOrderLemmas.{find-in_order, PassesOnce-number}
+use Rattle.in_order.proofs.InOrderLemmas.{find-in_order, PassesOnce-number}
 use Rattle.handles.proofs.HandleLemmas.{IfSome-object_of}
 use Rattle.handles.proofs.Handles.object_of.Goals as goal
 

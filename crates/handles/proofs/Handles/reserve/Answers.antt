@@ -1,4 +1,4 @@
-use Rattle.handles.proofs.InOrderLemmas.{length-in_order}
+use Rattle.in_order.proofs.InOrderLemmas.{length-in_order}
 use Rattle.handles.proofs.Handles.reserve.Goals as goal
 
 pub returns-clause-room : goal.returns-clause-room

@@ -6,7 +6,7 @@ use Rattle.std.specs.List.{AllByRecursion}
 use Rattle.std.proofs.lemmas.Bool.{cases_lt, cases_Bool, lt-ltb, le-ltb, eqb-true, ne_eqb, true≢false}
 use Rattle.std.proofs.lemmas.List.Sums.{sum_by-cons}
 use Rattle.slab.specs.Slab.{Slab, get, Updates, entries_from}
-use Rattle.handles.specs.InOrder.{placed, in_order, NumbersRise}
+use Rattle.in_order.specs.InOrder.{placed, in_order, NumbersRise}
 
 -- ---- lists
 pub All-filter : {E : Type 0} (P : E → Type 0) (test : E → Bool) (xs : List E) → AllByRecursion P xs → AllByRecursion P (filter test xs)
