@@ -1,0 +1,40 @@
+//! Keepers of a token's objects and its record.
+//!
+//! - `Keep` is what a keeper is: one list of token objects, in the order in which they were made, and one
+//!   record (`pin_record`). An object has an id, from 1 on; ids rise by one and never return. Each call
+//!   makes its change whole, or is refused and leaves the list and the record as they were.
+//! - `KeepFault` is why a keeper refuses. `Device` comes only where the count of `failures` rose in that
+//!   call.
+//! - `ListKeep` is a keeper in memory, by an ordered map from ids to objects.
+//!
+//! Contracts see a keeper by relations and counts, the ghost members of `Keep`: which contents it holds,
+//! which a crash at this moment may leave, how many writes were tried, how often the device failed, and a
+//! doubt that is 0 as long as the store has returned what was written. A keeper that is shut, or whose
+//! disk has lied, may hold anything, so nothing follows of it. Contents are the list of objects under
+//! their ids, the record, and the greatest id that was ever given (`specs/Contents.antt`). After an
+//! acknowledged change a crash leaves the change alone; after a fault it leaves what it could leave
+//! before, or the whole change (`specs/Keeping.antt`).
+//!
+//! `laws` proves what is found under an id after a change, and that an id which has lost its object never
+//! has one again.
+//!
+//! ```text
+//! let mut keep = ListKeep::new(alloc, Record::new());
+//! let id = keep.insert(&object)?; // 1
+//! keep.replace(id, &other)?;
+//! let read = keep.object(alloc, id)?; // equal to other
+//! keep.remove(id)?;
+//! assert!(keep.object(alloc, id).is_err()); // KeepFault::Device
+//! assert_eq!(keep.insert(&object)?, 2);
+//! ```
+#![tactic(auto)]
+
+mod keep;
+pub mod laws;
+mod list_keep;
+mod memory_contents;
+#[cfg(test)]
+mod tests;
+
+pub use keep::{GREATEST_ID, Keep, KeepFault};
+pub use list_keep::ListKeep;
