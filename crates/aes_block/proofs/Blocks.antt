@@ -1,9 +1,9 @@
 -- Bytes and blocks: what is one, and the exclusive or of two.
-use Rattle.std.proofs.Common.{◌≡◌, ℕ, zero, suc, ◌+◌, ◌<◌, ◌≤◌, List, [], ◌∷◌, ◌++◌, length, drop, get_or, bit_xor, ap, refl, sym, ◌∙◌, arith, inl, inr}
+use Rattle.std.proofs.Common.{◌≡◌, ℕ, zero, suc, ◌+◌, ◌<◌, ◌≤◌, List, [], ◌∷◌, ◌++◌, length, take, drop, set, get_or, bit_xor, ap, refl, sym, ◌∙◌, arith, inl, inr}
 use Rattle.std.specs.Int.Bits.{xor_assoc, xor_zero_r, xor_self}
 use Rattle.std.proofs.lemmas.Nat.{xor_comm, xor_lt}
 use Rattle.std.proofs.lemmas.Bool.{cases_lt}
-use Rattle.std.proofs.lemmas.List.{drop_more, drop_all, get_or_past, length-append}
+use Rattle.std.proofs.lemmas.List.{append-nil, take_all, drop_more, drop_all, get_or_past, length-append}
 use Rattle.std.proofs.lemmas.List.Elements.{All-get_or, All-from_get_or, All-append, All-cons, All-nil}
 use Rattle.aes_block.specs.Bytes.{AreBytes, IsBlock, xor_bytes}
 use Rattle.aes_block.specs.State.{state, columns}
@@ -69,6 +69,36 @@ pub IsBlock-xor_bytes : (s t : List ℕ) → IsBlock s → IsBlock t → IsBlock
 IsBlock-xor_bytes s t hs ht =
     let same : length s ≡ length t = hs.size ∙ sym ht.size in
     record { size = length-xor_bytes s t same ∙ hs.size; bytes = AreBytes-xor_bytes s t same hs.bytes ht.bytes }
+
+-- the first i bytes added
+abbrev pub xored : List ℕ → List ℕ → ℕ → List ℕ
+xored s t i = xor_bytes s (take i t) ++ drop i s
+
+pub xored-none : (s t : List ℕ) → s ≡ xored s t 0
+unfolding xor_bytes
+xored-none [] t = refl
+xored-none (x ∷ s) t = refl
+
+-- byte i is still as it was
+pub get_or-xored : (s t : List ℕ) (i : ℕ) → i < length s → i < length t → get_or (xored s t i) i 0 ≡ get_or s i 0
+unfolding xor_bytes
+get_or-xored [] t i lt _ = absurd (omega arith)
+get_or-xored (x ∷ s) [] i _ lt = absurd (omega arith)
+get_or-xored (x ∷ s) (y ∷ t) zero _ _ = refl
+get_or-xored (x ∷ s) (y ∷ t) (suc i) ls lt = get_or-xored s t i (omega arith) (omega arith)
+
+-- and with it i + 1 bytes are added
+pub xored-more : (s t : List ℕ) (i : ℕ) → i < length s → i < length t
+    → set (xored s t i) i (bit_xor (get_or s i 0) (get_or t i 0)) ≡ xored s t (suc i)
+unfolding xor_bytes
+xored-more [] t i lt _ = absurd (omega arith)
+xored-more (x ∷ s) [] i _ lt = absurd (omega arith)
+xored-more (x ∷ s) (y ∷ t) zero _ _ = ap (λ l. bit_xor x y ∷ l) (xored-none s t)
+xored-more (x ∷ s) (y ∷ t) (suc i) ls lt = ap (λ l. bit_xor x y ∷ l) (xored-more s t i (omega arith) (omega arith))
+
+pub xored-all : (s t : List ℕ) (i : ℕ) → length s ≡ 16 → length t ≡ 16 → 16 ≤ i → xored s t i ≡ xor_bytes s t
+xored-all s t i ls lt le =
+    (λ u. xor_bytes s (take_all i t (omega arith) u) ++ drop_all i s (omega arith) u) ∙ append-nil (xor_bytes s t)
 
 -- ---- a block by its bytes
 

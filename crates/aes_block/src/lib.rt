@@ -47,12 +47,11 @@ mod tests;
 mod word;
 
 ghost use Rattle.std.specs.Prelude.{◌≡◌, ℕ, ◌+◌, ◌/◌, ◌↔◌, List, length, IsSome, IfSome};
-ghost use Rattle.aes_block.specs.Bytes.{IsBlock, xor_bytes};
+ghost use Rattle.aes_block.specs.Bytes.{AreBytes, IsBlock, xor_bytes};
 ghost use Rattle.aes_block.specs.KeyExpansion.{IsKey, IsKeyLength};
 ghost use Rattle.aes_block.specs.Encipher.{enciphered_block};
 
 use key_expansion::Schedule;
-use state::State;
 use std::marker::Model;
 
 /// A block: the 16 bytes that the cipher takes and gives (FIPS 197, 3.1).
@@ -149,6 +148,12 @@ fn rounds_of(size: usize) -> Option<usize>
     }
 }
 
+// What the type of a slice says of its bytes.
+#[inline(always)]
+fn are_bytes(bytes: &[u8])
+    ensures { AreBytes bytes.now }
+{}
+
 /// The exclusive or of two blocks, byte by byte.
 #[inline(always)]
 pub fn xor_blocks(x: Block, y: Block) -> Block
@@ -157,7 +162,11 @@ pub fn xor_blocks(x: Block, y: Block) -> Block
     // What the types say, as facts on lists.
     ensures blocks { IsBlock x × IsBlock y × IsBlock result }
 {
-    State::from_block(x)
-        .add_round_key(State::from_block(y))
-        .to_block()
+    are_bytes(&x);
+    are_bytes(&y);
+    let mut sum = x;
+    for i in 0..16 {
+        sum[i] ^= y[i];
+    }
+    sum
 }

@@ -1,4 +1,4 @@
-//! The speed of `aes_block`, printed as a table. What it prints is measured, and nothing of it is
+//! The speed of `aes_block`, `aes_modes`, `aes_cmac` and `hmac_sha2`, printed as a table. What it prints is measured, and nothing of it is
 //! proved but that the program is safe and ends.
 //!
 //! With no argument it works, for each key length, on 64 MiB or a million keys a row, and prints
@@ -8,11 +8,14 @@
 //!   another;
 //! - a chain: each block is what the one before was enciphered to, so that none begins before
 //!   that is done;
-//! - keys that are made and kept, and keys that are made for one block each.
+//! - keys that are made and kept, and keys that are made for one block each;
+//! - a text of 64,000 bytes, a thousand times, under each mode and code.
 //!
-//! With the argument `small` it works on 64 KiB or 4,096 keys a row, and prints the exclusive or
-//! of the blocks that were made in place of times: they are the same on each machine, so that the
-//! gate can run it.
+//! After them stand HMAC-SHA-256 over such texts, and 10,000 rounds of PBKDF2.
+//!
+//! With the argument `small` it works on 64 KiB, 4,096 keys, one text or 100 rounds a row, and
+//! prints the exclusive or of the blocks that were made, or the last block, in place of times: they
+//! are the same on each machine, so that the gate can run it.
 //!
 //! OpenSSL measures the same ciphers, in processor time too, without the AES instructions of the
 //! processor where the bits that announce these and the carry-less product are masked. Its ECB is
@@ -25,16 +28,34 @@
 #![tactic(auto)]
 
 mod run;
+mod texts;
 
+use aes_modes::Direction;
 use run::{Report, blocks_apart, chain, chain_back, keys_for_a_block, keys_kept};
 use std::rt::Env;
 use std::{env, io};
+use texts::{Work, derivation, over_texts};
 
 /// The batches of 64 KiB, and of 4,096 keys, of a row of the full table: 64 MiB, and a million
 /// keys.
 const BLOCK_BATCHES: u32 = 1024;
 
 const KEY_BATCHES: u32 = 256;
+
+/// The texts and the rounds of a row of the full table.
+const TEXTS: u32 = 1000;
+
+const ROUNDS: u32 = 10_000;
+
+/// What is done to texts under each key length.
+const WORKS: [Work; 6] = [
+    Work::Ecb(Direction::Encipher),
+    Work::Ecb(Direction::Decipher),
+    Work::Cbc(Direction::Encipher),
+    Work::Cbc(Direction::Decipher),
+    Work::Ctr,
+    Work::Cmac,
+];
 
 /// The lengths of keys in bytes.
 const KEY_SIZES: [usize; 3] = [16, 24, 32];
@@ -51,12 +72,12 @@ fn is_small(rt: &(impl Env + Alloc)) -> io::Result<bool> {
 }
 
 fn main(rt: HostRuntime) -> io::Result<()> {
-    let (block_batches, key_batches, report) = if is_small(&rt)? {
+    let (block_batches, key_batches, texts, rounds, report) = if is_small(&rt)? {
         println!(rt; "bits  work                          count  exclusive or of the blocks")?;
-        (1, 1, Report::Sums)
+        (1, 1, 1, 100, Report::Sums)
     } else {
         println!(rt; "bits  work                          count   ns each      rate")?;
-        (BLOCK_BATCHES, KEY_BATCHES, Report::Times)
+        (BLOCK_BATCHES, KEY_BATCHES, TEXTS, ROUNDS, Report::Times)
     };
     for size in KEY_SIZES {
         blocks_apart(&rt, rt.alloc(), size, block_batches)?.print(&rt, size, report)?;
@@ -64,6 +85,10 @@ fn main(rt: HostRuntime) -> io::Result<()> {
         chain_back(&rt, size, block_batches)?.print(&rt, size, report)?;
         keys_kept(&rt, rt.alloc(), size, key_batches)?.print(&rt, size, report)?;
         keys_for_a_block(&rt, size, key_batches)?.print(&rt, size, report)?;
+        for work in WORKS {
+            over_texts(&rt, rt.alloc(), work, size, texts)?.print(&rt, size, report)?;
+        }
     }
-    Ok(())
+    over_texts(&rt, rt.alloc(), Work::Hmac, 32, texts)?.print(&rt, 32, report)?;
+    derivation(&rt, rounds)?.print(&rt, 8, report)
 }

@@ -6,7 +6,7 @@ use std::io;
 use std::time::{CpuClock, Duration};
 
 /// The key of FIPS 197, C.3; its first 16 and 24 bytes are those of C.1 and C.2.
-const KEY: [u8; 32] = [
+pub(crate) const KEY: [u8; 32] = [
     0, 1, 2, 3, 4, 5, 6, 7, 8, 9, 10, 11, 12, 13, 14, 15, 16, 17, 18, 19, 20, 21, 22, 23, 24, 25,
     26, 27, 28, 29, 30, 31,
 ];
@@ -24,9 +24,13 @@ const KEPT: usize = 32;
 
 /// What a run makes.
 #[derive(Clone, Copy)]
-enum Unit {
+pub(crate) enum Unit {
     Block,
     Key,
+    /// A text of 64,000 bytes.
+    Text,
+    /// A round of PBKDF2.
+    Round,
 }
 
 /// What a line says of a run.
@@ -39,15 +43,15 @@ pub(crate) enum Report {
 /// A run: how many blocks or keys it made, the exclusive or of its last blocks, and its time.
 #[derive(Drop)]
 pub(crate) struct Run {
-    what: &'static str,
-    unit: Unit,
-    count: u32,
-    sum: Block,
-    time: Duration,
+    pub(crate) what: &'static str,
+    pub(crate) unit: Unit,
+    pub(crate) count: u32,
+    pub(crate) sum: Block,
+    pub(crate) time: Duration,
 }
 
 // The key of the first so many bytes.
-fn key_of(bytes: &[u8; 32], size: usize) -> io::Result<Key> {
+pub(crate) fn key_of(bytes: &[u8; 32], size: usize) -> io::Result<Key> {
     bytes
         .get(..size)
         .and_then(|part| Key::new(part))
@@ -188,7 +192,9 @@ impl Run {
                 let each = seconds * 1e9 / f64::from(count);
                 let (rate, unit) = match self.unit {
                     Unit::Block => (f64::from(count) * 16.0 / 1e6 / seconds, "MB/s"),
+                    Unit::Text => (f64::from(count) * 0.064 / seconds, "MB/s"),
                     Unit::Key => (f64::from(count) / 1e6 / seconds, "million keys/s"),
+                    Unit::Round => (seconds * 1e3, "ms in all"),
                 };
                 println!(rt; "{bits:>4}  {what:<26}{count:>9}{each:>10.1}{rate:>10.2}  {unit}")
             }

@@ -1,0 +1,5 @@
+pub mod Blocks
+pub mod Counter
+pub mod Padding
+pub mod Modes
+pub mod Directions

@@ -1,0 +1,56 @@
+//! Texts by their blocks.
+
+ghost use Rattle.std.specs.Prelude.{◌≡◌, ◌+◌, ◌-◌, ◌*◌, ◌/◌, ◌%◌, ◌≤◌, ◌++◌, length, replicate};
+ghost use Rattle.aes_block.specs.Bytes.{AreBytes};
+ghost use Rattle.aes_block.specs.KeyExpansion.{IsKey};
+ghost use Rattle.aes_modes.specs.Blocks.{block_of};
+
+use aes_block::{Block, Key};
+
+/// The length of a block in bytes.
+pub(crate) const BLOCK_SIZE: usize = 16;
+
+/// Block `i` of a text, which is whole.
+#[inline(always)]
+pub(crate) fn block_at(text: &[u8], i: usize) -> Block
+    requires { 16 * i + 16 ≤ length text.now }
+    ensures { result ≡ block_of text.now i }
+{
+    let mut block = [0; BLOCK_SIZE];
+    block.copy_from_slice(&text[BLOCK_SIZE * i..BLOCK_SIZE * i + BLOCK_SIZE]);
+    block
+}
+
+/// What a text has behind its whole blocks.
+pub(crate) fn rest_of(text: &[u8]) -> &[u8]
+    ensures size { length result.now ≡ length text.now % 16 }
+    ensures value { result.now ≡ block_of text.now (length text.now / 16) }
+{
+    &text[BLOCK_SIZE * (text.len() / BLOCK_SIZE)..]
+}
+
+/// At most 16 bytes, and as many times `fill` as make them a block.
+pub(crate) fn filled_block(bytes: &[u8], fill: u8) -> Block
+    requires { length bytes.now ≤ 16 }
+    ensures { result ≡ bytes.now ++ replicate (16 - length bytes.now) fill }
+{
+    let mut block = [fill; BLOCK_SIZE];
+    for (i, byte) in bytes.iter().enumerate() {
+        block[i] = *byte;
+    }
+    block
+}
+
+/// What the type of a slice says of its bytes.
+#[inline(always)]
+pub(crate) fn are_bytes(bytes: &[u8])
+    ensures { AreBytes bytes.now }
+{}
+
+/// What the type of a key says of its bytes.
+#[inline(always)]
+pub(crate) fn is_key(key: &Key)
+    ensures { IsKey key.now }
+{
+    let _size = key.size();
+}

@@ -1,0 +1,74 @@
+//! The counter mode (SP 800-38A, 6.5).
+
+ghost use Rattle.std.specs.Prelude.{◌≡◌, ℕ, ◌⊎◌, ◌+◌, ◌^◌, ◌<◌, ◌≤◌, ◌↔◌, List, length, IfOk, IfErr, IsErrOf};
+ghost use Rattle.aes_modes.specs.Blocks.{blocks_begun};
+ghost use Rattle.aes_modes.specs.Counter.{counter_start};
+ghost use Rattle.aes_modes.specs.Modes.{ctr_enciphered};
+ghost use Rattle.aes_modes.specs.Directions.{IsTurned};
+
+use crate::blocks::{BLOCK_SIZE, block_at, filled_block, is_key, rest_of};
+use crate::counter::has_counters;
+use crate::{CounterBits, Direction, ModeFault};
+use aes_block::{Block, Key, xor_blocks};
+use std::alloc::{AllocError, Global};
+
+/// The text enciphered, where each of its blocks has a counter.
+fn enciphered(
+    alloc: Global,
+    key: &Key,
+    bits: CounterBits,
+    start: Block,
+    text: &[u8],
+) -> Result<Vec<u8>, AllocError>
+    requires bits { bits ≤ 128 }
+    requires counters { counter_start bits start + blocks_begun text.now ≤ 2 ^ bits }
+    ensures { IfOk result (λ out. out.items ≡ ctr_enciphered key.now bits start text.now) }
+{
+    let first = u128::from_be_bytes(start);
+    let whole = text.len() / BLOCK_SIZE;
+    let mut out = Vec::with_capacity(alloc, text.len())?;
+    'turns: for i in 0..whole {
+        let output = key.encipher((first + i as u128).to_be_bytes());
+        out.extend_from_slice(&xor_blocks(block_at(text, i), output))?;
+    }
+    let rest = rest_of(text);
+    if rest.is_empty() {
+        return Ok(out);
+    }
+    let output = key.encipher((first + whole as u128).to_be_bytes());
+    let last = xor_blocks(filled_block(rest, 0), output);
+    out.extend_from_slice(&last[..rest.len()])?;
+    Ok(out)
+}
+
+/// A text of any length under CTR (SP 800-38A, 6.5). The counters begin with `start`, whose `bits`
+/// low bits count. The result has the text's length in bytes, and both directions are one.
+///
+/// `CounterEnd` where the number of those bits and the blocks that the text begins come to more
+/// than 2 to the `bits`, so that a counter would come again, and `Memory` where the result gets no
+/// memory.
+pub fn ctr(
+    alloc: Global,
+    key: &Key,
+    direction: Direction,
+    bits: CounterBits,
+    start: Block,
+    text: &[u8],
+) -> Result<Vec<u8>, ModeFault>
+    ensures length { IfOk result (λ out. length out.items ≡ length text.now) }
+    ensures value { IfOk result (λ out.
+        IsTurned direction (ctr_enciphered key.now bits start) text.now out.items) }
+    ensures only { IfOk result (λ out. (x : List ℕ)
+        → IsTurned direction (ctr_enciphered key.now bits start) text.now x → x ≡ out.items) }
+    ensures counter_end { IsErrOf result ModeFault.CounterEnd
+        ↔ (2 ^ bits < counter_start bits start + blocks_begun text.now) }
+    ensures faults { IfErr result (λ fault. (fault ≡ ModeFault.CounterEnd) ⊎ (fault ≡ ModeFault.Memory)) }
+{
+    is_key(key);
+    if !has_counters(bits, start, text.len().div_ceil(BLOCK_SIZE)) {
+        return Err(ModeFault::CounterEnd);
+    }
+    match direction {
+        Direction::Encipher | Direction::Decipher => Ok(enciphered(alloc, key, bits, start, text)?),
+    }
+}

@@ -1,0 +1,8 @@
+/// Which way a mode is used (SP 800-38A, 5.3).
+#[derive(Clone, Copy, Debug, PartialEq, Eq)]
+pub enum Direction {
+    /// From a plain text to the cipher text.
+    Encipher,
+    /// From a cipher text to the plain text.
+    Decipher,
+}

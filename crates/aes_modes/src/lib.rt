@@ -1,0 +1,56 @@
+//! The modes ECB, CBC and CTR of SP 800-38A (2001) with AES, over whole texts, and CBC with the
+//! padding of PKCS #7 (RFC 5652, 6.3).
+//!
+//! ```rust
+//! use aes_block::Key;
+//! use aes_modes::{CounterBits, Direction, cbc_pad, ctr};
+//!
+//! let Some(key) = Key::new(b"sixteen byte key") else {
+//!     return Ok(());
+//! };
+//! let iv = [7; 16];
+//! let enciphered = cbc_pad(alloc, &key, Direction::Encipher, iv, b"any length")?;
+//! let text = cbc_pad(alloc, &key, Direction::Decipher, iv, &enciphered)?;
+//! assert_eq!(rt; text.as_slice(), b"any length");
+//!
+//! let Some(bits) = CounterBits::new(32) else {
+//!     return Ok(());
+//! };
+//! let enciphered = ctr(alloc, &key, Direction::Encipher, bits, [0; 16], b"any length")?;
+//! ```
+//!
+//! Proved, for every key, text and parameter:
+//!
+//! - Enciphering gives what `specs/Modes.antt` writes down from the standard, block by block.
+//!   Deciphering gives the text that is enciphered to the one given, and there is no other.
+//! - `LenRange` comes exactly where a mode of whole blocks is given another length, and
+//!   `CounterEnd` exactly where counter blocks would repeat. `BadPad` comes only where no text is
+//!   enciphered to the one given. But for these there is only `Memory`, for a growth refused.
+//!
+//! A proof above may cite of the definitions, from `proofs/`: no two texts are enciphered to one,
+//! and how long they become (`Only`), CTR twice is the text again (`CounterTexts`), and the first
+//! blocks of a text are enciphered alike whatever follows, and the further ones from the block
+//! before (`Texts`, `Chains`).
+//!
+//! Each call makes one growth, of the length that it gives. The time that it takes depends on
+//! secrets, as that of `aes_block`. Nothing here is authenticated.
+#![tactic(auto)]
+
+mod blocks;
+mod chaining;
+mod codebook;
+mod counter;
+mod counter_mode;
+mod direction;
+mod fault;
+mod padded_chaining;
+#[cfg(test)]
+mod tests;
+
+pub use chaining::cbc;
+pub use codebook::ecb;
+pub use counter::CounterBits;
+pub use counter_mode::ctr;
+pub use direction::Direction;
+pub use fault::ModeFault;
+pub use padded_chaining::cbc_pad;
