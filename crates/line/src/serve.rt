@@ -1,11 +1,14 @@
 //! Answers the frames of a reader to a writer.
 
+ghost use Rattle.std.specs.Prelude.{◌≡◌, length};
+ghost use Rattle.ck_calls.specs.Need.{random_bytes};
 ghost use Rattle.line.specs.Serve.{Writes};
 
 use crate::fault::LineFault;
 use crate::words::Words;
 use ck_calls::{Call, Reply, need};
 use ck_types::Rv;
+use keep::Keep;
 use std::alloc::Global;
 use std::io::{Read, Write};
 use token::{Event, Ran, Token};
@@ -33,13 +36,15 @@ fn write_out<W: Write>(writer: &mut W, bytes: &[u8]) -> Result<(), LineFault>
 }
 
 /// The reply to a call, which may be two events.
-fn answer_call(
+fn answer_call<K: Keep>(
     alloc: Global,
-    token: &mut Token,
+    token: &mut Token<K>,
     app: u64,
     call: Call,
     words: Vec<u8>,
-) -> Result<Reply, LineFault> {
+) -> Result<Reply, LineFault>
+    requires { length words.items ≡ random_bytes call }
+{
     let events = vec![in alloc; Event::Call { app, call, words }]?;
     let Ran {
         mut replies,
@@ -58,9 +63,9 @@ fn answer_call(
 }
 
 /// The reply to a payload.
-fn answer(
+fn answer<K: Keep>(
     alloc: Global,
-    token: &mut Token,
+    token: &mut Token<K>,
     words: &mut Words,
     payload: &[u8],
 ) -> Result<Reply, LineFault> {
@@ -85,11 +90,11 @@ fn send<W: Write>(alloc: Global, writer: &mut W, reply: &Reply) -> Result<(), Li
 }
 
 /// Answers each payload that is whole.
-fn answer_all<W: Write>(
+fn answer_all<W: Write, K: Keep>(
     alloc: Global,
     frames: &mut FrameReader,
     writer: &mut W,
-    token: &mut Token,
+    token: &mut Token<K>,
     words: &mut Words,
     count: &mut u64,
 ) -> Result<(), LineFault> {
@@ -107,11 +112,11 @@ fn answer_all<W: Write>(
     }
 }
 
-fn serve_frames<R: Read, W: Write>(
+fn serve_frames<R: Read, W: Write, K: Keep>(
     alloc: Global,
     reader: &mut R,
     writer: &mut W,
-    token: &mut Token,
+    token: &mut Token<K>,
     words: &mut Words,
 ) -> Result<u64, LineFault> {
     let mut frames = FrameReader::new(alloc);
@@ -146,11 +151,11 @@ fn serve_frames<R: Read, W: Write>(
 /// `Read` where the reader fails (also after 2^64 - 1 reads), `Write` where the writer does, `TooLong`
 /// for a frame above the limit, `Cut` where the reader ends within a frame, `Memory`. The replies to
 /// all whole frames before `TooLong` and `Cut` were written.
-pub fn serve_one<R: Read, W: Write>(
+pub fn serve_one<R: Read, W: Write, K: Keep>(
     alloc: Global,
     reader: &mut R,
     writer: &mut W,
-    token: &mut Token,
+    token: &mut Token<K>,
     words: &mut Words,
 ) -> Result<u64, LineFault> {
     let ended = serve_frames(alloc, reader, writer, token, words);

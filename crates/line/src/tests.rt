@@ -5,6 +5,8 @@ ghost use Rattle.std.specs.Prelude.{Some};
 use crate::{LineFault, Words, serve_one};
 use ck_calls::{Call, Reply};
 use ck_types::Rv;
+use keep::ListKeep;
+use pin_record::Record;
 use std::alloc::Global;
 use std::io::{self, ErrorKind, Read, Write};
 use std::test::*;
@@ -92,16 +94,24 @@ fn joined(alloc: Global, parts: &[&[u8]]) -> Result<Vec<u8>, Fail> {
 }
 
 /// How a line over the input ends for a new token, and what it wrote.
-fn run(alloc: Global, input: &[u8], fails: bool, room: usize) -> (Result<u64, LineFault>, Vec<u8>) {
+fn run(
+    alloc: Global,
+    input: &[u8],
+    fails: bool,
+    room: usize,
+) -> Result<(Result<u64, LineFault>, Vec<u8>), Fail> {
     let mut reader = Drip { rest: input, fails };
     let mut writer = Narrow {
         bytes: Vec::new(alloc),
         room,
     };
-    let mut token = Token::new(alloc);
+    let keep = ListKeep::new(alloc, Record::new());
+    let Ok(mut token) = Token::new(alloc, keep) else {
+        return Err(Fail::new("the keeper refused"));
+    };
     let mut words = Words::for_app([0; 32], 0);
     let ended = serve_one(alloc, &mut reader, &mut writer, &mut token, &mut words);
-    (ended, writer.bytes)
+    Ok((ended, writer.bytes))
 }
 
 #[test]
@@ -109,7 +119,7 @@ fn the_first_run_gives_the_ciphertext_of_fips_197_c_1(rt: HostRuntime) -> Result
     let alloc = rt.alloc();
     let input = joined(alloc, &[OPEN_SESSION, CREATE_OBJECT, ENCRYPT_INIT, ENCRYPT])?;
     let wanted = joined(alloc, &[NUMBER_ONE, NUMBER_ONE, OK, ENCRYPTED])?;
-    let (ended, written) = run(alloc, &input, false, usize::MAX);
+    let (ended, written) = run(alloc, &input, false, usize::MAX)?;
     assert_eq!(rt; written.as_slice(), wanted.as_slice());
     assert_eq!(rt; ended, Ok(4));
     Ok(())
@@ -131,7 +141,7 @@ fn a_cut_stream_gives_the_replies_of_its_whole_frames(rt: HostRuntime) -> Result
             156..199 => (3, 52),
             _ => (4, 85),
         };
-        let (ended, written) = run(alloc, front, false, usize::MAX);
+        let (ended, written) = run(alloc, front, false, usize::MAX)?;
         let wanted = match cut {
             0 | 22 | 121 | 156 | 199 => Ok(count),
             _ => Err(LineFault::Cut),
@@ -152,7 +162,7 @@ fn a_writer_that_fails_has_the_first_bytes_of_the_replies(rt: HostRuntime) -> Re
     let input = joined(alloc, &[OPEN_SESSION, CREATE_OBJECT, ENCRYPT_INIT, ENCRYPT])?;
     let replies = joined(alloc, &[NUMBER_ONE, NUMBER_ONE, OK, ENCRYPTED])?;
     for room in 0..replies.len() {
-        let (ended, written) = run(alloc, &input, false, room);
+        let (ended, written) = run(alloc, &input, false, room)?;
         assert_eq!(rt; ended, Err(LineFault::Write), "room for {room} bytes");
         assert_eq!(rt;
             Some(written.as_slice()),
@@ -165,7 +175,7 @@ fn a_writer_that_fails_has_the_first_bytes_of_the_replies(rt: HostRuntime) -> Re
 
 #[test]
 fn a_reader_that_fails_ends_the_line(rt: HostRuntime) -> Result<(), Fail> {
-    let (ended, written) = run(rt.alloc(), OPEN_SESSION, true, usize::MAX);
+    let (ended, written) = run(rt.alloc(), OPEN_SESSION, true, usize::MAX)?;
     assert_eq!(rt; ended, Err(LineFault::Read));
     assert_eq!(rt; written.as_slice(), NUMBER_ONE);
     Ok(())
@@ -198,7 +208,7 @@ fn a_payload_that_is_no_call_is_answered_by_its_code(rt: HostRuntime) -> Result<
         ),
     ];
     for (frame, reply) in payloads {
-        let (ended, written) = run(alloc, frame, false, usize::MAX);
+        let (ended, written) = run(alloc, frame, false, usize::MAX)?;
         assert_eq!(rt; ended, Ok(1));
         assert_eq!(rt; written.as_slice(), reply);
     }
@@ -214,7 +224,7 @@ fn a_length_above_the_limit_ends_the_line_without_a_reply(rt: HostRuntime) -> Re
     ];
     for length in lengths {
         let input = joined(rt.alloc(), &[OPEN_SESSION, length])?;
-        let (ended, written) = run(rt.alloc(), &input, false, usize::MAX);
+        let (ended, written) = run(rt.alloc(), &input, false, usize::MAX)?;
         assert_eq!(rt; ended, Err(LineFault::TooLong));
         assert_eq!(rt; written.as_slice(), NUMBER_ONE);
     }
@@ -228,7 +238,7 @@ fn an_application_has_at_most_64_sessions(rt: HostRuntime) -> Result<(), Fail> {
     for _ in 0..65 {
         input.extend_from_slice(OPEN_SESSION)?;
     }
-    let (ended, written) = run(alloc, &input, false, usize::MAX);
+    let (ended, written) = run(alloc, &input, false, usize::MAX)?;
     assert_eq!(rt; ended, Ok(65));
     let last: &[u8] = b"\x00\x00\x00\x08\x00\x00\x00\x00\x00\x00\x00\xb1";
     assert_eq!(rt; written.get(64 * 20..), Some(last));
@@ -239,7 +249,7 @@ fn an_application_has_at_most_64_sessions(rt: HostRuntime) -> Result<(), Fail> {
 fn a_call_that_is_written_is_answered_by_a_reply_that_is_read(rt: HostRuntime) -> Result<(), Fail> {
     let alloc = rt.alloc();
     let frame = write_call(alloc, &Call::OpenSession { slot: 0, flags: 2 })?;
-    let (ended, written) = run(alloc, &frame, false, usize::MAX);
+    let (ended, written) = run(alloc, &frame, false, usize::MAX)?;
     assert_eq!(rt; ended, Ok(1));
     let reply = read_reply(alloc, 7, written.get(4..).unwrap_or(&[]))?;
     assert_eq!(rt; reply, Reply::Code(Rv::SessionParallelNotSupported));

@@ -1,6 +1,6 @@
 //! The random bytes of an application.
 
-ghost use Rattle.std.specs.Prelude.{◌≡◌, IfOk, OnErr};
+ghost use Rattle.std.specs.Prelude.{◌≡◌, IfOk, OnErr, length};
 ghost use Rattle.line.specs.Words.{words_for, taken};
 
 use rand_chacha::ChaCha20Rng;
@@ -44,6 +44,7 @@ impl Words {
     /// dropped.
     pub fn take(&mut self, alloc: Global, count: usize) -> Result<Vec<u8>, AllocError>
         ensures ok { IfOk result (λ v. (v.items, self.new) ≡ taken count self.old) }
+        ensures length { IfOk result (λ v. length v.items ≡ count) }
         ensures err { OnErr result (self.new ≡ self.old) }
     {
         let mut bytes = vec![in alloc; 0u8; count]?;

@@ -6,7 +6,9 @@ use crate::command::{command, seed_of};
 use crate::failure::Failure;
 use clap::error::ErrorKind;
 use clap::{ArgMatches, Error};
+use keep::ListKeep;
 use line::{Words, serve_one};
+use pin_record::Record;
 use std::alloc::Global;
 use std::io::{Read, Write};
 use token::Token;
@@ -24,7 +26,10 @@ fn stdio<I: Read, O: Write>(
     output: &mut O,
 ) -> Result<(), Failure> {
     let mut words = Words::for_app(seed_of(matches)?, STDIO_APP);
-    let mut token = Token::new(alloc);
+    let keep = ListKeep::new(alloc, Record::new());
+    let Ok(mut token) = Token::new(alloc, keep) else {
+        return Err(Failure::Memory);
+    };
     let _replies = serve_one(alloc, input, output, &mut token, &mut words)?;
     Ok(())
 }

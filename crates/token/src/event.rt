@@ -1,7 +1,7 @@
 //! What happens to a token, and what comes of it.
 
-use crate::job::Job;
 use ck_calls::{Call, Reply};
+use mech::Job;
 
 /// What happens to a token.
 #[derive(Debug, Drop)]

@@ -1,54 +1,60 @@
 //! C_Encrypt (PKCS #11 v3.1, 5.8).
 
-use crate::desk::{Desk, Question};
+ghost use Rattle.std.specs.Prelude.{◌<◌, ◌^◌, IsOk};
+
 use crate::event::Out;
-use crate::fault::Fault;
-use crate::job::{BLOCK_LEN, Job, Work};
-use crate::serving::code;
+use crate::serving::refuse;
 use ck_calls::{Function, Output, Reply};
-use ck_types::{Bytes, Rv};
+use ck_types::Bytes;
+use desk::Desk;
+use keep::KeepFault;
+use mech::{Job, Work};
+use precede::Row;
+
+/// The length of an AES block, in bytes.
+const BLOCK_LEN: usize = 16;
 
 pub(crate) fn serve(
     app: u64,
     desk: &mut Desk,
     session: u64,
-    data: Bytes,
+    input: Bytes,
     room: Option<u64>,
-) -> Result<Out, Fault> {
-    let Some(found) = desk.session(session) else {
-        return code(Rv::SessionHandleInvalid);
-    };
-    let Some(key) = &found.encrypt else {
-        return code(Rv::OperationNotInitialized);
-    };
-    let key = key.copied();
-    if data.len() % BLOCK_LEN != 0 {
-        desk.set_encrypt(session, None);
-        return code(Rv::DataLenRange);
+) -> Result<Out, KeepFault>
+    requires { desk.old.next_question < 2 ^ 63 }
+    ensures { IsOk result }
+{
+    if desk.state(session).is_none() {
+        return refuse(Row::NoSession);
     }
-    let wanted = data.len() as u64;
+    let Some(encryption) = desk.encryption(session) else {
+        return refuse(Row::NoOperation);
+    };
+    let key = encryption.key.copied();
+    if input.len() % BLOCK_LEN != 0 {
+        desk.set_encryption(session, None);
+        return refuse(Row::DataLength);
+    }
+    let wanted = input.len() as u64;
     let Some(room) = room else {
         return Ok(Out::Reply(Reply::Output(Output::Length(wanted))));
     };
     if room < wanted {
         return Ok(Out::Reply(Reply::BufferTooSmall(wanted)));
     }
-    let question = desk.ask(Function::Encrypt, session);
-    Ok(Out::Ask(Job {
+    let job = Job {
         app,
-        question,
+        question: desk.next_question(),
         function: Function::Encrypt,
-        work: Work::EcbEncrypt { key, data },
-    }))
+        session,
+        work: Work::EcbEncrypt { key, input },
+    };
+    desk.ask(&job);
+    Ok(Out::Ask(job))
 }
 
-/// The end of the question. For want of memory the operation stays.
-pub(crate) fn finish(desk: &mut Desk, question: Question, data: Option<Bytes>) -> Reply {
-    match data {
-        Some(data) => {
-            desk.set_encrypt(question.session, None);
-            Reply::Output(Output::Data(data))
-        }
-        None => Fault::Memory.reply(),
-    }
+/// The operation ends with its output.
+pub(crate) fn finish(desk: &mut Desk, session: u64, output: Bytes) -> Reply {
+    desk.set_encryption(session, None);
+    Reply::Output(Output::Data(output))
 }

@@ -1,53 +1,78 @@
 //! C_EncryptInit (PKCS #11 v3.1, 5.8).
 
-use crate::desk::Desk;
+ghost use Rattle.std.specs.Prelude.{IsOk};
+ghost use Rattle.keep.specs.Keeping.{Counted, HasCause};
+
 use crate::event::Out;
-use crate::fault::Fault;
-use crate::serving::code;
+use crate::serving::finding::object_under;
+use crate::serving::{code, refuse};
+use crate::store::Store;
 use aes_block::Key;
+use attrs::Object;
 use ck_calls::Mechanism;
 use ck_types::{AttrType, KeyType, MechType, Rv};
+use desk::{Desk, Encryption};
+use keep::{Keep, KeepFault};
+use precede::Row;
+use std::alloc::Global;
 
-pub(crate) fn serve(
+/// The mechanism of this number, if it enciphers data and is built.
+fn cipher_at(number: u64) -> Option<MechType> {
+    match MechType::from_number(number) {
+        Some(MechType::AesEcb) => Some(MechType::AesEcb),
+        _ => None,
+    }
+}
+
+pub(crate) fn serve<K: Keep>(
+    alloc: Global,
     desk: &mut Desk,
+    store: &mut Store<K>,
     session: u64,
     mechanism: Option<Mechanism>,
     key: u64,
-) -> Result<Out, Fault> {
-    let Some(active) = desk
-        .session(session)
-        .map(|session| session.encrypt.is_some())
-    else {
-        return code(Rv::SessionHandleInvalid);
+) -> Result<Out, KeepFault>
+    ensures counts { Counted K.doubt K.failures_of K.tried store.old.keep store.new.keep 0 }
+    ensures cause { HasCause (K.failures_of store.old.keep) (K.failures_of store.new.keep) result }
+{
+    let Some(state) = desk.state(session) else {
+        return refuse(Row::NoSession);
     };
     let Some(mechanism) = mechanism else {
-        desk.set_encrypt(session, None);
+        desk.set_encryption(session, None);
         return code(Rv::Ok);
     };
-    if active {
-        return code(Rv::OperationActive);
+    if desk.encryption(session).is_some() {
+        return refuse(Row::OperationActive);
     }
-    if MechType::from_number(mechanism.number) != Some(MechType::AesEcb) {
-        return code(Rv::MechanismInvalid);
+    if cipher_at(mechanism.number).is_none() {
+        return refuse(Row::WrongMechanism);
     }
     if !mechanism.parameter.is_empty() {
-        return code(Rv::MechanismParamInvalid);
+        return refuse(Row::WrongParameter);
     }
-    let Some(object) = desk.object(key) else {
-        return code(Rv::KeyHandleInvalid);
-    };
+    match object_under(alloc, desk, store, state, key)? {
+        Some(object) => begin(desk, session, &object),
+        None => refuse(Row::NoKey),
+    }
+}
+
+/// Begins an encryption under a copy of a key's value.
+fn begin(desk: &mut Desk, session: u64, object: &Object) -> Result<Out, KeepFault>
+    ensures { IsOk result }
+{
     let Some(key_type) = object.key_type() else {
-        return code(Rv::KeyHandleInvalid);
+        return refuse(Row::NoKey);
     };
     if key_type != KeyType::Aes {
-        return code(Rv::KeyTypeInconsistent);
+        return refuse(Row::WrongKeyType);
     }
     if !object.flag(AttrType::Encrypt) {
-        return code(Rv::KeyFunctionNotPermitted);
+        return refuse(Row::KeyNotPermitted);
     }
     let Some(key) = Key::new(object.value()) else {
-        return code(Rv::KeyTypeInconsistent);
+        return refuse(Row::WrongKeyType);
     };
-    desk.set_encrypt(session, Some(key));
+    desk.set_encryption(session, Some(Encryption { key }));
     code(Rv::Ok)
 }

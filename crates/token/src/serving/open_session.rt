@@ -1,11 +1,16 @@
 //! C_OpenSession (PKCS #11 v3.1, 5.6).
 
-use crate::desk::Desk;
+ghost use Rattle.std.specs.Prelude.{◌<◌, ◌^◌};
+ghost use Rattle.keep.specs.Keeping.{Counted, HasCause};
+
 use crate::event::Out;
-use crate::fault::Fault;
-use crate::serving::{SLOT, code};
+use crate::serving::{SLOT, refuse};
+use crate::store::Store;
 use ck_calls::Reply;
-use ck_types::Rv;
+use ck_types::UserType;
+use desk::Desk;
+use keep::{Keep, KeepFault};
+use precede::Row;
 
 /// CKF_RW_SESSION.
 const READ_WRITE: u64 = 2;
@@ -13,19 +18,33 @@ const READ_WRITE: u64 = 2;
 /// CKF_SERIAL_SESSION.
 const SERIAL: u64 = 4;
 
-pub(crate) fn serve(desk: &mut Desk, slot: u64, flags: u64) -> Result<Out, Fault> {
+pub(crate) fn serve<K: Keep>(
+    desk: &mut Desk,
+    store: &mut Store<K>,
+    slot: u64,
+    flags: u64,
+) -> Result<Out, KeepFault>
+    requires below { desk.old.sessions.next_number < 2 ^ 63 }
+    ensures counts { Counted K.doubt K.failures_of K.tried store.old.keep store.new.keep 0 }
+    ensures cause { HasCause (K.failures_of store.old.keep) (K.failures_of store.new.keep) result }
+{
+    let _ = store;
     if slot != SLOT {
-        return code(Rv::SlotIdInvalid);
+        return refuse(Row::NoSlot);
     }
     if flags & SERIAL == 0 {
-        return code(Rv::SessionParallelNotSupported);
+        return refuse(Row::NotSerial);
     }
-    if flags > (READ_WRITE | SERIAL) || flags & 1 != 0 {
-        return code(Rv::ArgumentsBad);
+    if flags & !(READ_WRITE | SERIAL) != 0 {
+        return refuse(Row::UnknownFlag);
+    }
+    let read_write = flags & READ_WRITE != 0;
+    if desk.logged_in() == Some(UserType::So) && !read_write {
+        return refuse(Row::SoLoggedIn);
     }
     if desk.has_all_sessions() {
-        return code(Rv::SessionCount);
+        return refuse(Row::SessionLimit);
     }
-    let session = desk.open_session(flags & READ_WRITE != 0)?;
+    let session = desk.open_session(read_write)?;
     Ok(Out::Reply(Reply::Session(session)))
 }

@@ -1,0 +1,97 @@
+-- What a contract sees of a desk.
+use Rattle.std.specs.Prelude.{◌≡◌, ℕ, ◌+◌, ◌≤◌, ◌^◌, ◌==◌, ◌||◌, Bool, not, nat_le, is_some, List, [], ◌∷◌, ◌++◌, length, find, filter, Option, Some, None, if◌then◌else◌}
+use Rattle.std.specs.Option.{option_map}
+use Rattle.ck_types.specs.declared.entry.Entry.{Entry}
+use Rattle.attrs.specs.Objects.{flag}
+use Rattle.ck_types.specs.declared.attr_type.AttrType.TheVariants.{Private}
+use Rattle.mech.specs.declared.job.Job.{Job}
+use Rattle.handles.specs.Handles.{HandleTable, no_handles, public_handles}
+use Rattle.sessions.specs.declared.Session.{Session}
+use Rattle.sessions.specs.Sessions.{SessionTable, no_sessions, session_at, with_work, without_session, logged_out}
+use Rattle.desk.specs.declared.own_object.OwnObject.{OwnObject}
+use Rattle.desk.specs.Operations.{Operation, Operations, no_operations}
+
+-- One application's sessions with their operations and its login, its session objects in the order of their
+-- creation, its handles of token objects, the question that is out, and the number of the next one. Of memory it
+-- tells how many session objects fit with no allocation.
+pub record DeskState : Type 0 where
+  pub sessions : SessionTable Operations
+  pub own : List OwnObject
+  pub own_capacity : ℕ
+  pub handles : HandleTable
+  pub question : Option Job
+  pub next_question : ℕ
+
+-- the desk of an application that isn't there
+abbrev pub empty_desk : DeskState
+empty_desk = record { sessions = no_sessions; own = []; own_capacity = 0; handles = no_handles; question = None; next_question = 1 }
+
+-- the same but for the memory that is at hand
+abbrev pub SameDesk : DeskState → DeskState → Type 0
+SameDesk old new = new ≡ record old { own_capacity = new.own_capacity; handles = record old.handles { capacity = new.handles.capacity } }
+
+-- no call is taken: a question is out, or a next number is used up
+abbrev pub is_busy : DeskState → Bool
+is_busy d = is_some d.question || (nat_le (2 ^ 63) d.sessions.next_number || (nat_le (2 ^ 63) d.handles.next_number || nat_le (2 ^ 63) d.next_question))
+
+-- the session object under a handle
+abbrev pub own_at : List OwnObject → ℕ → Option (List Entry)
+own_at own handle = option_map (λ e. e.object) (find (λ e. e.handle == handle) own)
+
+-- handles of private objects are retired where nobody is logged in any more
+abbrev pub handles_for : Bool → HandleTable → HandleTable
+handles_for stays hs = if stays then hs else record hs { entries = public_handles hs.entries }
+
+-- A session is closed: its objects are gone. With the last one the login ends, and with the login the handles of
+-- private objects.
+abbrev pub closed : DeskState → ℕ → DeskState
+closed d session =
+    let sessions = without_session d.sessions session in
+    record d {
+      sessions = sessions;
+      own = filter (λ e. not (e.session == session)) d.own;
+      handles = handles_for (is_some sessions.login) d.handles;
+    }
+
+-- all are closed
+abbrev pub all_closed : DeskState → DeskState
+all_closed d =
+    record d {
+      sessions = record d.sessions { sessions = []; login = None };
+      own = [];
+      handles = record d.handles { entries = public_handles d.handles.entries };
+    }
+
+-- nobody is logged in any more: operations end, and private session objects and the handles of private token
+-- objects are gone
+abbrev pub logged_out_desk : DeskState → DeskState
+logged_out_desk d =
+    record d {
+      sessions = logged_out no_operations d.sessions;
+      own = filter (λ e. not (flag e.object Private)) d.own;
+      handles = record d.handles { entries = public_handles d.handles.entries };
+    }
+
+-- ---- operations
+
+-- the encryption of a session
+abbrev pub encryption_of : Option (Session Operations) → Option Operation
+encryption_of None = None
+encryption_of (Some s) = s.work.encrypt
+
+abbrev pub encryption_at : DeskState → ℕ → Option Operation
+encryption_at d session = encryption_of (session_at d.sessions.sessions session)
+
+abbrev pub encrypting_in : SessionTable Operations → ℕ → Option (Session Operations) → Option Operation → SessionTable Operations
+encrypting_in t session None operation = t
+encrypting_in t session (Some s) operation = with_work t session (record s.work { encrypt = operation })
+
+-- it begins, or it ends
+abbrev pub with_encryption : DeskState → ℕ → Option Operation → DeskState
+with_encryption d session operation = record d { sessions = encrypting_in d.sessions session (session_at d.sessions.sessions session) operation }
+
+-- ---- questions
+
+-- the question which a job is to answer
+abbrev pub with_question : DeskState → Job → DeskState
+with_question d job = record d { question = Some job; next_question = d.next_question + 1 }

@@ -1,0 +1,296 @@
+//! Desks.
+
+ghost use Rattle.std.specs.Prelude.{◌≡◌, ℕ, ◌+◌, ◌<◌, ◌^◌, ◌++◌, ◌∷◌, [], ◌==◌, not, filter, map, length, nat_le, is_some, Some, None, option_map, vec_capacity, IfOk, OnOk, OnErr, IsTrue};
+ghost use Rattle.std.specs.Option.{option_copied};
+ghost use Rattle.ck_types.specs.declared.user_type.UserType.TheVariants.{So};
+ghost use Rattle.handles.specs.Handles.{object_of, number_of, with_handle, without_object, HasRoomFor};
+ghost use Rattle.handles.specs.Handles.{IsTable as IsHandleTable};
+ghost use Rattle.sessions.specs.Sessions.{session_at, state_of, with_session, with_work, IsTable};
+ghost use Rattle.desk.specs.Operations.{no_operations};
+ghost use Rattle.desk.specs.Desks.{DeskState, SameDesk, empty_desk, is_busy, own_at, closed, all_closed, logged_out_desk, encryption_at, with_encryption, with_question};
+ghost use Rattle.attrs.specs.Objects.{flag};
+ghost use Rattle.ck_types.specs.declared.attr_type.AttrType.TheVariants.{Private};
+
+use crate::operations::{Encryption, Operations};
+use crate::own_object::OwnObject;
+use crate::question::Question;
+use attrs::Object;
+use ck_types::{AttrType, SessionState, UserType};
+use handles::Handles;
+use mech::Job;
+use sessions::Sessions;
+use std::alloc::{AllocError, Global};
+use std::marker::Model;
+
+/// Numbers of sessions, handles and questions stay below it.
+pub const NUMBER_LIMIT: u64 = 1 << 63;
+
+/// How many session objects an application has at most.
+pub const SESSION_OBJECT_LIMIT: usize = 256;
+
+/// One application's part of a token.
+#[derive(Drop)]
+pub struct Desk {
+    sessions: Sessions<Operations>,
+    own: Vec<OwnObject>,
+    handles: Handles,
+    question: Option<Question>,
+    next_question: u64,
+}
+
+impl Model for Desk {
+    ghost use Rattle.std.specs.Prelude.{vec_capacity};
+    ghost use Rattle.desk.specs.Desks.{DeskState};
+
+    ghost Value = { DeskState };
+
+    ghost view = { λ d. record { sessions = d.sessions; own = d.own.items; own_capacity = vec_capacity d.own; handles = d.handles; question = d.question; next_question = d.next_question } };
+}
+
+impl Desk {
+    /// The desk of a new application. Nothing is allocated.
+    pub fn new(alloc: Global) -> Desk
+        ensures { SameDesk empty_desk result }
+    {
+        Desk {
+            sessions: Sessions::new(alloc),
+            own: Vec::new(alloc),
+            handles: Handles::new(alloc),
+            question: None,
+            next_question: 1,
+        }
+    }
+
+    /// Whether no call is taken: a question is out, or a next number has reached its limit.
+    pub fn is_busy(&self) -> bool
+        ensures { result ≡ is_busy self.now }
+    {
+        self.question.is_some()
+            || self.sessions.next_number() >= NUMBER_LIMIT
+            || self.handles.next_number() >= NUMBER_LIMIT
+            || self.next_question >= NUMBER_LIMIT
+    }
+
+    /// Who is logged in.
+    pub fn logged_in(&self) -> Option<UserType>
+        ensures login { result ≡ self.now.sessions.login }
+        ensures table { IsTable self.now.sessions }
+    {
+        self.sessions.logged_in()
+    }
+
+    /// Whether there are as many sessions as an application may have.
+    pub fn has_all_sessions(&self) -> bool
+        ensures { result ≡ nat_le 64 (length self.now.sessions.sessions) }
+    {
+        self.sessions.is_full()
+    }
+
+    /// The state of a session (PKCS #11 v3.1, 3.3: `CK_STATE`), and none where there is no such session.
+    pub fn state(&self, session: u64) -> Option<SessionState>
+        ensures { result ≡ option_map (λ s. state_of self.now.sessions.login s.read_write) (session_at self.now.sessions.sessions session) }
+    {
+        self.sessions.state(session)
+    }
+
+    /// Whether a session is read/write.
+    pub fn is_read_write(&self, session: u64) -> Option<bool>
+        ensures { result ≡ option_map (λ s. s.read_write) (session_at self.now.sessions.sessions session) }
+    {
+        self.sessions.is_read_write(session)
+    }
+
+    /// Opens a session (C_OpenSession). It fails only for want of memory, and then nothing changes.
+    pub fn open_session(&mut self, read_write: bool) -> Result<u64, AllocError>
+        requires numbers { self.old.sessions.next_number < 2 ^ 63 }
+        requires room { length self.old.sessions.sessions < 64 }
+        requires access { self.old.sessions.login ≡ Some So → IsTrue read_write }
+        ensures number { IfOk result (λ n. n ≡ self.old.sessions.next_number) }
+        ensures opened { OnOk result (self.new ≡ record self.old { sessions = with_session no_operations self.old.sessions read_write }) }
+        ensures err { OnErr result (self.new ≡ self.old) }
+    {
+        self.sessions.open(read_write)
+    }
+
+    /// Closes a session, with its objects (C_CloseSession). No memory is taken.
+    pub fn close(&mut self, session: u64)
+        ensures { self.new ≡ closed self.old session }
+    {
+        self.sessions.close(session);
+        retain_others(&mut self.own, session);
+        if self.sessions.logged_in().is_none() {
+            self.handles.retire_private();
+        }
+    }
+
+    /// Closes all sessions (C_CloseAllSessions). No memory is taken.
+    pub fn close_all(&mut self)
+        ensures { self.new ≡ all_closed self.old }
+    {
+        self.sessions.close_all();
+        self.own.clear();
+        self.handles.retire_private();
+    }
+
+    /// Logs out (C_Logout). No memory is taken.
+    pub fn logout(&mut self)
+        ensures { self.new ≡ logged_out_desk self.old }
+    {
+        self.sessions.logout();
+        retain_public(&mut self.own);
+        self.handles.retire_private();
+    }
+
+    /// The encryption of a session.
+    pub fn encryption(&self, session: u64) -> Option<&Encryption>
+        ensures { option_copied result ≡ encryption_at self.now session }
+    {
+        self.sessions.work(session)?.encrypt.as_ref()
+    }
+
+    /// Begins an encryption in a session, or ends it.
+    pub fn set_encryption(&mut self, session: u64, encryption: Option<Encryption>)
+        ensures { self.new ≡ with_encryption self.old session encryption }
+    {
+        if let Some(operations) = self.sessions.work_mut(session) {
+            operations.encrypt = encryption;
+        }
+    }
+
+    /// How many session objects there are.
+    pub fn has_all_objects(&self) -> bool
+        ensures { result ≡ nat_le 256 (length self.now.own) }
+    {
+        self.own.len() >= SESSION_OBJECT_LIMIT
+    }
+
+    /// Adds a session object, and gives its handle. It fails only for want of memory, and then the desk
+    /// is as it was.
+    pub fn add_own(&mut self, session: u64, object: Object) -> Result<u64, AllocError>
+        requires { self.old.handles.next_number < 2 ^ 63 }
+        ensures handle { IfOk result (λ handle. handle ≡ self.old.handles.next_number) }
+        ensures added { OnOk result (SameDesk (record self.old {
+          own = self.old.own ++ record { handle = self.old.handles.next_number; session = session; object = object } ∷ [];
+          handles = record self.old.handles { next_number = self.old.handles.next_number + 1 };
+        }) self.new) }
+        ensures err { OnErr result (SameDesk self.old self.new) }
+    {
+        self.own.reserve(1)?;
+        let handle = self.handles.take_number();
+        self.own.push_reserved(OwnObject {
+            handle,
+            session,
+            object,
+        });
+        Ok(handle)
+    }
+
+    /// The session object under a handle.
+    pub fn own_object(&self, handle: u64) -> Option<&Object>
+        ensures { option_copied result ≡ own_at self.now.own handle }
+    {
+        self.own
+            .iter()
+            .find(|own| own.handle == handle)
+            .map(|own| &own.object)
+    }
+
+    /// Destroys the session object under a handle, if there is one. No memory is taken.
+    pub fn remove_own(&mut self, handle: u64)
+        ensures { self.new ≡ record self.old { own = filter (λ e. not (e.handle == handle)) self.old.own } }
+    {
+        remove_handle(&mut self.own, handle);
+    }
+
+    /// The id of the token object under a handle.
+    pub fn id_of(&self, handle: u64) -> Option<u64>
+        ensures id { result ≡ object_of self.now.handles.entries handle }
+        ensures table { IsHandleTable self.now.handles.next_number self.now.handles.entries }
+    {
+        self.handles.object_of(handle)
+    }
+
+    /// Makes room for one more handle of a token object. It fails only for want of memory.
+    pub fn reserve_handle(&mut self) -> Result<(), AllocError>
+        ensures room { OnOk result (HasRoomFor self.new.handles 1) }
+        ensures same { SameDesk self.old self.new }
+    {
+        self.handles.reserve(1)
+    }
+
+    /// Gives a token object its handle, and notes whether the object is private. No memory is taken.
+    pub fn give_handle(&mut self, id: u64, private: bool) -> u64
+        requires below { self.old.handles.next_number < 2 ^ 63 }
+        requires room { HasRoomFor self.old.handles 1 }
+        ensures given { self.new ≡ record self.old { handles = with_handle self.old.handles id private } }
+        ensures handle { number_of self.new.handles.entries id ≡ Some result }
+    {
+        self.handles.give(id, private)
+    }
+
+    /// Retires the handle of a token object, if it has one. No memory is taken.
+    pub fn retire(&mut self, id: u64)
+        ensures { self.new ≡ record self.old { handles = record self.old.handles { entries = without_object self.old.handles.entries id } } }
+    {
+        self.handles.retire(id);
+    }
+
+    /// The number of the next question.
+    pub fn next_question(&self) -> u64
+        ensures { result ≡ self.now.next_question }
+    {
+        self.next_question
+    }
+
+    /// Puts the question which a job is to answer.
+    pub fn ask(&mut self, job: &Job)
+        requires { self.old.next_question < 2 ^ 63 }
+        ensures { self.new ≡ with_question self.old job.now }
+    {
+        self.question = Some(Question::new(job));
+        self.next_question += 1;
+    }
+
+    /// The question that is out.
+    pub fn question(&self) -> Option<&Question>
+        ensures { option_copied result ≡ self.now.question }
+    {
+        self.question.as_ref()
+    }
+
+    /// Ends the question.
+    pub fn end_question(&mut self)
+        ensures { self.new ≡ record self.old { question = None } }
+    {
+        self.question = None;
+    }
+
+    /// The application goes: all that it has ends, and its numbers begin again. No memory is taken.
+    pub fn end(&mut self)
+        ensures { SameDesk empty_desk self.new }
+    {
+        let alloc = *self.own.allocator();
+        *self = Desk::new(alloc);
+    }
+}
+
+fn remove_handle(own: &mut Vec<OwnObject>, handle: u64)
+    ensures items { own.new.items ≡ filter (λ e. not (e.handle == handle)) own.old.items }
+    ensures capacity { vec_capacity own.new ≡ vec_capacity own.old }
+{
+    own.retain(|e| e.handle != handle);
+}
+
+fn retain_others(own: &mut Vec<OwnObject>, session: u64)
+    ensures items { own.new.items ≡ filter (λ e. not (e.session == session)) own.old.items }
+    ensures capacity { vec_capacity own.new ≡ vec_capacity own.old }
+{
+    own.retain(|e| e.session != session);
+}
+
+fn retain_public(own: &mut Vec<OwnObject>)
+    ensures items { own.new.items ≡ filter (λ e. not (flag e.object Private)) own.old.items }
+    ensures capacity { vec_capacity own.new ≡ vec_capacity own.old }
+{
+    own.retain(|e| !e.object.flag(AttrType::Private));
+}

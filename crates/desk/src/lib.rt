@@ -1,0 +1,28 @@
+//! One application's part of a token: its sessions with their operations, its login, its session
+//! objects, its handles of token objects, and the question that is out.
+//!
+//! A desk knows nothing of the token objects but their ids, and nothing of other applications. What its
+//! numbers count, sessions, handles and questions, is its own, so that no application can tell from its
+//! numbers what others do.
+//!
+//! Growths come first and by name (`reserve_handle`, `reserve_own`), so that what follows a write to the
+//! store can't fail.
+//!
+//! ```text
+//! let session = desk.open_session(true)?;
+//! desk.reserve_handle()?;
+//! let id = store.insert(&object)?;
+//! let handle = desk.give_handle(id, false);
+//! desk.close(session);
+//! ```
+#![tactic(auto)]
+
+mod desk;
+mod operations;
+mod own_object;
+mod question;
+
+pub use desk::{Desk, NUMBER_LIMIT, SESSION_OBJECT_LIMIT};
+pub use operations::{Encryption, Operations};
+pub use own_object::OwnObject;
+pub use question::Question;

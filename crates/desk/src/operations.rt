@@ -1,0 +1,48 @@
+//! The operations of a session.
+
+ghost use Rattle.std.specs.Prelude.{◌≡◌};
+ghost use Rattle.desk.specs.Operations.{no_operations};
+
+use aes_block::Key;
+use sessions::Work;
+use std::marker::Model;
+
+/// An encryption by CKM_AES_ECB, with a copy of its key.
+#[derive(Drop)]
+pub struct Encryption {
+    pub key: Key,
+}
+
+impl Model for Encryption {
+    ghost use Rattle.std.specs.Prelude.{[], Some};
+    ghost use Rattle.ck_types.specs.declared.mech_type.MechType.TheVariants.{AesEcb};
+    ghost use Rattle.desk.specs.Operations.{Operation, started};
+
+    ghost Value = { Operation };
+
+    ghost view = { λ e. started AesEcb [] (Some e.key) };
+}
+
+/// What a session has under way (PKCS #11 v3.1, 5.2). Of the five kinds of operations the encryptions
+/// are built.
+#[derive(Drop)]
+pub struct Operations {
+    pub encrypt: Option<Encryption>,
+}
+
+impl Model for Operations {
+    ghost use Rattle.std.specs.Prelude.{None};
+    ghost use Rattle.desk.specs.Operations.{Operations as Places};
+
+    ghost Value = { Places };
+
+    ghost view = { λ o. record { encrypt = o.encrypt; decrypt = None; sign = None; verify = None; find = None } };
+}
+
+impl Work for Operations {
+    ghost idle = { no_operations };
+
+    fn idle() -> Operations {
+        Operations { encrypt: None }
+    }
+}

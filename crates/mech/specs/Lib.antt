@@ -1,0 +1,3 @@
+pub mod Runnable
+pub mod Values
+pub mod Works

@@ -1,0 +1,10 @@
+mod Lists
+mod Turning
+mod Masks
+mod Blind
+mod Templates
+mod Proper
+mod Told
+mod RunLaws
+mod Storing
+mod Gaves

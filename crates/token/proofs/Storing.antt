@@ -1,0 +1,34 @@
+-- What a call of the keeper makes of it and its ids.
+use Rattle.std.proofs.Common.{◌≡◌, ℕ, ◌+◌, Bool, true, false, not, List, [], ◌∷◌, ◌++◌, Option, Some, None, Result, Ok, Err, refl, sym, ◌∙◌, ap, is_some}
+use Rattle.std.specs.Prelude.{filter, ◌==◌, OnErr}
+use Rattle.std.specs.List.{list_any}
+use Rattle.ck_types.specs.declared.entry.Entry.{Entry}
+use Rattle.keep.specs.Contents.{Contents, IsTokenObject, ids_of, object_at, with_object, without_object}
+use Rattle.keep.specs.ContentsLaws.{IsSound-with_object, IsSound-without_object}
+use Rattle.keep.specs.IdLaws.{ids_of-with_object, ids_of-without_object, is_some-object_at}
+use Rattle.token.specs.Stores.{StoreState, Has}
+
+pub on_err : {T E P : Type 0} (r : Result T E) → P → OnErr r P
+on_err (Ok x) p = tt
+on_err (Err e) p = p
+
+module _ {K : Type 0} (holds : K → Contents → Type 0) (old new : StoreState K) (c : Contents) where
+  pub has-inserted : (o : List Entry) (id : ℕ) → IsTokenObject o → Has holds old c → id ≡ c.last_id + 1 → holds new.keep (with_object o c) → new.ids ≡ old.ids ++ id ∷ [] → Has holds new (with_object o c)
+  has-inserted o id token h is held ids = record {
+    held = held;
+    ids = ids ∙ ap (λ (xs : List ℕ). xs ++ id ∷ []) h.ids ∙ ap (λ (n : ℕ). ids_of c ++ n ∷ []) is ∙ sym (ids_of-with_object o c);
+    sound = IsSound-with_object o c token h.sound;
+  }
+
+  pub has-removed : (id : ℕ) → Has holds old c → holds new.keep (without_object id c) → new.ids ≡ filter (λ i. not (i == id)) old.ids → Has holds new (without_object id c)
+  has-removed id h held ids = record {
+    held = held;
+    ids = ids ∙ ap (filter (λ i. not (i == id))) h.ids ∙ sym (ids_of-without_object id c);
+    sound = IsSound-without_object id c h.sound;
+  }
+
+pub not_there : {K : Type 0} (holds : K → Contents → Type 0) (s : StoreState K) (c : Contents) (id : ℕ) → Has holds s c → list_any (λ i. i == id) s.ids ≡ false → None ≡ object_at c id
+not_there holds s c id h is = none (object_at c id) (is_some-object_at c id ∙ sym (ap (list_any (λ i. i == id)) h.ids) ∙ is) where
+  none : (o : Option (List Entry)) → is_some o ≡ false → None ≡ o
+  none None e = refl
+  none (Some o) e = let k : true ≡ false = e in cc

@@ -1,0 +1,44 @@
+-- C_OpenSession (PKCS #11 v3.1, 5.6).
+use Rattle.std.specs.Prelude.{ℕ, ◌/◌, ◌%◌, Bool, ◌&&◌, ◌==◌, not, nat_le, [], ◌∷◌, length, Option, Some, None, is_none}
+use Rattle.ck_types.specs.declared.user_type.UserType.{UserType}
+use Rattle.ck_types.specs.declared.user_type.UserType.TheVariants.{So, User}
+use Rattle.ck_calls.specs.declared.reply.Reply.TheVariants.{Session}
+use Rattle.precede.specs.declared.row.Row.TheVariants.{NoSlot, NotSerial, UnknownFlag, SoLoggedIn, SessionLimit}
+use Rattle.sessions.specs.Sessions.{with_session}
+use Rattle.desk.specs.Operations.{no_operations}
+use Rattle.token.specs.Views.{View}
+use Rattle.token.specs.Answering.{Answer, unless, becomes}
+use Rattle.std.proofs.Common.{true, false}
+
+-- the only slot
+abbrev pub is_slot : ℕ → Bool
+is_slot slot = slot == 0
+
+-- the flags CKF_SERIAL_SESSION and CKF_RW_SESSION, bits 2 and 1, and all others
+abbrev pub is_serial : ℕ → Bool
+is_serial flags = (flags / 4) % 2 == 1
+
+abbrev pub is_read_write : ℕ → Bool
+is_read_write flags = (flags / 2) % 2 == 1
+
+abbrev pub has_other_flags : ℕ → Bool
+has_other_flags flags = not (flags / 8 == 0 && flags % 2 == 0)
+
+abbrev pub is_so : Option UserType → Bool
+is_so None = false
+is_so (Some So) = true
+is_so (Some User) = false
+
+-- the next number, and a session with nothing under way
+abbrev pub opened : View → Bool → Answer
+opened v read_write = becomes (Session v.sessions.next_number) (record v { sessions = with_session no_operations v.sessions read_write })
+
+abbrev pub open_session : View → ℕ → ℕ → Answer
+open_session v slot flags =
+    unless v (
+    (NoSlot, not (is_slot slot)) ∷
+    (NotSerial, not (is_serial flags)) ∷
+    (UnknownFlag, has_other_flags flags) ∷
+    (SoLoggedIn, is_so v.sessions.login && not (is_read_write flags)) ∷
+    (SessionLimit, nat_le 64 (length v.sessions.sessions)) ∷ [])
+    (opened v (is_read_write flags))

@@ -1,0 +1,10 @@
+pub mod Events
+pub mod Places
+pub mod Views
+pub mod Changes
+pub mod Answering
+pub mod Answers
+pub mod Worlds
+pub mod Traces
+pub mod Shown
+pub mod Stores
