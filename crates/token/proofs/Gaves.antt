@@ -1,13 +1,16 @@
 -- What an event at a desk does to the store.
-use Rattle.std.proofs.Common.{◌≡◌, Option, inl, inr, ap}
+use Rattle.std.proofs.Common.{◌≡◌, Option, Result, Ok, Err, inl, inr, ap}
+use Rattle.std.specs.Prelude.{IsErr}
+use Rattle.std.proofs.lemmas.Bool.{false≢true}
 use Rattle.ck_types.specs.declared.user_type.UserType.{UserType}
 use Rattle.keep.specs.Contents.{Contents}
+use Rattle.keep.specs.declared.keep.KeepFault.{KeepFault}
 use Rattle.desk.specs.Desks.{DeskState}
 use Rattle.token.specs.Views.{sees}
 use Rattle.token.specs.Changes.{Stays, in_list}
 use Rattle.token.specs.Answering.{Said, Answer}
 use Rattle.token.specs.Shown.{objects_of, Gives}
-use Rattle.token.specs.Stores.{StoreState, Has, LeavesAlone, LeavesAsBefore, Gave}
+use Rattle.token.specs.Stores.{StoreState, Has, LeavesAlone, LeavesAsBefore, Gave, Refused, Serves}
 
 module _ {K : Type 0} (holds may_leave : K → Contents → Type 0) (a : Answer) (login : Option UserType) (c : Contents) (old new : StoreState K) (said : Said) (desk : DeskState) where
   -- an answer that changes nothing
@@ -17,3 +20,9 @@ module _ {K : Type 0} (holds may_leave : K → Contents → Type 0) (a : Answer)
   -- and one that changes
   pub gave-change : (c' : Contents) → Has holds new c' → LeavesAlone may_leave new c' → Gives a login c said c' desk → Gave holds may_leave a login c old new said desk
   gave-change c' h leaves gives = record { contents = c'; has = h; gives = gives; leaves = λ d may. inr (leaves d may) }
+
+-- a refusal, whatever carries it
+pub serves-err : {K T : Type 0} (holds may_leave : K → Contents → Type 0) (tell : T → Said) (a : Answer) (c : Contents) (old new : StoreState K) (before over desk : DeskState) (r : Result T KeepFault) → IsErr r
+    → Refused holds may_leave a before.sessions.login c old new over desk → Serves holds may_leave tell a c old new before over r desk
+serves-err holds may_leave tell a c old new before over desk (Ok t) is refused = absurd (false≢true is)
+serves-err holds may_leave tell a c old new before over desk (Err fault) is refused = refused

@@ -8,3 +8,6 @@ mod Told
 mod RunLaws
 mod Storing
 mod Gaves
+mod Closing
+mod Listing
+mod Destroying

@@ -8,3 +8,4 @@ pub mod Worlds
 pub mod Traces
 pub mod Shown
 pub mod Stores
+pub mod Found

@@ -1,5 +1,5 @@
 -- C_OpenSession (PKCS #11 v3.1, 5.6).
-use Rattle.std.specs.Prelude.{ℕ, ◌/◌, ◌%◌, Bool, ◌&&◌, ◌==◌, not, nat_le, [], ◌∷◌, length, Option, Some, None, is_none}
+use Rattle.std.specs.Prelude.{ℕ, bit_and, bit_or, Bool, ◌&&◌, ◌==◌, not, nat_le, [], ◌∷◌, length, Option, Some, None, is_none}
 use Rattle.ck_types.specs.declared.user_type.UserType.{UserType}
 use Rattle.ck_types.specs.declared.user_type.UserType.TheVariants.{So, User}
 use Rattle.ck_calls.specs.declared.reply.Reply.TheVariants.{Session}
@@ -14,15 +14,15 @@ use Rattle.std.proofs.Common.{true, false}
 abbrev pub is_slot : ℕ → Bool
 is_slot slot = slot == 0
 
--- the flags CKF_SERIAL_SESSION and CKF_RW_SESSION, bits 2 and 1, and all others
+-- the flags CKF_SERIAL_SESSION, 4, and CKF_RW_SESSION, 2, and all others
 abbrev pub is_serial : ℕ → Bool
-is_serial flags = (flags / 4) % 2 == 1
+is_serial flags = not (bit_and flags 4 == 0)
 
 abbrev pub is_read_write : ℕ → Bool
-is_read_write flags = (flags / 2) % 2 == 1
+is_read_write flags = not (bit_and flags 2 == 0)
 
 abbrev pub has_other_flags : ℕ → Bool
-has_other_flags flags = not (flags / 8 == 0 && flags % 2 == 0)
+has_other_flags flags = not (bit_or flags 6 == 6)
 
 abbrev pub is_so : Option UserType → Bool
 is_so None = false

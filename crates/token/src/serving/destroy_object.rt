@@ -1,9 +1,12 @@
 //! C_DestroyObject (PKCS #11 v3.1, 5.7).
 
 ghost use Rattle.keep.specs.Keeping.{Counted, HasCause};
+ghost use Rattle.token.specs.Answers.DestroyObject.{destroy_object};
+ghost use Rattle.token.specs.Shown.{said_of};
+ghost use Rattle.token.specs.Stores.{Served};
 
 use crate::event::Out;
-use crate::serving::finding::{kept_id, object_under};
+use crate::serving::finding::find;
 use crate::serving::{code, refuse};
 use crate::store::Store;
 use ck_types::{AttrType, Rv};
@@ -19,30 +22,31 @@ pub(crate) fn serve<K: Keep>(
     session: u64,
     handle: u64,
 ) -> Result<Out, KeepFault>
+    ensures serves { Served K.holds K.may_leave K.doubt said_of (λ v. destroy_object v session handle) store.old store.new desk.old desk.old result desk.new }
     ensures counts { Counted K.doubt K.failures_of K.tried store.old.keep store.new.keep 1 }
     ensures cause { HasCause (K.failures_of store.old.keep) (K.failures_of store.new.keep) result }
 {
-    let Some(state) = desk.state(session) else {
-        return refuse(Row::NoSession);
-    };
     let Some(read_write) = desk.is_read_write(session) else {
         return refuse(Row::NoSession);
     };
-    let Some(object) = object_under(alloc, desk, store, state, handle)? else {
+    let Some(found) = find(alloc, desk, store, handle)? else {
         return refuse(Row::NoObject);
     };
-    if object.flag(AttrType::Token) && !read_write {
+    if found.object.flag(AttrType::Token) && !read_write {
         return refuse(Row::TokenObjectReadOnly);
     }
-    if !object.flag(AttrType::Destroyable) {
+    if !found.object.flag(AttrType::Destroyable) {
         return refuse(Row::NotDestroyable);
     }
-    match kept_id(desk, store, handle) {
+    match found.id {
         Some(id) => {
             store.remove(id)?;
             desk.retire(id);
+            code(Rv::Ok)
         }
-        None => desk.remove_own(handle),
+        None => {
+            desk.remove_own(handle);
+            code(Rv::Ok)
+        }
     }
-    code(Rv::Ok)
 }

@@ -4,7 +4,7 @@ ghost use Rattle.std.specs.Prelude.{IsOk};
 ghost use Rattle.keep.specs.Keeping.{Counted, HasCause};
 
 use crate::event::Out;
-use crate::serving::finding::object_under;
+use crate::serving::finding::find;
 use crate::serving::{code, refuse};
 use crate::store::Store;
 use aes_block::Key;
@@ -35,9 +35,9 @@ pub(crate) fn serve<K: Keep>(
     ensures counts { Counted K.doubt K.failures_of K.tried store.old.keep store.new.keep 0 }
     ensures cause { HasCause (K.failures_of store.old.keep) (K.failures_of store.new.keep) result }
 {
-    let Some(state) = desk.state(session) else {
+    if desk.state(session).is_none() {
         return refuse(Row::NoSession);
-    };
+    }
     let Some(mechanism) = mechanism else {
         desk.set_encryption(session, None);
         return code(Rv::Ok);
@@ -51,8 +51,8 @@ pub(crate) fn serve<K: Keep>(
     if !mechanism.parameter.is_empty() {
         return refuse(Row::WrongParameter);
     }
-    match object_under(alloc, desk, store, state, key)? {
-        Some(object) => begin(desk, session, &object),
+    match find(alloc, desk, store, key)? {
+        Some(found) => begin(desk, session, &found.object),
         None => refuse(Row::NoKey),
     }
 }

@@ -2,6 +2,9 @@
 
 ghost use Rattle.std.specs.Prelude.{◌<◌, ◌^◌};
 ghost use Rattle.keep.specs.Keeping.{Counted, HasCause};
+ghost use Rattle.token.specs.Answers.OpenSession.{open_session};
+ghost use Rattle.token.specs.Shown.{said_of};
+ghost use Rattle.token.specs.Stores.{Served};
 
 use crate::event::Out;
 use crate::serving::{SLOT, refuse};
@@ -18,6 +21,9 @@ const READ_WRITE: u64 = 2;
 /// CKF_SERIAL_SESSION.
 const SERIAL: u64 = 4;
 
+/// All flags that there are.
+const FLAGS: u64 = READ_WRITE | SERIAL;
+
 pub(crate) fn serve<K: Keep>(
     desk: &mut Desk,
     store: &mut Store<K>,
@@ -25,6 +31,7 @@ pub(crate) fn serve<K: Keep>(
     flags: u64,
 ) -> Result<Out, KeepFault>
     requires below { desk.old.sessions.next_number < 2 ^ 63 }
+    ensures serves { Served K.holds K.may_leave K.doubt said_of (λ v. open_session v slot flags) store.old store.new desk.old desk.old result desk.new }
     ensures counts { Counted K.doubt K.failures_of K.tried store.old.keep store.new.keep 0 }
     ensures cause { HasCause (K.failures_of store.old.keep) (K.failures_of store.new.keep) result }
 {
@@ -35,7 +42,7 @@ pub(crate) fn serve<K: Keep>(
     if flags & SERIAL == 0 {
         return refuse(Row::NotSerial);
     }
-    if flags & !(READ_WRITE | SERIAL) != 0 {
+    if flags | FLAGS != FLAGS {
         return refuse(Row::UnknownFlag);
     }
     let read_write = flags & READ_WRITE != 0;
