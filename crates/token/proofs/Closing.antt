@@ -51,7 +51,7 @@ tokens-public d d' (e ∷ es) same noted = step (is_public e.1) refl (tokens-pub
 
 -- ---- what is seen by who is logged in then
 
-filter-less : (t u : Kept → Bool) (es : List Kept) → ((e : Kept) → t e ≡ true → u e ≡ true) → filter t (filter u es) ≡ filter t es
+pub filter-less : (t u : Kept → Bool) (es : List Kept) → ((e : Kept) → t e ≡ true → u e ≡ true) → filter t (filter u es) ≡ filter t es
 filter-less t u [] less = refl
 filter-less t u (e ∷ es) less = elim (cases_Bool (u e)) [
   | inl is ↦ rw is (ap (λ ys. cond (t e) (e ∷ ys) ys) (filter-less t u es less))
@@ -61,10 +61,10 @@ filter-less t u (e ∷ es) less = elim (cases_Bool (u e)) [
   ]
 ]
 
-abbrev IsLess : Option UserType → Option UserType → Type 0
+abbrev pub IsLess : Option UserType → Option UserType → Type 0
 IsLess now before = (e : Kept) → sees_kept now e ≡ true → sees_kept before e ≡ true
 
-less-none : (login : Option UserType) → IsLess None login
+pub less-none : (login : Option UserType) → IsLess None login
 less-none login e = step (is_public e.1) where
   step : (b : Bool) → (b || false) ≡ true → (b || is_user (state_of login true)) ≡ true
   step true k = refl

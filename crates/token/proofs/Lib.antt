@@ -6,8 +6,11 @@ mod Templates
 mod Proper
 mod Told
 mod RunLaws
+mod Places
+mod Changing
 mod Storing
 mod Gaves
 mod Closing
+mod Steps
 mod Listing
 mod Destroying

@@ -1,0 +1,118 @@
+-- What an event at one desk is to all applications.
+use Rattle.std.proofs.Common.{◌≡◌, ◌≢◌, ℕ, Bool, true, false, not, List, [], ◌∷◌, ◌++◌, map, Option, Some, None, refl, sym, ◌∙◌, ap, inl, inr}
+use Rattle.std.specs.Prelude.{filter}
+use Rattle.std.specs.List.{AllByRecursion}
+use Rattle.std.proofs.lemmas.Bool.{cases_eq, eq-eqb, ne_eqb}
+use Rattle.ck_types.specs.declared.entry.Entry.{Entry}
+use Rattle.ck_types.specs.declared.user_type.UserType.{UserType}
+use Rattle.keep.specs.Contents.{Contents, Kept}
+use Rattle.desk.specs.Desks.{DeskState, SameDesk, empty_desk}
+use Rattle.token.specs.declared.check.Check.{Check}
+use Rattle.token.specs.declared.event.Event.TheVariants.{Gone}
+use Rattle.token.specs.Views.{record_sight, TokenObject, View, Task, Encrypts, sees, without_handle, fresh, left}
+use Rattle.token.specs.Changes.{Change, seen, in_list, as_seen}
+use Rattle.token.specs.Answering.{Said, Replies, Asks, Answer}
+use Rattle.token.specs.Worlds.{World, list_change, change_for, checks_of, checked_by, checks_begun, without_checks, stepped, unchecked, with_view, goes}
+use Rattle.token.specs.Shown.{objects_of, sees_kept, token_object, view_of, IsNoted, Fits, Gives, State, desk_at, Depicts, opening, AllFit}
+use Rattle.token.proofs.Lists.{map-map, filter-map}
+use Rattle.token.proofs.Places.{append_nil}
+use Rattle.token.proofs.Closing.{filter-less, less-none}
+use Rattle.token.proofs.Changing.{fits-changed, objects-changed, record-changed, view_of-changed}
+
+abbrev pub state : Contents → List (ℕ × DeskState) → List Check → State
+state c ds cs = record { kept = c; desks = ds; checks = cs }
+
+-- the memory that is at hand isn't seen
+pub view_of-same : (c : Contents) (d d' : DeskState) → SameDesk d d' → view_of c d' ≡ view_of c d
+view_of-same c d d' same = rw same refl
+
+pub fits-same : (c : Contents) (d d' : DeskState) → SameDesk d d' → Fits c d.handles.entries → Fits c d'.handles.entries
+fits-same c d d' same fits = rw same fits
+
+-- no question checks a PIN yet
+none-checked : (app : ℕ) (s : Said) → checks_begun app s ≡ []
+none-checked app (Replies reply) = refl
+none-checked app (Asks q) = task q.task where
+  task : (t : Task) → checks_of app (checked_by t) ≡ []
+  task (Encrypts operation input) = refl
+
+-- ---- an answer at one desk, after which the other desks are as before
+module _ (a : Answer) (c c' : Contents) (ds ds' : List (ℕ × DeskState)) (app : ℕ) (fits : AllFit c ds) (others : (b : ℕ) → b ≢ app → SameDesk (desk_at ds b) (desk_at ds' b)) (said : Said) (gives : Gives a (desk_at ds app).sessions.login c said c' (desk_at ds' app)) where
+  pub fits-given : AllFit c' ds'
+  fits-given b = elim (cases_eq b app) [
+    | inl is ↦ rw is gives.fits
+    | inr differ ↦ fits-same c' (desk_at ds b) (desk_at ds' b) (others b differ) (fits-changed (in_list (sees (desk_at ds app).sessions.login) (objects_of c) a.change) c c' (desk_at ds b).handles.entries gives.changes (fits b))
+  ]
+
+  pub depicts-given : (cs : List Check) (w : World) → Depicts (state c ds cs) w → Depicts (state c' ds' cs) (stepped w app a)
+  depicts-given cs w s =
+      let change : Change = in_list (sees (desk_at ds app).sessions.login) (objects_of c) a.change in
+      let is : list_change w app a ≡ change = rw (s.views app, s.objects) refl in
+      record {
+        token_record = rw (is, s.token_record) (sym (record-changed change c c' gives.changes));
+        objects = rw (is, s.objects) (sym (objects-changed change c c' gives.changes));
+        checks = ap (λ xs. w.checks ++ xs) (none-checked app a.says) ∙ append_nil w.checks ∙ s.checks;
+        views = λ b. elim (cases_eq b app) [
+          | inl same ↦ rw (eq-eqb b app same) (rw same (sym gives.view))
+          | inr differ ↦ rw (ne_eqb b app differ) (
+              let to : change_for b w app a ≡ as_seen (sees (desk_at ds b).sessions.login) (objects_of c) change = rw (is, s.views b, s.objects) refl in
+              ap (λ x. seen x (w.views b)) to ∙ ap (seen (as_seen (sees (desk_at ds b).sessions.login) (objects_of c) change)) (s.views b)
+              ∙ sym (view_of-changed change c c' (desk_at ds b) gives.changes (fits b)) ∙ sym (view_of-same c' (desk_at ds b) (desk_at ds' b) (others b differ)))
+        ];
+      }
+
+-- ---- nothing changes but the memory that is at hand
+pub fits-all : (c : Contents) (ds ds' : List (ℕ × DeskState)) → ((b : ℕ) → SameDesk (desk_at ds b) (desk_at ds' b)) → AllFit c ds → AllFit c ds'
+fits-all c ds ds' same fits b = fits-same c (desk_at ds b) (desk_at ds' b) (same b) (fits b)
+
+pub depicts-same : (c : Contents) (ds ds' : List (ℕ × DeskState)) (cs : List Check) (w : World) → ((b : ℕ) → SameDesk (desk_at ds b) (desk_at ds' b)) → Depicts (state c ds cs) w → Depicts (state c ds' cs) w
+depicts-same c ds ds' cs w same s = record { token_record = s.token_record; objects = s.objects; checks = s.checks; views = λ b. s.views b ∙ sym (view_of-same c (desk_at ds b) (desk_at ds' b) (same b)) }
+
+-- ---- one desk is another, and its application's checks are over
+pub depicts-put : (c : Contents) (ds ds' : List (ℕ × DeskState)) (cs : List Check) (app : ℕ) (d : DeskState) (v : View) (w : World) → SameDesk d (desk_at ds' app) → view_of c d ≡ v → ((b : ℕ) → b ≢ app → SameDesk (desk_at ds b) (desk_at ds' b))
+    → Depicts (state c ds cs) w → Depicts (state c ds' (without_checks app cs)) (unchecked (with_view w app v) app)
+depicts-put c ds ds' cs app d v w own is others s = record {
+  token_record = s.token_record;
+  objects = s.objects;
+  checks = ap (without_checks app) s.checks;
+  views = λ b. elim (cases_eq b app) [
+    | inl same ↦ rw (eq-eqb b app same) (rw same (sym (view_of-same c d (desk_at ds' app) own ∙ is)))
+    | inr differ ↦ rw (ne_eqb b app differ) (s.views b ∙ sym (view_of-same c (desk_at ds b) (desk_at ds' b) (others b differ)))
+  ];
+}
+
+pub fits-put : (c : Contents) (ds ds' : List (ℕ × DeskState)) (app : ℕ) → Fits c (desk_at ds' app).handles.entries → ((b : ℕ) → b ≢ app → SameDesk (desk_at ds b) (desk_at ds' b)) → AllFit c ds → AllFit c ds'
+fits-put c ds ds' app own others fits b = elim (cases_eq b app) [
+  | inl is ↦ rw is own
+  | inr differ ↦ fits-same c (desk_at ds b) (desk_at ds' b) (others b differ) (fits b)
+]
+
+-- ---- an application that isn't there
+
+pub fits-empty : (c : Contents) → Fits c empty_desk.handles.entries
+fits-empty c = record { given = tt; noted = noted c.objects } where
+  noted : (es : List Kept) → AllByRecursion (IsNoted []) es
+  noted [] = tt
+  noted (e ∷ es) = (tt, noted es)
+
+pub view_of-empty : (c : Contents) → view_of c empty_desk ≡ fresh (record_sight c.token_record) (objects_of c)
+view_of-empty c =
+    let f : List TokenObject → View = λ ts. record (view_of c empty_desk) { tokens = ts } in
+    ap f (sym (ap (map without_handle) (filter-map (sees None) (λ (e : Kept). e.1) c.objects) ∙ map-map (λ (e : Kept). e.1) without_handle (filter (sees_kept None) c.objects)))
+
+-- what it saw before it went is what it sees
+pub view_of-left : (c : Contents) (d : DeskState) → view_of c empty_desk ≡ left (view_of c d)
+view_of-left c d =
+    let f : List TokenObject → View = λ ts. record (view_of c empty_desk) { tokens = ts } in
+    let seen : List Kept = filter (sees_kept d.sessions.login) c.objects in
+    ap f (sym (
+      ap (λ os. map without_handle (filter (sees None) os)) (map-map (token_object d) (λ t. t.object) seen)
+      ∙ ap (map without_handle) (filter-map (sees None) (λ (e : Kept). e.1) seen ∙ ap (map (λ (e : Kept). e.1)) (filter-less (sees_kept None) (sees_kept d.sessions.login) c.objects (less-none d.sessions.login)))
+      ∙ map-map (λ (e : Kept). e.1) without_handle (filter (sees_kept None) c.objects)))
+
+pub depicts-opening : (c : Contents) → Depicts (state c [] []) (opening c)
+depicts-opening c = record { token_record = refl; objects = refl; checks = refl; views = λ app. sym (view_of-empty c) }
+
+pub depicts-gone : (c : Contents) (ds ds' : List (ℕ × DeskState)) (cs : List Check) (app : ℕ) (w : World) → desk_at ds' app ≡ empty_desk → ((b : ℕ) → b ≢ app → desk_at ds' b ≡ desk_at ds b) → Depicts (state c ds cs) w → Depicts (state c ds' (without_checks app cs)) (goes w (Gone app))
+depicts-gone c ds ds' cs app w own others s =
+    depicts-put c ds ds' cs app empty_desk (left (w.views app)) w (rw own refl) (view_of-left c (desk_at ds app) ∙ ap left (sym (s.views app))) (λ b differ. rw (others b differ) refl) s
