@@ -12,5 +12,7 @@ mod Storing
 mod Gaves
 mod Closing
 mod Steps
+mod Called
+mod Resulted
 mod Listing
 mod Destroying

@@ -20,6 +20,7 @@ use Rattle.mech.specs.declared.work.Work.TheVariants.{EcbEncrypt}
 use Rattle.desk.specs.declared.own_object.OwnObject.{OwnObject}
 use Rattle.desk.specs.Desks.{DeskState, empty_desk}
 use Rattle.desk.specs.Operations.{started}
+use Rattle.ck_calls.specs.declared.reply.Reply.{Reply}
 use Rattle.token.specs.declared.event.Event.{Event}
 use Rattle.token.specs.declared.event.Out.{Out}
 use Rattle.token.specs.declared.event.Out.TheVariants.{Reply as OutReply, Ask}
@@ -141,6 +142,15 @@ AllFit c ds = (app : ℕ) → Fits c (desk_at ds app).handles.entries
 abbrev pub moved : Event → Option KeepFault → Move
 moved event None = Goes event
 moved event (Some fault) = Refuses event fault
+
+-- what an application is told: a refusal in place of an answer
+abbrev pub told_as : Result Out KeepFault → Out
+told_as (Ok out) = out
+told_as (Err fault) = OutReply (refusal fault)
+
+abbrev pub told_result : Result Reply KeepFault → Reply
+told_result (Ok reply) = reply
+told_result (Err fault) = refusal fault
 
 -- which of both it was is read off what is given out, since the codes of a refusal set apart have no other cause
 abbrev pub move_of : Event → Out → Move

@@ -1,0 +1,123 @@
+-- A result at one desk, and an application that goes, are the world's next step.
+use Rattle.std.proofs.Common.{◌≡◌, ◌≢◌, ◌⊎◌, ℕ, List, [], ◌∷◌, Option, Some, None, Result, Ok, Err, refl, sym, ◌∙◌, ap, inl, inr}
+use Rattle.std.proofs.lemmas.Bool.{cases_eq}
+use Rattle.std.specs.Prelude.{option_to_list, map}
+use Rattle.ck_types.specs.declared.rv.Rv.TheVariants.{DeviceError}
+use Rattle.ck_calls.specs.declared.reply.Reply.{Reply}
+use Rattle.ck_calls.specs.declared.reply.Reply.TheVariants.{Code}
+use Rattle.keep.specs.Contents.{Contents}
+use Rattle.keep.specs.declared.keep.KeepFault.{KeepFault}
+use Rattle.keep.specs.declared.keep.KeepFault.TheVariants.{Memory, Device, Damaged}
+use Rattle.mech.specs.declared.job.Job.{Job}
+use Rattle.mech.specs.declared.outcome.Outcome.{Outcome}
+use Rattle.desk.specs.Desks.{DeskState, SameDesk, empty_desk}
+use Rattle.token.specs.declared.check.Check.{Check}
+use Rattle.token.specs.declared.event.Event.TheVariants.{Finish, Gone}
+use Rattle.token.specs.declared.event.Out.TheVariants.{Reply as OutReply}
+use Rattle.token.specs.Views.{Task, Encrypts, sees}
+use Rattle.token.specs.Changes.{Change, Stays, in_list}
+use Rattle.token.specs.Answering.{Said, Replies, Answer, reveals_nothing, answered}
+use Rattle.token.specs.Answers.{answer_result}
+use Rattle.token.specs.Worlds.{World, Goes, Refuses, value_of, reveal_to_task, result_at, apart, refusal, set_apart, list_change, without_checks, stepped, unchecked, finished, finish_tells, goes, happens, told, reply_to}
+use Rattle.token.specs.Shown.{objects_of, view_of, question_of, desk_at, told_result, moved, move_of, Changes, IsOpen, HasJobs, opening}
+use Rattle.token.specs.Stores.{StoreState, TokenState, Has, Shows, Serves}
+use Rattle.token.specs.Runs.{Lasting, lasting_of, lasting_in, MayLeave, LeftBy, result_change}
+use Rattle.token.proofs.Proper.{plain-result}
+use Rattle.token.proofs.Changing.{objects-changed, record-changed}
+use Rattle.token.proofs.Steps.{state, fits-given, depicts-given, depicts-put, fits-put, fits-empty, depicts-gone, depicts-opening}
+
+-- no result reveals anything yet
+reveals-nothing : (w : World) (app : ℕ) (t : Task) → reveal_to_task w app t ≡ reveals_nothing
+reveals-nothing w app (Encrypts operation input) = refl
+
+abbrev pub over : DeskState → DeskState
+over d = record d { question = None }
+
+module _ {K : Type 0} (holds may_leave : K → Contents → Type 0) (old new : StoreState K) (ds ds' : List (ℕ × DeskState)) (cs : List Check) (app : ℕ) (job : Job) (w : World) (s : Shows holds (record { store = old; desks = ds; checks = cs }) w) (open_is : IsOpen w app job) (others : (b : ℕ) → b ≢ app → SameDesk (desk_at ds b) (desk_at ds' b)) where
+  abbrev outcome : Outcome
+  outcome = value_of (question_of job).task
+
+  abbrev given : Answer
+  given = answer_result (view_of s.contents (desk_at ds app)) outcome reveals_nothing
+
+  abbrev pub IsServed : Result Reply KeepFault → Type 0
+  IsServed r = Serves holds may_leave Replies given s.contents old new (desk_at ds app) (over (desk_at ds app)) r (desk_at ds' app)
+
+  given-is : result_at w app (question_of job) ≡ given
+  given-is = ap (λ v. answer_result v outcome (reveal_to_task w app (question_of job).task)) (s.depicts.views app) ∙ ap (answer_result (view_of s.contents (desk_at ds app)) outcome) (reveals-nothing w app (question_of job).task)
+
+  change-is : result_change w app (w.views app).question ≡ in_list (sees (desk_at ds app).sessions.login) (objects_of s.contents) given.change
+  change-is = ap (result_change w app) open_is.question ∙ ap (list_change w app) given-is ∙ rw (s.depicts.views app, s.depicts.objects) refl
+
+  went : (reply : Reply) → Replies reply ≡ given.says → set_apart reply ≡ None
+  went reply is = ap apart is ∙ plain-result (view_of s.contents (desk_at ds app)) outcome reveals_nothing
+
+  finishes : goes w (Finish app) ≡ unchecked (stepped w app given) app
+  finishes = ap (finished w app) open_is.question ∙ ap (λ a. unchecked (stepped w app a) app) given-is
+
+  fault-apart : (fault : KeepFault) → (f : KeepFault) × (set_apart (refusal fault) ≡ Some f) × (refusal f ≡ refusal fault)
+  fault-apart Memory = (Memory, refl, refl)
+  fault-apart Device = (Device, refl, refl)
+  fault-apart Damaged = (Device, refl, refl)
+
+  pub shows-finished : (r : Result Reply KeepFault) → IsServed r → Shows holds (record { store = new; desks = ds'; checks = without_checks app cs }) (happens w (move_of (Finish app) (OutReply (told_result r))))
+  shows-finished (Ok reply) m =
+      let d = depicts-given given s.contents m.contents ds ds' app s.fits others (Replies reply) m.gives cs w s.depicts in
+      rw (went reply m.gives.says, finishes) (record {
+        contents = m.contents;
+        has = m.has;
+        fits = fits-given given s.contents m.contents ds ds' app s.fits others (Replies reply) m.gives;
+        depicts = record { token_record = d.token_record; objects = d.objects; checks = ap (without_checks app) d.checks; views = d.views };
+      })
+  shows-finished (Err fault) m = let f = fault-apart fault in rw f.1 (record {
+    contents = s.contents;
+    has = m.has;
+    fits = fits-put s.contents ds ds' app (rw m.same (s.fits app)) others s.fits;
+    depicts = depicts-put s.contents ds ds' cs app (over (desk_at ds app)) (answered (w.views app)) w m.same (rw (s.depicts.views app) refl) others s.depicts;
+  })
+
+  pub tells-finished : (r : Result Reply KeepFault) → IsServed r → reply_to w (move_of (Finish app) (OutReply (told_result r))) ≡ (app, told_result r) ∷ []
+  tells-finished (Ok reply) m = rw (went reply m.gives.says) (ap (finish_tells w app) open_is.question ∙ ap (λ (a : Answer). told app a.says) given-is ∙ ap (told app) (sym m.gives.says))
+  tells-finished (Err fault) m = let f = fault-apart fault in rw f.1 (ap (λ r. (app, r) ∷ []) f.2)
+
+  lasts : (d : Contents) → Changes (in_list (sees (desk_at ds app).sessions.login) (objects_of s.contents) given.change) s.contents d → lasting_in d ≡ lasting_of (goes w (Finish app))
+  lasts d is =
+      let change : Change = in_list (sees (desk_at ds app).sessions.login) (objects_of s.contents) given.change in
+      let c : list_change w app given ≡ change = rw (s.depicts.views app, s.depicts.objects) refl in
+      rw (finishes, c, s.depicts.token_record, s.depicts.objects, objects-changed change s.contents d is, record-changed change s.contents d is) refl
+
+  pub leaves-finished : (r : Result Reply KeepFault) → IsServed r → (l : Lasting) → MayLeave may_leave (record { store = new; desks = ds'; checks = without_checks app cs }) l
+      → LeftBy (MayLeave may_leave (record { store = old; desks = ds; checks = cs })) w (move_of (Finish app) (OutReply (told_result r))) l
+  leaves-finished (Ok reply) m l may =
+      rw (went reply m.gives.says) (elim (m.leaves may.0 may.1) [
+        | inl before ↦ inl ((may.0, before.0, may.2), change-is ∙ before.1)
+        | inr is ↦ inr (may.2 ∙ ap lasting_in is ∙ lasts m.contents m.gives.changes)
+      ])
+  leaves-finished (Err fault) m l may = let f = fault-apart fault in rw f.1 (elim (m.leaves may.0 may.1) [
+    | inl before ↦ inl (may.0, before, may.2)
+    | inr is ↦ inr (may.2 ∙ lasts may.0 is)
+  ])
+
+  pub blames-device : (r : Result Reply KeepFault) → IsServed r → told_result r ≡ Code DeviceError → (r ≡ Err Device) ⊎ (r ≡ Err Damaged)
+  blames-device (Ok reply) m is = let p : Some Device ≡ None = ap set_apart (sym is) ∙ went reply m.gives.says in cc
+  blames-device (Err Memory) m is = cc
+  blames-device (Err Device) m is = inl refl
+  blames-device (Err Damaged) m is = inr refl
+
+module _ {K : Type 0} (holds may_leave : K → Contents → Type 0) where
+  -- the application goes
+  pub shows-gone : (old : StoreState K) (ds ds' : List (ℕ × DeskState)) (cs : List Check) (app : ℕ) (w : World) → desk_at ds' app ≡ empty_desk → ((b : ℕ) → b ≢ app → desk_at ds' b ≡ desk_at ds b)
+      → Shows holds (record { store = old; desks = ds; checks = cs }) w → Shows holds (record { store = old; desks = ds'; checks = without_checks app cs }) (goes w (Gone app))
+  shows-gone old ds ds' cs app w own others s = record {
+    contents = s.contents;
+    has = s.has;
+    fits = fits-put s.contents ds ds' app (rw own (fits-empty s.contents)) (λ b differ. rw (others b differ) refl) s.fits;
+    depicts = depicts-gone s.contents ds ds' cs app w own others s.depicts;
+  }
+
+  -- nobody has come yet
+  pub shows-opening : (store : StoreState K) (c : Contents) → Has holds store c → Shows holds (record { store = store; desks = []; checks = [] }) (opening c)
+  shows-opening store c h = record { contents = c; has = h; fits = λ b. fits-empty c; depicts = depicts-opening c }
+
+  pub no-jobs : (store : StoreState K) (cs : List Check) (w : World) → Shows holds (record { store = store; desks = []; checks = cs }) w → HasJobs w []
+  no-jobs store cs w s app = ap (λ v. map (λ q. (app, q)) (option_to_list v.question)) (sym (s.depicts.views app))
