@@ -14,5 +14,8 @@ mod Closing
 mod Steps
 mod Called
 mod Resulted
+mod Outcomes
+mod Jobs
+mod Runs
 mod Listing
 mod Destroying

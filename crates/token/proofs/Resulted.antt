@@ -2,6 +2,7 @@
 use Rattle.std.proofs.Common.{◌≡◌, ◌≢◌, ◌⊎◌, ℕ, List, [], ◌∷◌, Option, Some, None, Result, Ok, Err, refl, sym, ◌∙◌, ap, inl, inr}
 use Rattle.std.proofs.lemmas.Bool.{cases_eq}
 use Rattle.std.specs.Prelude.{option_to_list, map}
+use Rattle.std.specs.Option.{option_map}
 use Rattle.ck_types.specs.declared.rv.Rv.TheVariants.{DeviceError}
 use Rattle.ck_calls.specs.declared.reply.Reply.{Reply}
 use Rattle.ck_calls.specs.declared.reply.Reply.TheVariants.{Code}
@@ -19,7 +20,7 @@ use Rattle.token.specs.Changes.{Change, Stays, in_list}
 use Rattle.token.specs.Answering.{Said, Replies, Answer, reveals_nothing, answered}
 use Rattle.token.specs.Answers.{answer_result}
 use Rattle.token.specs.Worlds.{World, Goes, Refuses, value_of, reveal_to_task, result_at, apart, refusal, set_apart, list_change, without_checks, stepped, unchecked, finished, finish_tells, goes, happens, told, reply_to}
-use Rattle.token.specs.Shown.{objects_of, view_of, question_of, desk_at, told_result, moved, move_of, Changes, IsOpen, HasJobs, opening}
+use Rattle.token.specs.Shown.{objects_of, view_of, question_of, desk_at, over, told_result, moved, move_of, Changes, IsOpen, HasJobs, opening}
 use Rattle.token.specs.Stores.{StoreState, TokenState, Has, Shows, Serves}
 use Rattle.token.specs.Runs.{Lasting, lasting_of, lasting_in, MayLeave, LeftBy, result_change}
 use Rattle.token.proofs.Proper.{plain-result}
@@ -29,9 +30,6 @@ use Rattle.token.proofs.Steps.{state, fits-given, depicts-given, depicts-put, fi
 -- no result reveals anything yet
 reveals-nothing : (w : World) (app : ℕ) (t : Task) → reveal_to_task w app t ≡ reveals_nothing
 reveals-nothing w app (Encrypts operation input) = refl
-
-abbrev pub over : DeskState → DeskState
-over d = record d { question = None }
 
 module _ {K : Type 0} (holds may_leave : K → Contents → Type 0) (old new : StoreState K) (ds ds' : List (ℕ × DeskState)) (cs : List Check) (app : ℕ) (job : Job) (w : World) (s : Shows holds (record { store = old; desks = ds; checks = cs }) w) (open_is : IsOpen w app job) (others : (b : ℕ) → b ≢ app → SameDesk (desk_at ds b) (desk_at ds' b)) where
   abbrev outcome : Outcome
@@ -105,6 +103,10 @@ module _ {K : Type 0} (holds may_leave : K → Contents → Type 0) (old new : S
   blames-device (Err Damaged) m is = inr refl
 
 module _ {K : Type 0} (holds may_leave : K → Contents → Type 0) where
+  -- the desk has the question that is open
+  pub desk-question : (old : StoreState K) (ds : List (ℕ × DeskState)) (cs : List Check) (app : ℕ) (job : Job) (w : World) (s : Shows holds (record { store = old; desks = ds; checks = cs }) w) → IsOpen w app job → option_map question_of (desk_at ds app).question ≡ Some (question_of job)
+  desk-question old ds cs app job w s is = ap (λ v. v.question) (sym (s.depicts.views app)) ∙ is.question
+
   -- the application goes
   pub shows-gone : (old : StoreState K) (ds ds' : List (ℕ × DeskState)) (cs : List Check) (app : ℕ) (w : World) → desk_at ds' app ≡ empty_desk → ((b : ℕ) → b ≢ app → desk_at ds' b ≡ desk_at ds b)
       → Shows holds (record { store = old; desks = ds; checks = cs }) w → Shows holds (record { store = old; desks = ds'; checks = without_checks app cs }) (goes w (Gone app))

@@ -1,19 +1,24 @@
 -- What an event at one desk is to all applications.
-use Rattle.std.proofs.Common.{◌≡◌, ◌≢◌, ℕ, Bool, true, false, not, List, [], ◌∷◌, ◌++◌, map, Option, Some, None, refl, sym, ◌∙◌, ap, inl, inr}
+use Rattle.std.proofs.Common.{◌≡◌, ◌≢◌, ℕ, Bool, true, false, not, List, [], ◌∷◌, ◌++◌, map, Option, Some, None, Result, Ok, Err, refl, sym, ◌∙◌, ap, inl, inr}
 use Rattle.std.specs.Prelude.{filter}
 use Rattle.std.specs.List.{AllByRecursion}
 use Rattle.std.proofs.lemmas.Bool.{cases_eq, eq-eqb, ne_eqb}
 use Rattle.ck_types.specs.declared.entry.Entry.{Entry}
 use Rattle.ck_types.specs.declared.user_type.UserType.{UserType}
+use Rattle.ck_calls.specs.declared.call.Call.{Call}
 use Rattle.keep.specs.Contents.{Contents, Kept}
+use Rattle.keep.specs.declared.keep.KeepFault.{KeepFault}
 use Rattle.desk.specs.Desks.{DeskState, SameDesk, empty_desk}
 use Rattle.token.specs.declared.check.Check.{Check}
 use Rattle.token.specs.declared.event.Event.TheVariants.{Gone}
+use Rattle.token.specs.declared.event.Out.{Out}
 use Rattle.token.specs.Views.{record_sight, TokenObject, View, Task, Encrypts, sees, without_handle, fresh, left}
 use Rattle.token.specs.Changes.{Change, seen, in_list, as_seen}
-use Rattle.token.specs.Answering.{Said, Replies, Asks, Answer}
+use Rattle.token.specs.Answering.{Said, Replies, Asks, Answer, reveals_nothing}
+use Rattle.token.specs.Answers.{answer}
+use Rattle.token.specs.Stores.{StoreState, Serves}
 use Rattle.token.specs.Worlds.{World, list_change, change_for, checks_of, checked_by, checks_begun, without_checks, stepped, unchecked, with_view, goes}
-use Rattle.token.specs.Shown.{objects_of, sees_kept, token_object, view_of, IsNoted, Fits, Gives, State, desk_at, Depicts, opening, AllFit}
+use Rattle.token.specs.Shown.{objects_of, sees_kept, token_object, view_of, IsNoted, Fits, Gives, said_of, State, desk_at, Depicts, opening, AllFit}
 use Rattle.token.proofs.Lists.{map-map, filter-map}
 use Rattle.token.proofs.Places.{append_nil}
 use Rattle.token.proofs.Closing.{filter-less, less-none}
@@ -116,3 +121,9 @@ depicts-opening c = record { token_record = refl; objects = refl; checks = refl;
 pub depicts-gone : (c : Contents) (ds ds' : List (ℕ × DeskState)) (cs : List Check) (app : ℕ) (w : World) → desk_at ds' app ≡ empty_desk → ((b : ℕ) → b ≢ app → desk_at ds' b ≡ desk_at ds b) → Depicts (state c ds cs) w → Depicts (state c ds' (without_checks app cs)) (goes w (Gone app))
 depicts-gone c ds ds' cs app w own others s =
     depicts-put c ds ds' cs app empty_desk (left (w.views app)) w (rw own refl) (view_of-left c (desk_at ds app) ∙ ap left (sym (s.views app))) (λ b differ. rw (others b differ) refl) s
+
+-- ---- a call at a desk that is the same but for the memory at hand
+pub served-same : {K : Type 0} (holds may_leave : K → Contents → Type 0) (call : Call) (random : List ℕ) (c : Contents) (old new : StoreState K) (d mid : DeskState) (r : Result Out KeepFault) (desk : DeskState) → SameDesk d mid
+    → Serves holds may_leave said_of (answer (view_of c mid) call random reveals_nothing) c old new mid mid r desk → Serves holds may_leave said_of (answer (view_of c d) call random reveals_nothing) c old new d d r desk
+served-same holds may_leave call random c old new d mid (Ok out) desk same s = rw same at s
+served-same holds may_leave call random c old new d mid (Err fault) desk same s = record { has = s.has; same = rw same at s.same; leaves = rw same at s.leaves }

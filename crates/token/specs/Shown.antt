@@ -1,5 +1,5 @@
 -- What a token's parts show: the one place where ids become handles.
-use Rattle.std.specs.Prelude.{◌≡◌, ◌≢◌, ◌⊎◌, ℕ, ◌≤◌, ◌==◌, Bool, not, List, [], map, filter, unwrap_or, option_to_list, Option, Some, None, Result, Ok, Err}
+use Rattle.std.specs.Prelude.{◌≡◌, ◌≢◌, ◌⊎◌, ℕ, ◌≤◌, ◌==◌, ◌&&◌, Bool, false, not, List, [], ◌∷◌, map, filter, unwrap_or, option_to_list, Option, Some, None, Result, Ok, Err}
 use Rattle.std.specs.Ordering.{nat_cmp}
 use Rattle.std.specs.Option.{option_map}
 use Rattle.std.specs.List.{AllByRecursion, remove}
@@ -21,6 +21,7 @@ use Rattle.desk.specs.declared.own_object.OwnObject.{OwnObject}
 use Rattle.desk.specs.Desks.{DeskState, empty_desk}
 use Rattle.desk.specs.Operations.{started}
 use Rattle.ck_calls.specs.declared.reply.Reply.{Reply}
+use Rattle.ck_calls.specs.Functions.{function_number}
 use Rattle.token.specs.declared.event.Event.{Event}
 use Rattle.token.specs.declared.event.Out.{Out}
 use Rattle.token.specs.declared.event.Out.TheVariants.{Reply as OutReply, Ask}
@@ -82,6 +83,10 @@ Changes (Records r) old new = (kept : TokenRecord) × (record_sight kept ≡ r) 
 Changes (Resets r) old new = (kept : TokenRecord) × (record_sight kept ≡ r) × (new ≡ after_reset kept old)
 
 -- ---- what is given out
+
+-- a desk after the result of its question
+abbrev pub over : DeskState → DeskState
+over d = record d { question = None }
 
 abbrev pub said_of : Out → Said
 said_of (OutReply reply) = Replies reply
@@ -163,10 +168,16 @@ pub record IsOpen (w : World) (app : ℕ) (job : Job) : Type 0 where
   pub asker : job.app ≡ app
   pub question : (w.views app).question ≡ Some (question_of job)
 
--- the job is none of the question that is out: no question is, or it has another application, number or function
+-- the job is none of the question that is out: no question is, or it has another application, question number or
+-- function number
 abbrev pub IsOther : Option Question → ℕ → Job → Type 0
 IsOther None app job = Unit {0}
-IsOther (Some q) app job = (job.app ≢ app) ⊎ (job.question ≢ q.number) ⊎ (job.function ≢ q.function)
+IsOther (Some q) app job = (job.app ≢ app) ⊎ (job.question ≢ q.number) ⊎ (function_number job.function ≢ function_number q.function)
+
+-- and the test of it, of a desk's question
+abbrev pub is_answer : Option Job → ℕ → Job → Bool
+is_answer None app job = false
+is_answer (Some j) app job = job.app == app && (job.question == j.question && function_number job.function == function_number j.function)
 
 -- the jobs of an application
 abbrev pub jobs_of : ℕ → List (ℕ × Job) → List Job
@@ -178,3 +189,8 @@ asked_by j = (j.app, question_of j)
 -- the jobs of the questions that are out, each once, and nothing else
 abbrev pub HasJobs : World → List (ℕ × Job) → Type 0
 HasJobs w out = (app : ℕ) → map asked_by (jobs_of app out) ≡ map (λ q. (app, q)) (option_to_list (w.views app).question)
+
+-- the application's job is taken out of the list, if there is one
+abbrev pub TakesJob : ℕ → List (ℕ × Job) → Option Job → List (ℕ × Job) → Type 0
+TakesJob app old None new = (jobs_of app old ≡ []) × (new ≡ old)
+TakesJob app old (Some job) new = (jobs_of app old ≡ job ∷ jobs_of app new) × ((b : ℕ) → b ≢ app → jobs_of b new ≡ jobs_of b old)

@@ -10,13 +10,17 @@ mod get_session_info;
 mod open_session;
 
 ghost use Rattle.std.specs.Prelude.{◌≡◌, ◌<◌, ◌^◌, length};
-ghost use Rattle.std.specs.Prelude.{Ok};
+ghost use Rattle.std.specs.Prelude.{IfOk, Ok};
 ghost use Rattle.ck_types.specs.declared.rv.Rv.TheVariants as rv;
 ghost use Rattle.ck_calls.specs.Need.{random_bytes};
 ghost use Rattle.ck_calls.specs.declared.reply.Reply.TheVariants.{Code};
 ghost use Rattle.keep.specs.Keeping.{Counted, HasCause};
 ghost use Rattle.precede.specs.Row.{code_of};
 ghost use Rattle.token.specs.declared.event.Out.TheVariants.{Reply as OutReply};
+ghost use Rattle.token.specs.Answering.{Replies, reveals_nothing};
+ghost use Rattle.token.specs.Answers.{answer, answer_result};
+ghost use Rattle.token.specs.Shown.{IsFor, over, said_of};
+ghost use Rattle.token.specs.Stores.{Served};
 
 use crate::event::Out;
 use crate::store::Store;
@@ -55,6 +59,8 @@ pub(crate) fn serve<K: Keep>(
     random: &[u8],
 ) -> Result<Out, KeepFault>
     requires { length random.now ≡ random_bytes call }
+    ensures serves { Served K.holds K.may_leave K.doubt said_of (λ v. answer v call random.now reveals_nothing) store.old store.new desk.old desk.old result desk.new }
+    ensures asker { IfOk result (IsFor app) }
     ensures counts { Counted K.doubt K.failures_of K.tried store.old.keep store.new.keep 1 }
     ensures cause { HasCause (K.failures_of store.old.keep) (K.failures_of store.new.keep) result }
 {
@@ -123,15 +129,24 @@ fn serve_cipher_call<K: Keep>(
     }
 }
 
-/// The result of a call's question, in its session.
-pub(crate) fn serve_outcome(
+/// The outcome of the question that is out, which ends it.
+pub(crate) fn serve_outcome<K: Keep>(
     desk: &mut Desk,
-    function: Function,
-    session: u64,
+    store: &mut Store<K>,
     outcome: Outcome,
-) -> Reply {
-    match (function, outcome) {
-        (Function::Encrypt, Outcome::Data(output)) => encrypt::finish(desk, session, output),
-        _ => Reply::Code(Rv::FunctionFailed),
+) -> Result<Reply, KeepFault>
+    ensures serves { Served K.holds K.may_leave K.doubt Replies (λ v. answer_result v outcome reveals_nothing) store.old store.new desk.old (over desk.old) result desk.new }
+    ensures counts { Counted K.doubt K.failures_of K.tried store.old.keep store.new.keep 1 }
+    ensures cause { HasCause (K.failures_of store.old.keep) (K.failures_of store.new.keep) result }
+{
+    let _ = store;
+    let (function, session) = match desk.question() {
+        Some(question) => (question.function(), question.session()),
+        None => return Ok(Reply::Code(Rv::FunctionFailed)),
+    };
+    desk.end_question();
+    match function {
+        Function::Encrypt => Ok(encrypt::finish(desk, session, outcome)),
+        _ => Ok(Reply::Code(Rv::FunctionFailed)),
     }
 }

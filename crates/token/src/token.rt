@@ -1,13 +1,25 @@
 //! The token: one event at a time.
 
-ghost use Rattle.std.specs.Prelude.{◌≡◌, ◌<◌, ℕ, All, IfErr, IsSome, OnOk, length, vec_len, vec_capacity};
+ghost use Rattle.std.specs.Prelude.{◌≡◌, ◌≢◌, ◌∷◌, [], ℕ, ◌<◌, ◌≤◌, ◌==◌, All, IfErr, IfOk, IsSome, None, OnErr, OnOk, Some, length, option_to_list, reverse, vec_capacity, vec_len};
+ghost use Rattle.std.specs.Option.{option_map};
+ghost use Rattle.std.specs.List.{position};
 ghost use Rattle.std.specs.BTreeMap.{get};
 ghost use Rattle.std.specs.Ordering.{nat_cmp};
-ghost use Rattle.desk.specs.Desks.{SameDesk};
-ghost use Rattle.token.specs.Shown.{desk_at};
+ghost use Rattle.ck_calls.specs.declared.reply.Reply.TheVariants.{Code};
 ghost use Rattle.ck_calls.specs.Need.{random_bytes};
-ghost use Rattle.keep.specs.Keeping.{Counted, HasCause};
+ghost use Rattle.ck_types.specs.declared.rv.Rv.TheVariants.{DeviceError, FunctionFailed};
+ghost use Rattle.desk.specs.Desks.{SameDesk, empty_desk};
+ghost use Rattle.keep.specs.Contents.{Contents};
+ghost use Rattle.keep.specs.Keeping.{Counted, HasCause, Rises, Stays};
+ghost use Rattle.token.specs.declared.event.Event.TheVariants.{Finish, Gone};
+ghost use Rattle.token.specs.declared.event.Out.TheVariants.{Reply as OutReply};
 ghost use Rattle.token.specs.Events.{HasRandom};
+ghost use Rattle.token.specs.Answering.{Replies, reveals_nothing};
+ghost use Rattle.token.specs.Answers.{answer, answer_result};
+ghost use Rattle.token.specs.Worlds.{World, apart, called, goes, happens, refusal, reply_to, says_called, value_of, without_checks};
+ghost use Rattle.token.specs.Shown.{HasJobs, IsFor, IsOpen, IsOther, TakesJob, desk_at, is_answer, move_of, opening, over, question_of, said_of, told_as, told_result};
+ghost use Rattle.token.specs.Stores.{Served, Shows};
+ghost use Rattle.token.specs.Runs.{Advances, IsRun, IsStep, Lasting, LeavesBy, LeftBy, MayLeave, call_change};
 
 use crate::check::Check;
 use crate::event::{Event, Out, Ran};
@@ -40,86 +52,90 @@ impl<K: Keep> Model for Token<K> {
 
 impl<K: Keep> Token<K> {
     /// A token over a keeper, which nobody has called yet. It reads the ids of the keeper's objects. A
-    /// keeper that refuses comes back beside its fault.
-    pub fn new(alloc: Global, keep: K) -> Result<Token<K>, (KeepFault, K)> {
+    /// keeper that refuses comes back beside its fault, as it was.
+    pub fn new(alloc: Global, keep: K) -> Result<Token<K>, (KeepFault, K)>
+        // It shows what the keeper holds, and no application.
+        ensures shows { (c : Contents) → K.holds keep c → IfOk result (λ t. K.doubt t.store.keep ≡ 0 → Shows K.holds t (opening c)) }
+        // No question is out.
+        ensures jobs { IfOk result (λ t. (w : World) → Shows K.holds t w → HasJobs w []) }
+        ensures leaves { IfOk result (λ t. (d : Contents) → K.may_leave t.store.keep d → K.may_leave keep d) }
+        ensures back { IfErr result (λ e. Stays K.holds K.may_leave keep e.1) }
+    {
+        let store = Store::adopt(alloc, keep)?;
         Ok(Token {
-            store: Store::adopt(alloc, keep)?,
+            store,
             desks: BTreeMap::new(alloc),
             checks: Vec::new(alloc),
         })
     }
 
     /// The keeper, with all that was acknowledged. The applications are gone.
-    pub fn into_keep(self) -> K {
+    pub fn into_keep(self) -> K
+        ensures { result ≡ self.store.keep }
+    {
         let Token { store, .. } = self;
         store.into_keep()
     }
 
-    /// One call of an application, with its random bytes.
+    /// One call of an application, with its random bytes (`ck_calls::need`). Where memory was refused the
+    /// reply is `CKR_HOST_MEMORY`, where the keeper failed `CKR_DEVICE_ERROR`; then nothing has changed.
     pub fn call(&mut self, alloc: Global, app: u64, call: Call, random: &[u8]) -> Out
         requires { length random.now ≡ random_bytes call }
+        // The token shows the world after the call.
+        ensures world { K.doubt self.new.store.keep ≡ 0 → (w : World) → Shows K.holds self.old w → Shows K.holds self.new (called w app call random.now (apart (said_of result))) }
+        // What is said is the answer to what the application sees, or a refusal set apart.
+        ensures says { K.doubt self.new.store.keep ≡ 0 → (w : World) → Shows K.holds self.old w → said_of result ≡ says_called w app call random.now (apart (said_of result)) }
+        // A job is the application's.
+        ensures asker { IsFor app result }
+        // A crash leaves the change of the call alone, or after a refusal what it could leave before, or the change.
+        ensures leaves { K.doubt self.new.store.keep ≡ 0 → (w : World) → Shows K.holds self.old w → (l : Lasting) → MayLeave K.may_leave self.new l → LeavesBy (MayLeave K.may_leave self.old) (call_change w app call random.now) (called w app call random.now None) (apart (said_of result)) l }
         // At most one write is tried.
         ensures counts { Counted K.doubt K.failures_of K.tried self.old.store.keep self.new.store.keep 1 }
+        // CKR_DEVICE_ERROR comes only where a failure of the keeper was counted.
+        ensures cause { K.doubt self.new.store.keep ≡ 0 → (w : World) → Shows K.holds self.old w → result ≡ OutReply (Code DeviceError) → Rises (K.failures_of self.old.store.keep) (K.failures_of self.new.store.keep) }
     {
-        match self.serve(alloc, app, call, random) {
-            Ok(out) => out,
-            Err(fault) => Out::Reply(refusal(fault)),
-        }
-    }
-
-    fn serve(
-        &mut self,
-        alloc: Global,
-        app: u64,
-        call: Call,
-        random: &[u8],
-    ) -> Result<Out, KeepFault>
-        requires { length random.now ≡ random_bytes call }
-        ensures counts { Counted K.doubt K.failures_of K.tried self.old.store.keep self.new.store.keep 1 }
-        ensures cause { HasCause (K.failures_of self.old.store.keep) (K.failures_of self.new.store.keep) result }
-    {
-        seat(alloc, &mut self.desks, app)?;
-        match self.desks.get_mut(&app) {
-            Some(desk) => serve(alloc, app, desk, &mut self.store, call, random),
-            None => unreachable!(),
-        }
+        told_as(serve_app(
+            alloc,
+            app,
+            &mut self.desks,
+            &mut self.store,
+            call,
+            random,
+        ))
     }
 
     /// The end of an application's question. A `Done` of another application, question or function, or
-    /// without a question that is out, answers `CKR_FUNCTION_FAILED` and changes nothing.
+    /// without a question that is out, answers `CKR_FUNCTION_FAILED` and changes nothing. Where memory was
+    /// refused, in the job too, the reply is `CKR_HOST_MEMORY`; the question is over.
     pub fn finish(&mut self, alloc: Global, app: u64, done: Done) -> Reply
-        // No call's result is written yet.
-        ensures keep { self.new.store ≡ self.old.store }
+        // The token shows the world after the result.
+        ensures world { K.doubt self.new.store.keep ≡ 0 → (w : World) → Shows K.holds self.old w → IsOpen w app done.job.value → Shows K.holds self.new (happens w (move_of (Finish app) (OutReply result))) }
+        // What is told is the answer to the result of the question, or a refusal set apart.
+        ensures told { K.doubt self.new.store.keep ≡ 0 → (w : World) → Shows K.holds self.old w → IsOpen w app done.job.value → reply_to w (move_of (Finish app) (OutReply result)) ≡ (app, result) ∷ [] }
+        ensures other { (w : World) → Shows K.holds self.old w → IsOther (w.views app).question app done.job.value → (result ≡ Code FunctionFailed) × (self.new ≡ self.old) }
+        // A crash leaves the change of the result alone, or after a refusal what it could leave before, or the change.
+        ensures leaves { K.doubt self.new.store.keep ≡ 0 → (w : World) → Shows K.holds self.old w → IsOpen w app done.job.value → (l : Lasting) → MayLeave K.may_leave self.new l → LeftBy (MayLeave K.may_leave self.old) w (move_of (Finish app) (OutReply result)) l }
+        // At most one write is tried.
+        ensures counts { Counted K.doubt K.failures_of K.tried self.old.store.keep self.new.store.keep 1 }
+        // CKR_DEVICE_ERROR comes only where a failure of the keeper was counted.
+        ensures cause { K.doubt self.new.store.keep ≡ 0 → (w : World) → Shows K.holds self.old w → IsOpen w app done.job.value → result ≡ Code DeviceError → Rises (K.failures_of self.old.store.keep) (K.failures_of self.new.store.keep) }
     {
         let _ = alloc;
-        let failed = Reply::Code(Rv::FunctionFailed);
-        let Some(desk) = self.desks.get_mut(&app) else {
-            return failed;
-        };
-        let Some(question) = desk.question() else {
-            return failed;
-        };
-        let function = question.function();
-        let session = question.session();
-        if done.app() != app
-            || done.question() != question.number()
-            || done.function() != function
-        {
-            return failed;
+        if !is_open(&self.desks, app, &done) {
+            return Reply::Code(Rv::FunctionFailed);
         }
-        desk.end_question();
+        let reply = told_result(finish_app(&mut self.desks, &mut self.store, app, done));
         retain_others(&mut self.checks, app);
-        match done.into_outcome() {
-            Ok(outcome) => serve_outcome(desk, function, session, outcome),
-            Err(_) => refusal(KeepFault::Memory),
-        }
+        reply
     }
 
     /// The application goes, with all that it has. This takes no memory.
     pub fn gone(&mut self, app: u64)
+        ensures world { (w : World) → Shows K.holds self.old w → Shows K.holds self.new (goes w (Gone app)) }
+        // Neither the keeper nor what a crash may leave changes.
         ensures keep { self.new.store ≡ self.old.store }
     {
-        let _ = self.desks.remove(&app);
+        leave(&mut self.desks, app);
         retain_others(&mut self.checks, app);
     }
 
@@ -132,6 +148,8 @@ impl<K: Keep> Token<K> {
     ) -> Option<(u64, Reply)>
         requires room { vec_len out.old < vec_capacity out.old }
         requires random { HasRandom event }
+        ensures step { K.doubt self.new.store.keep ≡ 0 → (w : World) → Shows K.holds self.old w → HasJobs w out.old.items → IsStep (Shows K.holds self.new) (MayLeave K.may_leave self.old) (MayLeave K.may_leave self.new) w event (option_to_list result) out.new.items }
+        ensures counts { Counted K.doubt K.failures_of K.tried self.old.store.keep self.new.store.keep 1 }
     {
         match event {
             Event::Call { app, call, words } => match self.call(alloc, app, call, &words) {
@@ -141,10 +159,13 @@ impl<K: Keep> Token<K> {
                     None
                 }
             },
-            Event::Finish { app } => {
-                let job = take_job(out, app)?;
-                Some((app, self.finish(alloc, app, job.run(alloc))))
-            }
+            Event::Finish { app } => match take_job(out, app) {
+                Some(job) => {
+                    let reply = self.finish(alloc, app, job.run(alloc));
+                    Some((app, reply))
+                }
+                None => None,
+            },
             Event::Gone { app } => {
                 let _ = take_job(out, app);
                 self.gone(app);
@@ -153,19 +174,47 @@ impl<K: Keep> Token<K> {
         }
     }
 
+    /// Takes the last event, and adds its reply, if there is one.
+    fn advance(
+        &mut self,
+        alloc: Global,
+        events: &mut Vec<Event>,
+        out: &mut Vec<(u64, Job)>,
+        replies: &mut Vec<(u64, Reply)>,
+    ) -> Result<(), AllocError>
+        requires some { 0 < vec_len events.old }
+        requires random { All HasRandom events.old.items }
+        ensures ok { OnOk result (Advances (K.doubt self.new.store.keep ≡ 0) (Shows K.holds self.old) (Shows K.holds self.new) (MayLeave K.may_leave self.old) (MayLeave K.may_leave self.new) (reverse events.old.items) out.old.items replies.old.items (reverse events.new.items) out.new.items replies.new.items) }
+        ensures err { OnErr result ((events.new.items ≡ events.old.items) × (out.new.items ≡ out.old.items) × (replies.new.items ≡ replies.old.items) × (self.new ≡ self.old)) }
+        ensures shorter { OnOk result (vec_len events.new < vec_len events.old) }
+        ensures random { All HasRandom events.new.items }
+        ensures doubt { K.doubt self.old.store.keep ≤ K.doubt self.new.store.keep }
+    {
+        replies.reserve(1)?;
+        out.reserve(1)?;
+        let Some(event) = events.pop() else {
+            unreachable!()
+        };
+        if let Some(reply) = self.event(alloc, event, out) {
+            replies.push_reserved(reply);
+        }
+        Ok(())
+    }
+
     /// Takes the events in turn, as long as there is memory for the replies and jobs. `out` has the
     /// job of each question that is out, once, and nothing else.
     pub fn run(&mut self, alloc: Global, mut events: Vec<Event>, mut out: Vec<(u64, Job)>) -> Ran
-        requires { All HasRandom events.items }
+        requires random { All HasRandom events.items }
+        requires jobs { (w : World) → Shows K.holds self.old w → HasJobs w out.items }
+        ensures { K.doubt self.new.store.keep ≡ 0 → (w : World) → Shows K.holds self.old w
+            → IsRun (Shows K.holds self.new) (MayLeave K.may_leave self.old) (MayLeave K.may_leave self.new) w events.items result.replies.items result.left.items result.out.items }
     {
         let mut replies = Vec::new(alloc);
         events.reverse();
-        'events: while replies.reserve(1).is_ok() && out.reserve(1).is_ok() {
-            let Some(event) = events.pop() else {
-                break;
-            };
-            if let Some(reply) = self.event(alloc, event, &mut out) {
-                replies.push_reserved(reply);
+        'events: while !events.is_empty() {
+            match self.advance(alloc, &mut events, &mut out, &mut replies) {
+                Ok(()) => {}
+                Err(_) => break,
             }
         }
         events.reverse();
@@ -174,6 +223,81 @@ impl<K: Keep> Token<K> {
             out,
             left: events,
         }
+    }
+}
+
+/// What an application is told of its call.
+fn told_as(outcome: Result<Out, KeepFault>) -> Out
+    ensures { result ≡ told_as outcome }
+{
+    match outcome {
+        Ok(out) => out,
+        Err(fault) => Out::Reply(refusal(fault)),
+    }
+}
+
+/// What an application is told of its result.
+fn told_result(outcome: Result<Reply, KeepFault>) -> Reply
+    ensures { result ≡ told_result outcome }
+{
+    match outcome {
+        Ok(reply) => reply,
+        Err(fault) => refusal(fault),
+    }
+}
+
+/// What an application is answered where its event was refused.
+fn refusal(fault: KeepFault) -> Reply
+    ensures { result ≡ refusal fault }
+{
+    match fault {
+        KeepFault::Memory => Reply::Code(Rv::HostMemory),
+        KeepFault::Device | KeepFault::Damaged => Reply::Code(Rv::DeviceError),
+    }
+}
+
+/// One call, at the desk of its application.
+fn serve_app<K: Keep>(
+    alloc: Global,
+    app: u64,
+    desks: &mut BTreeMap<u64, Desk>,
+    store: &mut Store<K>,
+    call: Call,
+    random: &[u8],
+) -> Result<Out, KeepFault>
+    requires { length random.now ≡ random_bytes call }
+    ensures serves { Served K.holds K.may_leave K.doubt said_of (λ v. answer v call random.now reveals_nothing) store.old store.new (desk_at desks.old.entries app) (desk_at desks.old.entries app) result (desk_at desks.new.entries app) }
+    ensures others { (b : ℕ) → b ≢ app → SameDesk (desk_at desks.old.entries b) (desk_at desks.new.entries b) }
+    ensures asker { IfOk result (IsFor app) }
+    ensures counts { Counted K.doubt K.failures_of K.tried store.old.keep store.new.keep 1 }
+    ensures cause { HasCause (K.failures_of store.old.keep) (K.failures_of store.new.keep) result }
+{
+    match seat(alloc, desks, app) {
+        Ok(()) => serve_seated(alloc, app, desks, store, call, random),
+        Err(fault) => Err(fault),
+    }
+}
+
+/// One call, at the desk that the application has.
+fn serve_seated<K: Keep>(
+    alloc: Global,
+    app: u64,
+    desks: &mut BTreeMap<u64, Desk>,
+    store: &mut Store<K>,
+    call: Call,
+    random: &[u8],
+) -> Result<Out, KeepFault>
+    requires random { length random.now ≡ random_bytes call }
+    requires seated { IsSome (get nat_cmp desks.old app) }
+    ensures serves { Served K.holds K.may_leave K.doubt said_of (λ v. answer v call random.now reveals_nothing) store.old store.new (desk_at desks.old.entries app) (desk_at desks.old.entries app) result (desk_at desks.new.entries app) }
+    ensures others { (b : ℕ) → b ≢ app → desk_at desks.new.entries b ≡ desk_at desks.old.entries b }
+    ensures asker { IfOk result (IsFor app) }
+    ensures counts { Counted K.doubt K.failures_of K.tried store.old.keep store.new.keep 1 }
+    ensures cause { HasCause (K.failures_of store.old.keep) (K.failures_of store.new.keep) result }
+{
+    match desks.get_mut(&app) {
+        Some(desk) => serve(alloc, app, desk, store, call, random),
+        None => unreachable!(),
     }
 }
 
@@ -191,22 +315,86 @@ fn seat(alloc: Global, desks: &mut BTreeMap<u64, Desk>, app: u64) -> Result<(), 
     Ok(())
 }
 
-/// What an application is answered where its event was refused.
-fn refusal(fault: KeepFault) -> Reply {
-    match fault {
-        KeepFault::Memory => Reply::Code(Rv::HostMemory),
-        KeepFault::Device | KeepFault::Damaged => Reply::Code(Rv::DeviceError),
+/// Whether a job that was run is of the application's question that is out.
+fn is_open(desks: &BTreeMap<u64, Desk>, app: u64, done: &Done) -> bool
+    ensures { result ≡ is_answer (desk_at desks.now.entries app).question app done.now.job.value }
+{
+    match desks.get(&app) {
+        Some(desk) => match desk.question() {
+            Some(question) => {
+                done.app() == app
+                    && done.question() == question.number()
+                    && done.function() == question.function()
+            }
+            None => false,
+        },
+        None => false,
     }
 }
 
+/// The result of the application's question that is out.
+fn finish_app<K: Keep>(
+    desks: &mut BTreeMap<u64, Desk>,
+    store: &mut Store<K>,
+    app: u64,
+    done: Done,
+) -> Result<Reply, KeepFault>
+    ensures serves { option_map question_of (desk_at desks.old.entries app).question ≡ Some (question_of done.job.value) → Served K.holds K.may_leave K.doubt Replies (λ v. answer_result v (value_of (question_of done.job.value).task) reveals_nothing) store.old store.new (desk_at desks.old.entries app) (over (desk_at desks.old.entries app)) result (desk_at desks.new.entries app) }
+    ensures others { (b : ℕ) → b ≢ app → desk_at desks.new.entries b ≡ desk_at desks.old.entries b }
+    ensures counts { Counted K.doubt K.failures_of K.tried store.old.keep store.new.keep 1 }
+    ensures cause { HasCause (K.failures_of store.old.keep) (K.failures_of store.new.keep) result }
+{
+    match desks.get_mut(&app) {
+        Some(desk) => finish_at(desk, store, done),
+        None => Ok(Reply::Code(Rv::FunctionFailed)),
+    }
+}
+
+/// The result of the question that is out, at its desk.
+fn finish_at<K: Keep>(
+    desk: &mut Desk,
+    store: &mut Store<K>,
+    done: Done,
+) -> Result<Reply, KeepFault>
+    ensures serves { option_map question_of desk.old.question ≡ Some (question_of done.job.value) → Served K.holds K.may_leave K.doubt Replies (λ v. answer_result v (value_of (question_of done.job.value).task) reveals_nothing) store.old store.new desk.old (over desk.old) result desk.new }
+    ensures counts { Counted K.doubt K.failures_of K.tried store.old.keep store.new.keep 1 }
+    ensures cause { HasCause (K.failures_of store.old.keep) (K.failures_of store.new.keep) result }
+{
+    match done.into_outcome() {
+        Ok(outcome) => serve_outcome(desk, store, outcome),
+        Err(_) => {
+            desk.end_question();
+            Err(KeepFault::Memory)
+        }
+    }
+}
+
+/// The application has no desk any more.
+fn leave(desks: &mut BTreeMap<u64, Desk>, app: u64)
+    ensures own { desk_at desks.new.entries app ≡ empty_desk }
+    ensures others { (b : ℕ) → b ≢ app → desk_at desks.new.entries b ≡ desk_at desks.old.entries b }
+{
+    let _ = desks.remove(&app);
+}
+
 /// The checks of the application end.
-fn retain_others(checks: &mut Vec<Check>, app: u64) {
+fn retain_others(checks: &mut Vec<Check>, app: u64)
+    ensures { checks.new.items ≡ without_checks app checks.old.items }
+{
     checks.retain(|check| check.app != app);
 }
 
 /// Takes the application's job out of the list, if there is one.
-fn take_job(out: &mut Vec<(u64, Job)>, app: u64) -> Option<Job> {
-    let place = out.iter().position(|job| job.0 == app)?;
-    let (_, job) = out.remove(place);
-    Some(job)
+fn take_job(out: &mut Vec<(u64, Job)>, app: u64) -> Option<Job>
+    ensures { TakesJob app out.old.items result out.new.items }
+{
+    let place = place_of_job(out, app)?;
+    Some(out.remove(place).1)
+}
+
+/// The place of the application's job.
+fn place_of_job(out: &[(u64, Job)], app: u64) -> Option<usize>
+    ensures { result ≡ position (λ j. app == j.0) out.now }
+{
+    out.iter().position(|job| app == job.0)
 }

@@ -17,7 +17,7 @@ use Rattle.token.specs.Views.{View, Encrypts, mask, mask_session}
 use Rattle.token.specs.Changes.{Stays}
 use Rattle.token.specs.Worlds.{apart}
 use Rattle.token.specs.Answering.{shown, replies, asks, session_of, answered}
-use Rattle.token.specs.Answers.Encrypt.{is_whole, ends_by, asks_for_output, encrypt_with, encrypt_in, encrypt, without_encryption, encrypted}
+use Rattle.token.specs.Answers.Encrypt.{is_whole, ends_by, asks_for_output, encrypt_with, encrypt_in, encrypt, without_encryption, encrypted_reply, encrypted}
 use Rattle.token.proofs.Masks.{tokens-twice, own-twice, sessions-twice, question-twice, mask-twice, session-mask}
 use Rattle.token.proofs.Blind.{IsProper, IsFair, blind-session, blind-if, blind-reply, blind-refusal, blind-becomes, fair, fair-if, fair-refusal}
 use Rattle.token.specs.Answers.EncryptInit.{with_encryption}
@@ -70,18 +70,18 @@ without-mask v None = mask-twice (answered v)
 without-mask v (Some s) = with_encryption-mask (answered v) s None None refl
 
 pub blind-encrypted : (s : ℕ) (result : Outcome) (v : View) → shown (encrypted (mask v) s result) ≡ shown (encrypted v s result)
-blind-encrypted s (outcome.Data bytes) v =
-    blind-becomes (Output (output.Data bytes)) (without_encryption (answered (mask v)) (session_of (mask v) s)) (without_encryption (answered v) (session_of v s)) (ap (λ o. mask (without_encryption (answered (mask v)) o)) (session-mask v s) ∙ without-mask v (session_of v s))
+blind-encrypted s result v =
+    blind-becomes (encrypted_reply result) (without_encryption (answered (mask v)) (session_of (mask v) s)) (without_encryption (answered v) (session_of v s)) (ap (λ o. mask (without_encryption (answered (mask v)) o)) (session-mask v s) ∙ without-mask v (session_of v s))
 
 over-without : (v : View) (o : Option (Session Operations)) → (without_encryption (answered v) o).question ≡ None
 over-without v None = refl
 over-without v (Some s) = refl
 
 pub over-encrypted : (s : ℕ) (result : Outcome) (v : View) → (encrypted v s result).view.question ≡ None
-over-encrypted s (outcome.Data bytes) v = over-without v (session_of v s)
+over-encrypted s result v = over-without v (session_of v s)
 
 pub still-encrypted : (s : ℕ) (result : Outcome) (v : View) → (encrypted v s result).change ≡ Stays
-still-encrypted s (outcome.Data bytes) v = refl
+still-encrypted s result v = refl
 
 pub plain-encrypted : (s : ℕ) (result : Outcome) (v : View) → apart (encrypted v s result).says ≡ None
 plain-encrypted s (outcome.Data bytes) v = refl

@@ -4,6 +4,7 @@ use Rattle.ck_types.specs.declared.mech_type.MechType.{MechType}
 use Rattle.ck_types.specs.declared.rv.Rv.TheVariants.{Ok}
 use Rattle.ck_calls.specs.declared.function.Function.TheVariants as functions
 use Rattle.ck_calls.specs.declared.reply.Output.TheVariants as output
+use Rattle.ck_calls.specs.declared.reply.Reply.{Reply}
 use Rattle.ck_calls.specs.declared.reply.Reply.TheVariants.{Code, Output, BufferTooSmall}
 use Rattle.mech.specs.declared.outcome.Outcome.{Outcome}
 use Rattle.mech.specs.declared.outcome.Outcome.TheVariants as outcome
@@ -49,5 +50,8 @@ abbrev pub without_encryption : View → Option (Session Operations) → View
 without_encryption v None = v
 without_encryption v (Some s) = with_encryption v s None
 
+abbrev pub encrypted_reply : Outcome → Reply
+encrypted_reply (outcome.Data bytes) = Output (output.Data bytes)
+
 abbrev pub encrypted : View → ℕ → Outcome → Answer
-encrypted v s (outcome.Data bytes) = becomes (Output (output.Data bytes)) (without_encryption (answered v) (session_of v s))
+encrypted v s result = becomes (encrypted_reply result) (without_encryption (answered v) (session_of v s))

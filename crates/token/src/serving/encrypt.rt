@@ -1,6 +1,8 @@
 //! C_Encrypt (PKCS #11 v3.1, 5.8).
 
-ghost use Rattle.std.specs.Prelude.{◌<◌, ◌^◌, IsOk};
+ghost use Rattle.std.specs.Prelude.{◌≡◌, ◌<◌, ◌^◌, IsOk, None};
+ghost use Rattle.desk.specs.Desks.{with_encryption};
+ghost use Rattle.token.specs.Answers.Encrypt.{encrypted_reply};
 
 use crate::event::Out;
 use crate::serving::refuse;
@@ -8,7 +10,7 @@ use ck_calls::{Function, Output, Reply};
 use ck_types::Bytes;
 use desk::Desk;
 use keep::KeepFault;
-use mech::{Job, Work};
+use mech::{Job, Outcome, Work};
 use precede::Row;
 
 /// The length of an AES block, in bytes.
@@ -54,7 +56,12 @@ pub(crate) fn serve(
 }
 
 /// The operation ends with its output.
-pub(crate) fn finish(desk: &mut Desk, session: u64, output: Bytes) -> Reply {
+pub(crate) fn finish(desk: &mut Desk, session: u64, outcome: Outcome) -> Reply
+    ensures reply { result ≡ encrypted_reply outcome }
+    ensures ended { desk.new ≡ with_encryption desk.old session None }
+{
     desk.set_encryption(session, None);
-    Reply::Output(Output::Data(output))
+    match outcome {
+        Outcome::Data(output) => Reply::Output(Output::Data(output)),
+    }
 }

@@ -1,0 +1,26 @@
+use Rattle.std.proofs.Common.{arith, ◌≡◌}
+use Rattle.std.proofs.lemmas.List.{reverse-reverse}
+use Rattle.token.specs.Events.{HasRandom}
+use Rattle.token.proofs.Turning.{All-reverse}
+use Rattle.token.proofs.Runs.{nothing_yet, one_more, the_run}
+use Rattle.token.proofs.token.Token.run.Goals as goal
+use Rattle.token.proofs.token.Token.run.Goals.{else-events-test, then-events-test+in-Err}
+
+pub events-init : goal.events-init
+events-init g c = (omega arith, λ sure w s. rw (c.new-replies.ensures.items, c.reverse.ensures.items, reverse-reverse c.args.events.items) (nothing_yet _ _ w c.args.events.items c.args.out.items s (c.requires.jobs w s)), rw c.reverse.ensures.items (All-reverse HasRandom c.args.events.items c.requires.random))
+
+pub events-preserved : goal.events-preserved
+events-preserved g c = (
+  omega (arith, c.events.invariant.0, c.in-Ok.ensures.doubt),
+  λ sure w s.
+      let before : g.K.Keep.doubt c.events.self.store.keep ≡ 0 = omega (arith, c.in-Ok.ensures.doubt, sure) in
+      one_more _ _ _ _ _ _ w c.args.events.items _ _ c.events.replies.items _ c.events.out.items _ sure (c.events.invariant.1 before w s) c.in-Ok.ensures.ok,
+  c.in-Ok.ensures.random,
+)
+
+-- what stops the run changes nothing
+pub returns : goal.returns
+returns g c = λ sure w s. the_run _ _ _ w _ _ _ _ (elim c.events-test.branch [
+  | else-events-test b ↦ rw (c.reverse-2.ensures.items, b.replies-is, b.events-is, b.out-is, b.self-is) (c.events.invariant.1 (rw b.self-is at sure) w s)
+  | then-events-test+in-Err b ↦ rw (c.reverse-2.ensures.items, b.replies-is, b.events-is, b.out-is, b.self-is, b.in-Err.ensures.err.0, b.in-Err.ensures.err.1, b.in-Err.ensures.err.2, b.in-Err.ensures.err.3) (c.events.invariant.1 (rw (b.self-is, b.in-Err.ensures.err.3) at sure) w s)
+])
