@@ -16,10 +16,13 @@ use Rattle.ck_calls.specs.declared.reply.Reply.TheVariants.{Code}
 use Rattle.ck_calls.specs.Functions.{function_of}
 use Rattle.mech.specs.declared.outcome.Outcome.{Outcome}
 use Rattle.precede.specs.declared.row.Row.TheVariants.{Busy}
-use Rattle.token.specs.Views.{View, Question, Task, Encrypts, mask, mask_task, mask_question}
+use Rattle.token.specs.Views.{View, Question, mask, mask_question}
+use Rattle.ck_calls.specs.declared.function.Function.{Function}
+use Rattle.ck_calls.specs.declared.function.Function.TheVariants as function
+use Rattle.token.proofs.Masks.{mask-twice}
 use Rattle.token.specs.Changes.{Stays}
-use Rattle.token.specs.Answering.{Said, Replies, Asks, Answer, Reveal, shown, mask_reveal, refuses, refuses_by, is_closed}
-use Rattle.token.specs.Answers.{answer, answer_to, answer_task, answer_question, answer_result, may_change_objects}
+use Rattle.token.specs.Answering.{Said, Replies, Asks, Answer, Reveal, shown, mask_reveal, refuses, refuses_by, answered, is_closed}
+use Rattle.token.specs.Answers.{answer, answer_to, answer_outcome, answer_question, answer_result, may_change_objects}
 use Rattle.token.specs.Worlds.{apart}
 use Rattle.token.proofs.Blind.{IsProper, IsFair, Leaves, blind-row, blind-refusal, fair, fair-row, fair-refusal}
 use Rattle.token.proofs.Proper.OpenSession.{proper-open_session}
@@ -82,28 +85,34 @@ none-asked v c random r q is = none v.question refl where
 
 -- ---- results
 
-blind-task : (v : View) (s : ℕ) (t : Task) (outcome : Outcome) (r : Reveal) → shown (answer_task (mask v) s (mask_task t) outcome (mask_reveal r)) ≡ shown (answer_task v s t outcome r)
-blind-task v s (Encrypts operation input) outcome r = blind-encrypted s outcome v
+shown-answered : (v : View) → shown (refuses (answered (mask v)) FunctionFailed) ≡ shown (refuses (answered v) FunctionFailed)
+shown-answered v = ap (λ u. record { says = Replies (Code FunctionFailed); view = u; change = Stays }) (mask-twice (answered v))
+
+blind-outcome : (v : View) (s : ℕ) (f : Function) (outcome : Outcome) (r : Reveal) → shown (answer_outcome (mask v) s f outcome (mask_reveal r)) ≡ shown (answer_outcome v s f outcome r)
+blind-outcome v s function.Encrypt outcome r = blind-encrypted s outcome v
+blind-outcome v s _ outcome r = shown-answered v
 
 pub shown-result : (v : View) (outcome : Outcome) (r : Reveal) → shown (answer_result (mask v) outcome (mask_reveal r)) ≡ shown (answer_result v outcome r)
 unfolding answer_result
 shown-result v outcome r = out v.question where
   out : (q : Option Question) → shown (answer_question (mask v) (option_map mask_question q) outcome (mask_reveal r)) ≡ shown (answer_question v q outcome r)
   out None = blind-refusal v FunctionFailed
-  out (Some q) = blind-task v q.session q.task outcome r
+  out (Some q) = blind-outcome v q.session q.function outcome r
 
-still-task : (v : View) (s : ℕ) (t : Task) (outcome : Outcome) (r : Reveal) → (answer_task v s t outcome r).change ≡ Stays
-still-task v s (Encrypts operation input) outcome r = still-encrypted s outcome v
+still-outcome : (v : View) (s : ℕ) (f : Function) (outcome : Outcome) (r : Reveal) → (answer_outcome v s f outcome r).change ≡ Stays
+still-outcome v s function.Encrypt outcome r = still-encrypted s outcome v
+still-outcome v s _ outcome r = refl
 
 pub still-result : (v : View) (outcome : Outcome) (r : Reveal) → (answer_result v outcome r).change ≡ Stays
 unfolding answer_result
 still-result v outcome r = out v.question where
   out : (q : Option Question) → (answer_question v q outcome r).change ≡ Stays
   out None = refl
-  out (Some q) = still-task v q.session q.task outcome r
+  out (Some q) = still-outcome v q.session q.function outcome r
 
-over-task : (v : View) (s : ℕ) (t : Task) (outcome : Outcome) (r : Reveal) → (answer_task v s t outcome r).view.question ≡ None
-over-task v s (Encrypts operation input) outcome r = over-encrypted s outcome v
+over-outcome : (v : View) (s : ℕ) (f : Function) (outcome : Outcome) (r : Reveal) → (answer_outcome v s f outcome r).view.question ≡ None
+over-outcome v s function.Encrypt outcome r = over-encrypted s outcome v
+over-outcome v s _ outcome r = refl
 
 -- a result ends its question
 pub over-result : (v : View) (outcome : Outcome) (r : Reveal) → (answer_result v outcome r).view.question ≡ None
@@ -111,14 +120,15 @@ unfolding answer_result
 over-result v outcome r = out v.question refl where
   out : (q : Option Question) → v.question ≡ q → (answer_question v q outcome r).view.question ≡ None
   out None e = e
-  out (Some q) e = over-task v q.session q.task outcome r
+  out (Some q) e = over-outcome v q.session q.function outcome r
 
-plain-task : (v : View) (s : ℕ) (t : Task) (outcome : Outcome) (r : Reveal) → apart (answer_task v s t outcome r).says ≡ None
-plain-task v s (Encrypts operation input) outcome r = plain-encrypted s outcome v
+plain-outcome : (v : View) (s : ℕ) (f : Function) (outcome : Outcome) (r : Reveal) → apart (answer_outcome v s f outcome r).says ≡ None
+plain-outcome v s function.Encrypt outcome r = plain-encrypted s outcome v
+plain-outcome v s _ outcome r = refl
 
 pub plain-result : (v : View) (outcome : Outcome) (r : Reveal) → apart (answer_result v outcome r).says ≡ None
 unfolding answer_result
 plain-result v outcome r = out v.question where
   out : (q : Option Question) → apart (answer_question v q outcome r).says ≡ None
   out None = refl
-  out (Some q) = plain-task v q.session q.task outcome r
+  out (Some q) = plain-outcome v q.session q.function outcome r

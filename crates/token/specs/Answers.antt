@@ -7,15 +7,15 @@ pub mod DestroyObject
 pub mod EncryptInit
 pub mod Encrypt
 use Rattle.std.specs.Prelude.{ℕ, Bool, true, false, List, if◌then◌else◌, Option, Some, None}
-use Rattle.ck_types.specs.declared.rv.Rv.TheVariants.{FunctionNotSupported}
+use Rattle.ck_types.specs.declared.rv.Rv.TheVariants.{FunctionFailed, FunctionNotSupported}
 use Rattle.ck_calls.specs.declared.call.Call.{Call}
 use Rattle.ck_calls.specs.declared.call.Call.TheVariants as call
 use Rattle.ck_calls.specs.declared.function.Function.{Function}
 use Rattle.ck_calls.specs.declared.function.Function.TheVariants as function
 use Rattle.mech.specs.declared.outcome.Outcome.{Outcome}
 use Rattle.precede.specs.declared.row.Row.TheVariants.{Busy}
-use Rattle.token.specs.Views.{View, Task, Question, Encrypts}
-use Rattle.token.specs.Answering.{Answer, Reveal, refuses, refuses_by, is_closed}
+use Rattle.token.specs.Views.{View, Question}
+use Rattle.token.specs.Answering.{Answer, Reveal, refuses, refuses_by, answered, is_closed}
 use Rattle.token.specs.Answers.OpenSession.{open_session}
 use Rattle.token.specs.Answers.CloseSession.{close_session, close_all_sessions}
 use Rattle.token.specs.Answers.GetSessionInfo.{get_session_info}
@@ -39,13 +39,14 @@ answer_to v _ random reveal = refuses v FunctionNotSupported
 unfoldable pub answer : View → Call → List ℕ → Reveal → Answer
 answer v call random reveal = if is_closed v then refuses_by v Busy else answer_to v call random reveal
 
--- the answer to the result of the question that is out
-abbrev pub answer_task : View → ℕ → Task → Outcome → Reveal → Answer
-answer_task v session (Encrypts operation input) outcome reveal = encrypted v session outcome
+-- the answer to the result of the question that is out, by the call that asked it
+abbrev pub answer_outcome : View → ℕ → Function → Outcome → Reveal → Answer
+answer_outcome v session function.Encrypt outcome reveal = encrypted v session outcome
+answer_outcome v session _ outcome reveal = refuses (answered v) FunctionFailed
 
 abbrev pub answer_question : View → Option Question → Outcome → Reveal → Answer
 answer_question v None outcome reveal = refuses_by v Busy
-answer_question v (Some q) outcome reveal = answer_task v q.session q.task outcome reveal
+answer_question v (Some q) outcome reveal = answer_outcome v q.session q.function outcome reveal
 
 unfoldable pub answer_result : View → Outcome → Reveal → Answer
 answer_result v outcome reveal = answer_question v v.question outcome reveal

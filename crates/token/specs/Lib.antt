@@ -8,4 +8,5 @@ pub mod Worlds
 pub mod Traces
 pub mod Shown
 pub mod Stores
+pub mod Runs
 pub mod Found

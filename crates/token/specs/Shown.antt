@@ -1,5 +1,5 @@
 -- What a token's parts show: the one place where ids become handles.
-use Rattle.std.specs.Prelude.{◌≡◌, ℕ, ◌≤◌, ◌==◌, Bool, not, List, [], map, filter, unwrap_or, option_to_list, Option, Some, None, Result, Ok, Err}
+use Rattle.std.specs.Prelude.{◌≡◌, ◌≢◌, ◌⊎◌, ℕ, ◌≤◌, ◌==◌, Bool, not, List, [], map, filter, unwrap_or, option_to_list, Option, Some, None, Result, Ok, Err}
 use Rattle.std.specs.Ordering.{nat_cmp}
 use Rattle.std.specs.Option.{option_map}
 use Rattle.std.specs.List.{AllByRecursion, remove}
@@ -86,6 +86,16 @@ abbrev pub said_of : Out → Said
 said_of (OutReply reply) = Replies reply
 said_of (Ask job) = Asks (question_of job)
 
+-- it is a reply
+abbrev pub IsReply : Out → Type 0
+IsReply (OutReply reply) = Unit {0}
+IsReply (Ask job) = ⊥
+
+-- a job of it is the application's
+abbrev pub IsFor : ℕ → Out → Type 0
+IsFor app (OutReply reply) = Unit {0}
+IsFor app (Ask job) = job.app ≡ app
+
 -- What is said to one who is logged in so, what is kept and what the desk holds after it are the answer.
 pub record Gives (a : Answer) (login : Option UserType) (old : Contents) (said : Said) (new : Contents) (desk : DeskState) : Type 0 where
   pub says : said ≡ a.says
@@ -138,10 +148,23 @@ move_of event out = moved event (apart (said_of out))
 
 -- ---- jobs
 
+-- the job is of the application's question that is out
+pub record IsOpen (w : World) (app : ℕ) (job : Job) : Type 0 where
+  pub asker : job.app ≡ app
+  pub question : (w.views app).question ≡ Some (question_of job)
+
+-- the job is none of the question that is out: no question is, or it has another application, number or function
+abbrev pub IsOther : Option Question → ℕ → Job → Type 0
+IsOther None app job = Unit {0}
+IsOther (Some q) app job = (job.app ≢ app) ⊎ (job.question ≢ q.number) ⊎ (job.function ≢ q.function)
+
 -- the jobs of an application
 abbrev pub jobs_of : ℕ → List (ℕ × Job) → List Job
 jobs_of app out = map (λ j. j.1) (filter (λ j. app == j.0) out)
 
+abbrev pub asked_by : Job → ℕ × Question
+asked_by j = (j.app, question_of j)
+
 -- the jobs of the questions that are out, each once, and nothing else
 abbrev pub HasJobs : World → List (ℕ × Job) → Type 0
-HasJobs w out = (app : ℕ) → map question_of (jobs_of app out) ≡ option_to_list (w.views app).question
+HasJobs w out = (app : ℕ) → map asked_by (jobs_of app out) ≡ map (λ q. (app, q)) (option_to_list (w.views app).question)

@@ -122,8 +122,13 @@ abbrev pub finished : World → ℕ → Option Question → World
 finished w app None = w
 finished w app (Some q) = unchecked (stepped w app (result_at w app q)) app
 
+-- a call, by its answer, or refused by a fault that is no part of it
+abbrev pub called : World → ℕ → CallType → List ℕ → Option KeepFault → World
+called w app call random None = stepped w app (answer_at w app call random)
+called w app call random (Some fault) = w
+
 abbrev pub goes : World → Event → World
-goes w (Call app call random) = stepped w app (answer_at w app call random.items)
+goes w (Call app call random) = called w app call random.items None
 goes w (Finish app) = finished w app (w.views app).question
 goes w (Gone app) = unchecked (with_view w app (left (w.views app))) app
 
@@ -141,9 +146,9 @@ happens w (Refuses event fault) = refused w event
 -- ---- replies
 
 -- what is said to a call
-abbrev pub says_at : World → ℕ → CallType → List ℕ → Move → Said
-says_at w app call random (Goes event) = (answer_at w app call random).says
-says_at w app call random (Refuses event fault) = Replies (refusal fault)
+abbrev pub says_called : World → ℕ → CallType → List ℕ → Option KeepFault → Said
+says_called w app call random None = (answer_at w app call random).says
+says_called w app call random (Some fault) = Replies (refusal fault)
 
 -- a reply for the application
 abbrev pub told : ℕ → Said → List (ℕ × Reply)

@@ -1,0 +1,96 @@
+-- One event, and a run of events, over a token whose states are known by what they show and by what a crash may leave.
+use Rattle.std.specs.Prelude.{◌≡◌, ◌⊎◌, ℕ, List, [], ◌++◌, ◌∷◌, map, Option, Some, None}
+use Rattle.ck_types.specs.declared.entry.Entry.{Entry}
+use Rattle.ck_calls.specs.declared.call.Call.{Call as CallType}
+use Rattle.ck_calls.specs.declared.reply.Reply.{Reply}
+use Rattle.keep.specs.Contents.{Contents}
+use Rattle.keep.specs.declared.keep.KeepFault.{KeepFault}
+use Rattle.mech.specs.declared.job.Job.{Job}
+use Rattle.token.specs.declared.event.Event.{Event}
+use Rattle.token.specs.declared.event.Event.TheVariants.{Call, Finish, Gone}
+use Rattle.token.specs.Views.{RecordSight, record_sight, Question}
+use Rattle.token.specs.Changes.{Change, Stays}
+use Rattle.token.specs.Worlds.{World, Move, Goes, Refuses, event_of, answer_at, result_at, list_change, called, goes, happens, reply_to, after, replies}
+use Rattle.token.specs.Traces.{NotSetApart, IsTold}
+use Rattle.token.specs.Shown.{objects_of, HasJobs}
+use Rattle.token.specs.Stores.{TokenState}
+
+-- ---- crashes
+
+-- what lasts: the token's record and the token objects, whole, with the values that are masked
+pub record Lasting : Type 0 where
+  pub token_record : RecordSight
+  pub objects : List (List Entry)
+
+abbrev pub lasting_of : World → Lasting
+lasting_of w = record { token_record = w.token_record; objects = w.objects }
+
+abbrev pub lasting_in : Contents → Lasting
+lasting_in c = record { token_record = record_sight c.token_record; objects = objects_of c }
+
+-- what a crash at this moment may leave
+abbrev pub MayLeave : {K : Type 0} → (K → Contents → Type 0) → TokenState K → Lasting → Type 0
+MayLeave may_leave t l = (d : Contents) × may_leave t.store.keep d × (l ≡ lasting_in d)
+
+-- What a crash may leave after a change by which the world would be the next, by what it could leave before: the change
+-- alone, or, where nothing changes, what it could leave before; after a refusal what it could leave before, or the
+-- change, whole.
+abbrev pub LeavesBy : (Lasting → Type 0) → Change → World → Option KeepFault → Lasting → Type 0
+LeavesBy prior change next None l = (prior l × (change ≡ Stays)) ⊎ (l ≡ lasting_of next)
+LeavesBy prior change next (Some fault) l = prior l ⊎ (l ≡ lasting_of next)
+
+-- the change of what lasts that a call makes, and that a result makes
+abbrev pub call_change : World → ℕ → CallType → List ℕ → Change
+call_change w app call random = list_change w app (answer_at w app call random)
+
+abbrev pub result_change : World → ℕ → Option Question → Change
+result_change w app None = Stays
+result_change w app (Some q) = list_change w app (result_at w app q)
+
+-- and an event
+abbrev pub change_of : World → Event → Change
+change_of w (Call app call random) = call_change w app call random.items
+change_of w (Finish app) = result_change w app (w.views app).question
+change_of w (Gone app) = Stays
+
+-- what a crash may leave after an event
+abbrev pub LeftBy : (Lasting → Type 0) → World → Move → Lasting → Type 0
+LeftBy prior w (Goes event) l = LeavesBy prior (change_of w event) (goes w event) None l
+LeftBy prior w (Refuses event fault) l = LeavesBy prior (change_of w event) (goes w event) (Some fault) l
+
+-- and after a list of events
+abbrev pub LeftAfter : (Lasting → Type 0) → World → List Move → Lasting → Type 0
+LeftAfter prior w [] l = prior l
+LeftAfter prior w (m ∷ ms) l = LeftAfter (LeftBy prior w m) (happens w m) ms l
+
+-- ---- runs
+
+-- The token shows the world after the event, at which this was told, the jobs that are out are the world's, and a
+-- crash may leave no more than that.
+pub record IsStep (showing : World → Type 0) (prior left : Lasting → Type 0) (w : World) (event : Event) (said : List (ℕ × Reply)) (out : List (ℕ × Job)) : Type 0 where
+  pub move : Move
+  pub takes : event_of move ≡ event
+  pub tells : reply_to w move ≡ said
+  pub shows : showing (happens w move)
+  pub jobs : HasJobs (happens w move) out
+  pub leaves : (l : Lasting) → left l → LeftBy prior w move l
+
+-- the first event is taken, and what it told stands last
+pub record Advances (sure : Type 0) (showed shows : World → Type 0) (prior left : Lasting → Type 0) (events : List Event) (jobs : List (ℕ × Job)) (said : List (ℕ × Reply)) (rest : List Event) (out : List (ℕ × Job)) (all : List (ℕ × Reply)) : Type 0 where
+  pub event : Event
+  pub first : events ≡ event ∷ rest
+  pub more : List (ℕ × Reply)
+  pub last : all ≡ said ++ more
+  pub step : sure → (w : World) → showed w → HasJobs w jobs → IsStep shows prior left w event more out
+
+-- From w the events took place up to those left, with these replies, and the token shows the world after them.
+pub record IsRun (showing : World → Type 0) (prior left : Lasting → Type 0) (w : World) (events : List Event) (said : List (ℕ × Reply)) (rest : List Event) (out : List (ℕ × Job)) : Type 0 where
+  pub moves : List Move
+  pub took : map event_of moves ++ rest ≡ events
+  pub replied : said ≡ replies w moves
+  pub shows : showing (after w moves)
+  pub jobs : HasJobs (after w moves) out
+  -- a crash leaves the changes that were acknowledged, and perhaps one that was tried since, whole
+  pub leaves : (l : Lasting) → left l → LeftAfter prior w moves l
+  -- each application that met no refusal set apart was told what its trace tells, and sees that
+  pub private : (app : ℕ) → NotSetApart app said → IsTold app w moves
