@@ -11,3 +11,4 @@ mod Gaves
 mod Closing
 mod Listing
 mod Destroying
+mod Creating

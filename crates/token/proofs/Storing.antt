@@ -1,5 +1,5 @@
 -- What a call of the keeper makes of it and its ids.
-use Rattle.std.proofs.Common.{◌≡◌, ℕ, ◌+◌, Bool, true, false, not, List, [], ◌∷◌, ◌++◌, Option, Some, None, Result, Ok, Err, refl, sym, ◌∙◌, ap, is_some}
+use Rattle.std.proofs.Common.{◌≡◌, ℕ, ◌+◌, true, false, not, List, [], ◌∷◌, ◌++◌, Option, Some, None, Result, Ok, Err, refl, sym, ◌∙◌, ap, is_some}
 use Rattle.std.specs.Prelude.{filter, ◌==◌, OnErr}
 use Rattle.std.specs.List.{list_any}
 use Rattle.ck_types.specs.declared.entry.Entry.{Entry}
