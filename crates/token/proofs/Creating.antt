@@ -1,9 +1,9 @@
 -- C_CreateObject: an object that is new.
-use Rattle.std.proofs.Common.{◌≡◌, ◌≢◌, ℕ, ◌+◌, ◌<◌, ◌≤◌, Bool, true, false, cond, not, List, [], ◌∷◌, ◌++◌, map, length, Option, Some, None, Result, Ok, Err, refl, sym, ◌∙◌, ap, arith, inl, inr}
+use Rattle.std.proofs.Common.{◌≡◌, ◌≢◌, ℕ, ◌+◌, ◌<◌, ◌≤◌, Bool, true, false, cond, not, List, [], ◌∷◌, ◌++◌, map, length, Option, Some, None, Result, Ok, Err, refl, sym, ◌∙◌, ap, arith}
 use Rattle.std.specs.Prelude.{find, filter, ◌==◌, ◌&&◌, ◌||◌, nat_le}
 use Rattle.std.specs.Option.{option_map}
 use Rattle.std.specs.List.{AllByRecursion}
-use Rattle.std.proofs.lemmas.Bool.{cases_Bool, eqb-true, ne_eqb}
+use Rattle.std.proofs.lemmas.Bool.{eqb-true, ne_eqb}
 use Rattle.std.proofs.lemmas.List.Elements.{filter-append}
 use Rattle.ck_types.specs.declared.entry.Entry.{Entry}
 use Rattle.ck_types.specs.declared.attr_type.AttrType.TheVariants as attr
@@ -33,16 +33,9 @@ use Rattle.token.specs.Views.{TokenObject, SessionObject, View, sees}
 use Rattle.token.specs.Answering.{Replies, replies, session_of}
 use Rattle.token.specs.Answers.CreateObject.{adds_token_object, adds_session_object, adds, create_object}
 use Rattle.token.specs.Shown.{sees_kept, token_object, session_object, view_of, IsNoted, Fits, Gives}
-use Rattle.token.proofs.Lists.{map-push, length-map}
+use Rattle.token.proofs.Lists.{find-passes, map-push, length-map}
 
 -- ---- lists
-
-find-passes : {A : Type 0} (t : A → Bool) (xs : List A) (y : A) → find t xs ≡ Some y → t y ≡ true
-find-passes t [] y some = let k : None ≡ Some y = some in cc
-find-passes t (x ∷ xs) y some = elim (cases_Bool (t x)) [
-  | inl e ↦ let k : Some x ≡ Some y = rw e at some in let s : x ≡ y = cc in rw (← s) e
-  | inr e ↦ find-passes t xs y (rw e at some)
-]
 
 find-push_fails : {A : Type 0} (t : A → Bool) (xs : List A) (x : A) → t x ≡ false → find t (xs ++ x ∷ []) ≡ find t xs
 find-push_fails t [] x fails = rw fails refl
@@ -70,11 +63,11 @@ tokens-given : (low last : ℕ) (d d' : DeskState) (h : Handle) (t : Kept → Bo
 tokens-given low last d d' h t [] ids above same = refl
 tokens-given low last d d' h t (e ∷ es) ids above same =
     step (t e) (ap (λ hs. number_of hs e.0) same ∙ number-others h d.handles.entries e.0 (λ k. let l : e.0 ≤ last = ids.1 in omega arith)) (tokens-given e.0 last d d' h t es ids.2 above same) where
-  step : (b : Bool) → number_of d'.handles.entries e.0 ≡ number_of d.handles.entries e.0 → map (token_object d') (filter t es) ≡ map (token_object d) (filter t es) → map (token_object d') (cond b (e ∷ filter t es) (filter t es)) ≡ map (token_object d) (cond b (e ∷ filter t es) (filter t es))
-  step true n rest =
-      let f : Option ℕ → TokenObject = λ x. record { object = e.1; handle = x } in
-      ap (λ x. f x ∷ map (token_object d') (filter t es)) n ∙ ap (λ xs. token_object d e ∷ xs) rest
-  step false n rest = rest
+      step : (b : Bool) → number_of d'.handles.entries e.0 ≡ number_of d.handles.entries e.0 → map (token_object d') (filter t es) ≡ map (token_object d) (filter t es) → map (token_object d') (cond b (e ∷ filter t es) (filter t es)) ≡ map (token_object d) (cond b (e ∷ filter t es) (filter t es))
+      step true n rest =
+          let f : Option ℕ → TokenObject = λ x. record { object = e.1; handle = x } in
+          ap (λ x. f x ∷ map (token_object d') (filter t es)) n ∙ ap (λ xs. token_object d e ∷ xs) rest
+      step false n rest = rest
 
 -- ---- handles fit still
 

@@ -12,3 +12,5 @@ mod Closing
 mod Listing
 mod Destroying
 mod Creating
+mod Ciphering
+mod Dispatching

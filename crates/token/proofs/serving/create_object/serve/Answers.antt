@@ -34,9 +34,9 @@ returns-then-has_all_objects-clause-serves g c = λ sure k h fits.
     ] in
     rw c.refuse-then-has_all_objects.ensures (gave-reply _ _ _ k _ _ c.args.desk.now (Code (code_of rv.Ok ObjectLimit)) h (λ d may. may) fits
     (limit-is k c.args.desk.now c.args.session c.args.template.now c.args.random.now s.0 s.1 o (rw s.2 made.0) made.1
-      (rw s.2 (ap (λ b. b && not (is_rw c.in-Some.state)) (sym c.flag-is_token.ensures) ∙ test))
-      (rw s.2 (ap not (sym c.visible.ensures.access ∙ c.if-not-visible.false)))
-      (sym c.flag-is_token.ensures ∙ c.if-is_token-2.false) (sym c.has_all_objects.ensures ∙ c.if-has_all_objects.true)))
+    (rw s.2 (ap (λ b. b && not (is_rw c.in-Some.state)) (sym c.flag-is_token.ensures) ∙ test))
+    (rw s.2 (ap not (sym c.visible.ensures.access ∙ c.if-not-visible.false)))
+    (sym c.flag-is_token.ensures ∙ c.if-is_token-2.false) (sym c.has_all_objects.ensures ∙ c.if-has_all_objects.true)))
 
 pub returns-clause-serves : goal.returns-clause-serves
 returns-clause-serves g c = λ sure k h fits.
@@ -49,8 +49,8 @@ returns-clause-serves g c = λ sure k h fits.
     ] in
     gave-is _ _ _ (adds_session_object (view_of k c.args.desk.now) c.args.session o) _ k _ _ _ _
     (own-is k c.args.desk.now c.args.session c.args.template.now c.args.random.now s.0 s.1 o (rw s.2 made.0) made.1
-      (rw s.2 (ap (λ b. b && not (is_rw c.in-Some.state)) (sym c.flag-is_token.ensures) ∙ test))
-      (rw s.2 (ap not (sym c.visible.ensures.access ∙ c.if-not-visible.false)))
-      (sym c.flag-is_token.ensures ∙ c.if-is_token-2.false) (sym c.has_all_objects.ensures ∙ c.if-has_all_objects.false))
+    (rw s.2 (ap (λ b. b && not (is_rw c.in-Some.state)) (sym c.flag-is_token.ensures) ∙ test))
+    (rw s.2 (ap not (sym c.visible.ensures.access ∙ c.if-not-visible.false)))
+    (sym c.flag-is_token.ensures ∙ c.if-is_token-2.false) (sym c.has_all_objects.ensures ∙ c.if-has_all_objects.false))
     (gave-quiet _ _ _ _ k _ _ _ _ h (λ d may. may) refl
     (gives-added_own k c.args.desk.now c.add_own.new.self c.args.session c.in_ok-handle.handle o fits c.in_ok-handle.ensures.handle c.in_ok-handle.ensures.added))
