@@ -15,7 +15,6 @@ use Rattle.handles.specs.Handles.{HandleTable, number_of, public_handles}
 use Rattle.keep.specs.Contents.{Contents, Kept}
 use Rattle.sessions.specs.declared.Session.{Session}
 use Rattle.sessions.specs.Sessions.{login_among, state_of}
-use Rattle.desk.specs.declared.own_object.OwnObject.{OwnObject}
 use Rattle.desk.specs.Desks.{DeskState, closed as desk_closed, all_closed as desk_all_closed, handles_for}
 use Rattle.desk.specs.Operations.{Operations}
 use Rattle.token.specs.Views.{TokenObject, SessionObject, View, sees, seen_by}

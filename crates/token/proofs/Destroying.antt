@@ -12,7 +12,7 @@ use Rattle.attrs.specs.Objects.{flag}
 use Rattle.guard.specs.Access.{is_public}
 use Rattle.in_order.proofs.InOrderLemmas.{All-filter}
 use Rattle.handles.specs.declared.Handle.{Handle}
-use Rattle.handles.specs.Handles.{number_of, object_of, without_object as without_handles, IsTable}
+use Rattle.handles.specs.Handles.{number_of, without_object as without_handles, IsTable}
 use Rattle.keep.specs.Contents.{Contents, Kept, IdsRise, IsSound, without_object}
 use Rattle.sessions.specs.declared.Session.{Session}
 use Rattle.desk.specs.Desks.{DeskState}
@@ -21,8 +21,8 @@ use Rattle.token.specs.Places.{first_place, kept_place}
 use Rattle.token.specs.Views.{TokenObject, SessionObject, View, sees}
 use Rattle.token.specs.Changes.{Stays}
 use Rattle.token.specs.Answering.{Replies, session_of, object_at, place_of}
-use Rattle.token.specs.Answers.DestroyObject.{destroy_object, destroyed}
-use Rattle.token.specs.Shown.{sees_kept, token_object, session_object, objects_of, view_of, IsNoted, Fits, Gives}
+use Rattle.token.specs.Answers.DestroyObject.{destroy_object}
+use Rattle.token.specs.Shown.{sees_kept, token_object, session_object, view_of, IsNoted, Fits, Gives}
 use Rattle.token.specs.Found.{IsAt}
 use Rattle.token.proofs.Lists.{filter-map, map-remove}
 use Rattle.token.proofs.Listing.{place-is, place-none, place-some, find-above, find-filter_none, find-filter_some, kept-is}

@@ -1,6 +1,6 @@
 -- What an event at a desk does to the store.
-use Rattle.std.proofs.Common.{◌≡◌, Option, Result, Ok, Err, inl, inr, ap}
-use Rattle.std.specs.Prelude.{IsErr}
+use Rattle.std.proofs.Common.{◌≡◌, ℕ, Option, Result, Ok, Err, inl, inr, refl, sym, subst, ap}
+use Rattle.std.specs.Prelude.{IsErr, IfOk}
 use Rattle.std.proofs.lemmas.Bool.{false≢true}
 use Rattle.ck_types.specs.declared.user_type.UserType.{UserType}
 use Rattle.keep.specs.Contents.{Contents}
@@ -8,8 +8,11 @@ use Rattle.keep.specs.declared.keep.KeepFault.{KeepFault}
 use Rattle.desk.specs.Desks.{DeskState}
 use Rattle.token.specs.Views.{sees}
 use Rattle.token.specs.Changes.{Stays, in_list}
-use Rattle.token.specs.Answering.{Said, Answer}
-use Rattle.token.specs.Shown.{objects_of, Gives}
+use Rattle.ck_calls.specs.declared.reply.Reply.{Reply}
+use Rattle.token.specs.Answering.{Said, Replies, Answer, replies}
+use Rattle.token.specs.declared.event.Out.{Out}
+use Rattle.token.specs.declared.event.Out.TheVariants.{Reply as OutReply, Ask}
+use Rattle.token.specs.Shown.{objects_of, view_of, IsReply, IsFor, Fits, Gives}
 use Rattle.token.specs.Stores.{StoreState, Has, LeavesAlone, LeavesAsBefore, Gave, Refused, Serves}
 
 module _ {K : Type 0} (holds may_leave : K → Contents → Type 0) (a : Answer) (login : Option UserType) (c : Contents) (old new : StoreState K) (said : Said) (desk : DeskState) where
@@ -21,8 +24,26 @@ module _ {K : Type 0} (holds may_leave : K → Contents → Type 0) (a : Answer)
   pub gave-change : (c' : Contents) → Has holds new c' → LeavesAlone may_leave new c' → Gives a login c said c' desk → Gave holds may_leave a login c old new said desk
   gave-change c' h leaves gives = record { contents = c'; has = h; gives = gives; leaves = λ d may. inr (leaves d may) }
 
+-- the same answer, written otherwise
+pub gave-is : {K : Type 0} (holds may_leave : K → Contents → Type 0) (a b : Answer) (login : Option UserType) (c : Contents) (old new : StoreState K) (said : Said) (desk : DeskState) → a ≡ b → Gave holds may_leave b login c old new said desk → Gave holds may_leave a login c old new said desk
+gave-is holds may_leave a b login c old new said desk is gave = subst (λ x. Gave holds may_leave x login c old new said desk) (sym is) gave
+
+pub serves-is : {K T : Type 0} (holds may_leave : K → Contents → Type 0) (tell : T → Said) (a b : Answer) (c : Contents) (old new : StoreState K) (before over desk : DeskState) (r : Result T KeepFault) → a ≡ b → Serves holds may_leave tell b c old new before over r desk → Serves holds may_leave tell a c old new before over r desk
+serves-is holds may_leave tell a b c old new before over desk r is serves = subst (λ x. Serves holds may_leave tell x c old new before over r desk) (sym is) serves
+
+-- a reply that changes nothing
+pub gave-reply : {K : Type 0} (holds may_leave : K → Contents → Type 0) (a : Answer) (c : Contents) (old new : StoreState K) (desk : DeskState) (reply : Reply) → Has holds new c → LeavesAsBefore may_leave old new → Fits c desk.handles.entries → a ≡ replies (view_of c desk) reply → Gave holds may_leave a desk.sessions.login c old new (Replies reply) desk
+gave-reply holds may_leave a c old new desk reply h leaves fits is =
+    gave-is holds may_leave a (replies (view_of c desk) reply) desk.sessions.login c old new (Replies reply) desk is (gave-quiet holds may_leave _ _ c old new _ desk h leaves refl (record { says = refl; view = refl; changes = refl; fits = fits }))
+
 -- a refusal, whatever carries it
 pub serves-err : {K T : Type 0} (holds may_leave : K → Contents → Type 0) (tell : T → Said) (a : Answer) (c : Contents) (old new : StoreState K) (before over desk : DeskState) (r : Result T KeepFault) → IsErr r
     → Refused holds may_leave a before.sessions.login c old new over desk → Serves holds may_leave tell a c old new before over r desk
 serves-err holds may_leave tell a c old new before over desk (Ok t) is refused = absurd (false≢true is)
 serves-err holds may_leave tell a c old new before over desk (Err fault) is refused = refused
+
+-- a reply is no other application's job
+pub asker_reply : {E : Type 0} (app : ℕ) (r : Result Out E) → IfOk r IsReply → IfOk r (IsFor app)
+asker_reply app (Ok (OutReply reply)) is = tt
+asker_reply app (Ok (Ask job)) is = absurd is
+asker_reply app (Err e) is = tt

@@ -19,3 +19,6 @@ mod Jobs
 mod Runs
 mod Listing
 mod Destroying
+mod Creating
+mod Ciphering
+mod Dispatching

@@ -1,5 +1,5 @@
 -- Objects under handles, and the places of token objects.
-use Rattle.std.proofs.Common.{◌≡◌, ◌≢◌, ℕ, zero, suc, ◌+◌, ◌<◌, ◌≤◌, Bool, true, false, cond, not, List, [], ◌∷◌, map, Option, Some, None, refl, sym, subst, ◌∙◌, ap, arith, inl, inr}
+use Rattle.std.proofs.Common.{◌≡◌, ℕ, suc, ◌<◌, ◌≤◌, Bool, true, false, cond, List, [], ◌∷◌, map, Option, Some, None, refl, sym, subst, ◌∙◌, ap, arith, inl, inr}
 use Rattle.std.specs.Prelude.{find, filter, ◌==◌}
 use Rattle.std.specs.Option.{option_map}
 use Rattle.std.proofs.lemmas.Bool.{cases_Bool, cases_eq, eq-eqb, ne_eqb}
@@ -11,7 +11,7 @@ use Rattle.keep.specs.Contents.{Contents, Kept, IdsRise, IsSound}
 use Rattle.keep.specs.Contents.{object_at as kept_at}
 use Rattle.desk.specs.declared.own_object.OwnObject.{OwnObject}
 use Rattle.desk.specs.Desks.{DeskState, own_at}
-use Rattle.token.specs.Views.{TokenObject, SessionObject, View, sees}
+use Rattle.token.specs.Views.{TokenObject, SessionObject, sees}
 use Rattle.token.specs.declared.serving.finding.Found.{Found}
 use Rattle.token.specs.Found.{IsAt, IsFound, IsOwn}
 use Rattle.token.specs.Places.{first_place}

@@ -1,10 +1,10 @@
 -- Lists, and places in them.
-use Rattle.std.proofs.Common.{◌≡◌, ℕ, zero, suc, Bool, true, false, cond, not, List, [], ◌∷◌, ◌++◌, map, length, Option, Some, None, refl, sym, ◌∙◌, ap, inl, inr}
+use Rattle.std.proofs.Common.{◌≡◌, ℕ, zero, suc, Bool, true, false, cond, List, [], ◌∷◌, ◌++◌, map, length, Some, None, refl, ◌∙◌, ap, inl, inr}
 use Rattle.std.proofs.lemmas.Bool.{cases_Bool}
-use Rattle.std.specs.Prelude.{find, filter, ◌||◌}
+use Rattle.std.specs.Prelude.{find, filter}
 use Rattle.std.specs.Option.{option_map}
 use Rattle.std.specs.List.{remove}
-use Rattle.token.specs.Places.{first_place, seen_place, kept_place, replaced}
+use Rattle.token.specs.Places.{first_place}
 
 pub map-push : {A B : Type 0} (f : A → B) (xs : List A) (x : A) → map f (xs ++ x ∷ []) ≡ map f xs ++ f x ∷ []
 map-push f [] x = refl
@@ -38,6 +38,14 @@ find-map t f (x ∷ xs) = step (t (f x)) (find-map t f xs) where
   step : (b : Bool) → find t (map f xs) ≡ option_map f (find (λ x. t (f x)) xs) → cond b (Some (f x)) (find t (map f xs)) ≡ option_map f (cond b (Some x) (find (λ x. t (f x)) xs))
   step true h = refl
   step false h = h
+
+-- what is found passes the test
+pub find-passes : {A : Type 0} (t : A → Bool) (xs : List A) (y : A) → find t xs ≡ Some y → t y ≡ true
+find-passes t [] y some = let k : None ≡ Some y = some in cc
+find-passes t (x ∷ xs) y some = elim (cases_Bool (t x)) [
+  | inl e ↦ let k : Some x ≡ Some y = rw e at some in let s : x ≡ y = cc in rw (← s) e
+  | inr e ↦ find-passes t xs y (rw e at some)
+]
 
 pub filter-map : {A B : Type 0} (t : B → Bool) (f : A → B) (xs : List A) → filter t (map f xs) ≡ map f (filter (λ x. t (f x)) xs)
 filter-map t f [] = refl

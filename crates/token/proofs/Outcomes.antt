@@ -22,14 +22,7 @@ use Rattle.token.specs.Answers.Encrypt.{encrypted_reply, encrypted, without_encr
 use Rattle.token.specs.Shown.{objects_of, view_of, question_of, over, Changes, Fits}
 use Rattle.token.specs.Stores.{StoreState, Has, Gave}
 use Rattle.token.proofs.Gaves.{gave-quiet}
-
--- the session that is found has the number
-number-is : (ss : List (Session Operations)) (n : ℕ) (s : Session Operations) → session_at ss n ≡ Some s → s.number ≡ n
-number-is [] n s is = let k : None ≡ Some s = is in cc
-number-is (x ∷ ss) n s is = step (x.number == n) refl is (number-is ss n s) where
-  step : (b : Bool) → (x.number == n) ≡ b → cond b (Some x) (session_at ss n) ≡ Some s → (session_at ss n ≡ Some s → s.number ≡ n) → s.number ≡ n
-  step true e found rest = let k : x ≡ s = cc in rw (← k) (eqb-true x.number n e)
-  step false e found rest = rest found
+use Rattle.token.proofs.Lists.{find-passes}
 
 -- an outcome that belongs to no call that asks
 other-outcome : (f : Function) (v : View) (session : ℕ) (outcome : Outcome) (r : Reveal) → f ≢ function.Encrypt → answer_outcome v session f outcome r ≡ refuses (answered v) FunctionFailed
@@ -65,7 +58,7 @@ module _ {K : Type 0} (holds may_leave : K → Contents → Type 0) (store : Sto
   view-ended session = step (session_at d.sessions.sessions session) refl where
     step : (o : Option (Session Operations)) → session_at d.sessions.sessions session ≡ o → view_of c (desk_with_encryption (over d) session None) ≡ without_encryption (answered (view_of c d)) o
     step None is = rw is refl
-    step (Some s) is = rw (is, number-is d.sessions.sessions session s is) refl
+    step (Some s) is = rw (is, eqb-true s.number session (find-passes (λ s. s.number == session) d.sessions.sessions s is)) refl
 
   pub gave-encrypted : (j : Job) → d.question ≡ Some j → j.function ≡ function.Encrypt → Gave holds may_leave (answer_result (view_of c d) outcome reveals_nothing) d.sessions.login c store store (Replies (encrypted_reply outcome)) (desk_with_encryption (over d) j.session None)
   gave-encrypted j asked is =

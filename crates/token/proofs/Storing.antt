@@ -1,9 +1,10 @@
 -- What a call of the keeper makes of it and its ids.
-use Rattle.std.proofs.Common.{◌≡◌, ℕ, ◌+◌, Bool, true, false, not, List, [], ◌∷◌, ◌++◌, Option, Some, None, Result, Ok, Err, refl, sym, ◌∙◌, ap, is_some}
+use Rattle.std.proofs.Common.{◌≡◌, ℕ, ◌+◌, true, false, not, List, [], ◌∷◌, ◌++◌, Option, Some, None, Result, Ok, Err, refl, sym, ◌∙◌, ap, is_some}
 use Rattle.std.specs.Prelude.{filter, ◌==◌, OnErr}
 use Rattle.std.specs.List.{list_any}
 use Rattle.ck_types.specs.declared.entry.Entry.{Entry}
 use Rattle.keep.specs.Contents.{Contents, IsTokenObject, ids_of, object_at, with_object, without_object}
+use Rattle.keep.specs.Keeping.{Stays}
 use Rattle.keep.specs.ContentsLaws.{IsSound-with_object, IsSound-without_object}
 use Rattle.keep.specs.IdLaws.{ids_of-with_object, ids_of-without_object, is_some-object_at}
 use Rattle.token.specs.Stores.{StoreState, Has}
@@ -11,6 +12,10 @@ use Rattle.token.specs.Stores.{StoreState, Has}
 pub on_err : {T E P : Type 0} (r : Result T E) → P → OnErr r P
 on_err (Ok x) p = tt
 on_err (Err e) p = p
+
+-- what is read leaves the contents
+pub has-still : {K : Type 0} (holds may_leave : K → Contents → Type 0) (old new : StoreState K) (c : Contents) → Stays holds may_leave old.keep new.keep → new.ids ≡ old.ids → Has holds old c → Has holds new c
+has-still holds may_leave old new c same ids h = record { held = same.held c h.held; ids = ids ∙ h.ids; sound = h.sound }
 
 module _ {K : Type 0} (holds : K → Contents → Type 0) (old new : StoreState K) (c : Contents) where
   pub has-inserted : (o : List Entry) (id : ℕ) → IsTokenObject o → Has holds old c → id ≡ c.last_id + 1 → holds new.keep (with_object o c) → new.ids ≡ old.ids ++ id ∷ [] → Has holds new (with_object o c)

@@ -4,7 +4,7 @@ use Rattle.ck_types.specs.declared.entry.Entry.{Entry}
 use Rattle.handles.specs.Handles.{object_of}
 use Rattle.keep.specs.Contents.{Contents}
 use Rattle.keep.specs.Contents.{object_at as kept_at}
-use Rattle.desk.specs.Desks.{DeskState, own_at}
+use Rattle.desk.specs.Desks.{DeskState}
 use Rattle.token.specs.declared.serving.finding.Found.{Found}
 use Rattle.token.specs.Views.{sees}
 use Rattle.token.specs.Answering.{object_at, place_of}

@@ -10,3 +10,4 @@ pub mod Shown
 pub mod Stores
 pub mod Runs
 pub mod Found
+pub mod Built

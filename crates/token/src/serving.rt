@@ -9,17 +9,20 @@ mod finding;
 mod get_session_info;
 mod open_session;
 
-ghost use Rattle.std.specs.Prelude.{◌≡◌, ◌<◌, ◌^◌, length};
-ghost use Rattle.std.specs.Prelude.{IfOk, Ok};
+ghost use Rattle.std.specs.Prelude.{◌≡◌, ℕ, ◌<◌, ◌^◌, false, List, length, IfOk, IsTrue};
+ghost use Rattle.std.specs.Prelude.{Ok};
 ghost use Rattle.ck_types.specs.declared.rv.Rv.TheVariants as rv;
 ghost use Rattle.ck_calls.specs.Need.{random_bytes};
 ghost use Rattle.ck_calls.specs.declared.reply.Reply.TheVariants.{Code};
 ghost use Rattle.keep.specs.Keeping.{Counted, HasCause};
 ghost use Rattle.precede.specs.Row.{code_of};
+ghost use Rattle.desk.specs.Desks.{with_question};
+ghost use Rattle.mech.specs.Runnable.{is_runnable};
+ghost use Rattle.token.specs.Built.{is_object_call, is_session_call};
 ghost use Rattle.token.specs.declared.event.Out.TheVariants.{Reply as OutReply};
 ghost use Rattle.token.specs.Answering.{Replies, reveals_nothing};
-ghost use Rattle.token.specs.Answers.{answer, answer_result};
-ghost use Rattle.token.specs.Shown.{IsFor, over, said_of};
+ghost use Rattle.token.specs.Answers.{answer, answer_result, answer_to};
+ghost use Rattle.token.specs.Shown.{IsFor, over, question_of, said_of, task_of};
 ghost use Rattle.token.specs.Stores.{Served};
 
 use crate::event::Out;
@@ -28,7 +31,7 @@ use ck_calls::{Call, Function, Reply};
 use ck_types::Rv;
 use desk::Desk;
 use keep::{Keep, KeepFault};
-use mech::Outcome;
+use mech::{Job, Outcome, Work};
 use precede::Row;
 use std::alloc::Global;
 
@@ -49,7 +52,27 @@ fn refuse(row: Row) -> Result<Out, KeepFault>
     code(row.code(Rv::Ok))
 }
 
+/// Puts the question of a call, and gives the job that is to answer it.
+fn ask(app: u64, desk: &mut Desk, function: Function, session: u64, work: Work) -> Job
+    requires below { desk.old.next_question < 2 ^ 63 }
+    requires runnable { IsTrue (is_runnable work) }
+    ensures asker { result.app ≡ app }
+    ensures question { question_of result ≡ record { number = desk.old.next_question; function = function; session = session; task = task_of work } }
+    ensures asked { desk.new ≡ with_question desk.old result }
+{
+    let job = Job {
+        app,
+        question: desk.next_question(),
+        function,
+        session,
+        work,
+    };
+    desk.ask(&job);
+    job
+}
+
 /// A call with its random bytes.
+#[tactic(auto, using(crate::proofs::Gaves::asker_reply), unfolding(crate::specs::Answers::answer, crate::specs::Answers::answer_to, crate::specs::Answering::is_closed))]
 pub(crate) fn serve<K: Keep>(
     alloc: Global,
     app: u64,
@@ -77,6 +100,7 @@ pub(crate) fn serve<K: Keep>(
 }
 
 /// Calls on objects (PKCS #11 v3.1, 5.7).
+#[tactic(auto, using(crate::proofs::Gaves::asker_reply), unfolding(crate::specs::Answers::answer_to))]
 fn serve_object_call<K: Keep>(
     alloc: Global,
     app: u64,
@@ -85,9 +109,12 @@ fn serve_object_call<K: Keep>(
     call: Call,
     random: &[u8],
 ) -> Result<Out, KeepFault>
+    requires other { is_session_call call ≡ false }
     requires random { length random.now ≡ random_bytes call }
     requires handles { desk.old.handles.next_number < 2 ^ 63 }
     requires questions { desk.old.next_question < 2 ^ 63 }
+    ensures serves { Served K.holds K.may_leave K.doubt said_of (λ v. answer_to v call random.now reveals_nothing) store.old store.new desk.old desk.old result desk.new }
+    ensures asker { IfOk result (IsFor app) }
     ensures counts { Counted K.doubt K.failures_of K.tried store.old.keep store.new.keep 1 }
     ensures cause { HasCause (K.failures_of store.old.keep) (K.failures_of store.new.keep) result }
 {
@@ -103,6 +130,7 @@ fn serve_object_call<K: Keep>(
 }
 
 /// Calls that encipher (PKCS #11 v3.1, 5.8).
+#[tactic(auto, using(crate::proofs::Gaves::asker_reply), unfolding(crate::specs::Answers::answer_to))]
 fn serve_cipher_call<K: Keep>(
     alloc: Global,
     app: u64,
@@ -110,7 +138,11 @@ fn serve_cipher_call<K: Keep>(
     store: &mut Store<K>,
     call: Call,
 ) -> Result<Out, KeepFault>
+    requires session { is_session_call call ≡ false }
+    requires object { is_object_call call ≡ false }
     requires questions { desk.old.next_question < 2 ^ 63 }
+    ensures serves { (random : List ℕ) → Served K.holds K.may_leave K.doubt said_of (λ v. answer_to v call random reveals_nothing) store.old store.new desk.old desk.old result desk.new }
+    ensures asker { IfOk result (IsFor app) }
     ensures counts { Counted K.doubt K.failures_of K.tried store.old.keep store.new.keep 1 }
     ensures cause { HasCause (K.failures_of store.old.keep) (K.failures_of store.new.keep) result }
 {
@@ -124,7 +156,7 @@ fn serve_cipher_call<K: Keep>(
             session,
             data,
             room,
-        } => encrypt::serve(app, desk, session, data, room),
+        } => encrypt::serve(app, desk, store, session, data, room),
         _ => code(Rv::FunctionNotSupported),
     }
 }

@@ -1,21 +1,36 @@
 //! C_CreateObject (PKCS #11 v3.1, 5.7).
 
-ghost use Rattle.std.specs.Prelude.{◌≡◌, ◌<◌, ◌≤◌, ◌^◌, length, true};
+ghost use Rattle.std.specs.Prelude.{◌≡◌, ◌<◌, ◌≤◌, ◌^◌, length, true, IfOk};
+ghost use Rattle.guard.specs.Access.{is_rw};
 ghost use Rattle.keep.specs.Contents.{IsTokenObject};
 ghost use Rattle.keep.specs.Keeping.{Counted, HasCause};
+ghost use Rattle.token.specs.Answers.CreateObject.{adds_token_object, create_object};
+ghost use Rattle.token.specs.Shown.{IsReply, said_of};
+ghost use Rattle.token.specs.Stores.{Served};
+ghost use Rattle.token.specs.Views.{sees};
 
 use crate::event::Out;
 use crate::serving::{code, refuse};
 use crate::store::Store;
 use attrs::Object;
 use ck_calls::Reply;
-use ck_types::{AttrType, Rv, Template};
+use ck_types::{AttrType, Rv, SessionState, Template};
 use desk::Desk;
 use guard::visible;
 use keep::{Keep, KeepFault};
 use precede::Row;
 use std::alloc::Global;
 use templates::created;
+
+/// Whether a session in a state may write token objects.
+fn is_read_write(state: SessionState) -> bool
+    ensures { result ≡ is_rw state }
+{
+    match state {
+        SessionState::RwPublic | SessionState::RwUser | SessionState::RwSo => true,
+        SessionState::RoPublic | SessionState::RoUser => false,
+    }
+}
 
 pub(crate) fn serve<K: Keep>(
     alloc: Global,
@@ -27,13 +42,12 @@ pub(crate) fn serve<K: Keep>(
 ) -> Result<Out, KeepFault>
     requires below { desk.old.handles.next_number < 2 ^ 63 }
     requires random { 16 ≤ length random.now }
+    ensures serves { Served K.holds K.may_leave K.doubt said_of (λ v. create_object v session template.now random.now) store.old store.new desk.old desk.old result desk.new }
+    ensures replies { IfOk result IsReply }
     ensures counts { Counted K.doubt K.failures_of K.tried store.old.keep store.new.keep 1 }
     ensures cause { HasCause (K.failures_of store.old.keep) (K.failures_of store.new.keep) result }
 {
     let Some(state) = desk.state(session) else {
-        return refuse(Row::NoSession);
-    };
-    let Some(read_write) = desk.is_read_write(session) else {
         return refuse(Row::NoSession);
     };
     let object = match created(alloc, state, template, random) {
@@ -46,7 +60,7 @@ pub(crate) fn serve<K: Keep>(
         }
     };
     let is_token = object.flag(AttrType::Token);
-    if is_token && !read_write {
+    if is_token && !is_read_write(state) {
         return refuse(Row::TokenObjectReadOnly);
     }
     if !visible(state, &object) {
@@ -70,6 +84,9 @@ fn add_token_object<K: Keep>(
 ) -> Result<Out, KeepFault>
     requires below { desk.old.handles.next_number < 2 ^ 63 }
     requires token { IsTokenObject object.now }
+    requires seen { sees desk.old.sessions.login object.now ≡ true }
+    ensures serves { Served K.holds K.may_leave K.doubt said_of (λ v. adds_token_object v object.now) store.old store.new desk.old desk.old result desk.new }
+    ensures replies { IfOk result IsReply }
     ensures counts { Counted K.doubt K.failures_of K.tried store.old.keep store.new.keep 1 }
     ensures cause { HasCause (K.failures_of store.old.keep) (K.failures_of store.new.keep) result }
 {

@@ -1,8 +1,9 @@
 //! C_DestroyObject (PKCS #11 v3.1, 5.7).
 
+ghost use Rattle.std.specs.Prelude.{IfOk};
 ghost use Rattle.keep.specs.Keeping.{Counted, HasCause};
 ghost use Rattle.token.specs.Answers.DestroyObject.{destroy_object};
-ghost use Rattle.token.specs.Shown.{said_of};
+ghost use Rattle.token.specs.Shown.{IsReply, said_of};
 ghost use Rattle.token.specs.Stores.{Served};
 
 use crate::event::Out;
@@ -23,6 +24,7 @@ pub(crate) fn serve<K: Keep>(
     handle: u64,
 ) -> Result<Out, KeepFault>
     ensures serves { Served K.holds K.may_leave K.doubt said_of (λ v. destroy_object v session handle) store.old store.new desk.old desk.old result desk.new }
+    ensures replies { IfOk result IsReply }
     ensures counts { Counted K.doubt K.failures_of K.tried store.old.keep store.new.keep 1 }
     ensures cause { HasCause (K.failures_of store.old.keep) (K.failures_of store.new.keep) result }
 {

@@ -1,31 +1,40 @@
 //! C_Encrypt (PKCS #11 v3.1, 5.8).
 
-ghost use Rattle.std.specs.Prelude.{◌≡◌, ◌<◌, ◌^◌, IsOk, None};
+ghost use Rattle.std.specs.Prelude.{◌≡◌, ◌<◌, ◌^◌, IfOk, None};
 ghost use Rattle.desk.specs.Desks.{with_encryption};
-ghost use Rattle.token.specs.Answers.Encrypt.{encrypted_reply};
+ghost use Rattle.keep.specs.Keeping.{Counted, HasCause};
+ghost use Rattle.token.specs.Answers.Encrypt.{encrypt, encrypted_reply};
+ghost use Rattle.token.specs.Shown.{IsFor, said_of};
+ghost use Rattle.token.specs.Stores.{Served};
 
 use crate::event::Out;
-use crate::serving::refuse;
+use crate::serving::{ask, refuse};
+use crate::store::Store;
 use ck_calls::{Function, Output, Reply};
 use ck_types::Bytes;
 use desk::Desk;
-use keep::KeepFault;
-use mech::{Job, Outcome, Work};
+use keep::{Keep, KeepFault};
+use mech::{Outcome, Work};
 use precede::Row;
 
 /// The length of an AES block, in bytes.
 const BLOCK_LEN: usize = 16;
 
-pub(crate) fn serve(
+pub(crate) fn serve<K: Keep>(
     app: u64,
     desk: &mut Desk,
+    store: &mut Store<K>,
     session: u64,
     input: Bytes,
     room: Option<u64>,
 ) -> Result<Out, KeepFault>
-    requires { desk.old.next_question < 2 ^ 63 }
-    ensures { IsOk result }
+    requires below { desk.old.next_question < 2 ^ 63 }
+    ensures serves { Served K.holds K.may_leave K.doubt said_of (λ v. encrypt v session input room) store.old store.new desk.old desk.old result desk.new }
+    ensures asker { IfOk result (IsFor app) }
+    ensures counts { Counted K.doubt K.failures_of K.tried store.old.keep store.new.keep 0 }
+    ensures cause { HasCause (K.failures_of store.old.keep) (K.failures_of store.new.keep) result }
 {
+    let _ = store;
     if desk.state(session).is_none() {
         return refuse(Row::NoSession);
     }
@@ -44,15 +53,8 @@ pub(crate) fn serve(
     if room < wanted {
         return Ok(Out::Reply(Reply::BufferTooSmall(wanted)));
     }
-    let job = Job {
-        app,
-        question: desk.next_question(),
-        function: Function::Encrypt,
-        session,
-        work: Work::EcbEncrypt { key, input },
-    };
-    desk.ask(&job);
-    Ok(Out::Ask(job))
+    let work = Work::EcbEncrypt { key, input };
+    Ok(Out::Ask(ask(app, desk, Function::Encrypt, session, work)))
 }
 
 /// The operation ends with its output.

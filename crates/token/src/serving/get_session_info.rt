@@ -1,7 +1,8 @@
 //! C_GetSessionInfo (PKCS #11 v3.1, 5.6).
 
+ghost use Rattle.std.specs.Prelude.{IfOk};
 ghost use Rattle.keep.specs.Keeping.{Counted, HasCause};
-ghost use Rattle.token.specs.Shown.{said_of};
+ghost use Rattle.token.specs.Shown.{IsReply, said_of};
 ghost use Rattle.token.specs.Stores.{Served};
 ghost use Rattle.token.specs.Answers.GetSessionInfo.{get_session_info};
 
@@ -19,6 +20,7 @@ pub(crate) fn serve<K: Keep>(
     session: u64,
 ) -> Result<Out, KeepFault>
     ensures serves { Served K.holds K.may_leave K.doubt said_of (λ v. get_session_info v session) store.old store.new desk.old desk.old result desk.new }
+    ensures replies { IfOk result IsReply }
     ensures counts { Counted K.doubt K.failures_of K.tried store.old.keep store.new.keep 0 }
     ensures cause { HasCause (K.failures_of store.old.keep) (K.failures_of store.new.keep) result }
 {

@@ -1,9 +1,9 @@
 //! C_OpenSession (PKCS #11 v3.1, 5.6).
 
-ghost use Rattle.std.specs.Prelude.{◌<◌, ◌^◌};
+ghost use Rattle.std.specs.Prelude.{◌<◌, ◌^◌, IfOk};
 ghost use Rattle.keep.specs.Keeping.{Counted, HasCause};
 ghost use Rattle.token.specs.Answers.OpenSession.{open_session};
-ghost use Rattle.token.specs.Shown.{said_of};
+ghost use Rattle.token.specs.Shown.{IsReply, said_of};
 ghost use Rattle.token.specs.Stores.{Served};
 
 use crate::event::Out;
@@ -32,6 +32,7 @@ pub(crate) fn serve<K: Keep>(
 ) -> Result<Out, KeepFault>
     requires below { desk.old.sessions.next_number < 2 ^ 63 }
     ensures serves { Served K.holds K.may_leave K.doubt said_of (λ v. open_session v slot flags) store.old store.new desk.old desk.old result desk.new }
+    ensures replies { IfOk result IsReply }
     ensures counts { Counted K.doubt K.failures_of K.tried store.old.keep store.new.keep 0 }
     ensures cause { HasCause (K.failures_of store.old.keep) (K.failures_of store.new.keep) result }
 {
