@@ -1,5 +1,6 @@
 -- What a token's parts show: the one place where ids become handles.
 use Rattle.std.specs.Prelude.{◌≡◌, ◌≢◌, ◌⊎◌, ℕ, ◌≤◌, ◌==◌, ◌&&◌, Bool, false, not, List, [], ◌∷◌, map, filter, unwrap_or, option_to_list, Option, Some, None, Result, Ok, Err}
+use Rattle.std.proofs.Common.{zero, suc}
 use Rattle.std.specs.Ordering.{nat_cmp}
 use Rattle.std.specs.Option.{option_map}
 use Rattle.std.specs.List.{AllByRecursion, remove}
@@ -74,10 +75,22 @@ pub record Fits (c : Contents) (hs : List Handle) : Type 0 where
 
 -- ---- what is kept changes
 
+-- another object stands at a place, under the id that was there
+abbrev pub rekept : List Kept → ℕ → List Entry → List Kept
+rekept [] place o = []
+rekept (e ∷ es) zero o = (e.0, o) ∷ es
+rekept (e ∷ es) (suc place) o = e ∷ rekept es place o
+
+-- what stands at a place is public where the object is
+abbrev pub IsAsPublic : List Kept → ℕ → List Entry → Type 0
+IsAsPublic [] place o = Unit {0}
+IsAsPublic (e ∷ es) zero o = is_public o ≡ is_public e.1
+IsAsPublic (e ∷ es) (suc place) o = IsAsPublic es place o
+
 abbrev pub Changes : Change → Contents → Contents → Type 0
 Changes Stays old new = new ≡ old
 Changes (Insert o) old new = new ≡ with_object o old
-Changes (Replace place o) old new = ⊥
+Changes (Replace place o) old new = IsAsPublic old.objects place o × (new ≡ record old { objects = rekept old.objects place o })
 Changes (Remove place) old new = new ≡ record old { objects = remove old.objects place }
 Changes (Records r) old new = (kept : TokenRecord) × (record_sight kept ≡ r) × (new ≡ with_record kept old)
 Changes (Resets r) old new = (kept : TokenRecord) × (record_sight kept ≡ r) × (new ≡ after_reset kept old)
