@@ -3,10 +3,10 @@ use Rattle.std.proofs.Common.{◌≡◌, ℕ, ◌+◌, true, false, not, List, [
 use Rattle.std.specs.Prelude.{filter, ◌==◌, OnErr}
 use Rattle.std.specs.List.{list_any}
 use Rattle.ck_types.specs.declared.entry.Entry.{Entry}
-use Rattle.keep.specs.Contents.{Contents, IsTokenObject, ids_of, object_at, with_object, without_object}
+use Rattle.keep.specs.Contents.{Contents, IsTokenObject, ids_of, object_at, with_object, with_replacement, without_object}
 use Rattle.keep.specs.Keeping.{Stays}
-use Rattle.keep.specs.ContentsLaws.{IsSound-with_object, IsSound-without_object}
-use Rattle.keep.specs.IdLaws.{ids_of-with_object, ids_of-without_object, is_some-object_at}
+use Rattle.keep.specs.ContentsLaws.{IsSound-with_object, IsSound-with_replacement, IsSound-without_object}
+use Rattle.keep.specs.IdLaws.{ids_of-with_object, ids_of-with_replacement, ids_of-without_object, is_some-object_at}
 use Rattle.token.specs.Stores.{StoreState, Has}
 
 pub on_err : {T E P : Type 0} (r : Result T E) → P → OnErr r P
@@ -23,6 +23,13 @@ module _ {K : Type 0} (holds : K → Contents → Type 0) (old new : StoreState 
     held = held;
     ids = ids ∙ ap (λ (xs : List ℕ). xs ++ id ∷ []) h.ids ∙ ap (λ (n : ℕ). ids_of c ++ n ∷ []) is ∙ sym (ids_of-with_object o c);
     sound = IsSound-with_object o c token h.sound;
+  }
+
+  pub has-replaced : (o : List Entry) (id : ℕ) → IsTokenObject o → Has holds old c → holds new.keep (with_replacement id o c) → new.ids ≡ old.ids → Has holds new (with_replacement id o c)
+  has-replaced o id token h held ids = record {
+    held = held;
+    ids = ids ∙ h.ids ∙ sym (ids_of-with_replacement id o c);
+    sound = IsSound-with_replacement id o c token h.sound;
   }
 
   pub has-removed : (id : ℕ) → Has holds old c → holds new.keep (without_object id c) → new.ids ≡ filter (λ i. not (i == id)) old.ids → Has holds new (without_object id c)

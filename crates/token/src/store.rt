@@ -2,7 +2,7 @@
 
 ghost use Rattle.std.specs.Prelude.{◌≡◌, ◌==◌, ◌+◌, not, filter, IfOk, IfErr, OnOk, OnErr, IfSome};
 ghost use Rattle.std.specs.List.{list_any};
-ghost use Rattle.keep.specs.Contents.{Contents, IsTokenObject, object_at, with_object, without_object};
+ghost use Rattle.keep.specs.Contents.{Contents, IsTokenObject, object_at, with_object, with_replacement, without_object};
 ghost use Rattle.keep.specs.Keeping.{Stays, HasCause, Counted};
 ghost use Rattle.token.specs.Stores.{Has, LeavesAlone, LeavesOr};
 
@@ -83,6 +83,20 @@ impl<K: Keep> Store<K> {
         let id = self.keep.insert(object)?;
         self.ids.push_reserved(id);
         Ok(id)
+    }
+
+    /// Puts another token object in the place of the one under an id.
+    pub(crate) fn replace(&mut self, id: u64, object: &Object) -> Result<(), KeepFault>
+        requires { IsTokenObject object.now }
+        ensures has { (c : Contents) → Has K.holds self.old c → OnOk result (Has K.holds self.new (with_replacement id object.now c)) }
+        ensures leaves { (c : Contents) → Has K.holds self.old c → OnOk result (LeavesAlone K.may_leave self.new (with_replacement id object.now c)) }
+        ensures same { (c : Contents) → Has K.holds self.old c → OnErr result (Has K.holds self.new c) }
+        ensures leaves_or { (c : Contents) → Has K.holds self.old c → OnErr result (LeavesOr K.may_leave self.old self.new (with_replacement id object.now c)) }
+        ensures counts { Counted K.doubt K.failures_of K.tried self.old.keep self.new.keep 1 }
+        ensures cause { HasCause (K.failures_of self.old.keep) (K.failures_of self.new.keep) result }
+    {
+        self.keep.replace(id, object)?;
+        Ok(())
     }
 
     /// Removes the object under an id.
