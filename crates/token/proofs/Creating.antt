@@ -1,10 +1,9 @@
 -- C_CreateObject: an object that is new.
 use Rattle.std.proofs.Common.{◌≡◌, ◌≢◌, ℕ, ◌+◌, ◌<◌, ◌≤◌, Bool, true, false, cond, not, List, [], ◌∷◌, ◌++◌, map, length, Option, Some, None, Result, Ok, Err, refl, sym, ◌∙◌, ap, arith}
-use Rattle.std.specs.Prelude.{find, filter, ◌==◌, ◌&&◌, ◌||◌, nat_le}
+use Rattle.std.specs.Prelude.{filter, ◌==◌, ◌&&◌, ◌||◌, nat_le}
 use Rattle.std.specs.Option.{option_map}
 use Rattle.std.specs.List.{AllByRecursion}
 use Rattle.std.proofs.lemmas.Bool.{eqb-true, ne_eqb}
-use Rattle.std.proofs.lemmas.List.Elements.{filter-append}
 use Rattle.ck_types.specs.declared.entry.Entry.{Entry}
 use Rattle.ck_types.specs.declared.attr_type.AttrType.TheVariants as attr
 use Rattle.ck_types.specs.declared.rv.Rv.{Rv}
@@ -33,20 +32,7 @@ use Rattle.token.specs.Views.{TokenObject, SessionObject, View, sees}
 use Rattle.token.specs.Answering.{Replies, replies, session_of}
 use Rattle.token.specs.Answers.CreateObject.{adds_token_object, adds_session_object, adds, create_object}
 use Rattle.token.specs.Shown.{sees_kept, token_object, session_object, view_of, IsNoted, Fits, Gives}
-use Rattle.token.proofs.Lists.{find-passes, map-push, length-map}
-
--- ---- lists
-
-find-push_fails : {A : Type 0} (t : A → Bool) (xs : List A) (x : A) → t x ≡ false → find t (xs ++ x ∷ []) ≡ find t xs
-find-push_fails t [] x fails = rw fails refl
-find-push_fails t (y ∷ xs) x fails = ap (cond (t y) (Some y)) (find-push_fails t xs x fails)
-
-filter-push_passes : {A : Type 0} (t : A → Bool) (xs : List A) (x : A) → t x ≡ true → filter t (xs ++ x ∷ []) ≡ filter t xs ++ x ∷ []
-filter-push_passes t xs x passes = filter-append t xs (x ∷ []) ∙ ap (λ b. filter t xs ++ cond b (x ∷ []) []) passes
-
-All-push : {A : Type 0} (P : A → Type 0) (xs : List A) (x : A) → AllByRecursion P xs → P x → AllByRecursion P (xs ++ x ∷ [])
-All-push P [] x all last = (last, tt)
-All-push P (y ∷ xs) x all last = (all.0, All-push P xs x all.1 last)
+use Rattle.token.proofs.Lists.{find-passes, find-push_fails, filter-push_passes, All-push, map-push, length-map}
 
 -- ---- the next id
 
