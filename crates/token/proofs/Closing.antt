@@ -23,7 +23,7 @@ use Rattle.token.specs.Answering.{Replies, session_of}
 use Rattle.token.specs.Answers.CloseSession.{close_session, close_all_sessions}
 use Rattle.token.specs.Answers.OpenSession.{is_slot}
 use Rattle.token.specs.Shown.{sees_kept, token_object, session_object, view_of, IsNoted, Fits, Gives}
-use Rattle.token.proofs.Lists.{filter-map}
+use Rattle.token.proofs.Lists.{filter-map, filter-less}
 
 -- ---- handles of private objects are retired
 
@@ -49,16 +49,6 @@ tokens-public d d' (e ∷ es) same noted = step (is_public e.1) refl (tokens-pub
   step false shown rest = rest
 
 -- ---- what is seen by who is logged in then
-
-pub filter-less : (t u : Kept → Bool) (es : List Kept) → ((e : Kept) → t e ≡ true → u e ≡ true) → filter t (filter u es) ≡ filter t es
-filter-less t u [] less = refl
-filter-less t u (e ∷ es) less = elim (cases_Bool (u e)) [
-  | inl is ↦ rw is (ap (λ ys. cond (t e) (e ∷ ys) ys) (filter-less t u es less))
-  | inr is ↦ elim (cases_Bool (t e)) [
-    | inl k ↦ let both : true ≡ false = sym (less e k) ∙ is in cc
-    | inr k ↦ rw (is, k) (filter-less t u es less)
-  ]
-]
 
 abbrev pub IsLess : Option UserType → Option UserType → Type 0
 IsLess now before = (e : Kept) → sees_kept now e ≡ true → sees_kept before e ≡ true

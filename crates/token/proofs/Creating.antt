@@ -1,21 +1,18 @@
 -- C_CreateObject: an object that is new.
 use Rattle.std.proofs.Common.{◌≡◌, ◌≢◌, ℕ, ◌+◌, ◌<◌, ◌≤◌, Bool, true, false, cond, not, List, [], ◌∷◌, ◌++◌, map, length, Option, Some, None, Result, Ok, Err, refl, sym, ◌∙◌, ap, arith}
-use Rattle.std.specs.Prelude.{find, filter, ◌==◌, ◌&&◌, ◌||◌, nat_le}
+use Rattle.std.specs.Prelude.{filter, ◌==◌, ◌&&◌, nat_le}
 use Rattle.std.specs.Option.{option_map}
 use Rattle.std.specs.List.{AllByRecursion}
 use Rattle.std.proofs.lemmas.Bool.{eqb-true, ne_eqb}
-use Rattle.std.proofs.lemmas.List.Elements.{filter-append}
 use Rattle.ck_types.specs.declared.entry.Entry.{Entry}
 use Rattle.ck_types.specs.declared.attr_type.AttrType.TheVariants as attr
 use Rattle.ck_types.specs.declared.rv.Rv.{Rv}
 use Rattle.ck_types.specs.declared.rv.Rv.TheVariants as rv
 use Rattle.ck_types.specs.declared.rv.Rv.TheVariants.{HostMemory}
 use Rattle.ck_types.specs.declared.session_state.SessionState.{SessionState}
-use Rattle.ck_types.specs.declared.user_type.UserType.{UserType}
-use Rattle.ck_types.specs.declared.user_type.UserType.TheVariants.{So, User}
 use Rattle.ck_calls.specs.declared.reply.Reply.TheVariants.{Code, Object}
 use Rattle.attrs.specs.Objects.{flag}
-use Rattle.guard.specs.Access.{is_public, is_user, is_rw, is_visible}
+use Rattle.guard.specs.Access.{is_public, is_rw, is_visible}
 use Rattle.templates.specs.declared.call.Call.TheVariants.{Create}
 use Rattle.templates.specs.Faults.{template_fault}
 use Rattle.templates.specs.Made.{object_made, given_value, Answers as IsAnswered}
@@ -30,23 +27,10 @@ use Rattle.sessions.specs.Sessions.{state_of}
 use Rattle.desk.specs.Desks.{DeskState, SameDesk}
 use Rattle.desk.specs.Operations.{Operations}
 use Rattle.token.specs.Views.{TokenObject, SessionObject, View, sees}
-use Rattle.token.specs.Answering.{Replies, replies, session_of}
+use Rattle.token.specs.Answering.{Replies, Answer, unless, replies, session_of}
 use Rattle.token.specs.Answers.CreateObject.{adds_token_object, adds_session_object, adds, create_object}
 use Rattle.token.specs.Shown.{sees_kept, token_object, session_object, view_of, IsNoted, Fits, Gives}
-use Rattle.token.proofs.Lists.{find-passes, map-push, length-map}
-
--- ---- lists
-
-find-push_fails : {A : Type 0} (t : A → Bool) (xs : List A) (x : A) → t x ≡ false → find t (xs ++ x ∷ []) ≡ find t xs
-find-push_fails t [] x fails = rw fails refl
-find-push_fails t (y ∷ xs) x fails = ap (cond (t y) (Some y)) (find-push_fails t xs x fails)
-
-filter-push_passes : {A : Type 0} (t : A → Bool) (xs : List A) (x : A) → t x ≡ true → filter t (xs ++ x ∷ []) ≡ filter t xs ++ x ∷ []
-filter-push_passes t xs x passes = filter-append t xs (x ∷ []) ∙ ap (λ b. filter t xs ++ cond b (x ∷ []) []) passes
-
-All-push : {A : Type 0} (P : A → Type 0) (xs : List A) (x : A) → AllByRecursion P xs → P x → AllByRecursion P (xs ++ x ∷ [])
-All-push P [] x all last = (last, tt)
-All-push P (y ∷ xs) x all last = (all.0, All-push P xs x all.1 last)
+use Rattle.token.proofs.Lists.{find-passes, find-push_fails, filter-push_passes, All-push, map-push, length-map}
 
 -- ---- the next id
 
@@ -139,6 +123,10 @@ gives-added c d r o id number sound fits seen same is numbered =
 
 -- ---- the answer
 
+-- if there is room for one more session object
+abbrev pub limited : View → Answer → Answer
+limited v a = unless v ((ObjectLimit, nat_le 256 (length v.own)) ∷ []) a
+
 pub refused-code : (r : Result (List Entry) Rv) (fault : Option Rv) (made : List Entry) (code : Rv) → IsAnswered r fault made → r ≡ Err code → code ≢ HostMemory → fault ≡ Some code
 refused-code (Ok o) fault made code a is other = let k : Ok o ≡ Err code = is in cc
 refused-code (Err e) None made code a is other = let k : Err e ≡ Err code = is in let s : e ≡ code = cc in absurd (other (sym s ∙ a))
@@ -148,16 +136,6 @@ pub made-object : (r : Result (List Entry) Rv) (fault : Option Rv) (made o : Lis
 made-object (Err e) fault made o a is = let k : Err e ≡ Ok o = is in cc
 made-object (Ok x) (Some code) made o a is = absurd a
 made-object (Ok x) None made o a is = let k : Ok x ≡ Ok o = is in let s : x ≡ o = cc in (refl, sym a ∙ s)
-
--- what is seen in a session is seen by who is logged in
-pub seen-in : (login : Option UserType) (read_write : Bool) (o : List Entry) → is_visible (state_of login read_write) o ≡ sees login o
-seen-in login read_write o = ap (λ b. is_public o || b) (user login read_write) where
-  user : (login : Option UserType) (read_write : Bool) → is_user (state_of login read_write) ≡ is_user (state_of login true)
-  user None true = refl
-  user None false = refl
-  user (Some User) true = refl
-  user (Some User) false = refl
-  user (Some So) read_write = refl
 
 module _ (c : Contents) (d : DeskState) (session : ℕ) (template : List Entry) (random : List ℕ) (s : Session Operations) (there : session_of (view_of c d) session ≡ Some s) where
   abbrev pub state : SessionState
@@ -173,16 +151,16 @@ module _ (c : Contents) (d : DeskState) (session : ℕ) (template : List Entry) 
     adds-is : create_object (view_of c d) session template random ≡ adds (view_of c d) s.number state o
     adds-is = rw (there, fault, is) refl
 
-    pub limit-is : flag o attr.Token ≡ false → nat_le 256 (length d.own) ≡ true → create_object (view_of c d) session template random ≡ replies (view_of c d) (Code (code_of rv.Ok ObjectLimit))
-    limit-is own full = adds-is ∙ rw (allowed, visible, own, length-map session_object d.own, full) refl
-
-    pub token-is : flag o attr.Token ≡ true → create_object (view_of c d) session template random ≡ adds_token_object (view_of c d) o
-    token-is token = adds-is ∙ rw (allowed, visible, token) refl
-
-    pub own-is : flag o attr.Token ≡ false → nat_le 256 (length d.own) ≡ false → create_object (view_of c d) session template random ≡ adds_session_object (view_of c d) session o
-    own-is own full =
+    pub own-is : flag o attr.Token ≡ false → create_object (view_of c d) session template random ≡ limited (view_of c d) (adds_session_object (view_of c d) session o)
+    own-is own =
         let n : s.number ≡ session = eqb-true s.number session (find-passes (λ s. s.number == session) d.sessions.sessions s there) in
-        adds-is ∙ (rw (allowed, visible, own, length-map session_object d.own, full, n) refl)
+        adds-is ∙ (rw (allowed, visible, own, n) refl)
+
+pub full-is : (c : Contents) (d : DeskState) (a : Answer) → nat_le 256 (length d.own) ≡ true → limited (view_of c d) a ≡ replies (view_of c d) (Code (code_of rv.Ok ObjectLimit))
+full-is c d a full = rw (length-map session_object d.own, full) refl
+
+pub room-is : (c : Contents) (d : DeskState) (a : Answer) → nat_le 256 (length d.own) ≡ false → limited (view_of c d) a ≡ a
+room-is c d a full = rw (length-map session_object d.own, full) refl
 
 pub gives-added_own : (c : Contents) (d d' : DeskState) (session number : ℕ) (o : List Entry) → Fits c d.handles.entries → number ≡ d.handles.next_number
     → SameDesk (record d { own = d.own ++ record { handle = d.handles.next_number; session = session; object = o } ∷ []; handles = record d.handles { next_number = d.handles.next_number + 1 } }) d'

@@ -1,5 +1,5 @@
 -- C_DestroyObject: an object that is gone.
-use Rattle.std.proofs.Common.{◌≡◌, ◌≢◌, ℕ, zero, suc, ◌<◌, ◌≤◌, Bool, true, false, cond, not, List, [], ◌∷◌, map, Option, Some, None, refl, sym, ◌∙◌, ap, arith, inl, inr}
+use Rattle.std.proofs.Common.{◌≡◌, ◌≢◌, ℕ, suc, ◌<◌, ◌≤◌, Bool, true, false, cond, not, List, [], ◌∷◌, map, Option, Some, None, refl, sym, ◌∙◌, ap, arith, inl, inr}
 use Rattle.std.specs.Prelude.{find, filter, ◌==◌, ◌&&◌}
 use Rattle.std.specs.Option.{option_map}
 use Rattle.std.specs.List.{AllByRecursion, remove}
@@ -21,33 +21,11 @@ use Rattle.token.specs.Places.{first_place, kept_place}
 use Rattle.token.specs.Views.{TokenObject, SessionObject, View, sees}
 use Rattle.token.specs.Changes.{Stays}
 use Rattle.token.specs.Answering.{Replies, session_of, object_at, place_of}
-use Rattle.token.specs.Answers.DestroyObject.{destroy_object}
+use Rattle.token.specs.Answers.DestroyObject.{destroy_object, destroyed}
 use Rattle.token.specs.Shown.{sees_kept, token_object, session_object, view_of, IsNoted, Fits, Gives}
 use Rattle.token.specs.Found.{IsAt}
-use Rattle.token.proofs.Lists.{filter-map, map-remove}
-use Rattle.token.proofs.Listing.{place-is, place-none, place-some, find-above, find-filter_none, find-filter_some, kept-is}
-
--- ---- places
-
-kept-hidden : {A : Type 0} (t : A → Bool) (x : A) (xs : List A) (q : ℕ) → t x ≡ false → kept_place t (x ∷ xs) q ≡ suc (kept_place t xs q)
-kept-hidden t x xs zero e = rw e refl
-kept-hidden t x xs (suc q) e = rw e refl
-
-kept-seen : {A : Type 0} (t : A → Bool) (x : A) (xs : List A) (q : ℕ) → t x ≡ true → kept_place t (x ∷ xs) (suc q) ≡ suc (kept_place t xs q)
-kept-seen t x xs q e = rw e refl
-
--- what is taken out at a place that is kept is taken out of the part
-filter-kept : {A : Type 0} (t : A → Bool) (xs : List A) (q : ℕ) → filter t (remove xs (kept_place t xs q)) ≡ remove (filter t xs) q
-filter-kept t [] zero = refl
-filter-kept t [] (suc q) = refl
-filter-kept t (x ∷ xs) zero = elim (cases_Bool (t x)) [
-  | inl e ↦ rw e refl
-  | inr e ↦ ap (λ n. filter t (remove (x ∷ xs) n)) (kept-hidden t x xs zero e) ∙ (rw e (filter-kept t xs zero))
-]
-filter-kept t (x ∷ xs) (suc q) = elim (cases_Bool (t x)) [
-  | inl e ↦ ap (λ n. filter t (remove (x ∷ xs) n)) (kept-seen t x xs q e) ∙ (rw e (ap (λ ys. x ∷ ys) (filter-kept t xs q)))
-  | inr e ↦ ap (λ n. filter t (remove (x ∷ xs) n)) (kept-hidden t x xs (suc q) e) ∙ (rw e (filter-kept t xs (suc q)))
-]
+use Rattle.token.proofs.Lists.{filter-map, map-remove, find-filter_none, find-filter_some, place-none, place-some, kept-hidden, kept-seen, filter-kept, kept_place-map}
+use Rattle.token.proofs.Listing.{place-is, find-above, kept-is}
 
 -- ids above are all kept
 kept-above : (low last id : ℕ) (es : List Kept) → IdsRise low es last → id ≤ low → filter (λ e. not (e.0 == id)) es ≡ es
@@ -70,11 +48,6 @@ removed low last id t (e ∷ es) p ids at = elim (cases_Bool (t e)) [
   further : t e ≡ true → (f : Option ℕ) → first_place (λ e. e.0 == id) (filter t es) ≡ f → option_map suc f ≡ Some p → ((q : ℕ) → first_place (λ e. e.0 == id) (filter t es) ≡ Some q → filter (λ e. not (e.0 == id)) es ≡ remove es (kept_place t es q)) → e ∷ filter (λ e. not (e.0 == id)) es ≡ remove (e ∷ es) (kept_place t (e ∷ es) p)
   further seen None is at again = let k : None ≡ Some p = at in cc
   further seen (Some q) is at again = let s : suc q ≡ p = cc in rw (← s) (ap (λ xs. e ∷ xs) (again q is) ∙ ap (remove (e ∷ es)) (sym (kept-seen t e es q seen)))
-
-kept_place-map : {A B : Type 0} (s : B → Bool) (f : A → B) (xs : List A) (q : ℕ) → kept_place s (map f xs) q ≡ kept_place (λ x. s (f x)) xs q
-kept_place-map s f [] q = refl
-kept_place-map s f (x ∷ xs) zero = ap (λ r. cond (s (f x)) 0 (suc r)) (kept_place-map s f xs zero)
-kept_place-map s f (x ∷ xs) (suc q) = ap suc (kept_place-map s f xs (cond (s (f x)) q (suc q)))
 
 -- ---- handles of other objects stay
 
@@ -119,39 +92,43 @@ pub in-session : {S A : Type 0} (f : S → A) (o : Option S) (r : A) → option_
 in-session f None r is = let k : None ≡ Some r = is in cc
 in-session f (Some s) r is = (s, refl, cc)
 
-abbrev pub IsFree : List Entry → Session Operations → Type 0
-IsFree o s = ((flag o attr.Token && not s.read_write) ≡ false) × (not (flag o attr.Destroyable) ≡ false)
+abbrev pub IsFree : List Entry → Bool → Type 0
+IsFree o read_write = ((flag o attr.Token && not read_write) ≡ false) × (not (flag o attr.Destroyable) ≡ false)
 
-module _ (c : Contents) (d : DeskState) (next session handle : ℕ) (table : IsTable next d.handles.entries) (s : Session Operations) (o : List Entry) (there : session_of (view_of c d) session ≡ Some s) (found : object_at (view_of c d) handle ≡ Some o) (free : IsFree o s) where
+pub destroy-is : (c : Contents) (d : DeskState) (session handle : ℕ) (s : Session Operations) (o : List Entry) → session_of (view_of c d) session ≡ Some s → object_at (view_of c d) handle ≡ Some o → IsFree o s.read_write
+    → destroy_object (view_of c d) session handle ≡ destroyed (view_of c d) handle (place_of (view_of c d).tokens handle)
+destroy-is c d session handle s o there found free = rw (there, found, free.0, free.1) refl
+
+module _ (c : Contents) (d : DeskState) (next handle : ℕ) (table : IsTable next d.handles.entries) (o : List Entry) where
   place-kept : (id : ℕ) → IsAt c d handle o (Some id) → (p : ℕ) × (place_of (view_of c d).tokens handle ≡ Some p) × (first_place (λ e. e.0 == id) (filter (sees_kept d.sessions.login) c.objects) ≡ Some p)
   place-kept id at =
       let x = kept-is c d next handle table id o at.1 in
       let p = place-some (λ (e : Kept). e.0 == id) (filter (sees_kept d.sessions.login) c.objects) x.0 (find-filter_some (λ (e : Kept). e.0 == id) (sees_kept d.sessions.login) c.objects x.0 x.1 (rw x.2 at.2)) in
       (p.0, place-is c d next handle table ∙ rw at.0 p.1, p.1)
 
-  pub gives-kept : (id : ℕ) → IsAt c d handle o (Some id) → IsSound c → Fits c d.handles.entries → Gives (destroy_object (view_of c d) session handle) d.sessions.login c (Replies (Code Ok)) (without_object id c) (retired d id)
+  pub gives-kept : (id : ℕ) → IsAt c d handle o (Some id) → IsSound c → Fits c d.handles.entries → Gives (destroyed (view_of c d) handle (place_of (view_of c d).tokens handle)) d.sessions.login c (Replies (Code Ok)) (without_object id c) (retired d id)
   gives-kept id at sound fits =
       let p = place-kept id at in
       let seen = sees_kept d.sessions.login in
       let f : List TokenObject → View = λ ts. record (view_of c d) { tokens = ts } in
       let g : List Kept → Contents = λ es. record { objects = es; token_record = c.token_record; last_id = c.last_id } in
       let gone = removed 0 c.last_id id seen c.objects p.0 sound.ids p.2 in
-      rw (there, found, free.0, free.1, p.1) (record {
+      rw p.1 (record {
         says = refl;
         view = ap f (tokens-others id d (retired d id) seen c.objects refl ∙ ap (λ es. map (token_object d) (filter seen es)) gone ∙ ap (map (token_object d)) (filter-kept seen c.objects p.0) ∙ map-remove (token_object d) (filter seen c.objects) p.0);
         changes = ap g (gone ∙ ap (remove c.objects) (sym (kept_place-map (sees d.sessions.login) (λ (e : Kept). e.1) c.objects p.0)));
         fits = fits-less c d.handles.entries id fits;
       })
 
-  pub gives-own : IsAt c d handle o None → Fits c d.handles.entries → Gives (destroy_object (view_of c d) session handle) d.sessions.login c (Replies (Code Ok)) c (record d { own = filter (λ e. not (e.handle == handle)) d.own })
+  pub gives-own : IsAt c d handle o None → Fits c d.handles.entries → Gives (destroyed (view_of c d) handle (place_of (view_of c d).tokens handle)) d.sessions.login c (Replies (Code Ok)) c (record d { own = filter (λ e. not (e.handle == handle)) d.own })
   gives-own at fits =
       let f : List SessionObject → View = λ os. record (view_of c d) { own = os } in
-      rw (there, found, free.0, free.1, at) (record {
+      rw at (record {
         says = refl;
         view = ap f (sym (filter-map (λ (e : SessionObject). not (e.handle == handle)) session_object d.own));
         changes = refl;
         fits = fits;
       })
 
-  pub stays-own : IsAt c d handle o None → (destroy_object (view_of c d) session handle).change ≡ Stays
-  stays-own at = rw (there, found, free.0, free.1, at) refl
+  pub stays-own : IsAt c d handle o None → (destroyed (view_of c d) handle (place_of (view_of c d).tokens handle)).change ≡ Stays
+  stays-own at = rw at refl

@@ -47,3 +47,24 @@ pub asker_reply : {E : Type 0} (app : ℕ) (r : Result Out E) → IfOk r IsReply
 asker_reply app (Ok (OutReply reply)) is = tt
 asker_reply app (Ok (Ask job)) is = absurd is
 asker_reply app (Err e) is = tt
+
+-- what a read leaves before it
+pub serves-after : {K T : Type 0} (holds may_leave : K → Contents → Type 0) (tell : T → Said) (a : Answer) (c : Contents) (old mid new : StoreState K) (before over desk : DeskState) (r : Result T KeepFault) → LeavesAsBefore may_leave old mid
+    → Serves holds may_leave tell a c mid new before over r desk → Serves holds may_leave tell a c old new before over r desk
+serves-after holds may_leave tell a c old mid new before over desk (Ok out) first gave = record {
+  contents = gave.contents;
+  has = gave.has;
+  gives = gave.gives;
+  leaves = λ d may. elim (gave.leaves d may) [
+    | inl left ↦ inl (first d left.0, left.1)
+    | inr is ↦ inr is
+  ];
+}
+serves-after holds may_leave tell a c old mid new before over desk (Err fault) first refused = record {
+  has = refused.has;
+  same = refused.same;
+  leaves = λ d may. elim (refused.leaves d may) [
+    | inl left ↦ inl (first d left)
+    | inr is ↦ inr is
+  ];
+}

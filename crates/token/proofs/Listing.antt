@@ -1,5 +1,5 @@
 -- Objects under handles, and the places of token objects.
-use Rattle.std.proofs.Common.{◌≡◌, ℕ, suc, ◌<◌, ◌≤◌, Bool, true, false, cond, List, [], ◌∷◌, map, Option, Some, None, refl, sym, subst, ◌∙◌, ap, arith, inl, inr}
+use Rattle.std.proofs.Common.{◌≡◌, ℕ, ◌<◌, ◌≤◌, Bool, true, false, List, [], ◌∷◌, map, Option, Some, None, refl, sym, subst, ◌∙◌, ap, arith, inl, inr}
 use Rattle.std.specs.Prelude.{find, filter, ◌==◌}
 use Rattle.std.specs.Option.{option_map}
 use Rattle.std.proofs.lemmas.Bool.{cases_Bool, cases_eq, eq-eqb, ne_eqb}
@@ -17,55 +17,7 @@ use Rattle.token.specs.Found.{IsAt, IsFound, IsOwn}
 use Rattle.token.specs.Places.{first_place}
 use Rattle.token.specs.Answering.{is_handle, first_object, object_at, place_of}
 use Rattle.token.specs.Shown.{sees_kept, token_object, session_object, view_of}
-use Rattle.token.proofs.Lists.{find-map, place-map}
-
--- ---- what is found in a part of a list
-
-find-same : {A : Type 0} (t u : A → Bool) (xs : List A) → ((x : A) → t x ≡ u x) → find t xs ≡ find u xs
-find-same t u [] same = refl
-find-same t u (x ∷ xs) same = ap (λ b. cond b (Some x) (find t xs)) (same x) ∙ ap (cond (u x) (Some x)) (find-same t u xs same)
-
-find-never : {A : Type 0} (xs : List A) → find (λ x. false) xs ≡ None
-find-never [] = refl
-find-never (x ∷ xs) = find-never xs
-
-pub find-filter_none : {A : Type 0} (t u : A → Bool) (xs : List A) → find t xs ≡ None → find t (filter u xs) ≡ None
-find-filter_none t u [] none = refl
-find-filter_none t u (x ∷ xs) none = elim (cases_Bool (t x)) [
-  | inl e ↦ let k : Some x ≡ None = rw e at none in cc
-  | inr e ↦ elim (cases_Bool (u x)) [
-    | inl f ↦ rw (f, e) (find-filter_none t u xs (rw e at none))
-    | inr f ↦ rw f (find-filter_none t u xs (rw e at none))
-  ]
-]
-
-pub find-filter_some : {A : Type 0} (t u : A → Bool) (xs : List A) (y : A) → find t xs ≡ Some y → u y ≡ true → find t (filter u xs) ≡ Some y
-find-filter_some t u [] y some seen = let k : None ≡ Some y = some in cc
-find-filter_some t u (x ∷ xs) y some seen = elim (cases_Bool (t x)) [
-  | inl e ↦ let k : Some x ≡ Some y = rw e at some in let s : x ≡ y = cc in let f : u x ≡ true = rw s seen in rw (f, e) k
-  | inr e ↦ elim (cases_Bool (u x)) [
-    | inl f ↦ rw (f, e) (find-filter_some t u xs y (rw e at some) seen)
-    | inr f ↦ rw f (find-filter_some t u xs y (rw e at some) seen)
-  ]
-]
-
-place-same : {A : Type 0} (t u : A → Bool) (xs : List A) → ((x : A) → t x ≡ u x) → first_place t xs ≡ first_place u xs
-place-same t u [] same = refl
-place-same t u (x ∷ xs) same = ap (λ b. cond b (Some 0) (option_map suc (first_place t xs))) (same x) ∙ ap (λ r. cond (u x) (Some 0) (option_map suc r)) (place-same t u xs same)
-
-pub place-none : {A : Type 0} (t : A → Bool) (xs : List A) → find t xs ≡ None → first_place t xs ≡ None
-place-none t [] none = refl
-place-none t (x ∷ xs) none = step (t x) none (place-none t xs) where
-  step : (b : Bool) → cond b (Some x) (find t xs) ≡ None → (find t xs ≡ None → first_place t xs ≡ None) → cond b (Some 0) (option_map suc (first_place t xs)) ≡ None
-  step true h k = cc
-  step false h k = ap (option_map suc) (k h)
-
-pub place-some : {A : Type 0} (t : A → Bool) (xs : List A) (y : A) → find t xs ≡ Some y → (p : ℕ) × (first_place t xs ≡ Some p)
-place-some t [] y some = let k : None ≡ Some y = some in cc
-place-some t (x ∷ xs) y some = step (t x) some (place-some t xs y) where
-  step : (b : Bool) → cond b (Some x) (find t xs) ≡ Some y → (find t xs ≡ Some y → (p : ℕ) × (first_place t xs ≡ Some p)) → (p : ℕ) × (cond b (Some 0) (option_map suc (first_place t xs)) ≡ Some p)
-  step true h k = (0, refl)
-  step false h k = let r = k h in (suc r.0, ap (option_map suc) r.1)
+use Rattle.token.proofs.Lists.{find-map, find-same, find-never, find-filter_none, find-filter_some, place-map, place-same, place-none}
 
 -- ---- ids rise
 

@@ -19,9 +19,9 @@ use Rattle.token.specs.Answers.{answer}
 use Rattle.token.specs.Stores.{StoreState, Serves}
 use Rattle.token.specs.Worlds.{World, list_change, change_for, checks_of, checked_by, checks_begun, without_checks, stepped, unchecked, with_view, goes}
 use Rattle.token.specs.Shown.{objects_of, sees_kept, token_object, view_of, IsNoted, Fits, Gives, said_of, State, desk_at, Depicts, opening, AllFit}
-use Rattle.token.proofs.Lists.{map-map, filter-map}
+use Rattle.token.proofs.Lists.{map-map, filter-map, filter-less}
 use Rattle.token.proofs.Places.{append_nil}
-use Rattle.token.proofs.Closing.{filter-less, less-none}
+use Rattle.token.proofs.Closing.{less-none}
 use Rattle.token.proofs.Changing.{fits-changed, objects-changed, record-changed, view_of-changed}
 
 abbrev pub state : Contents → List (ℕ × DeskState) → List Check → State

@@ -1,10 +1,12 @@
 //! C_CreateObject (PKCS #11 v3.1, 5.7).
 
-ghost use Rattle.std.specs.Prelude.{◌≡◌, ◌<◌, ◌≤◌, ◌^◌, length, true, IfOk};
+ghost use Rattle.std.specs.Prelude.{◌≡◌, ◌<◌, ◌≤◌, ◌^◌, [], ◌∷◌, length, nat_le, true, IfOk};
 ghost use Rattle.guard.specs.Access.{is_rw};
 ghost use Rattle.keep.specs.Contents.{IsTokenObject};
 ghost use Rattle.keep.specs.Keeping.{Counted, HasCause};
-ghost use Rattle.token.specs.Answers.CreateObject.{adds_token_object, create_object};
+ghost use Rattle.precede.specs.declared.row.Row.TheVariants.{ObjectLimit};
+ghost use Rattle.token.specs.Answering.{unless};
+ghost use Rattle.token.specs.Answers.CreateObject.{adds_session_object, adds_token_object, create_object};
 ghost use Rattle.token.specs.Shown.{IsReply, said_of};
 ghost use Rattle.token.specs.Stores.{Served};
 ghost use Rattle.token.specs.Views.{sees};
@@ -69,11 +71,7 @@ pub(crate) fn serve<K: Keep>(
     if is_token {
         return add_token_object(desk, store, &object);
     }
-    if desk.has_all_objects() {
-        return refuse(Row::ObjectLimit);
-    }
-    let handle = desk.add_own(session, object)?;
-    Ok(Out::Reply(Reply::Object(handle)))
+    add_session_object(desk, store, session, object)
 }
 
 /// There is room for the handle before the object is written.
@@ -93,5 +91,26 @@ fn add_token_object<K: Keep>(
     desk.reserve_handle()?;
     let id = store.insert(object)?;
     let handle = desk.give_handle(id, object.flag(AttrType::Private));
+    Ok(Out::Reply(Reply::Object(handle)))
+}
+
+/// A session object, if there is room for one more.
+fn add_session_object<K: Keep>(
+    desk: &mut Desk,
+    store: &mut Store<K>,
+    session: u64,
+    object: Object,
+) -> Result<Out, KeepFault>
+    requires below { desk.old.handles.next_number < 2 ^ 63 }
+    ensures serves { Served K.holds K.may_leave K.doubt said_of (λ v. unless v ((ObjectLimit, nat_le 256 (length v.own)) ∷ []) (adds_session_object v session object)) store.old store.new desk.old desk.old result desk.new }
+    ensures replies { IfOk result IsReply }
+    ensures counts { Counted K.doubt K.failures_of K.tried store.old.keep store.new.keep 0 }
+    ensures cause { HasCause (K.failures_of store.old.keep) (K.failures_of store.new.keep) result }
+{
+    let _ = store;
+    if desk.has_all_objects() {
+        return refuse(Row::ObjectLimit);
+    }
+    let handle = desk.add_own(session, object)?;
     Ok(Out::Reply(Reply::Object(handle)))
 }
