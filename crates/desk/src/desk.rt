@@ -157,7 +157,7 @@ impl Desk {
         }
     }
 
-    /// How many session objects there are.
+    /// Whether there are as many session objects as an application may have.
     pub fn has_all_objects(&self) -> bool
         ensures { result ≡ nat_le 256 (length self.now.own) }
     {

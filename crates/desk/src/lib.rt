@@ -5,8 +5,7 @@
 //! numbers count, sessions, handles and questions, is its own, so that no application can tell from its
 //! numbers what others do.
 //!
-//! Growths come first and by name (`reserve_handle`, `reserve_own`), so that what follows a write to the
-//! store can't fail.
+//! What follows a write to the store can't fail: a handle's room is made before it (`reserve_handle`).
 //!
 //! ```text
 //! let session = desk.open_session(true)?;
