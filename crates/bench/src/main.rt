@@ -1,5 +1,5 @@
-//! The speed of `aes_block`, `aes_modes`, `aes_cmac` and `hmac_sha2`, printed as a table. What it prints is measured, and nothing of it is
-//! proved but that the program is safe and ends.
+//! The speed of `aes_block`, `aes_modes`, `aes_cmac`, `hmac_sha2` and `token`, printed as a table. What it prints is measured,
+//! and nothing of it is proved but that the program is safe and ends.
 //!
 //! With no argument it works, for each key length, on 64 MiB or a million keys a row, and prints
 //! nanoseconds of processor time for a block or a key, and millions of bytes or keys a second:
@@ -11,7 +11,8 @@
 //! - keys that are made and kept, and keys that are made for one block each;
 //! - a text of 64,000 bytes, a thousand times, under each mode and code.
 //!
-//! After them stand HMAC-SHA-256 over such texts, and 10,000 rounds of PBKDF2.
+//! After them stand HMAC-SHA-256 over such texts, 10,000 rounds of PBKDF2, and 100,000 events of two applications in one
+//! run of the token.
 //!
 //! With the argument `small` it works on 64 KiB, 4,096 keys, one text or 100 rounds a row, and
 //! prints the exclusive or of the blocks that were made, or the last block, in place of times: they
@@ -27,10 +28,12 @@
 //! ```
 #![tactic(auto)]
 
+mod events;
 mod run;
 mod texts;
 
 use aes_modes::Direction;
+use events::events;
 use run::{Report, blocks_apart, chain, chain_back, keys_for_a_block, keys_kept};
 use std::rt::Env;
 use std::{env, io};
@@ -46,6 +49,9 @@ const KEY_BATCHES: u32 = 256;
 const TEXTS: u32 = 1000;
 
 const ROUNDS: u32 = 10_000;
+
+/// The events of the token's run.
+const EVENTS: u32 = 100_000;
 
 /// What is done to texts under each key length.
 const WORKS: [Work; 6] = [
@@ -72,12 +78,19 @@ fn is_small(rt: &(impl Env + Alloc)) -> io::Result<bool> {
 }
 
 fn main(rt: HostRuntime) -> io::Result<()> {
-    let (block_batches, key_batches, texts, rounds, report) = if is_small(&rt)? {
+    let (block_batches, key_batches, texts, rounds, event_count, report) = if is_small(&rt)? {
         println!(rt; "bits  work                          count  exclusive or of the blocks")?;
-        (1, 1, 1, 100, Report::Sums)
+        (1, 1, 1, 100, 100, Report::Sums)
     } else {
         println!(rt; "bits  work                          count   ns each      rate")?;
-        (BLOCK_BATCHES, KEY_BATCHES, TEXTS, ROUNDS, Report::Times)
+        (
+            BLOCK_BATCHES,
+            KEY_BATCHES,
+            TEXTS,
+            ROUNDS,
+            EVENTS,
+            Report::Times,
+        )
     };
     for size in KEY_SIZES {
         blocks_apart(&rt, rt.alloc(), size, block_batches)?.print(&rt, size, report)?;
@@ -90,5 +103,6 @@ fn main(rt: HostRuntime) -> io::Result<()> {
         }
     }
     over_texts(&rt, rt.alloc(), Work::Hmac, 32, texts)?.print(&rt, 32, report)?;
-    derivation(&rt, rounds)?.print(&rt, 8, report)
+    derivation(&rt, rounds)?.print(&rt, 8, report)?;
+    events(&rt, rt.alloc(), event_count)?.print(&rt, 0, report)
 }

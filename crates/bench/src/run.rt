@@ -31,6 +31,8 @@ pub(crate) enum Unit {
     Text,
     /// A round of PBKDF2.
     Round,
+    /// An event of the token.
+    Event,
 }
 
 /// What a line says of a run.
@@ -194,7 +196,7 @@ impl Run {
                     Unit::Block => (f64::from(count) * 16.0 / 1e6 / seconds, "MB/s"),
                     Unit::Text => (f64::from(count) * 0.064 / seconds, "MB/s"),
                     Unit::Key => (f64::from(count) / 1e6 / seconds, "million keys/s"),
-                    Unit::Round => (seconds * 1e3, "ms in all"),
+                    Unit::Round | Unit::Event => (seconds * 1e3, "ms in all"),
                 };
                 println!(rt; "{bits:>4}  {what:<26}{count:>9}{each:>10.1}{rate:>10.2}  {unit}")
             }
