@@ -47,11 +47,13 @@ mod tests;
 mod word;
 
 ghost use Rattle.std.specs.Prelude.{◌≡◌, ℕ, ◌+◌, ◌/◌, ◌↔◌, List, length, IsSome, IfSome};
+ghost use Rattle.std.specs.Int.{w128, to_be_bytes};
 ghost use Rattle.aes_block.specs.Bytes.{AreBytes, IsBlock, xor_bytes};
 ghost use Rattle.aes_block.specs.KeyExpansion.{IsKey, IsKeyLength};
 ghost use Rattle.aes_block.specs.Encipher.{enciphered_block};
 
 use key_expansion::Schedule;
+use state::State;
 use std::marker::Model;
 
 /// A block: the 16 bytes that the cipher takes and gives (FIPS 197, 3.1).
@@ -120,7 +122,16 @@ impl Key {
         // What the types say, as facts on lists.
         ensures blocks { IsBlock block × IsBlock result }
     {
-        cipher::encipher(&self.schedule, self.rounds, block)
+        cipher::encipher(&self.schedule, self.rounds, State::from_block(block)).to_block()
+    }
+
+    /// The number whose bytes are the block that the bytes of `number` are enciphered to (5.1), each
+    /// with the highest byte first. It is what a counter takes, since no bytes are made of it.
+    #[inline(always)]
+    pub fn encipher_number(&self, number: u128) -> u128
+        ensures { to_be_bytes w128 result ≡ enciphered_block self.now (to_be_bytes w128 number) }
+    {
+        cipher::encipher(&self.schedule, self.rounds, State::from_number(number)).to_number()
     }
 
     /// The block that is enciphered to `block` (FIPS 197, 5.3): there is one, and one only.
