@@ -1,7 +1,8 @@
 //! Texts by their blocks.
 
 ghost use Rattle.std.specs.Prelude.{◌≡◌, ◌+◌, ◌-◌, ◌*◌, ◌/◌, ◌%◌, ◌≤◌, ◌++◌, length, replicate};
-ghost use Rattle.aes_block.specs.Bytes.{AreBytes};
+ghost use Rattle.std.specs.Int.{w128, to_be_bytes};
+ghost use Rattle.aes_block.specs.Bytes.{AreBytes, xor_bytes};
 ghost use Rattle.aes_block.specs.KeyExpansion.{IsKey};
 ghost use Rattle.aes_modes.specs.Blocks.{block_of};
 
@@ -39,6 +40,15 @@ pub(crate) fn filled_block(bytes: &[u8], fill: u8) -> Block
         block[i] = *byte;
     }
     block
+}
+
+/// The exclusive or of a block and the bytes of a number, the highest first.
+#[inline(always)]
+pub(crate) fn xor_number(block: Block, number: u128) -> Block
+    ensures { result ≡ xor_bytes block (to_be_bytes w128 number) }
+{
+    are_bytes(&block);
+    (u128::from_be_bytes(block) ^ number).to_be_bytes()
 }
 
 /// What the type of a slice says of its bytes.
