@@ -48,7 +48,16 @@ pub(crate) fn xor_number(block: Block, number: u128) -> Block
     ensures { result ≡ xor_bytes block (to_be_bytes w128 number) }
 {
     are_bytes(&block);
-    (u128::from_be_bytes(block) ^ number).to_be_bytes()
+    bytes_of(u128::from_be_bytes(block) ^ number)
+}
+
+// The bytes of a number, the highest first. In this form they are swapped by one instruction a
+// word, where `to_be_bytes` takes them out one by one.
+#[inline(always)]
+fn bytes_of(number: u128) -> Block
+    ensures { result ≡ to_be_bytes w128 number }
+{
+    number.swap_bytes().to_le_bytes()
 }
 
 /// What the type of a slice says of its bytes.
