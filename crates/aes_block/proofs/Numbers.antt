@@ -1,11 +1,10 @@
 -- The bytes of a number of 128 bits, and those of its four words.
-use Rattle.std.proofs.Common.{◌≡◌, ℕ, zero, suc, ◌+◌, ◌*◌, ◌/◌, ◌%◌, ◌^◌, ◌<◌, List, [], ◌∷◌, ◌++◌, get_or, bit_xor, reverse, ap, refl, sym, ◌∙◌, arith, mod-lt, lit<}
-use Rattle.std.specs.Int.{w32, w128, byte_at, bytes_low_first, from_be_bytes, to_be_bytes, to_le_bytes, swap_bytes}
+use Rattle.std.proofs.Common.{◌≡◌, ℕ, ◌+◌, ◌*◌, ◌/◌, ◌%◌, ◌^◌, ◌<◌, List, [], ◌∷◌, ◌++◌, get_or, bit_xor, refl, sym, ◌∙◌, arith}
+use Rattle.std.specs.Int.{w32, w128, from_be_bytes, to_be_bytes}
 use Rattle.std.proofs.lemmas.Nat.{xor_shr, xor_mod, be_bytes_4}
-use Rattle.std.proofs.lemmas.List.Elements.{All-nil}
 use Rattle.aes_block.specs.Bytes.{AreBytes, IsBlock, xor_bytes}
 use Rattle.aes_block.specs.Words.{word_bytes}
-use Rattle.aes_block.proofs.Blocks.{AreBytes-at, AreBytes-cons, AreBytes-four, by_bytes}
+use Rattle.aes_block.proofs.Blocks.{AreBytes-at, AreBytes-four, by_bytes}
 
 -- ---- the words of a number
 
@@ -72,21 +71,3 @@ to_be_bytes-block s block =
     ∙ (λ i. word_bytes-four s 0 block.bytes i ++ (word_bytes-four s 4 block.bytes i
     ++ (word_bytes-four s 8 block.bytes i ++ word_bytes-four s 12 block.bytes i)))
     ∙ sym (by_bytes s block.size)
-
--- ---- the bytes in reverse
-
-byte_at-below : (i n : ℕ) → byte_at i n < 256
-byte_at-below zero n = omega arith
-byte_at-below (suc i) n = mod-lt (n / 256 ^ suc i) (lit< tt)
-
-AreBytes-bytes_low_first : (i k n : ℕ) → AreBytes (bytes_low_first i k n)
-AreBytes-bytes_low_first i zero n = All-nil (λ b. b < 256)
-AreBytes-bytes_low_first i (suc k) n =
-    AreBytes-cons (byte_at i n) (bytes_low_first (suc i) k n) (byte_at-below i n) (AreBytes-bytes_low_first (suc i) k n)
-
-IsBlock-to_le_bytes : (n : ℕ) → IsBlock (to_le_bytes w128 n)
-IsBlock-to_le_bytes n = record { size = refl; bytes = AreBytes-bytes_low_first 0 16 n }
-
--- the number whose lowest byte is the highest of n, and so on
-pub to_le_bytes-swapped : (n : ℕ) → to_le_bytes w128 (swap_bytes w128 n) ≡ to_be_bytes w128 n
-to_le_bytes-swapped n = ap reverse (to_be_bytes-block (to_le_bytes w128 n) (IsBlock-to_le_bytes n))

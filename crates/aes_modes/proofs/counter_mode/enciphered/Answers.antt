@@ -30,7 +30,7 @@ turns-preserved c =
     ∙ counter_block-sum c.args.bits start c.turns.i within in
     let output = c.encipher_number-output.ensures ∙ ap (enciphered_block c.args.key.now) counter in
     let block = to_be_bytes w128 c.encipher_number-output.result in
-    c.in_ok-extend_from_slice.ensures.items
+    c.in_ok-push_number.ensures
     ∙ ap (λ b. c.turns.out.items ++ b) (c.xor_number.ensures ∙ ap (λ b. xor_bytes b block) c.block_at.ensures)
     ∙ ctr_blocks-more c.args.key.now c.args.bits start c.args.text.now c.turns.out.items block c.turns.i
     c.turns.invariant output
@@ -70,8 +70,8 @@ returns c =
     let counter = ap (λ v. to_be_bytes w128 (v + length text / 16)) c.from_be_bytes-first.ensures
     ∙ counter_block-sum bits start (length text / 16) within in
     let output = c.encipher_number-output-2.ensures ∙ ap (enciphered_block key) counter in
-    let last = c.xor_number-last.ensures ∙ ap (λ b. xor_bytes b block) c.filled_block.ensures in
+    let last = c.to_be_bytes-last.ensures ∙ c.xor_number-2.ensures ∙ ap (λ b. xor_bytes b block) c.filled_block.ensures in
     let before = c.turns.invariant ∙ ap (ctr_blocks key bits start text) end in
-    c.in_ok-extend_from_slice-2.ensures.items
-    ∙ ctr_enciphered-last key bits start text c.turns.out.items rest block c.xor_number-last.result before
+    c.in_ok-extend_from_slice.ensures.items
+    ∙ ctr_enciphered-last key bits start text c.turns.out.items rest block c.to_be_bytes-last.result before
     c.rest_of-rest.ensures.value c.rest_of-rest.ensures.size more output refl last
