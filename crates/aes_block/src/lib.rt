@@ -18,6 +18,7 @@
 //! - `encipher` is the cipher as `specs/` writes it down from FIPS 197: the field of 256
 //!   elements, the S-box by inverse and affine transformation, the rows, the columns as
 //!   polynomials, the key expansion and the rounds. Each entry of each table is the definition's.
+//!   `encipher_number` is the same cipher on the bytes of a number, the highest first.
 //! - `decipher` gives the block that is enciphered to the one given, and no other block is.
 //! - `xor_blocks` is the exclusive or, byte by byte.
 //! - No call takes memory, and none can fail but `Key::new`, for the length.
@@ -125,8 +126,8 @@ impl Key {
         cipher::encipher(&self.schedule, self.rounds, State::from_block(block)).to_block()
     }
 
-    /// The number whose bytes are the block that the bytes of `number` are enciphered to (5.1), each
-    /// with the highest byte first. It is what a counter takes, since no bytes are made of it.
+    /// The block that `number` is enciphered to, as a number: in both the highest byte is the first
+    /// of the block's 16 (5.1). A counter is enciphered so, with no bytes made of it.
     #[inline(always)]
     pub fn encipher_number(&self, number: u128) -> u128
         ensures { to_be_bytes w128 result ≡ enciphered_block self.now (to_be_bytes w128 number) }
