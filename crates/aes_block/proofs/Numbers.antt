@@ -1,5 +1,5 @@
 -- The bytes of a number of 128 bits, and those of its four words.
-use Rattle.std.proofs.Common.{◌≡◌, ℕ, ◌+◌, ◌*◌, ◌/◌, ◌%◌, ◌^◌, ◌<◌, List, [], ◌∷◌, ◌++◌, get_or, bit_xor, refl, sym, ◌∙◌, arith}
+use Rattle.std.proofs.Common.{◌≡◌, ℕ, ◌+◌, ◌/◌, ◌%◌, ◌^◌, ◌<◌, List, [], ◌∷◌, ◌++◌, get_or, bit_xor, refl, sym, ◌∙◌, arith}
 use Rattle.std.specs.Int.{w32, w128, from_be_bytes, to_be_bytes}
 use Rattle.std.proofs.lemmas.Nat.{xor_shr, xor_mod, be_bytes_4}
 use Rattle.aes_block.specs.Bytes.{AreBytes, IsBlock, xor_bytes}

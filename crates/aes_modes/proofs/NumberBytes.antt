@@ -1,5 +1,5 @@
 -- The bytes of a number of 128 bits, in two halves of 64.
-use Rattle.std.proofs.Common.{◌≡◌, ℕ, zero, suc, ◌+◌, ◌*◌, ◌/◌, ◌%◌, ◌^◌, ◌<◌, List, [], ◌∷◌, ◌++◌, get_or, reverse, ap, refl, arith, mod-lt, lit<}
+use Rattle.std.proofs.Common.{◌≡◌, ℕ, zero, suc, ◌/◌, ◌%◌, ◌^◌, ◌<◌, [], ◌∷◌, ◌++◌, reverse, ap, refl, arith, mod-lt, lit<}
 use Rattle.std.specs.Int.{w64, w128, byte_at, bytes_low_first, to_be_bytes, to_le_bytes, swap_bytes}
 use Rattle.std.proofs.lemmas.Nat.{be_bytes_8}
 use Rattle.std.proofs.lemmas.List.Elements.{All-nil}
