@@ -9,6 +9,7 @@ pub mod WordProducts
 pub mod Steps
 pub mod Inverses
 pub mod RoundWords
+pub mod Numbers
 pub mod WordsInRow
 pub mod ExpansionTerms
 pub mod KeySchedules

@@ -28,17 +28,17 @@ fn round_key(schedule: &Schedule, r: usize) -> State
 }
 
 /// The cipher (FIPS 197, 5.1) in so many rounds.
-pub(crate) fn encipher(schedule: &Schedule, rounds: usize, block: Block) -> Block
+#[inline(always)]
+pub(crate) fn encipher(schedule: &Schedule, rounds: usize, state: State) -> State
     requires low { 1 ≤ rounds }
     requires high { rounds < 15 }
-    ensures value { result ≡ cipher (words_bytes schedule.now) rounds block }
-    ensures blocks { IsBlock block × IsBlock result }
+    ensures { state_bytes result ≡ cipher (words_bytes schedule.now) rounds (state_bytes state) }
 {
-    let mut s = State::from_block(block).add_round_key(round_key(schedule, 0));
+    let mut s = state.add_round_key(round_key(schedule, 0));
     'rounds: for r in 1..rounds {
         s = round(s, round_key(schedule, r));
     }
-    last_round(s, round_key(schedule, rounds)).to_block()
+    last_round(s, round_key(schedule, rounds))
 }
 
 /// The equivalent inverse cipher (5.3.5) in so many rounds. `inverse` has the round keys of those

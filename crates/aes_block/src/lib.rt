@@ -18,6 +18,7 @@
 //! - `encipher` is the cipher as `specs/` writes it down from FIPS 197: the field of 256
 //!   elements, the S-box by inverse and affine transformation, the rows, the columns as
 //!   polynomials, the key expansion and the rounds. Each entry of each table is the definition's.
+//!   `encipher_number` is the same cipher on the bytes of a number, the highest first.
 //! - `decipher` gives the block that is enciphered to the one given, and no other block is.
 //! - `xor_blocks` is the exclusive or, byte by byte.
 //! - No call takes memory, and none can fail but `Key::new`, for the length.
@@ -47,11 +48,13 @@ mod tests;
 mod word;
 
 ghost use Rattle.std.specs.Prelude.{◌≡◌, ℕ, ◌+◌, ◌/◌, ◌↔◌, List, length, IsSome, IfSome};
+ghost use Rattle.std.specs.Int.{w128, to_be_bytes};
 ghost use Rattle.aes_block.specs.Bytes.{AreBytes, IsBlock, xor_bytes};
 ghost use Rattle.aes_block.specs.KeyExpansion.{IsKey, IsKeyLength};
 ghost use Rattle.aes_block.specs.Encipher.{enciphered_block};
 
 use key_expansion::Schedule;
+use state::State;
 use std::marker::Model;
 
 /// A block: the 16 bytes that the cipher takes and gives (FIPS 197, 3.1).
@@ -120,7 +123,16 @@ impl Key {
         // What the types say, as facts on lists.
         ensures blocks { IsBlock block × IsBlock result }
     {
-        cipher::encipher(&self.schedule, self.rounds, block)
+        cipher::encipher(&self.schedule, self.rounds, State::from_block(block)).to_block()
+    }
+
+    /// The block that `number` is enciphered to, as a number: in both the highest byte is the first
+    /// of the block's 16 (5.1). A counter is enciphered so, with no bytes made of it.
+    #[inline(always)]
+    pub fn encipher_number(&self, number: u128) -> u128
+        ensures { to_be_bytes w128 result ≡ enciphered_block self.now (to_be_bytes w128 number) }
+    {
+        cipher::encipher(&self.schedule, self.rounds, State::from_number(number)).to_number()
     }
 
     /// The block that is enciphered to `block` (FIPS 197, 5.3): there is one, and one only.

@@ -1,11 +1,12 @@
 // The state in words, one for each column.
 
 ghost use Rattle.std.specs.Prelude.{◌≡◌};
+ghost use Rattle.std.specs.Int.{w128, to_be_bytes};
 ghost use Rattle.aes_block.specs.Cipher.{add_round_key};
 ghost use Rattle.aes_block.specs.Words.{state_bytes};
 
 use crate::Block;
-use crate::word::{byte_0, byte_1, byte_2, byte_3, word_of};
+use crate::word::{WORDS, byte_0, byte_1, byte_2, byte_3, low_word, word_of};
 
 /// A state (FIPS 197, 3.5): its columns 0 to 3, each with the byte of row 0 highest.
 #[derive(Clone, Copy)]
@@ -53,6 +54,29 @@ impl State {
             byte_2(self.3),
             byte_3(self.3),
         ]
+    }
+
+    /// The state that the bytes of a number fill, the highest first.
+    #[inline(always)]
+    pub(crate) fn from_number(number: u128) -> Self
+        ensures { state_bytes result ≡ to_be_bytes w128 number }
+    {
+        State(
+            low_word(number >> 96),
+            low_word(number >> 64),
+            low_word(number >> 32),
+            low_word(number),
+        )
+    }
+
+    /// The number whose bytes, the highest first, fill the state.
+    #[inline(always)]
+    pub(crate) fn to_number(self) -> u128
+        ensures { to_be_bytes w128 result ≡ state_bytes self }
+    {
+        let high = self.0 as u128 * WORDS + self.1 as u128;
+        let low = self.2 as u128 * WORDS + self.3 as u128;
+        high * WORDS * WORDS + low
     }
 
     /// AddRoundKey (5.1.4).

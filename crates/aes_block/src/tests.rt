@@ -25,6 +25,11 @@ fn enciphers_and_deciphers_the_standards_examples(rt: HostRuntime) -> Result<(),
         assert_eq!(rt; key.encipher(plain), enciphered, "enciphering of {source}");
         assert_eq!(rt; key.decipher(enciphered), plain, "deciphering of {source}");
         assert_eq!(rt;
+            key.encipher_number(vector.plain),
+            vector.enciphered,
+            "enciphering of the number of {source}"
+        );
+        assert_eq!(rt;
             key.copied().encipher(plain),
             enciphered,
             "a copied key of {source}"

@@ -43,3 +43,14 @@ pub(crate) fn word_of(a: u8, b: u8, c: u8, d: u8) -> u32
 {
     u32::from_be_bytes([a, b, c, d])
 }
+
+/// How many words there are.
+pub(crate) const WORDS: u128 = 0x1_0000_0000;
+
+/// The lowest word of a number.
+#[inline(always)]
+pub(crate) fn low_word(number: u128) -> u32
+    ensures { result ≡ number % 2 ^ 32 }
+{
+    (number % WORDS) as u32
+}

@@ -1,11 +1,13 @@
 //! Texts by their blocks.
 
-ghost use Rattle.std.specs.Prelude.{◌≡◌, ◌+◌, ◌-◌, ◌*◌, ◌/◌, ◌%◌, ◌≤◌, ◌++◌, length, replicate};
-ghost use Rattle.aes_block.specs.Bytes.{AreBytes};
+ghost use Rattle.std.specs.Prelude.{◌≡◌, ◌+◌, ◌-◌, ◌*◌, ◌/◌, ◌%◌, ◌≤◌, ◌++◌, length, replicate, IfOk};
+ghost use Rattle.std.specs.Int.{w64, w128, to_be_bytes};
+ghost use Rattle.aes_block.specs.Bytes.{AreBytes, xor_bytes};
 ghost use Rattle.aes_block.specs.KeyExpansion.{IsKey};
 ghost use Rattle.aes_modes.specs.Blocks.{block_of};
 
 use aes_block::{Block, Key};
+use std::alloc::AllocError;
 
 /// The length of a block in bytes.
 pub(crate) const BLOCK_SIZE: usize = 16;
@@ -39,6 +41,34 @@ pub(crate) fn filled_block(bytes: &[u8], fill: u8) -> Block
         block[i] = *byte;
     }
     block
+}
+
+/// The number whose bytes are the exclusive or of a block and those of `number`, the highest first.
+#[inline(always)]
+pub(crate) fn xor_number(block: Block, number: u128) -> u128
+    ensures { to_be_bytes w128 result ≡ xor_bytes block (to_be_bytes w128 number) }
+{
+    are_bytes(&block);
+    u128::from_be_bytes(block) ^ number
+}
+
+/// Adds the bytes of a number to `out`, the highest first.
+#[inline(always)]
+pub(crate) fn push_number(out: &mut Vec<u8>, number: u128) -> Result<(), AllocError>
+    ensures { IfOk result (λ _. out.new.items ≡ out.old.items ++ to_be_bytes w128 number) }
+{
+    out.extend_from_slice(&bytes_of((number >> 64) as u64))?;
+    out.extend_from_slice(&bytes_of((number % (1 << 64)) as u64))?;
+    Ok(())
+}
+
+// The bytes of a number, the highest first. In this form they become one store, where those of
+// `to_be_bytes` are stored one by one.
+#[inline(always)]
+fn bytes_of(number: u64) -> [u8; 8]
+    ensures { result ≡ to_be_bytes w64 number }
+{
+    number.swap_bytes().to_le_bytes()
 }
 
 /// What the type of a slice says of its bytes.

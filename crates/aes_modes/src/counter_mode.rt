@@ -6,10 +6,10 @@ ghost use Rattle.aes_modes.specs.Counter.{counter_start};
 ghost use Rattle.aes_modes.specs.Modes.{ctr_enciphered};
 ghost use Rattle.aes_modes.specs.Directions.{IsTurned};
 
-use crate::blocks::{BLOCK_SIZE, block_at, filled_block, is_key, rest_of};
+use crate::blocks::{BLOCK_SIZE, block_at, filled_block, is_key, push_number, rest_of, xor_number};
 use crate::counter::has_counters;
 use crate::{CounterBits, Direction, ModeFault};
-use aes_block::{Block, Key, xor_blocks};
+use aes_block::{Block, Key};
 use std::alloc::{AllocError, Global};
 
 /// The text enciphered, where each of its blocks has a counter.
@@ -28,15 +28,15 @@ fn enciphered(
     let whole = text.len() / BLOCK_SIZE;
     let mut out = Vec::with_capacity(alloc, text.len())?;
     'turns: for i in 0..whole {
-        let output = key.encipher((first + i as u128).to_be_bytes());
-        out.extend_from_slice(&xor_blocks(block_at(text, i), output))?;
+        let output = key.encipher_number(first + i as u128);
+        push_number(&mut out, xor_number(block_at(text, i), output))?;
     }
     let rest = rest_of(text);
     if rest.is_empty() {
         return Ok(out);
     }
-    let output = key.encipher((first + whole as u128).to_be_bytes());
-    let last = xor_blocks(filled_block(rest, 0), output);
+    let output = key.encipher_number(first + whole as u128);
+    let last = xor_number(filled_block(rest, 0), output).to_be_bytes();
     out.extend_from_slice(&last[..rest.len()])?;
     Ok(out)
 }

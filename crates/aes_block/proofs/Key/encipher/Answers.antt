@@ -1,5 +1,9 @@
-use Rattle.std.proofs.Common.{arith, ◌∙◌, ap}
+use Rattle.std.proofs.Common.{arith, ◌∙◌, ap, sym, subst}
+use Rattle.aes_block.specs.Bytes.{IsBlock}
+use Rattle.aes_block.specs.Cipher.{cipher}
 use Rattle.aes_block.specs.Encipher.{enciphered_block}
+use Rattle.aes_block.specs.Words.{words_bytes}
+use Rattle.aes_block.proofs.RoundWords.{IsBlock-state_bytes}
 use Rattle.aes_block.proofs.StoredKeys.{rounds-bounds, enciphered-stored}
 use Rattle.aes_block.proofs.Key.encipher.Goals as goal
 
@@ -11,5 +15,13 @@ encipher-requires-clause-high c = omega (arith, rounds-bounds c.self.inside c.se
 
 pub returns-clause-value : goal.returns-clause-value
 returns-clause-value c =
-    c.encipher.ensures.value ∙ enciphered-stored c.self.inside c.args.block c.self.invariant
+    c.to_block.ensures ∙ c.encipher.ensures
+    ∙ ap (cipher (words_bytes c.self.inside.schedule) c.self.inside.rounds) c.from_block.ensures
+    ∙ enciphered-stored c.self.inside c.args.block c.self.invariant
     ∙ ap (λ k. enciphered_block k c.args.block) c.self.view_is
+
+pub returns-clause-blocks : goal.returns-clause-blocks
+returns-clause-blocks c = (
+  subst IsBlock c.from_block.ensures (IsBlock-state_bytes c.from_block.result),
+  subst IsBlock (sym c.to_block.ensures) (IsBlock-state_bytes c.encipher.result),
+)

@@ -4,4 +4,4 @@ use Rattle.aes_block.specs.Words.{words_bytes, state_bytes}
 use Rattle.aes_block.proofs.cipher.encipher.Given as goal
 
 abbrev pub invariant-rounds : goal.invariant-rounds
-invariant-rounds l = state_bytes l.s ≡ state_after (words_bytes l.schedule) l.fn.block (l.r - 1)
+invariant-rounds l = state_bytes l.s ≡ state_after (words_bytes l.schedule) (state_bytes l.fn.state) (l.r - 1)

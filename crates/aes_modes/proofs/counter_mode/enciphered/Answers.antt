@@ -1,4 +1,4 @@
-use Rattle.std.proofs.Common.{◌∙◌, ◌≡◌, ◌+◌, ◌/◌, ◌%◌, ◌^◌, ◌<◌, ◌++◌, ap, sym, arith, length, ℕ, false, ◌==◌}
+use Rattle.std.proofs.Common.{◌∙◌, ◌≡◌, ◌+◌, ◌/◌, ◌%◌, ◌^◌, ◌<◌, ◌++◌, ap, refl, sym, arith, length, ℕ, false, ◌==◌}
 use Rattle.std.proofs.lemmas.Bool.{eqb-true}
 use Rattle.std.proofs.lemmas.Bool.Decides.{nat_tests}
 use Rattle.std.specs.Int.{w128, to_be_bytes}
@@ -26,12 +26,13 @@ unfolding output_block
 turns-preserved c =
     let start = c.args.start in
     let within : counter_start c.args.bits start + c.turns.i < 2 ^ c.args.bits = omega (arith, c.requires.counters) in
-    let counter = c.to_be_bytes.ensures ∙ ap (λ v. to_be_bytes w128 (v + c.turns.i)) c.from_be_bytes-first.ensures
+    let counter = ap (λ v. to_be_bytes w128 (v + c.turns.i)) c.from_be_bytes-first.ensures
     ∙ counter_block-sum c.args.bits start c.turns.i within in
-    let output = c.encipher-output.ensures.value ∙ ap (enciphered_block c.args.key.now) counter in
-    c.in_ok-extend_from_slice.ensures.items
-    ∙ ap (λ b. c.turns.out.items ++ b) (c.xor_blocks.ensures.value ∙ ap (λ b. xor_bytes b c.encipher-output.result) c.block_at.ensures)
-    ∙ ctr_blocks-more c.args.key.now c.args.bits start c.args.text.now c.turns.out.items c.encipher-output.result c.turns.i
+    let output = c.encipher_number-output.ensures ∙ ap (enciphered_block c.args.key.now) counter in
+    let block = to_be_bytes w128 c.encipher_number-output.result in
+    c.in_ok-push_number.ensures
+    ∙ ap (λ b. c.turns.out.items ++ b) (c.xor_number.ensures ∙ ap (λ b. xor_bytes b block) c.block_at.ensures)
+    ∙ ctr_blocks-more c.args.key.now c.args.bits start c.args.text.now c.turns.out.items block c.turns.i
     c.turns.invariant output
 
 -- what the rest is not, where the test says so
@@ -62,14 +63,15 @@ returns c =
     let start = c.args.start in
     let text = c.args.text.now in
     let rest = c.rest_of-rest.result.now in
+    let block = to_be_bytes w128 c.encipher_number-output-2.result in
     let more : 0 < length rest = some _ c.if-is_empty.ensures in
     let end : c.turns.i ≡ length text / 16 = omega arith in
     let within : counter_start bits start + length text / 16 < 2 ^ bits = omega (arith, c.requires.counters, c.rest_of-rest.ensures.size) in
-    let counter = c.to_be_bytes-2.ensures ∙ ap (λ v. to_be_bytes w128 (v + length text / 16)) c.from_be_bytes-first.ensures
+    let counter = ap (λ v. to_be_bytes w128 (v + length text / 16)) c.from_be_bytes-first.ensures
     ∙ counter_block-sum bits start (length text / 16) within in
-    let output = c.encipher-output-2.ensures.value ∙ ap (enciphered_block key) counter in
-    let last = c.xor_blocks-last.ensures.value ∙ ap (λ b. xor_bytes b c.encipher-output-2.result) c.filled_block.ensures in
+    let output = c.encipher_number-output-2.ensures ∙ ap (enciphered_block key) counter in
+    let last = c.to_be_bytes-last.ensures ∙ c.xor_number-2.ensures ∙ ap (λ b. xor_bytes b block) c.filled_block.ensures in
     let before = c.turns.invariant ∙ ap (ctr_blocks key bits start text) end in
-    c.in_ok-extend_from_slice-2.ensures.items
-    ∙ ctr_enciphered-last key bits start text c.turns.out.items rest c.encipher-output-2.result c.xor_blocks-last.result before
-    c.rest_of-rest.ensures.value c.rest_of-rest.ensures.size more output c.encipher-output-2.ensures.blocks.1.size last
+    c.in_ok-extend_from_slice.ensures.items
+    ∙ ctr_enciphered-last key bits start text c.turns.out.items rest block c.to_be_bytes-last.result before
+    c.rest_of-rest.ensures.value c.rest_of-rest.ensures.size more output refl last
