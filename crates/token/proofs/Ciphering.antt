@@ -1,5 +1,5 @@
 -- C_EncryptInit and C_Encrypt: the encryption of a session.
-use Rattle.std.proofs.Common.{◌≡◌, ℕ, ◌+◌, ◌%◌, Bool, true, false, cond, not, List, [], length, Option, Some, None, Bor, refl, sym, ◌∙◌, ap}
+use Rattle.std.proofs.Common.{◌≡◌, ℕ, ◌+◌, ◌%◌, Bool, true, false, cond, not, List, [], length, Option, Some, None, Bor, refl, sym, subst, ◌∙◌, ap}
 use Rattle.std.specs.Prelude.{◌==◌, nat_lt, is_some}
 use Rattle.std.specs.Option.{option_map, option_copied}
 use Rattle.std.proofs.lemmas.Bool.{eqb-true}
@@ -11,12 +11,14 @@ use Rattle.ck_types.specs.Numbers.{mech_type_number}
 use Rattle.ck_calls.specs.declared.fields.Mechanism.{Mechanism}
 use Rattle.ck_calls.specs.declared.function.Function.TheVariants as functions
 use Rattle.ck_calls.specs.declared.reply.Reply.{Reply}
-use Rattle.ck_calls.specs.declared.reply.Reply.TheVariants.{Code}
+use Rattle.ck_calls.specs.declared.reply.Output.TheVariants as output
+use Rattle.ck_calls.specs.declared.reply.Reply.TheVariants.{Code, Output}
 use Rattle.attrs.specs.Masking.{is_secret_key}
 use Rattle.attrs.specs.Objects.{flag, class_of, key_type_of}
 use Rattle.precede.specs.declared.row.Row.TheVariants.{DataLength, NoKey, WrongKeyType, KeyNotPermitted}
 use Rattle.keep.specs.Contents.{Contents}
 use Rattle.mech.specs.declared.job.Job.{Job}
+use Rattle.mech.specs.declared.outcome.Outcome.TheVariants.{Data}
 use Rattle.sessions.specs.declared.Session.{Session}
 use Rattle.sessions.specs.Sessions.{session_at}
 use Rattle.desk.specs.Desks.{DeskState, encryption_of, with_question}
@@ -26,7 +28,7 @@ use Rattle.token.specs.Views.{View, Encrypts, Question}
 use Rattle.token.specs.Changes.{Stays}
 use Rattle.token.specs.Answering.{Replies, Asks, becomes, asks, refuses_by, with_operations, object_at}
 use Rattle.token.specs.Answers.EncryptInit.{cipher_at, is_aes, with_encryption, begins, begins_under, encrypt_init}
-use Rattle.token.specs.Answers.Encrypt.{ends_by, encrypt}
+use Rattle.token.specs.Answers.Encrypt.{ends_by, encrypt, without_encryption, encrypted}
 use Rattle.token.specs.Shown.{question_of, view_of, Fits, Gives}
 use Rattle.token.proofs.Closing.{seated}
 use Rattle.token.proofs.Lists.{find-passes}
@@ -93,6 +95,17 @@ stays-under v s o = first (not (is_secret_key (class_of o))) where
   first : (b : Bool) → (cond b (refuses_by v NoKey) (cond (not (is_aes (key_type_of o))) (refuses_by v WrongKeyType) (cond (not (flag o attr.Encrypt)) (refuses_by v KeyNotPermitted) (begins v s AesEcb [] o)))).change ≡ Stays
   first true = refl
   first false = second (not (is_aes (key_type_of o)))
+
+-- an encryption ends with its output
+pub gives-ended : (c : Contents) (d : DeskState) (session : ℕ) (bytes : List ℕ) → d.question ≡ None → Fits c d.handles.entries → Gives (encrypted (view_of c d) session (Data bytes)) d.sessions.login c (Replies (Output (output.Data bytes))) c (desk_with_encryption d session None)
+gives-ended c d session bytes free fits = at (session_at d.sessions.sessions session) refl where
+  at : (o : Option (Session Operations)) → session_at d.sessions.sessions session ≡ o → Gives (encrypted (view_of c d) session (Data bytes)) d.sessions.login c (Replies (Output (output.Data bytes))) c (desk_with_encryption d session None)
+  at None e = rw (e, free) (record { says = refl; view = refl; changes = refl; fits = fits })
+  at (Some s) e =
+      let reply = Output (output.Data bytes) in
+      let f : Option Question → Type 0 = λ q. Gives (becomes reply (without_encryption (record (view_of c d) { question = q }) (session_at d.sessions.sessions session))) d.sessions.login c (Replies reply) c (desk_with_encryption d session None) in
+      let g : Option (Session Operations) → Type 0 = λ o. Gives (becomes reply (without_encryption (view_of c d) o)) d.sessions.login c (Replies reply) c (desk_with_encryption d session None) in
+      subst f (ap (option_map question_of) free) (subst g (sym e) (gives-with c d session s e None reply fits))
 
 -- a question is put
 pub gives-asked : (c : Contents) (d d' : DeskState) (j : Job) (q : Question) → Fits c d.handles.entries → question_of j ≡ q → q.number ≡ d.next_question → d' ≡ with_question d j

@@ -4,18 +4,25 @@ use Rattle.std.specs.Prelude.{is_some, ◌||◌, nat_le}
 use Rattle.std.specs.Option.{option_map}
 use Rattle.std.proofs.lemmas.Bool.{false≢true}
 use Rattle.ck_types.specs.declared.entry.Entry.{Entry}
-use Rattle.ck_types.specs.declared.rv.Rv.TheVariants.{FunctionNotSupported}
+use Rattle.ck_types.specs.declared.rv.Rv.TheVariants.{FunctionFailed, FunctionNotSupported}
 use Rattle.ck_calls.specs.declared.fields.Mechanism.{Mechanism}
 use Rattle.ck_calls.specs.declared.call.Call.{Call}
 use Rattle.ck_calls.specs.declared.call.Call.TheVariants as call
+use Rattle.ck_calls.specs.declared.function.Function.{Function}
+use Rattle.ck_calls.specs.declared.function.Function.TheVariants as function
+use Rattle.ck_calls.specs.declared.reply.Reply.TheVariants.{Code}
+use Rattle.ck_calls.specs.declared.reply.Reply.{Reply}
+use Rattle.mech.specs.declared.outcome.Outcome.{Outcome}
+use Rattle.mech.specs.declared.outcome.Outcome.TheVariants.{Data}
 use Rattle.keep.specs.Contents.{Contents}
 use Rattle.mech.specs.declared.job.Job.{Job}
 use Rattle.desk.specs.Desks.{DeskState, is_busy}
 use Rattle.token.specs.Views.{View}
-use Rattle.token.specs.Answering.{Reveal, refuses, is_closed}
-use Rattle.token.specs.Answers.{answer, answer_to}
+use Rattle.token.specs.Answering.{Replies, Reveal, refuses, answered, is_closed}
+use Rattle.token.specs.Answers.Encrypt.{encrypted}
+use Rattle.token.specs.Answers.{answer, answer_to, answer_outcome}
 use Rattle.token.specs.Built.{is_session_call, is_object_call}
-use Rattle.token.specs.Shown.{question_of, view_of}
+use Rattle.token.specs.Shown.{question_of, view_of, Fits, Gives}
 
 closed-is : (c : Contents) (d : DeskState) → is_closed (view_of c d) ≡ is_busy d
 unfolding is_closed
@@ -56,3 +63,22 @@ unbuilt v (call.DestroyObject s handle) random r session object init encrypt = a
 unbuilt v (call.EncryptInit s mechanism key) random r session object init encrypt = absurd (init s mechanism key refl)
 unbuilt v (call.Encrypt s input room) random r session object init encrypt = absurd (encrypt s input room refl)
 unbuilt v _ random r session object init encrypt = refl
+
+-- ---- results
+
+-- the result of a call that asks nothing
+pub failed-outcome : (v : View) (s : ℕ) (f : Function) (outcome : Outcome) (r : Reveal) → f ≢ function.Encrypt → answer_outcome v s f outcome r ≡ refuses (answered v) FunctionFailed
+failed-outcome v s function.Encrypt outcome r other = absurd (other refl)
+failed-outcome v s _ outcome r other = refl
+
+-- and of C_Encrypt
+pub gives-outcome : (a c : Contents) (d new : DeskState) (v : View) (s : ℕ) (f : Function) (outcome : Outcome) (bytes : List ℕ) (reply : Reply) (r : Reveal) → f ≡ function.Encrypt → outcome ≡ Data bytes → Gives (encrypted v s (Data bytes)) d.sessions.login a (Replies reply) c new → Gives (answer_outcome v s f outcome r) d.sessions.login a (Replies reply) c new
+gives-outcome a c d new v s f outcome bytes reply r is from gives = rw (is, from) gives
+
+-- a question that is over already is over
+pub answered-outcome : (v : View) (s : ℕ) (f : Function) (outcome : Outcome) (r : Reveal) → answer_outcome (answered v) s f outcome r ≡ answer_outcome v s f outcome r
+answered-outcome v s function.Encrypt (Data bytes) r = refl
+answered-outcome v s _ outcome r = refl
+
+pub gives-failed : (c : Contents) (d : DeskState) → d.question ≡ None → Fits c d.handles.entries → Gives (refuses (answered (view_of c d)) FunctionFailed) d.sessions.login c (Replies (Code FunctionFailed)) c d
+gives-failed c d free fits = record { says = refl; view = rw free refl; changes = refl; fits = fits }

@@ -10,7 +10,8 @@ mod get_session_info;
 mod open_session;
 
 ghost use Rattle.std.specs.Prelude.{◌≡◌, ℕ, ◌<◌, ◌^◌, false, List, length, IfOk, IsTrue};
-ghost use Rattle.std.specs.Prelude.{Ok};
+ghost use Rattle.std.specs.Prelude.{Ok, None};
+ghost use Rattle.keep.specs.Contents.{Contents};
 ghost use Rattle.ck_types.specs.declared.rv.Rv.TheVariants as rv;
 ghost use Rattle.ck_calls.specs.Need.{random_bytes};
 ghost use Rattle.ck_calls.specs.declared.reply.Reply.TheVariants.{Code};
@@ -18,10 +19,10 @@ ghost use Rattle.keep.specs.Keeping.{Counted, HasCause};
 ghost use Rattle.precede.specs.Row.{code_of};
 ghost use Rattle.desk.specs.Desks.{with_question};
 ghost use Rattle.mech.specs.Runnable.{is_runnable};
-ghost use Rattle.token.specs.Answering.{reveals_nothing};
-ghost use Rattle.token.specs.Answers.{answer, answer_to};
+ghost use Rattle.token.specs.Answering.{Replies, reveals_nothing};
+ghost use Rattle.token.specs.Answers.{answer, answer_outcome, answer_to};
 ghost use Rattle.token.specs.Built.{is_object_call, is_session_call};
-ghost use Rattle.token.specs.Shown.{IsFor, question_of, said_of, task_of};
+ghost use Rattle.token.specs.Shown.{Fits, Gives, IsFor, question_of, said_of, task_of, view_of};
 ghost use Rattle.token.specs.Stores.{Served};
 ghost use Rattle.token.specs.declared.event.Out.TheVariants.{Reply as OutReply};
 
@@ -167,9 +168,13 @@ pub(crate) fn serve_outcome(
     function: Function,
     session: u64,
     outcome: Outcome,
-) -> Reply {
-    match (function, outcome) {
-        (Function::Encrypt, Outcome::Data(output)) => encrypt::finish(desk, session, output),
+) -> Reply
+    ensures { desk.old.question ≡ None → (c : Contents) → Fits c desk.old.handles.entries → Gives (answer_outcome (view_of c desk.old) session function outcome reveals_nothing) desk.old.sessions.login c (Replies result) c desk.new }
+{
+    match function {
+        Function::Encrypt => match outcome {
+            Outcome::Data(output) => encrypt::finish(desk, session, output),
+        },
         _ => Reply::Code(Rv::FunctionFailed),
     }
 }

@@ -1,9 +1,12 @@
 //! C_Encrypt (PKCS #11 v3.1, 5.8).
 
-ghost use Rattle.std.specs.Prelude.{◌<◌, ◌^◌, IfOk};
+ghost use Rattle.std.specs.Prelude.{◌≡◌, ◌<◌, ◌^◌, None, IfOk};
+ghost use Rattle.keep.specs.Contents.{Contents};
 ghost use Rattle.keep.specs.Keeping.{Counted, HasCause};
-ghost use Rattle.token.specs.Answers.Encrypt.{encrypt};
-ghost use Rattle.token.specs.Shown.{IsFor, said_of};
+ghost use Rattle.mech.specs.declared.outcome.Outcome.TheVariants.{Data};
+ghost use Rattle.token.specs.Answering.{Replies};
+ghost use Rattle.token.specs.Answers.Encrypt.{encrypt, encrypted};
+ghost use Rattle.token.specs.Shown.{Fits, Gives, IsFor, said_of, view_of};
 ghost use Rattle.token.specs.Stores.{Served};
 
 use crate::event::Out;
@@ -57,7 +60,9 @@ pub(crate) fn serve<K: Keep>(
 }
 
 /// The operation ends with its output.
-pub(crate) fn finish(desk: &mut Desk, session: u64, output: Bytes) -> Reply {
+pub(crate) fn finish(desk: &mut Desk, session: u64, output: Bytes) -> Reply
+    ensures { desk.old.question ≡ None → (c : Contents) → Fits c desk.old.handles.entries → Gives (encrypted (view_of c desk.old) session (Data output)) desk.old.sessions.login c (Replies result) c desk.new }
+{
     desk.set_encryption(session, None);
     Reply::Output(Output::Data(output))
 }
