@@ -9,12 +9,11 @@ mod finding;
 mod get_session_info;
 mod open_session;
 
-ghost use Rattle.std.specs.Prelude.{◌≡◌, ℕ, ◌<◌, ◌^◌, false, List, length, IfOk, IsTrue};
-ghost use Rattle.std.specs.Prelude.{Ok, None};
-ghost use Rattle.keep.specs.Contents.{Contents};
+ghost use Rattle.std.specs.Prelude.{◌≡◌, ℕ, ◌<◌, ◌^◌, false, List, length, Ok, None, IfOk, IsTrue};
 ghost use Rattle.ck_types.specs.declared.rv.Rv.TheVariants as rv;
 ghost use Rattle.ck_calls.specs.Need.{random_bytes};
 ghost use Rattle.ck_calls.specs.declared.reply.Reply.TheVariants.{Code};
+ghost use Rattle.keep.specs.Contents.{Contents};
 ghost use Rattle.keep.specs.Keeping.{Counted, HasCause};
 ghost use Rattle.precede.specs.Row.{code_of};
 ghost use Rattle.desk.specs.Desks.{with_question};
