@@ -32,37 +32,19 @@ left-more p q w (Goes event) x f (inr l) = inr l
 left-more p q w (Refuses event fault) x f (inl l) = inl (f l)
 left-more p q w (Refuses event fault) x f (inr l) = inr l
 
--- what a run has done so far: IsRun without what follows for each application
-pub record SoFar (showing : World → Type 0) (prior left : Lasting → Type 0) (w : World) (events : List Event) (said : List (ℕ × Reply)) (rest : List Event) (out : List (ℕ × Job)) : Type 0 where
-  pub moves : List Move
-  pub took : map event_of moves ++ rest ≡ events
-  pub replied : said ≡ replies w moves
-  pub shows : showing (after w moves)
-  pub jobs : HasJobs (after w moves) out
-  pub leaves : (l : Lasting) → left l → LeftAfter prior w moves l
+pub nothing_yet : (shows : World → Type 0) (prior : Lasting → Type 0) (w : World) (events : List Event) (out : List (ℕ × Job)) → shows w → HasJobs w out → IsRun shows prior prior w events [] events out
+nothing_yet shows prior w events out s h = record { moves = []; took = refl; replied = refl; shows = s; jobs = h; leaves = λ x l. l; private = λ app none. is_told app w [] none }
 
-pub nothing_yet : (shows : World → Type 0) (prior : Lasting → Type 0) (w : World) (events : List Event) (out : List (ℕ × Job)) → shows w → HasJobs w out → SoFar shows prior prior w events [] events out
-nothing_yet shows prior w events out s h = record { moves = []; took = refl; replied = refl; shows = s; jobs = h; leaves = λ x l. l }
-
-pub one_more : (sure : Type 0) (shows shows' : World → Type 0) (prior left left' : Lasting → Type 0) (w : World) (events rest rest' : List Event) (said said' : List (ℕ × Reply)) (out out' : List (ℕ × Job)) → sure → SoFar shows prior left w events said rest out → Advances sure shows shows' left left' rest out said rest' out' said' → SoFar shows' prior left' w events said' rest' out'
+pub one_more : (sure : Type 0) (shows shows' : World → Type 0) (prior left left' : Lasting → Type 0) (w : World) (events rest rest' : List Event) (said said' : List (ℕ × Reply)) (out out' : List (ℕ × Job)) → sure → IsRun shows prior left w events said rest out → Advances sure shows shows' left left' rest out said rest' out' said' → IsRun shows' prior left' w events said' rest' out'
 one_more sure shows shows' prior left left' w events rest rest' said said' out out' known so a =
     let st = a.step known (after w so.moves) so.shows so.jobs in
+    let told : said' ≡ replies w (so.moves ++ st.move ∷ []) = a.last ∙ ap (λ xs. xs ++ a.more) so.replied ∙ ap (λ xs. replies w so.moves ++ xs) (sym st.tells) ∙ sym (replies-append w so.moves st.move) in
     record {
       moves = so.moves ++ st.move ∷ [];
       took = ap (λ es. es ++ rest') (events-append so.moves st.move ∙ ap (λ e. map event_of so.moves ++ e ∷ []) st.takes) ∙ append_assoc (map event_of so.moves) (a.event ∷ []) rest' ∙ ap (λ es. map event_of so.moves ++ es) (sym a.first) ∙ so.took;
-      replied = a.last ∙ ap (λ xs. xs ++ a.more) so.replied ∙ ap (λ xs. replies w so.moves ++ xs) (sym st.tells) ∙ sym (replies-append w so.moves st.move);
+      replied = told;
       shows = rw (after-append w so.moves st.move) st.shows;
       jobs = rw (after-append w so.moves st.move) st.jobs;
       leaves = λ x l. left-append prior w so.moves st.move x (left-more left (LeftAfter prior w so.moves) (after w so.moves) st.move x (so.leaves x) (st.leaves x l));
+      private = λ app none. is_told app w (so.moves ++ st.move ∷ []) (rw told at none);
     }
-
-pub the_run : (shows : World → Type 0) (prior left : Lasting → Type 0) (w : World) (events rest : List Event) (said : List (ℕ × Reply)) (out : List (ℕ × Job)) → SoFar shows prior left w events said rest out → IsRun shows prior left w events said rest out
-the_run shows prior left w events rest said out so = record {
-  moves = so.moves;
-  took = so.took;
-  replied = so.replied;
-  shows = so.shows;
-  jobs = so.jobs;
-  leaves = so.leaves;
-  private = λ app none. is_told app w so.moves (rw so.replied at none);
-}

@@ -2,7 +2,7 @@ use Rattle.std.proofs.Common.{arith, ◌≡◌}
 use Rattle.std.proofs.lemmas.List.{reverse-reverse}
 use Rattle.token.specs.Events.{HasRandom}
 use Rattle.token.proofs.Turning.{All-reverse}
-use Rattle.token.proofs.Runs.{nothing_yet, one_more, the_run}
+use Rattle.token.proofs.Runs.{nothing_yet, one_more}
 use Rattle.token.proofs.token.Token.run.Goals as goal
 use Rattle.token.proofs.token.Token.run.Goals.{else-events-test, then-events-test+in-Err}
 
@@ -20,7 +20,7 @@ events-preserved g c = (
 
 -- what stops the run changes nothing
 pub returns : goal.returns
-returns g c = λ sure w s. the_run _ _ _ w _ _ _ _ (elim c.events-test.branch [
+returns g c = λ sure w s. elim c.events-test.branch [
   | else-events-test b ↦ rw (c.reverse-2.ensures.items, b.replies-is, b.events-is, b.out-is, b.self-is) (c.events.invariant.1 (rw b.self-is at sure) w s)
   | then-events-test+in-Err b ↦ rw (c.reverse-2.ensures.items, b.replies-is, b.events-is, b.out-is, b.self-is, b.in-Err.ensures.err.0, b.in-Err.ensures.err.1, b.in-Err.ensures.err.2, b.in-Err.ensures.err.3) (c.events.invariant.1 (rw (b.self-is, b.in-Err.ensures.err.3) at sure) w s)
-])
+]

@@ -3,14 +3,13 @@ use Rattle.std.specs.Prelude.{reverse}
 use Rattle.token.specs.Events.{HasRandom}
 use Rattle.token.specs.Worlds.{World}
 use Rattle.token.specs.Stores.{Shows}
-use Rattle.token.specs.Runs.{MayLeave}
-use Rattle.token.proofs.Runs.{SoFar}
+use Rattle.token.specs.Runs.{MayLeave, IsRun}
 use Rattle.token.proofs.token.Token.run.Given as goal
 
 abbrev pub invariant-events : goal.invariant-events
 invariant-events g l =
     (g.K.Keep.doubt l.fn.self.store.keep ≤ g.K.Keep.doubt l.self.store.keep)
-    × (g.K.Keep.doubt l.self.store.keep ≡ 0 → (w : World) → Shows g.K.Keep.holds l.fn.self w → SoFar (Shows g.K.Keep.holds l.self) (MayLeave g.K.Keep.may_leave l.fn.self) (MayLeave g.K.Keep.may_leave l.self) w l.fn.events.items l.replies.items (reverse l.events.items) l.out.items)
+    × (g.K.Keep.doubt l.self.store.keep ≡ 0 → (w : World) → Shows g.K.Keep.holds l.fn.self w → IsRun (Shows g.K.Keep.holds l.self) (MayLeave g.K.Keep.may_leave l.fn.self) (MayLeave g.K.Keep.may_leave l.self) w l.fn.events.items l.replies.items (reverse l.events.items) l.out.items)
     × All HasRandom l.events.items
 
 abbrev pub decreases-events : goal.decreases-events
