@@ -7,6 +7,7 @@ mod Proper
 mod Told
 mod RunLaws
 mod Places
+mod Sizes
 mod Changing
 mod Storing
 mod Gaves
