@@ -8,6 +8,7 @@ mod Told
 mod RunLaws
 mod Places
 mod Sizes
+mod Telling
 mod Changing
 mod Storing
 mod Gaves

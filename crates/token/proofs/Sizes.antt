@@ -1,6 +1,5 @@
 -- The size of an object.
-use Rattle.std.proofs.Common.{◌≡◌, ℕ, ◌+◌, Bool, true, false, cond, ◌&&◌, ◌||◌, not, eqb, List, [], ◌∷◌, ◌++◌, length, Option, Some, None, refl, sym, ◌∙◌, ap, arith, inl, inr}
-use Rattle.std.specs.Prelude.{filter}
+use Rattle.std.proofs.Common.{◌≡◌, ℕ, ◌+◌, Bool, true, false, cond, ◌&&◌, not, eqb, List, [], ◌∷◌, length, Option, Some, None, refl, sym, ◌∙◌, ap, arith, inl, inr}
 use Rattle.std.specs.Option.{unwrap_or}
 use Rattle.std.specs.List.{list_any, flat_map, sum_by}
 use Rattle.std.proofs.lemmas.Bool.{cases_Bool, eqb-true}
@@ -15,7 +14,7 @@ use Rattle.ck_types.specs.declared.object_class.ObjectClass.TheVariants.{Data, S
 use Rattle.ck_types.specs.Numbers.{attr_type_number}
 use Rattle.attrs.specs.declared.table.AttributeRow.{AttributeRow}
 use Rattle.attrs.specs.Table.{attribute_table, row_number, rows_of}
-use Rattle.attrs.specs.Objects.{attribute, attribute_of, class_of, key_type_of, number_of, is_key_len, is_key_value, fits_rows, has_form, has_key_value, is_of_class, IsObject}
+use Rattle.attrs.specs.Objects.{attribute_of, class_of, key_type_of, number_of, is_key_len, is_key_value, fits_rows, has_form, has_key_value, is_of_class, IsObject}
 use Rattle.attrs.specs.Masking.{is_secret_key, is_masked, without, mask as mask_object}
 use Rattle.attrs.specs.MaskingLaws.{attribute-without}
 use Rattle.attrs.specs.Stored.{stored_entry, stored_form}

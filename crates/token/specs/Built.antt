@@ -20,4 +20,5 @@ is_object_call _ = false
 -- those that read objects (5.7)
 abbrev pub is_reading_call : Call → Bool
 is_reading_call (call.GetObjectSize session object) = true
+is_reading_call (call.GetAttributeValue session object query) = true
 is_reading_call _ = false

@@ -6,6 +6,7 @@ mod destroy_object;
 mod encrypt;
 mod encrypt_init;
 mod finding;
+mod get_attribute_value;
 mod get_object_size;
 mod get_session_info;
 mod open_session;
@@ -151,6 +152,11 @@ fn serve_reading_call<K: Keep>(
         Call::GetObjectSize { session, object } => {
             get_object_size::serve(alloc, desk, store, session, object)
         }
+        Call::GetAttributeValue {
+            session,
+            object,
+            query,
+        } => get_attribute_value::serve(alloc, desk, store, session, object, &query),
         other => serve_cipher_call(alloc, app, desk, store, other),
     }
 }
