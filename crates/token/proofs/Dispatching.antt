@@ -5,6 +5,7 @@ use Rattle.std.specs.Option.{option_map}
 use Rattle.std.proofs.lemmas.Bool.{false≢true}
 use Rattle.ck_types.specs.declared.entry.Entry.{Entry}
 use Rattle.ck_types.specs.declared.rv.Rv.TheVariants.{FunctionNotSupported}
+use Rattle.ck_calls.specs.declared.fields.AttributeQuery.{AttributeQuery}
 use Rattle.ck_calls.specs.declared.fields.Mechanism.{Mechanism}
 use Rattle.ck_calls.specs.declared.call.Call.{Call}
 use Rattle.ck_calls.specs.declared.call.Call.TheVariants as call
@@ -14,7 +15,7 @@ use Rattle.desk.specs.Desks.{DeskState, is_busy}
 use Rattle.token.specs.Views.{View}
 use Rattle.token.specs.Answering.{Reveal, refuses, is_closed}
 use Rattle.token.specs.Answers.{answer, answer_to}
-use Rattle.token.specs.Built.{is_session_call, is_object_call}
+use Rattle.token.specs.Built.{is_session_call, is_object_call, is_reading_call}
 use Rattle.token.specs.Shown.{question_of, view_of}
 
 closed-is : (c : Contents) (d : DeskState) → is_closed (view_of c d) ≡ is_busy d
@@ -43,9 +44,14 @@ no_object_call (call.CreateObject session template) create destroy = absurd (cre
 no_object_call (call.DestroyObject session object) create destroy = absurd (destroy session object refl)
 no_object_call _ create destroy = refl
 
+pub no_reading_call : (x : Call) → ((session object : ℕ) → x ≢ call.GetObjectSize session object) → ((session object : ℕ) (query : List AttributeQuery) → x ≢ call.GetAttributeValue session object query) → is_reading_call x ≡ false
+no_reading_call (call.GetObjectSize session object) size value = absurd (size session object refl)
+no_reading_call (call.GetAttributeValue session object query) size value = absurd (value session object query refl)
+no_reading_call _ size value = refl
+
 pub unbuilt : (v : View) (x : Call) (random : List ℕ) (r : Reveal) → is_session_call x ≡ false → is_object_call x ≡ false
     → ((session : ℕ) (mechanism : Option Mechanism) (key : ℕ) → x ≢ call.EncryptInit session mechanism key) → ((session : ℕ) (input : List ℕ) (room : Option ℕ) → x ≢ call.Encrypt session input room)
-    → answer_to v x random r ≡ refuses v FunctionNotSupported
+    → is_reading_call x ≡ false → answer_to v x random r ≡ refuses v FunctionNotSupported
 unfolding answer_to
 unbuilt v (call.OpenSession slot flags) random r session object init encrypt = absurd (false≢true (sym session))
 unbuilt v (call.CloseSession s) random r session object init encrypt = absurd (false≢true (sym session))
@@ -53,6 +59,8 @@ unbuilt v (call.CloseAllSessions slot) random r session object init encrypt = ab
 unbuilt v (call.GetSessionInfo s) random r session object init encrypt = absurd (false≢true (sym session))
 unbuilt v (call.CreateObject s template) random r session object init encrypt = absurd (false≢true (sym object))
 unbuilt v (call.DestroyObject s handle) random r session object init encrypt = absurd (false≢true (sym object))
+unbuilt v (call.GetObjectSize s handle) random r session object init encrypt = λ reading. absurd (false≢true (sym reading))
+unbuilt v (call.GetAttributeValue s handle query) random r session object init encrypt = λ reading. absurd (false≢true (sym reading))
 unbuilt v (call.EncryptInit s mechanism key) random r session object init encrypt = absurd (init s mechanism key refl)
 unbuilt v (call.Encrypt s input room) random r session object init encrypt = absurd (encrypt s input room refl)
-unbuilt v _ random r session object init encrypt = refl
+unbuilt v _ random r session object init encrypt = λ reading. refl

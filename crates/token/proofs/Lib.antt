@@ -7,6 +7,8 @@ mod Proper
 mod Told
 mod RunLaws
 mod Places
+mod Sizes
+mod Telling
 mod Changing
 mod Storing
 mod Gaves

@@ -16,3 +16,9 @@ abbrev pub is_object_call : Call → Bool
 is_object_call (call.CreateObject session template) = true
 is_object_call (call.DestroyObject session object) = true
 is_object_call _ = false
+
+-- those that read objects (5.7)
+abbrev pub is_reading_call : Call → Bool
+is_reading_call (call.GetObjectSize session object) = true
+is_reading_call (call.GetAttributeValue session object query) = true
+is_reading_call _ = false

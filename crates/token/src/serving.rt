@@ -6,6 +6,8 @@ mod destroy_object;
 mod encrypt;
 mod encrypt_init;
 mod finding;
+mod get_attribute_value;
+mod get_object_size;
 mod get_session_info;
 mod open_session;
 
@@ -18,7 +20,7 @@ ghost use Rattle.keep.specs.Keeping.{Counted, HasCause};
 ghost use Rattle.precede.specs.Row.{code_of};
 ghost use Rattle.desk.specs.Desks.{with_question};
 ghost use Rattle.mech.specs.Runnable.{is_runnable};
-ghost use Rattle.token.specs.Built.{is_object_call, is_session_call};
+ghost use Rattle.token.specs.Built.{is_object_call, is_reading_call, is_session_call};
 ghost use Rattle.token.specs.declared.event.Out.TheVariants.{Reply as OutReply};
 ghost use Rattle.token.specs.Answering.{Replies, reveals_nothing};
 ghost use Rattle.token.specs.Answers.{answer, answer_result, answer_to};
@@ -125,6 +127,36 @@ fn serve_object_call<K: Keep>(
         Call::DestroyObject { session, object } => {
             destroy_object::serve(alloc, desk, store, session, object)
         }
+        other => serve_reading_call(alloc, app, desk, store, other),
+    }
+}
+
+/// Calls that read objects (PKCS #11 v3.1, 5.7).
+#[tactic(auto, using(crate::proofs::Gaves::asker_reply), unfolding(crate::specs::Answers::answer_to))]
+fn serve_reading_call<K: Keep>(
+    alloc: Global,
+    app: u64,
+    desk: &mut Desk,
+    store: &mut Store<K>,
+    call: Call,
+) -> Result<Out, KeepFault>
+    requires session { is_session_call call ≡ false }
+    requires object { is_object_call call ≡ false }
+    requires questions { desk.old.next_question < 2 ^ 63 }
+    ensures serves { (random : List ℕ) → Served K.holds K.may_leave K.doubt said_of (λ v. answer_to v call random reveals_nothing) store.old store.new desk.old desk.old result desk.new }
+    ensures asker { IfOk result (IsFor app) }
+    ensures counts { Counted K.doubt K.failures_of K.tried store.old.keep store.new.keep 1 }
+    ensures cause { HasCause (K.failures_of store.old.keep) (K.failures_of store.new.keep) result }
+{
+    match call {
+        Call::GetObjectSize { session, object } => {
+            get_object_size::serve(alloc, desk, store, session, object)
+        }
+        Call::GetAttributeValue {
+            session,
+            object,
+            query,
+        } => get_attribute_value::serve(alloc, desk, store, session, object, &query),
         other => serve_cipher_call(alloc, app, desk, store, other),
     }
 }
@@ -140,6 +172,7 @@ fn serve_cipher_call<K: Keep>(
 ) -> Result<Out, KeepFault>
     requires session { is_session_call call ≡ false }
     requires object { is_object_call call ≡ false }
+    requires reading { is_reading_call call ≡ false }
     requires questions { desk.old.next_question < 2 ^ 63 }
     ensures serves { (random : List ℕ) → Served K.holds K.may_leave K.doubt said_of (λ v. answer_to v call random reveals_nothing) store.old store.new desk.old desk.old result desk.new }
     ensures asker { IfOk result (IsFor app) }
