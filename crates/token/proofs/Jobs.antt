@@ -52,14 +52,17 @@ taken app [] d below = absurd (omega (arith, below))
 taken app (x ∷ out) d below = elim (cases_eq app x.0) [
   | inl is ↦ rw (eq-eqb app x.0 is) (refl, λ b differ. rw (ne_eqb b x.0 (λ e. differ (e ∙ sym is))) refl)
   | inr differ ↦
-    let k : 1 + prefix_len (λ j. not (app == j.0)) out < suc (length out) = rw (ne_eqb app x.0 differ) at below in
-    let r = taken app out d (omega (arith, k)) in
-    let e : prefix_len (λ j. not (app == j.0)) (x ∷ out) ≡ suc (prefix_len (λ j. not (app == j.0)) out) = rw (ne_eqb app x.0 differ) (omega arith) in
-    subst (λ m. TakesJob app (x ∷ out) (Some (slice_index_or (x ∷ out) m d).1) (remove (x ∷ out) m)) (sym e)
-    (rw (ne_eqb app x.0 differ) (r.0, λ b other. elim (cases_eq b x.0) [
-      | inl own ↦ rw (eq-eqb b x.0 own) (ap (λ js. x.1 ∷ js) (r.1 b other))
-      | inr d ↦ rw (ne_eqb b x.0 d) (r.1 b other)
-    ]))
+      let k : 1 + prefix_len (λ j. not (app == j.0)) out < suc (length out) = rw (ne_eqb app x.0 differ) at below in
+      let r = taken app out d (omega (arith, k)) in
+      let e : prefix_len (λ j. not (app == j.0)) (x ∷ out) ≡ suc (prefix_len (λ j. not (app == j.0)) out) = rw (ne_eqb app x.0 differ) (omega arith) in
+      subst (λ m. TakesJob app (x ∷ out) (Some (slice_index_or (x ∷ out) m d).1) (remove (x ∷ out) m)) (sym e)
+      (rw (ne_eqb app x.0 differ) (
+        r.0,
+        λ b other. elim (cases_eq b x.0) [
+          | inl own ↦ rw (eq-eqb b x.0 own) (ap (λ js. x.1 ∷ js) (r.1 b other))
+          | inr d ↦ rw (ne_eqb b x.0 d) (r.1 b other)
+        ],
+      ))
 ]
 
 not-there : (app : ℕ) (out : List (ℕ × Job)) → length out ≤ prefix_len (λ j. not (app == j.0)) out → jobs_of app out ≡ []

@@ -111,9 +111,9 @@ view_of-left c d =
     let f : List TokenObject → View = λ ts. record (view_of c empty_desk) { tokens = ts } in
     let seen : List Kept = filter (sees_kept d.sessions.login) c.objects in
     ap f (sym (
-      ap (λ os. map without_handle (filter (sees None) os)) (map-map (token_object d) (λ t. t.object) seen)
-      ∙ ap (map without_handle) (filter-map (sees None) (λ (e : Kept). e.1) seen ∙ ap (map (λ (e : Kept). e.1)) (filter-less (sees_kept None) (sees_kept d.sessions.login) c.objects (less-none d.sessions.login)))
-      ∙ map-map (λ (e : Kept). e.1) without_handle (filter (sees_kept None) c.objects)))
+    ap (λ os. map without_handle (filter (sees None) os)) (map-map (token_object d) (λ t. t.object) seen)
+    ∙ ap (map without_handle) (filter-map (sees None) (λ (e : Kept). e.1) seen ∙ ap (map (λ (e : Kept). e.1)) (filter-less (sees_kept None) (sees_kept d.sessions.login) c.objects (less-none d.sessions.login)))
+    ∙ map-map (λ (e : Kept). e.1) without_handle (filter (sees_kept None) c.objects)))
 
 pub depicts-opening : (c : Contents) → Depicts (state c [] []) (opening c)
 depicts-opening c = record { token_record = refl; objects = refl; checks = refl; views = λ app. sym (view_of-empty c) }

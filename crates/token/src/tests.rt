@@ -1,4 +1,6 @@
+mod reading;
 mod runs;
+mod two_worlds;
 
 use crate::{Job, Out, Token};
 use ck_calls::{Call, Mechanism, Output, Reply, SessionInfo, need};

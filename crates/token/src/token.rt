@@ -94,14 +94,7 @@ impl<K: Keep> Token<K> {
         // CKR_DEVICE_ERROR comes only where a failure of the keeper was counted.
         ensures cause { K.doubt self.new.store.keep ≡ 0 → (w : World) → Shows K.holds self.old w → result ≡ OutReply (Code DeviceError) → Rises (K.failures_of self.old.store.keep) (K.failures_of self.new.store.keep) }
     {
-        told_as(serve_app(
-            alloc,
-            app,
-            &mut self.desks,
-            &mut self.store,
-            call,
-            random,
-        ))
+        told_as(serve_app(alloc, app, &mut self.desks, &mut self.store, call, random))
     }
 
     /// The end of an application's question. A `Done` of another application, question or function, or
@@ -351,11 +344,7 @@ fn finish_app<K: Keep>(
 }
 
 /// The result of the question that is out, at its desk.
-fn finish_at<K: Keep>(
-    desk: &mut Desk,
-    store: &mut Store<K>,
-    done: Done,
-) -> Result<Reply, KeepFault>
+fn finish_at<K: Keep>(desk: &mut Desk, store: &mut Store<K>, done: Done) -> Result<Reply, KeepFault>
     ensures serves { option_map question_of desk.old.question ≡ Some (question_of done.job.value) → Served K.holds K.may_leave K.doubt Replies (λ v. answer_result v (value_of (question_of done.job.value).task) reveals_nothing) store.old store.new desk.old (over desk.old) result desk.new }
     ensures counts { Counted K.doubt K.failures_of K.tried store.old.keep store.new.keep 1 }
     ensures cause { HasCause (K.failures_of store.old.keep) (K.failures_of store.new.keep) result }
