@@ -10,9 +10,11 @@ use Rattle.ck_types.specs.declared.rv.Rv.{Rv}
 use Rattle.ck_types.specs.declared.rv.Rv.TheVariants as rv
 use Rattle.ck_types.specs.declared.rv.Rv.TheVariants.{HostMemory}
 use Rattle.ck_types.specs.declared.session_state.SessionState.{SessionState}
+use Rattle.ck_types.specs.declared.user_type.UserType.{UserType}
+use Rattle.ck_types.specs.declared.user_type.UserType.TheVariants.{So, User}
 use Rattle.ck_calls.specs.declared.reply.Reply.TheVariants.{Code, Object}
 use Rattle.attrs.specs.Objects.{flag}
-use Rattle.guard.specs.Access.{is_public, is_rw, is_visible}
+use Rattle.guard.specs.Access.{is_public, is_rw, is_user, is_visible}
 use Rattle.templates.specs.declared.call.Call.TheVariants.{Create}
 use Rattle.templates.specs.Faults.{template_fault}
 use Rattle.templates.specs.Made.{object_made, given_value, Answers as IsAnswered}
@@ -26,7 +28,7 @@ use Rattle.sessions.specs.declared.Session.{Session}
 use Rattle.sessions.specs.Sessions.{state_of}
 use Rattle.desk.specs.Desks.{DeskState, SameDesk}
 use Rattle.desk.specs.Operations.{Operations}
-use Rattle.token.specs.Views.{TokenObject, SessionObject, View, sees}
+use Rattle.token.specs.Views.{TokenObject, SessionObject, View, is_user_in, sees}
 use Rattle.token.specs.Answering.{Replies, Answer, unless, replies, session_of}
 use Rattle.token.specs.Answers.CreateObject.{adds_token_object, adds_session_object, adds, create_object}
 use Rattle.token.specs.Shown.{sees_kept, token_object, session_object, view_of, IsNoted, Fits, Gives}
@@ -147,14 +149,24 @@ module _ (c : Contents) (d : DeskState) (session : ℕ) (template : List Entry) 
   pub refused-is : (code : Rv) → template_fault Create state [] template ≡ Some code → create_object (view_of c d) session template random ≡ replies (view_of c d) (Code code)
   refused-is code fault = rw (there, fault) refl
 
-  module _ (o : List Entry) (fault : template_fault Create state [] template ≡ None) (is : made ≡ o) (allowed : (flag o attr.Token && not (is_rw state)) ≡ false) (visible : not (is_visible state o) ≡ false) where
-    adds-is : create_object (view_of c d) session template random ≡ adds (view_of c d) s.number state o
-    adds-is = rw (there, fault, is) refl
+  -- what is made is added
+  pub adds-is : (o : List Entry) → template_fault Create state [] template ≡ None → made ≡ o → create_object (view_of c d) session template random ≡ adds (view_of c d) session state o
+  adds-is o fault is =
+      let n : s.number ≡ session = eqb-true s.number session (find-passes (λ s. s.number == session) d.sessions.sessions s there) in
+      rw (there, fault, is, n) refl
 
-    pub own-is : flag o attr.Token ≡ false → create_object (view_of c d) session template random ≡ limited (view_of c d) (adds_session_object (view_of c d) session o)
-    own-is own =
-        let n : s.number ≡ session = eqb-true s.number session (find-passes (λ s. s.number == session) d.sessions.sessions s there) in
-        adds-is ∙ (rw (allowed, visible, own, n) refl)
+-- ---- what is added
+
+-- a session's state tells whether the user is logged in
+pub user-is : (login : Option UserType) (read_write : Bool) → is_user (state_of login read_write) ≡ is_user_in login
+user-is None true = refl
+user-is None false = refl
+user-is (Some User) true = refl
+user-is (Some User) false = refl
+user-is (Some So) read_write = refl
+
+pub own-is : (v : View) (s : ℕ) (state : SessionState) (o : List Entry) → (flag o attr.Token && not (is_rw state)) ≡ false → not (is_visible state o) ≡ false → flag o attr.Token ≡ false → adds v s state o ≡ limited v (adds_session_object v s o)
+own-is v s state o allowed visible own = rw (allowed, visible, own) refl
 
 pub full-is : (c : Contents) (d : DeskState) (a : Answer) → nat_le 256 (length d.own) ≡ true → limited (view_of c d) a ≡ replies (view_of c d) (Code (code_of rv.Ok ObjectLimit))
 full-is c d a full = rw (length-map session_object d.own, full) refl

@@ -20,5 +20,7 @@ mod Runs
 mod Listing
 mod Destroying
 mod Creating
+mod Copying
+mod Setting
 mod Ciphering
 mod Dispatching

@@ -1,3 +1,5 @@
+mod changing;
+
 use crate::{Job, Out, Token};
 use ck_calls::{Call, Mechanism, Output, Reply, SessionInfo, need};
 use ck_types::{AttrType, Bytes, Entry, Rv, SessionState, Template};
