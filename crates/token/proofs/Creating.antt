@@ -10,11 +10,9 @@ use Rattle.ck_types.specs.declared.rv.Rv.{Rv}
 use Rattle.ck_types.specs.declared.rv.Rv.TheVariants as rv
 use Rattle.ck_types.specs.declared.rv.Rv.TheVariants.{HostMemory}
 use Rattle.ck_types.specs.declared.session_state.SessionState.{SessionState}
-use Rattle.ck_types.specs.declared.user_type.UserType.{UserType}
-use Rattle.ck_types.specs.declared.user_type.UserType.TheVariants.{So, User}
 use Rattle.ck_calls.specs.declared.reply.Reply.TheVariants.{Code, Object}
 use Rattle.attrs.specs.Objects.{flag}
-use Rattle.guard.specs.Access.{is_public, is_rw, is_user, is_visible}
+use Rattle.guard.specs.Access.{is_public, is_rw, is_visible}
 use Rattle.templates.specs.declared.call.Call.TheVariants.{Create}
 use Rattle.templates.specs.Faults.{template_fault}
 use Rattle.templates.specs.Made.{object_made, given_value, Answers as IsAnswered}
@@ -28,7 +26,7 @@ use Rattle.sessions.specs.declared.Session.{Session}
 use Rattle.sessions.specs.Sessions.{state_of}
 use Rattle.desk.specs.Desks.{DeskState, SameDesk}
 use Rattle.desk.specs.Operations.{Operations}
-use Rattle.token.specs.Views.{TokenObject, SessionObject, View, is_user_in, sees}
+use Rattle.token.specs.Views.{TokenObject, SessionObject, View, sees}
 use Rattle.token.specs.Answering.{Replies, Answer, unless, replies, session_of}
 use Rattle.token.specs.Answers.CreateObject.{adds_token_object, adds_session_object, adds, create_object}
 use Rattle.token.specs.Shown.{sees_kept, token_object, session_object, view_of, IsNoted, Fits, Gives}
@@ -156,14 +154,6 @@ module _ (c : Contents) (d : DeskState) (session : ℕ) (template : List Entry) 
       rw (there, fault, is, n) refl
 
 -- ---- what is added
-
--- a session's state tells whether the user is logged in
-pub user-is : (login : Option UserType) (read_write : Bool) → is_user (state_of login read_write) ≡ is_user_in login
-user-is None true = refl
-user-is None false = refl
-user-is (Some User) true = refl
-user-is (Some User) false = refl
-user-is (Some So) read_write = refl
 
 pub own-is : (v : View) (s : ℕ) (state : SessionState) (o : List Entry) → (flag o attr.Token && not (is_rw state)) ≡ false → not (is_visible state o) ≡ false → flag o attr.Token ≡ false → adds v s state o ≡ limited v (adds_session_object v s o)
 own-is v s state o allowed visible own = rw (allowed, visible, own) refl
