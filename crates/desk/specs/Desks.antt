@@ -38,6 +38,11 @@ is_busy d = is_some d.question || (nat_le (2 ^ 63) d.sessions.next_number || (na
 abbrev pub own_at : List OwnObject → ℕ → Option (List Entry)
 own_at own handle = option_map (λ e. e.object) (find (λ e. e.handle == handle) own)
 
+-- another object stands under a handle, in the place of the one that was there
+abbrev pub replaced_own : List OwnObject → ℕ → List Entry → List OwnObject
+replaced_own [] handle o = []
+replaced_own (e ∷ es) handle o = if e.handle == handle then record { handle = e.handle; session = e.session; object = o } ∷ es else e ∷ replaced_own es handle o
+
 -- handles of private objects are retired where nobody is logged in any more
 abbrev pub handles_for : Bool → HandleTable → HandleTable
 handles_for stays hs = if stays then hs else record hs { entries = public_handles hs.entries }

@@ -2,12 +2,13 @@
 
 ghost use Rattle.std.specs.Prelude.{◌≡◌, ℕ, ◌+◌, ◌<◌, ◌^◌, ◌++◌, ◌∷◌, [], ◌==◌, not, filter, map, length, nat_le, is_some, Some, None, option_map, vec_capacity, IfOk, OnOk, OnErr, IsTrue};
 ghost use Rattle.std.specs.Option.{option_copied};
+ghost use Rattle.std.specs.List.{position};
 ghost use Rattle.ck_types.specs.declared.user_type.UserType.TheVariants.{So};
 ghost use Rattle.handles.specs.Handles.{object_of, number_of, with_handle, without_object, HasRoomFor};
 ghost use Rattle.handles.specs.Handles.{IsTable as IsHandleTable};
 ghost use Rattle.sessions.specs.Sessions.{session_at, state_of, with_session, with_work, IsTable};
 ghost use Rattle.desk.specs.Operations.{no_operations};
-ghost use Rattle.desk.specs.Desks.{DeskState, SameDesk, empty_desk, is_busy, own_at, closed, all_closed, logged_out_desk, encryption_at, with_encryption, with_question};
+ghost use Rattle.desk.specs.Desks.{DeskState, SameDesk, empty_desk, is_busy, own_at, replaced_own, closed, all_closed, logged_out_desk, encryption_at, with_encryption, with_question};
 ghost use Rattle.attrs.specs.Objects.{flag};
 ghost use Rattle.ck_types.specs.declared.attr_type.AttrType.TheVariants.{Private};
 
@@ -202,6 +203,14 @@ impl Desk {
         remove_handle(&mut self.own, handle);
     }
 
+    /// Puts another object in the place of the session object under a handle, if there is one. No memory
+    /// is taken.
+    pub fn replace_own(&mut self, handle: u64, object: Object)
+        ensures { self.new ≡ record self.old { own = replaced_own self.old.own handle object } }
+    {
+        replace_object(&mut self.own, handle, object);
+    }
+
     /// The id of the token object under a handle.
     pub fn id_of(&self, handle: u64) -> Option<u64>
         ensures id { result ≡ object_of self.now.handles.entries handle }
@@ -279,6 +288,21 @@ fn remove_handle(own: &mut Vec<OwnObject>, handle: u64)
     ensures capacity { vec_capacity own.new ≡ vec_capacity own.old }
 {
     own.retain(|e| e.handle != handle);
+}
+
+fn place_of_handle(own: &[OwnObject], handle: u64) -> Option<usize>
+    ensures { result ≡ position (λ e. e.handle == handle) own.now }
+{
+    own.iter().position(|e| e.handle == handle)
+}
+
+fn replace_object(own: &mut Vec<OwnObject>, handle: u64, object: Object)
+    ensures items { own.new.items ≡ replaced_own own.old.items handle object }
+    ensures capacity { vec_capacity own.new ≡ vec_capacity own.old }
+{
+    if let Some(place) = place_of_handle(own, handle) {
+        own[place].object = object;
+    }
 }
 
 fn retain_others(own: &mut Vec<OwnObject>, session: u64)

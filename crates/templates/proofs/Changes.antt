@@ -10,10 +10,11 @@ use Rattle.ck_types.specs.declared.session_state.SessionState.{SessionState}
 use Rattle.ck_types.specs.Numbers.{attr_type_number}
 use Rattle.attrs.specs.declared.table.AttributeRow.{AttributeRow}
 use Rattle.attrs.specs.Table.{attribute_table, row_number, rows_of, is_held_by}
-use Rattle.attrs.specs.Objects.{attribute, attribute_of, class_of, class_at, number_of, key_type_at, has_form, is_of_class, IsObject, fits_rows, is_key_value, has_key_value}
-use Rattle.attrs.specs.ObjectLaws.{fits_rows-held}
+use Rattle.attrs.specs.Objects.{attribute, attribute_of, class_of, class_at, number_of, key_type_at, has_form, is_of_class, flag, is_true, IsObject, fits_rows, is_key_value, has_key_value}
+use Rattle.attrs.specs.ObjectLaws.{class_at-none, fits_rows-held}
 use Rattle.templates.specs.declared.call.Call.TheVariants as call
 use Rattle.templates.specs.Made.{made_entries}
+use Rattle.templates.specs.Guarded.{StaysPlaced}
 use Rattle.templates.proofs.Entries.{both_true, AllByRecursion-filter}
 use Rattle.templates.proofs.Formed.{IsFormed, table_formed, held_formed, row_formed}
 use Rattle.templates.proofs.NoFault.{IsFaultless, not_read_only}
@@ -45,10 +46,14 @@ original_formed class es fits =
     kept_formed (rows_of class) es (rows_of class) formed fits formed (rows_among class)
 
 -- an attribute that isn't given stays
-stays : (template es : List Entry) (n : ℕ) → attribute template n ≡ None → (attribute es n ≡ None → ⊥) → Some (unwrap_or (attribute template n) (unwrap_or (attribute es n) [])) ≡ attribute es n
+pub stays : (template es : List Entry) (n : ℕ) → attribute template n ≡ None → (attribute es n ≡ None → ⊥) → Some (unwrap_or (attribute template n) (unwrap_or (attribute es n) [])) ≡ attribute es n
 stays template es n none held =
     let step : (o : Option (List ℕ)) → attribute es n ≡ o → Some (unwrap_or o []) ≡ o = λ o. elim o as (λ p. attribute es n ≡ p → Some (unwrap_or p []) ≡ p) [ Some v ↦ λ e. refl | None ↦ λ e. absurd (held e) ] in
     ap (λ (o : Option (List ℕ)). Some (unwrap_or o (unwrap_or (attribute es n) []))) none ∙ step (attribute es n) refl
+
+-- an object whose class is known has it
+held_class : (k : ObjectClass) (es : List Entry) → class_of es ≡ Some k → attribute_of es attr.Class ≡ None → ⊥
+held_class k es class none = let no : None ≡ Some k = sym class_at-none ∙ ap (λ (o : Option (List ℕ)). class_at (number_of o)) (sym none) ∙ class in cc
 
 -- ---- what an object of a class has
 
@@ -76,11 +81,11 @@ key_kept es new class keeps value fits =
 
 -- ---- C_CopyObject
 
-pub copied_keeps_class : (s : SessionState) (original template : List Entry) (random : List ℕ) → class_of original ≡ Some SecretKey → IsFaultless call.Copy s original template → fits_rows (rows_of SecretKey) original ≡ true
+pub copied_keeps_class : (s : SessionState) (original template : List Entry) (random : List ℕ) → class_of original ≡ Some SecretKey → IsFaultless call.Copy s original template
     → attribute_of (made_entries call.Copy SecretKey original template random []) attr.Class ≡ attribute_of original attr.Class
 unfolding attribute_table
-copied_keeps_class s original template random class ok fits =
-    stays template original (attr_type_number attr.Class) (not_read_only call.Copy s (Some SecretKey) original template (attr_type_number attr.Class) class (λ p v. refl) ok.writable) (fits_rows-held (rows_of SecretKey) original (attr_type_number attr.Class) fits refl)
+copied_keeps_class s original template random class ok =
+    stays template original (attr_type_number attr.Class) (not_read_only call.Copy s (Some SecretKey) original template (attr_type_number attr.Class) class (λ p v. refl) ok.writable) (held_class SecretKey original class)
 
 copied_keeps_keytype : (s : SessionState) (original template : List Entry) (random : List ℕ) → class_of original ≡ Some SecretKey → IsFaultless call.Copy s original template → fits_rows (rows_of SecretKey) original ≡ true
     → attribute_of (made_entries call.Copy SecretKey original template random []) attr.KeyType ≡ attribute_of original attr.KeyType
@@ -115,7 +120,7 @@ copied_is_object s original template random SecretKey class is ok =
     let fits = key_fits original class is in
     key_kept original (made_entries call.Copy SecretKey original template random []) class
     (record {
-      class_is = copied_keeps_class s original template random class ok fits.0;
+      class_is = copied_keeps_class s original template random class ok;
       type_is = copied_keeps_keytype s original template random class ok fits.0;
       value_is = copied_keeps_value s original template random class ok fits.0;
       len_is = copied_keeps_valuelen s original template random class ok fits.0;
@@ -124,11 +129,11 @@ copied_is_object s original template random SecretKey class is ok =
 
 -- ---- C_SetAttributeValue
 
-pub changed_keeps_class : (s : SessionState) (original template : List Entry) (random : List ℕ) → class_of original ≡ Some SecretKey → IsFaultless call.Set s original template → fits_rows (rows_of SecretKey) original ≡ true
+pub changed_keeps_class : (s : SessionState) (original template : List Entry) (random : List ℕ) → class_of original ≡ Some SecretKey → IsFaultless call.Set s original template
     → attribute_of (made_entries call.Set SecretKey original template random []) attr.Class ≡ attribute_of original attr.Class
 unfolding attribute_table
-changed_keeps_class s original template random class ok fits =
-    stays template original (attr_type_number attr.Class) (not_read_only call.Set s (Some SecretKey) original template (attr_type_number attr.Class) class (λ p v. refl) ok.writable) (fits_rows-held (rows_of SecretKey) original (attr_type_number attr.Class) fits refl)
+changed_keeps_class s original template random class ok =
+    stays template original (attr_type_number attr.Class) (not_read_only call.Set s (Some SecretKey) original template (attr_type_number attr.Class) class (λ p v. refl) ok.writable) (held_class SecretKey original class)
 
 changed_keeps_keytype : (s : SessionState) (original template : List Entry) (random : List ℕ) → class_of original ≡ Some SecretKey → IsFaultless call.Set s original template → fits_rows (rows_of SecretKey) original ≡ true
     → attribute_of (made_entries call.Set SecretKey original template random []) attr.KeyType ≡ attribute_of original attr.KeyType
@@ -163,9 +168,25 @@ changed_is_object s original template random SecretKey class is ok =
     let fits = key_fits original class is in
     key_kept original (made_entries call.Set SecretKey original template random []) class
     (record {
-      class_is = changed_keeps_class s original template random class ok fits.0;
+      class_is = changed_keeps_class s original template random class ok;
       type_is = changed_keeps_keytype s original template random class ok fits.0;
       value_is = changed_keeps_value s original template random class ok fits.0;
       len_is = changed_keeps_valuelen s original template random class ok fits.0;
     })
     fits.1 (made_fit call.Set SecretKey original template random [] ok.formed (original_formed SecretKey original fits.0))
+
+-- a flag that isn't given stays
+flag_stays : (given present : Option (List ℕ)) → given ≡ None → is_true (Some (unwrap_or given (unwrap_or present []))) ≡ is_true present
+flag_stays given None none = ap (λ (o : Option (List ℕ)). is_true (Some (unwrap_or o []))) none
+flag_stays given (Some v) none = ap (λ (o : Option (List ℕ)). is_true (Some (unwrap_or o v))) none
+
+pub changed_placed : (s : SessionState) (original template : List Entry) (random : List ℕ) (class : ObjectClass) → class_of original ≡ Some class → IsFaultless call.Set s original template → StaysPlaced original (made_entries call.Set class original template random [])
+unfolding attribute_table
+changed_placed s original template random Data class ok = record {
+  token = flag_stays (attribute_of template attr.Token) (attribute_of original attr.Token) (not_read_only call.Set s (Some Data) original template (attr_type_number attr.Token) class (λ p v. refl) ok.writable);
+  private = flag_stays (attribute_of template attr.Private) (attribute_of original attr.Private) (not_read_only call.Set s (Some Data) original template (attr_type_number attr.Private) class (λ p v. refl) ok.writable);
+}
+changed_placed s original template random SecretKey class ok = record {
+  token = flag_stays (attribute_of template attr.Token) (attribute_of original attr.Token) (not_read_only call.Set s (Some SecretKey) original template (attr_type_number attr.Token) class (λ p v. refl) ok.writable);
+  private = flag_stays (attribute_of template attr.Private) (attribute_of original attr.Private) (not_read_only call.Set s (Some SecretKey) original template (attr_type_number attr.Private) class (λ p v. refl) ok.writable);
+}

@@ -5,3 +5,4 @@ pub mod Whole
 pub mod NewKey
 pub mod Changes
 pub mod Masked
+pub mod Blind

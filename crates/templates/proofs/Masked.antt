@@ -16,7 +16,7 @@ use Rattle.ck_types.specs.Numbers.{attr_type_number}
 use Rattle.attrs.specs.declared.table.AttributeRow.{AttributeRow}
 use Rattle.attrs.specs.Table.{attribute_table, row_number, rows_of}
 use Rattle.attrs.specs.Objects.{attribute, attribute_of, class_of, class_at, number_of, flag, is_true, fits_rows, has_form, IsObject}
-use Rattle.attrs.specs.Masking.{is_secret_key}
+use Rattle.attrs.specs.Masking.{is_masked, is_secret_key}
 use Rattle.templates.specs.declared.call.Call.{Call}
 use Rattle.templates.specs.declared.call.Call.TheVariants as call
 use Rattle.templates.specs.Faults.{is_about, is_read_only, refuses, is_set, is_present, is_so}
@@ -108,6 +108,12 @@ absent (r ∷ rs) (x ∷ es) n fits none =
 masked_parts : (o : Option ObjectClass) (a b : Bool) → (is_secret_key o && (a || not b)) ≡ true → (a || not b) ≡ true
 masked_parts o a b e = (both_true (is_secret_key o) (a || not b) e).1
 
+-- what is masked is a key
+pub key_class : (o : Option ObjectClass) (b : Bool) → (is_secret_key o && b) ≡ true → o ≡ Some SecretKey
+key_class None b e = absurd (let no : false ≡ true = e in cc)
+key_class (Some Data) b e = absurd (let no : false ≡ true = e in cc)
+key_class (Some SecretKey) b e = refl
+
 either_flag : (a b c d : Bool) → (a || not b) ≡ true → (a ≡ true → c ≡ true) → (b ≡ false → d ≡ false) → (c || not d) ≡ true
 either_flag true b c d e p q = ap (λ (x : Bool). x || not d) (p refl)
 either_flag false true c d e p q = absurd cc
@@ -154,24 +160,27 @@ copied_no_flags : (original template : List Entry) (random : List ℕ) → flag 
 unfolding attribute_table
 copied_no_flags original template random = refl
 
+-- a masked key stays masked
+pub copied_masked : (s : SessionState) (original template : List Entry) (random : List ℕ) → IsFaultless call.Copy s original template → is_masked original ≡ true → is_masked (made_entries call.Copy SecretKey original template random []) ≡ true
+copied_masked s original template random ok e =
+    let class = key_class (class_of original) (flag original attr.Sensitive || not (flag original attr.Extractable)) e in
+    let new = made_entries call.Copy SecretKey original template random [] in
+    let class_is : class_of new ≡ Some SecretKey = ap (λ (o : Option (List ℕ)). class_at (number_of o)) (copied_keeps_class s original template random class ok) ∙ class in
+    ap (λ (o : Option ObjectClass). is_secret_key o && (flag new attr.Sensitive || not (flag new attr.Extractable))) class_is
+    ∙ either_flag (flag original attr.Sensitive) (flag original attr.Extractable) (flag new attr.Sensitive) (flag new attr.Extractable) (masked_parts (class_of original) (flag original attr.Sensitive) (flag original attr.Extractable) e)
+    (copied_sensitive s original template random class ok) (copied_extractable s original template random class ok)
+
 pub copied_guarded : (s : SessionState) (original template : List Entry) (random : List ℕ) (class : ObjectClass) → class_of original ≡ Some class → IsObject original → IsFaultless call.Copy s original template → IsAsGuarded s original (made_entries call.Copy class original template random [])
 copied_guarded s original template random Data class is ok = record {
   masked = λ e. absurd (let no : false ≡ true = sym (ap (λ (o : Option ObjectClass). is_secret_key o && (flag original attr.Sensitive || not (flag original attr.Extractable))) class) ∙ e in cc);
   wrapped_by_trusted = λ e. absurd (let no : false ≡ true = sym (ap is_true (no_wrapped original (data_rows_fit original class is))) ∙ e in cc);
   trusted_by_so = λ user e. absurd (let no : false ≡ true = sym (copied_no_flags original template random) ∙ e in cc);
 }
-copied_guarded s original template random SecretKey class is ok =
-    let new = made_entries call.Copy SecretKey original template random [] in
-    let fits = (key_fits original class is).0 in
-    let class_is : class_of new ≡ Some SecretKey = ap (λ (o : Option (List ℕ)). class_at (number_of o)) (copied_keeps_class s original template random class ok fits) ∙ class in
-    record {
-      masked = λ e.
-          ap (λ (o : Option ObjectClass). is_secret_key o && (flag new attr.Sensitive || not (flag new attr.Extractable))) class_is
-          ∙ either_flag (flag original attr.Sensitive) (flag original attr.Extractable) (flag new attr.Sensitive) (flag new attr.Extractable) (masked_parts (class_of original) (flag original attr.Sensitive) (flag original attr.Extractable) e)
-          (copied_sensitive s original template random class ok) (copied_extractable s original template random class ok);
-      wrapped_by_trusted = copied_wrapped s original template random class ok;
-      trusted_by_so = copied_trusted s original template random class ok;
-    }
+copied_guarded s original template random SecretKey class is ok = record {
+  masked = copied_masked s original template random ok;
+  wrapped_by_trusted = copied_wrapped s original template random class ok;
+  trusted_by_so = copied_trusted s original template random class ok;
+}
 
 -- ---- C_SetAttributeValue
 
@@ -203,21 +212,24 @@ changed_no_flags : (original template : List Entry) (random : List ℕ) → flag
 unfolding attribute_table
 changed_no_flags original template random = refl
 
+-- a masked key stays masked
+pub changed_masked : (s : SessionState) (original template : List Entry) (random : List ℕ) → IsFaultless call.Set s original template → is_masked original ≡ true → is_masked (made_entries call.Set SecretKey original template random []) ≡ true
+changed_masked s original template random ok e =
+    let class = key_class (class_of original) (flag original attr.Sensitive || not (flag original attr.Extractable)) e in
+    let new = made_entries call.Set SecretKey original template random [] in
+    let class_is : class_of new ≡ Some SecretKey = ap (λ (o : Option (List ℕ)). class_at (number_of o)) (changed_keeps_class s original template random class ok) ∙ class in
+    ap (λ (o : Option ObjectClass). is_secret_key o && (flag new attr.Sensitive || not (flag new attr.Extractable))) class_is
+    ∙ either_flag (flag original attr.Sensitive) (flag original attr.Extractable) (flag new attr.Sensitive) (flag new attr.Extractable) (masked_parts (class_of original) (flag original attr.Sensitive) (flag original attr.Extractable) e)
+    (changed_sensitive s original template random class ok) (changed_extractable s original template random class ok)
+
 pub changed_guarded : (s : SessionState) (original template : List Entry) (random : List ℕ) (class : ObjectClass) → class_of original ≡ Some class → IsObject original → IsFaultless call.Set s original template → IsAsGuarded s original (made_entries call.Set class original template random [])
 changed_guarded s original template random Data class is ok = record {
   masked = λ e. absurd (let no : false ≡ true = sym (ap (λ (o : Option ObjectClass). is_secret_key o && (flag original attr.Sensitive || not (flag original attr.Extractable))) class) ∙ e in cc);
   wrapped_by_trusted = λ e. absurd (let no : false ≡ true = sym (ap is_true (no_wrapped original (data_rows_fit original class is))) ∙ e in cc);
   trusted_by_so = λ user e. absurd (let no : false ≡ true = sym (changed_no_flags original template random) ∙ e in cc);
 }
-changed_guarded s original template random SecretKey class is ok =
-    let new = made_entries call.Set SecretKey original template random [] in
-    let fits = (key_fits original class is).0 in
-    let class_is : class_of new ≡ Some SecretKey = ap (λ (o : Option (List ℕ)). class_at (number_of o)) (changed_keeps_class s original template random class ok fits) ∙ class in
-    record {
-      masked = λ e.
-          ap (λ (o : Option ObjectClass). is_secret_key o && (flag new attr.Sensitive || not (flag new attr.Extractable))) class_is
-          ∙ either_flag (flag original attr.Sensitive) (flag original attr.Extractable) (flag new attr.Sensitive) (flag new attr.Extractable) (masked_parts (class_of original) (flag original attr.Sensitive) (flag original attr.Extractable) e)
-          (changed_sensitive s original template random class ok) (changed_extractable s original template random class ok);
-      wrapped_by_trusted = changed_wrapped s original template random class ok;
-      trusted_by_so = changed_trusted s original template random class ok;
-    }
+changed_guarded s original template random SecretKey class is ok = record {
+  masked = changed_masked s original template random ok;
+  wrapped_by_trusted = changed_wrapped s original template random class ok;
+  trusted_by_so = changed_trusted s original template random class ok;
+}

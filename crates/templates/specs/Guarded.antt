@@ -13,3 +13,8 @@ pub record IsAsGuarded (s : SessionState) (old new : List Entry) : Type 0 where
   pub masked : is_masked old ≡ true → is_masked new ≡ true
   pub wrapped_by_trusted : flag old attr.WrapWithTrusted ≡ true → flag new attr.WrapWithTrusted ≡ true
   pub trusted_by_so : is_so s ≡ false → flag new attr.Trusted ≡ true → flag old attr.Trusted ≡ true
+
+-- A change leaves an object a token object or a session object, and private or public.
+pub record StaysPlaced (old new : List Entry) : Type 0 where
+  pub token : flag new attr.Token ≡ flag old attr.Token
+  pub private : flag new attr.Private ≡ flag old attr.Private

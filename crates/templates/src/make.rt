@@ -5,7 +5,7 @@ ghost use Rattle.attrs.specs.Objects.{IsObject};
 ghost use Rattle.ck_types.specs.declared.rv.Rv.TheVariants as rv;
 ghost use Rattle.templates.specs.declared.call.Call.TheVariants as calls;
 ghost use Rattle.templates.specs.Faults.{template_fault};
-ghost use Rattle.templates.specs.Guarded.{IsAsGuarded};
+ghost use Rattle.templates.specs.Guarded.{IsAsGuarded, StaysPlaced};
 ghost use Rattle.templates.specs.Made.{Answers, asked_len, generated_len, generated_value, given_value, made_entries, made_entry, object_made};
 
 use crate::call::Call;
@@ -196,7 +196,7 @@ pub fn copied(
 }
 
 /// What C_SetAttributeValue makes of an object, with the template's changes. A value that is kept back
-/// stays so.
+/// stays so, and so does a token object, and a private one.
 pub fn changed(
     alloc: Global,
     state: SessionState,
@@ -205,6 +205,7 @@ pub fn changed(
 ) -> Result<Object, Rv>
     ensures made { Answers result (template_fault calls.Set state original.now template.now) (object_made calls.Set original.now template.now [] []) }
     ensures guarded { IfOk result (λ object. IsAsGuarded state original.now object) }
+    ensures placed { IfOk result (λ object. StaysPlaced original.now object) }
 {
     let template = template.as_slice();
     if let Some(code) = find_fault(Call::Set, state, original.entries(), template) {

@@ -147,14 +147,16 @@ module _ (c : Contents) (d : DeskState) (session : ℕ) (template : List Entry) 
   pub refused-is : (code : Rv) → template_fault Create state [] template ≡ Some code → create_object (view_of c d) session template random ≡ replies (view_of c d) (Code code)
   refused-is code fault = rw (there, fault) refl
 
-  module _ (o : List Entry) (fault : template_fault Create state [] template ≡ None) (is : made ≡ o) (allowed : (flag o attr.Token && not (is_rw state)) ≡ false) (visible : not (is_visible state o) ≡ false) where
-    adds-is : create_object (view_of c d) session template random ≡ adds (view_of c d) s.number state o
-    adds-is = rw (there, fault, is) refl
+  -- what is made is added
+  pub adds-is : (o : List Entry) → template_fault Create state [] template ≡ None → made ≡ o → create_object (view_of c d) session template random ≡ adds (view_of c d) session state o
+  adds-is o fault is =
+      let n : s.number ≡ session = eqb-true s.number session (find-passes (λ s. s.number == session) d.sessions.sessions s there) in
+      rw (there, fault, is, n) refl
 
-    pub own-is : flag o attr.Token ≡ false → create_object (view_of c d) session template random ≡ limited (view_of c d) (adds_session_object (view_of c d) session o)
-    own-is own =
-        let n : s.number ≡ session = eqb-true s.number session (find-passes (λ s. s.number == session) d.sessions.sessions s there) in
-        adds-is ∙ (rw (allowed, visible, own, n) refl)
+-- ---- what is added
+
+pub own-is : (v : View) (s : ℕ) (state : SessionState) (o : List Entry) → (flag o attr.Token && not (is_rw state)) ≡ false → not (is_visible state o) ≡ false → flag o attr.Token ≡ false → adds v s state o ≡ limited v (adds_session_object v s o)
+own-is v s state o allowed visible own = rw (allowed, visible, own) refl
 
 pub full-is : (c : Contents) (d : DeskState) (a : Answer) → nat_le 256 (length d.own) ≡ true → limited (view_of c d) a ≡ replies (view_of c d) (Code (code_of rv.Ok ObjectLimit))
 full-is c d a full = rw (length-map session_object d.own, full) refl

@@ -100,7 +100,7 @@ pub destroy-is : (c : Contents) (d : DeskState) (session handle : ℕ) (s : Sess
 destroy-is c d session handle s o there found free = rw (there, found, free.0, free.1) refl
 
 module _ (c : Contents) (d : DeskState) (next handle : ℕ) (table : IsTable next d.handles.entries) (o : List Entry) where
-  place-kept : (id : ℕ) → IsAt c d handle o (Some id) → (p : ℕ) × (place_of (view_of c d).tokens handle ≡ Some p) × (first_place (λ e. e.0 == id) (filter (sees_kept d.sessions.login) c.objects) ≡ Some p)
+  pub place-kept : (id : ℕ) → IsAt c d handle o (Some id) → (p : ℕ) × (place_of (view_of c d).tokens handle ≡ Some p) × (first_place (λ e. e.0 == id) (filter (sees_kept d.sessions.login) c.objects) ≡ Some p)
   place-kept id at =
       let x = kept-is c d next handle table id o at.1 in
       let p = place-some (λ (e : Kept). e.0 == id) (filter (sees_kept d.sessions.login) c.objects) x.0 (find-filter_some (λ (e : Kept). e.0 == id) (sees_kept d.sessions.login) c.objects x.0 x.1 (rw x.2 at.2)) in

@@ -39,10 +39,12 @@ no_session_call (call.CloseAllSessions slot) opens close all info = absurd (all 
 no_session_call (call.GetSessionInfo session) opens close all info = absurd (info session refl)
 no_session_call _ opens close all info = refl
 
-pub no_object_call : (x : Call) → ((session : ℕ) (template : List Entry) → x ≢ call.CreateObject session template) → ((session object : ℕ) → x ≢ call.DestroyObject session object) → is_object_call x ≡ false
-no_object_call (call.CreateObject session template) create destroy = absurd (create session template refl)
-no_object_call (call.DestroyObject session object) create destroy = absurd (destroy session object refl)
-no_object_call _ create destroy = refl
+pub no_object_call : (x : Call) → ((session : ℕ) (template : List Entry) → x ≢ call.CreateObject session template) → ((session object : ℕ) (template : List Entry) → x ≢ call.CopyObject session object template) → ((session object : ℕ) → x ≢ call.DestroyObject session object) → ((session object : ℕ) (template : List Entry) → x ≢ call.SetAttributeValue session object template) → is_object_call x ≡ false
+no_object_call (call.CreateObject session template) create copy destroy set = absurd (create session template refl)
+no_object_call (call.CopyObject session object template) create copy destroy set = absurd (copy session object template refl)
+no_object_call (call.DestroyObject session object) create copy destroy set = absurd (destroy session object refl)
+no_object_call (call.SetAttributeValue session object template) create copy destroy set = absurd (set session object template refl)
+no_object_call _ create copy destroy set = refl
 
 pub no_reading_call : (x : Call) → ((session object : ℕ) → x ≢ call.GetObjectSize session object) → ((session object : ℕ) (query : List AttributeQuery) → x ≢ call.GetAttributeValue session object query) → is_reading_call x ≡ false
 no_reading_call (call.GetObjectSize session object) size value = absurd (size session object refl)
@@ -58,9 +60,11 @@ unbuilt v (call.CloseSession s) random r session object init encrypt = absurd (f
 unbuilt v (call.CloseAllSessions slot) random r session object init encrypt = absurd (false≢true (sym session))
 unbuilt v (call.GetSessionInfo s) random r session object init encrypt = absurd (false≢true (sym session))
 unbuilt v (call.CreateObject s template) random r session object init encrypt = absurd (false≢true (sym object))
+unbuilt v (call.CopyObject s handle template) random r session object init encrypt = absurd (false≢true (sym object))
 unbuilt v (call.DestroyObject s handle) random r session object init encrypt = absurd (false≢true (sym object))
 unbuilt v (call.GetObjectSize s handle) random r session object init encrypt = λ reading. absurd (false≢true (sym reading))
 unbuilt v (call.GetAttributeValue s handle query) random r session object init encrypt = λ reading. absurd (false≢true (sym reading))
+unbuilt v (call.SetAttributeValue s handle template) random r session object init encrypt = absurd (false≢true (sym object))
 unbuilt v (call.EncryptInit s mechanism key) random r session object init encrypt = absurd (init s mechanism key refl)
 unbuilt v (call.Encrypt s input room) random r session object init encrypt = absurd (encrypt s input room refl)
 unbuilt v _ random r session object init encrypt = λ reading. refl

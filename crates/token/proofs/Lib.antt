@@ -22,5 +22,7 @@ mod Runs
 mod Listing
 mod Destroying
 mod Creating
+mod Copying
+mod Setting
 mod Ciphering
 mod Dispatching

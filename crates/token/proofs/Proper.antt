@@ -3,9 +3,11 @@ mod OpenSession
 mod CloseSession
 mod GetSessionInfo
 mod CreateObject
+mod CopyObject
 mod DestroyObject
 mod GetObjectSize
 mod GetAttributeValue
+mod SetAttributeValue
 mod EncryptInit
 mod Encrypt
 use Rattle.std.proofs.Common.{◌≡◌, ℕ, ◌^◌, Bool, true, false, cond, not, List, Option, Some, None, refl, ◌∙◌, ap}
@@ -31,9 +33,11 @@ use Rattle.token.proofs.Proper.OpenSession.{proper-open_session}
 use Rattle.token.proofs.Proper.CloseSession.{proper-close_session, proper-close_all_sessions}
 use Rattle.token.proofs.Proper.GetSessionInfo.{proper-get_session_info}
 use Rattle.token.proofs.Proper.CreateObject.{proper-create_object}
+use Rattle.token.proofs.Proper.CopyObject.{proper-copy_object}
 use Rattle.token.proofs.Proper.DestroyObject.{proper-destroy_object}
 use Rattle.token.proofs.Proper.GetObjectSize.{proper-get_object_size}
 use Rattle.token.proofs.Proper.GetAttributeValue.{proper-get_attribute_value}
+use Rattle.token.proofs.Proper.SetAttributeValue.{proper-set_attribute_value}
 use Rattle.token.proofs.Proper.EncryptInit.{proper-encrypt_init}
 use Rattle.token.proofs.Proper.Encrypt.{proper-encrypt, blind-encrypted, over-encrypted, still-encrypted, plain-encrypted}
 
@@ -48,9 +52,11 @@ proper-answer_to (call.CloseSession session) random = proper-close_session sessi
 proper-answer_to (call.CloseAllSessions slot) random = proper-close_all_sessions slot
 proper-answer_to (call.GetSessionInfo session) random = proper-get_session_info session
 proper-answer_to (call.CreateObject session template) random = proper-create_object session template random
+proper-answer_to (call.CopyObject session object template) random = proper-copy_object session object template random
 proper-answer_to (call.DestroyObject session object) random = proper-destroy_object session object
 proper-answer_to (call.GetObjectSize session object) random = proper-get_object_size session object
 proper-answer_to (call.GetAttributeValue session object query) random = proper-get_attribute_value session object query
+proper-answer_to (call.SetAttributeValue session object template) random = proper-set_attribute_value session object template
 proper-answer_to (call.EncryptInit session mechanism key) random = proper-encrypt_init session mechanism key
 proper-answer_to (call.Encrypt session input room) random = proper-encrypt session input room
 proper-answer_to _ random = proper-refused

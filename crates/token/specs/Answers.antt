@@ -3,9 +3,11 @@ pub mod OpenSession
 pub mod CloseSession
 pub mod GetSessionInfo
 pub mod CreateObject
+pub mod CopyObject
 pub mod DestroyObject
 pub mod GetObjectSize
 pub mod GetAttributeValue
+pub mod SetAttributeValue
 pub mod EncryptInit
 pub mod Encrypt
 use Rattle.std.specs.Prelude.{ℕ, Bool, true, false, List, if◌then◌else◌, Option, Some, None}
@@ -22,9 +24,11 @@ use Rattle.token.specs.Answers.OpenSession.{open_session}
 use Rattle.token.specs.Answers.CloseSession.{close_session, close_all_sessions}
 use Rattle.token.specs.Answers.GetSessionInfo.{get_session_info}
 use Rattle.token.specs.Answers.CreateObject.{create_object}
+use Rattle.token.specs.Answers.CopyObject.{copy_object}
 use Rattle.token.specs.Answers.DestroyObject.{destroy_object}
 use Rattle.token.specs.Answers.GetObjectSize.{get_object_size}
 use Rattle.token.specs.Answers.GetAttributeValue.{get_attribute_value}
+use Rattle.token.specs.Answers.SetAttributeValue.{set_attribute_value}
 use Rattle.token.specs.Answers.EncryptInit.{encrypt_init}
 use Rattle.token.specs.Answers.Encrypt.{encrypt, encrypted}
 
@@ -35,9 +39,11 @@ answer_to v (call.CloseSession session) random reveal = close_session v session
 answer_to v (call.CloseAllSessions slot) random reveal = close_all_sessions v slot
 answer_to v (call.GetSessionInfo session) random reveal = get_session_info v session
 answer_to v (call.CreateObject session template) random reveal = create_object v session template random
+answer_to v (call.CopyObject session object template) random reveal = copy_object v session object template random
 answer_to v (call.DestroyObject session object) random reveal = destroy_object v session object
 answer_to v (call.GetObjectSize session object) random reveal = get_object_size v session object
 answer_to v (call.GetAttributeValue session object query) random reveal = get_attribute_value v session object query
+answer_to v (call.SetAttributeValue session object template) random reveal = set_attribute_value v session object template
 answer_to v (call.EncryptInit session mechanism key) random reveal = encrypt_init v session mechanism key
 answer_to v (call.Encrypt session input room) random reveal = encrypt v session input room
 answer_to v _ random reveal = refuses v FunctionNotSupported

@@ -14,7 +14,9 @@ is_session_call _ = false
 -- those on objects (5.7)
 abbrev pub is_object_call : Call → Bool
 is_object_call (call.CreateObject session template) = true
+is_object_call (call.CopyObject session object template) = true
 is_object_call (call.DestroyObject session object) = true
+is_object_call (call.SetAttributeValue session object template) = true
 is_object_call _ = false
 
 -- those that read objects (5.7)

@@ -1,6 +1,8 @@
 //! One call of an application, at its desk. Each call has a file of its own.
 
+mod adding;
 mod close_session;
+mod copy_object;
 mod create_object;
 mod destroy_object;
 mod encrypt;
@@ -10,6 +12,7 @@ mod get_attribute_value;
 mod get_object_size;
 mod get_session_info;
 mod open_session;
+mod set_attribute_value;
 
 ghost use Rattle.std.specs.Prelude.{◌≡◌, ℕ, ◌<◌, ◌^◌, false, List, length, IfOk, IsTrue};
 ghost use Rattle.std.specs.Prelude.{Ok};
@@ -124,9 +127,19 @@ fn serve_object_call<K: Keep>(
         Call::CreateObject { session, template } => {
             create_object::serve(alloc, desk, store, session, &template, random)
         }
+        Call::CopyObject {
+            session,
+            object,
+            template,
+        } => copy_object::serve(alloc, desk, store, session, object, &template, random),
         Call::DestroyObject { session, object } => {
             destroy_object::serve(alloc, desk, store, session, object)
         }
+        Call::SetAttributeValue {
+            session,
+            object,
+            template,
+        } => set_attribute_value::serve(alloc, desk, store, session, object, &template),
         other => serve_reading_call(alloc, app, desk, store, other),
     }
 }

@@ -1,3 +1,4 @@
+mod changing;
 mod reading;
 mod runs;
 mod two_worlds;

@@ -1,8 +1,8 @@
 //! Objects under handles.
 
-ghost use Rattle.std.specs.Prelude.{◌≡◌, IfOk};
+ghost use Rattle.std.specs.Prelude.{◌≡◌, IfOk, IfSome};
 ghost use Rattle.handles.specs.Handles.{IsTable};
-ghost use Rattle.keep.specs.Contents.{Contents};
+ghost use Rattle.keep.specs.Contents.{Contents, IsTokenObject};
 ghost use Rattle.keep.specs.Keeping.{Counted, HasCause, Stays};
 ghost use Rattle.desk.specs.Desks.{own_at};
 ghost use Rattle.token.specs.Views.{sees};
@@ -58,6 +58,7 @@ pub(crate) fn find<K: Keep>(
 ) -> Result<Option<Found>, KeepFault>
     ensures found { K.doubt store.new.keep ≡ 0 → (c : Contents) → Has K.holds store.old c → Fits c desk.now.handles.entries → IfOk result (IsFound c desk.now handle) }
     ensures table { IsTable desk.now.handles.next_number desk.now.handles.entries }
+    ensures token { IfOk result (λ found. IfSome found (λ f. IfSome f.id (λ id. IsTokenObject f.object))) }
     ensures same { Stays K.holds K.may_leave store.old.keep store.new.keep }
     ensures ids { store.new.ids ≡ store.old.ids }
     ensures counts { Counted K.doubt K.failures_of K.tried store.old.keep store.new.keep 0 }

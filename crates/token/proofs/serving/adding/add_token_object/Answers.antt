@@ -1,7 +1,7 @@
 use Rattle.token.proofs.Creating.{gives-added}
 use Rattle.token.proofs.Gaves.{gave-change}
 use Rattle.keep.specs.Contents.{with_object}
-use Rattle.token.proofs.serving.create_object.add_token_object.Goals as goal
+use Rattle.token.proofs.serving.adding.add_token_object.Goals as goal
 
 pub returns-clause-serves : goal.returns-clause-serves
 returns-clause-serves g c = λ sure k h fits.

@@ -7,7 +7,7 @@ use Rattle.token.specs.Answers.CreateObject.{adds_session_object}
 use Rattle.token.specs.Shown.{view_of}
 use Rattle.token.proofs.Creating.{full-is, room-is, gives-added_own}
 use Rattle.token.proofs.Gaves.{gave-is, gave-reply, gave-quiet}
-use Rattle.token.proofs.serving.create_object.add_session_object.Goals as goal
+use Rattle.token.proofs.serving.adding.add_session_object.Goals as goal
 
 pub returns-then-has_all_objects-clause-serves : goal.returns-then-has_all_objects-clause-serves
 returns-then-has_all_objects-clause-serves g c = λ sure k h fits.
