@@ -110,7 +110,8 @@ fn answer<K: Keep>(
             Ok(answer_call(alloc, token, app, call, random))
         }
         Err(WireFault::UnknownFunction) => Ok(Reply::Code(Rv::FunctionNotSupported)),
-        Err(WireFault::Malformed | WireFault::TooLong) => Ok(Reply::Code(Rv::ArgumentsBad)),
+        Err(WireFault::Malformed) => Ok(Reply::Code(Rv::ArgumentsBad)),
+        Err(WireFault::TooLong) => Ok(Reply::Code(Rv::ArgumentsBad)),
         Err(WireFault::Memory) => Err(LineFault::Memory),
     }
 }
