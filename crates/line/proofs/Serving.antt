@@ -104,7 +104,7 @@ module _ (before leads : List Message → List Reply → Type 0) (held fed : Hel
     each = all-append HasReplyFrame p.said rs p.framed e.each;
   }
 
-  module _ {U : Type 0} (left : Held) (n : ℕ) (y : Option (List ℕ)) (after : List Message → List Reply → Type 0) (led : (ns : List Message) (qs : List Reply) → after ns qs → leads (messages p.payloads ++ ns) (p.said ++ qs)) where
+  module _ (U : Type 0) (left : Held) (n : ℕ) (y : Option (List ℕ)) (after : List Message → List Reply → Type 0) (led : (ns : List Message) (qs : List Reply) → after ns qs → leads (messages p.payloads ++ ns) (p.said ++ qs)) where
     joined_led : (qs : List (List ℕ)) (rs : List Reply) → after (messages qs) rs → leads (messages (p.payloads ++ qs)) (p.said ++ rs)
     joined_led qs rs l = subst (λ (ms : List Message). leads ms (p.said ++ rs)) (sym (messages-append p.payloads qs)) (led (messages qs) rs l)
 
