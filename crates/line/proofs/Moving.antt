@@ -149,21 +149,21 @@ module _ (w : World) (i : Idle w) (app : ℕ) (call : CallType) (random : Vec �
   moved-ask mid r q says tells sh l k =
       let out : (answered.views app).question ≡ Some q = own (Asks q) says in
       both (set_apart r) out (tells out) (sh out) (k out) where
-    both : (o : Option KeepFault) → (answered.views app).question ≡ Some q → reply_to answered (moved (Finish app) o) ≡ (app, r) ∷ [] → showing (happens answered (moved (Finish app) o))
-        → ((l : Lasting) → left l → LeftBy mid answered (moved (Finish app) o) l) → Moved showing prior left w Done ((app, r) ∷ [])
-    both None out t s k = record {
-      moves = Goes (Call app call random) ∷ Goes (Finish app) ∷ [];
-      took = refl;
-      tells = ap (λ x. told app x ++ (reply_to answered (Goes (Finish app)) ++ [])) (sym says) ∙ append-nil (reply_to answered (Goes (Finish app))) ∙ t;
-      shows = s;
-      idle = no_jobs (finished answered app (answered.views app).question) (subst (λ o. Idle (finished answered app o)) (sym out) (over-finished answered app q others));
-      leaves = λ x may. left-more mid (LeftBy prior w (Goes (Call app call random))) answered (Goes (Finish app)) x (l x) (k x may);
-    }
-    both (Some fault) out t s k = record {
-      moves = Goes (Call app call random) ∷ Refuses (Finish app) fault ∷ [];
-      took = refl;
-      tells = ap (λ x. told app x ++ (reply_to answered (Refuses (Finish app) fault) ++ [])) (sym says) ∙ append-nil (reply_to answered (Refuses (Finish app) fault)) ∙ t;
-      shows = s;
-      idle = no_jobs (refused answered (Finish app)) (over-refused answered app others);
-      leaves = λ x may. left-more mid (LeftBy prior w (Goes (Call app call random))) answered (Refuses (Finish app) fault) x (l x) (k x may);
-    }
+        both : (o : Option KeepFault) → (answered.views app).question ≡ Some q → reply_to answered (moved (Finish app) o) ≡ (app, r) ∷ [] → showing (happens answered (moved (Finish app) o))
+            → ((l : Lasting) → left l → LeftBy mid answered (moved (Finish app) o) l) → Moved showing prior left w Done ((app, r) ∷ [])
+        both None out t s k = record {
+          moves = Goes (Call app call random) ∷ Goes (Finish app) ∷ [];
+          took = refl;
+          tells = ap (λ x. told app x ++ (reply_to answered (Goes (Finish app)) ++ [])) (sym says) ∙ append-nil (reply_to answered (Goes (Finish app))) ∙ t;
+          shows = s;
+          idle = no_jobs (finished answered app (answered.views app).question) (subst (λ o. Idle (finished answered app o)) (sym out) (over-finished answered app q others));
+          leaves = λ x may. left-more mid (LeftBy prior w (Goes (Call app call random))) answered (Goes (Finish app)) x (l x) (k x may);
+        }
+        both (Some fault) out t s k = record {
+          moves = Goes (Call app call random) ∷ Refuses (Finish app) fault ∷ [];
+          took = refl;
+          tells = ap (λ x. told app x ++ (reply_to answered (Refuses (Finish app) fault) ++ [])) (sym says) ∙ append-nil (reply_to answered (Refuses (Finish app) fault)) ∙ t;
+          shows = s;
+          idle = no_jobs (refused answered (Finish app)) (over-refused answered app others);
+          leaves = λ x may. left-more mid (LeftBy prior w (Goes (Call app call random))) answered (Refuses (Finish app) fault) x (l x) (k x may);
+        }

@@ -25,10 +25,10 @@ returns-in_err-answer_all-in-Ok g c =
 pub loop-preserved : goal.loop-preserved
 loop-preserved g c = elim c.match-read.branch [
   | in-Ok+in-Ok-feed+in_ok-answer_all-in-Ok b ↦
-    let so = c.loop.invariant in
-    let fed : b.feed.new.self.bytes ≡ c.loop.frames.bytes ++ take b.in-Ok.len c.read.new.buf = ap (λ (h : Held). h.bytes) b.in-Ok-feed.ensures.1 ∙ ap (λ (y : List ℕ). c.loop.frames.bytes ++ y) b.split_at.ensures.front in
-    rw (b.writer-is, b.token-is, b.words-is, b.frames-is, b.count-is) (serving-more (Leads g.K.Keep.holds g.K.Keep.may_leave g.K.Keep.doubt c.args.app c.args.token.now c.loop.token c.args.words.now c.loop.words) _ c.loop.frames b.feed.new.self c.loop.count _ _ _ _ _ (take b.in-Ok.len c.read.new.buf) so b.in-Ok.ensures.bytes.0 fed _ _ _ _ _
-    (λ ms rs. leads-then g.K.Keep.holds g.K.Keep.may_leave g.K.Keep.doubt c.args.app c.args.token.now c.loop.token b.answer_all.new.token c.args.words.now c.loop.words b.answer_all.new.words (messages so.payloads) ms so.said rs so.led)
-    _ b.in_ok-answer_all-in-Ok.ensures)
+      let so = c.loop.invariant in
+      let fed : b.feed.new.self.bytes ≡ c.loop.frames.bytes ++ take b.in-Ok.len c.read.new.buf = ap (λ (h : Held). h.bytes) b.in-Ok-feed.ensures.1 ∙ ap (λ (y : List ℕ). c.loop.frames.bytes ++ y) b.split_at.ensures.front in
+      rw (b.writer-is, b.token-is, b.words-is, b.frames-is, b.count-is) (serving-more (Leads g.K.Keep.holds g.K.Keep.may_leave g.K.Keep.doubt c.args.app c.args.token.now c.loop.token c.args.words.now c.loop.words) _ c.loop.frames b.feed.new.self c.loop.count _ _ _ _ _ (take b.in-Ok.len c.read.new.buf) so b.in-Ok.ensures.bytes.0 fed _ _ _ _ _
+      (λ ms rs. leads-then g.K.Keep.holds g.K.Keep.may_leave g.K.Keep.doubt c.args.app c.args.token.now c.loop.token b.answer_all.new.token c.args.words.now c.loop.words b.answer_all.new.words (messages so.payloads) ms so.said rs so.led)
+      _ b.in_ok-answer_all-in-Ok.ensures)
   | in-Err+else-not-is_interrupted b ↦ rw (b.writer-is, b.token-is, b.words-is, b.frames-is, b.count-is) (serving-kept _ c.loop.frames c.loop.count _ _ _ _ _ c.loop.invariant b.in-Err.ensures.bytes)
 ]
