@@ -1,5 +1,5 @@
 -- At the end of a line its application goes.
-use Rattle.std.proofs.Common.{◌≡◌, ◌≢◌, ℕ, List, [], Some, None, refl, sym, ◌∙◌, ap, subst, inl, inr}
+use Rattle.std.proofs.Common.{◌≡◌, ℕ, List, [], refl, sym, ◌∙◌, ap, subst, inl, inr}
 use Rattle.std.proofs.lemmas.Bool.{cases_eq, eq-eqb, ne_eqb}
 use Rattle.rand_chacha.specs.ChaCha.{ChaCha}
 use Rattle.ck_calls.specs.declared.reply.Reply.{Reply}
@@ -8,8 +8,8 @@ use Rattle.token.specs.declared.event.Event.TheVariants.{Gone}
 use Rattle.token.specs.Worlds.{World, goes, after}
 use Rattle.token.specs.Shown.{HasJobs}
 use Rattle.token.specs.Stores.{StoreState, TokenState, Shows}
-use Rattle.token.specs.Runs.{Lasting, MayLeave, lasting_in}
-use Rattle.line.specs.Lines.{Message, Moved, IsLine, Leads, LeadsAway}
+use Rattle.token.specs.Runs.{Lasting, MayLeave}
+use Rattle.line.specs.Lines.{Message, Leads, LeadsAway}
 use Rattle.line.proofs.Moving.{Idle, idle, no_jobs}
 
 -- one that goes leaves no question

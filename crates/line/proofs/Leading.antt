@@ -1,5 +1,5 @@
 -- What a token becomes by one message, and by more.
-use Rattle.std.proofs.Common.{◌≡◌, ℕ, ◌+◌, ◌≤◌, List, [], ◌∷◌, ◌++◌, length, Result, Ok, Err, refl, sym, ◌∙◌, ap, subst, append_assoc, arith}
+use Rattle.std.proofs.Common.{◌≡◌, ℕ, ◌+◌, ◌≤◌, List, [], ◌∷◌, ◌++◌, length, Ok, Err, refl, sym, ◌∙◌, ap, subst, append_assoc, arith}
 use Rattle.std.proofs.lemmas.List.{length-append}
 use Rattle.rand_chacha.specs.ChaCha.{ChaCha}
 use Rattle.ck_calls.specs.declared.call.Call.{Call as CallType}
@@ -7,13 +7,12 @@ use Rattle.ck_calls.specs.declared.reply.Reply.{Reply}
 use Rattle.ck_calls.specs.Need.{random_bytes}
 use Rattle.keep.specs.Contents.{Contents}
 use Rattle.wire.specs.declared.fault.WireFault.{WireFault}
-use Rattle.token.specs.declared.event.Event.TheVariants.{Gone}
-use Rattle.token.specs.Worlds.{World, goes, after}
+use Rattle.token.specs.Worlds.{World, after}
 use Rattle.token.specs.Shown.{HasJobs}
 use Rattle.token.specs.Stores.{TokenState, Shows}
 use Rattle.token.specs.Runs.{MayLeave}
 use Rattle.line.specs.Words.{taken}
-use Rattle.line.specs.Lines.{Message, Act, Calls, Finishes, acts_of, words_past, acts, words_after, refusal_of, calls_in, answers, Moved, IsLine, Leads, LeadsAway}
+use Rattle.line.specs.Lines.{Message, Calls, Finishes, acts_of, words_past, acts, words_after, refusal_of, calls_in, answers, Moved, Leads}
 use Rattle.line.proofs.Moving.{moved-none, moved-then}
 
 -- ---- messages after messages

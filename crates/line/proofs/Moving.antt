@@ -1,5 +1,5 @@
 -- A call of an application is a run of two events, and runs follow one another.
-use Rattle.std.proofs.Common.{◌≡◌, ◌≢◌, ℕ, Bool, List, [], ◌∷◌, ◌++◌, map, Option, Some, None, refl, sym, ◌∙◌, ap, subst, inl, inr, append_assoc}
+use Rattle.std.proofs.Common.{◌≡◌, ◌≢◌, ℕ, List, [], ◌∷◌, ◌++◌, map, Option, Some, None, refl, sym, ◌∙◌, ap, subst, inl, inr, append_assoc}
 use Rattle.std.specs.Prelude.{option_to_list}
 use Rattle.std.specs.Global.{Vec}
 use Rattle.std.proofs.lemmas.Bool.{cases_eq, eq-eqb, ne_eqb}
@@ -7,12 +7,11 @@ use Rattle.std.proofs.lemmas.List.{append-nil}
 use Rattle.ck_calls.specs.declared.call.Call.{Call as CallType}
 use Rattle.ck_calls.specs.declared.reply.Reply.{Reply}
 use Rattle.keep.specs.declared.keep.KeepFault.{KeepFault}
-use Rattle.token.specs.declared.event.Event.{Event}
-use Rattle.token.specs.declared.event.Event.TheVariants.{Call, Finish, Gone}
+use Rattle.token.specs.declared.event.Event.TheVariants.{Call, Finish}
 use Rattle.token.specs.declared.event.Out.TheVariants.{Reply as OutReply}
 use Rattle.token.specs.Views.{Question}
 use Rattle.token.specs.Answering.{Said, Replies, Asks}
-use Rattle.token.specs.Worlds.{World, Move, Goes, Refuses, event_of, reveal_to_call, reveal_to_task, answer_at, result_at, change_for, set_apart, called, says_called, told, refused, finished, finish_tells, goes, happens, reply_to, after, replies}
+use Rattle.token.specs.Worlds.{World, Move, Goes, Refuses, event_of, reveal_to_call, reveal_to_task, answer_at, result_at, change_for, set_apart, called, says_called, told, refused, finished, happens, reply_to, after, replies}
 use Rattle.token.specs.Shown.{move_of, moved, HasJobs}
 use Rattle.token.specs.Runs.{Lasting, LeavesBy, LeftBy, LeftAfter, call_change}
 use Rattle.line.specs.Lines.{Act, Calls, Finishes, act_of, Moved}

@@ -1,5 +1,5 @@
 -- The question of an application, over every answer.
-use Rattle.std.proofs.Common.{◌≡◌, ℕ, Bool, true, false, cond, List, Option, Some, None, refl, arith}
+use Rattle.std.proofs.Common.{◌≡◌, ℕ, List, Option, Some, None, refl, arith}
 use Rattle.ck_types.specs.declared.entry.Entry.{Entry}
 use Rattle.ck_types.specs.declared.rv.Rv.{Rv}
 use Rattle.ck_types.specs.declared.session_state.SessionState.{SessionState}
@@ -10,15 +10,15 @@ use Rattle.ck_calls.specs.declared.function.Function.{Function}
 use Rattle.ck_calls.specs.declared.function.Function.TheVariants as function
 use Rattle.token.specs.Views.{View, Task, Question}
 use Rattle.token.specs.Changes.{Change, Stays, Insert, Replace, Remove, Records, Resets, seen}
-use Rattle.token.specs.Answering.{Said, Replies, Asks, Answer, Reveal, session_of, object_at, place_of, is_closed}
+use Rattle.token.specs.Answering.{Said, Replies, Asks, Answer, Reveal, session_of, object_at, place_of}
 use Rattle.token.specs.Answers.{answer, answer_to, answer_outcome, answer_question, answer_result}
 use Rattle.token.specs.Answers.OpenSession.{open_session}
 use Rattle.token.specs.Answers.CloseSession.{close_session, close_all_sessions}
 use Rattle.token.specs.Answers.GetSessionInfo.{session_info, get_session_info}
-use Rattle.token.specs.Answers.CreateObject.{adds, makes, create_object_in, create_object}
+use Rattle.token.specs.Answers.CreateObject.{makes, create_object_in, create_object}
 use Rattle.token.specs.Answers.DestroyObject.{destroyed, destroy, destroy_object_in, destroy_object}
-use Rattle.token.specs.Answers.EncryptInit.{cipher_at, begins_under, begins_by, encrypt_init_in, encrypt_init}
-use Rattle.token.specs.Answers.Encrypt.{asks_for_output, encrypt_with, encrypt_in, encrypt, without_encryption, encrypted}
+use Rattle.token.specs.Answers.EncryptInit.{encrypt_init_in, encrypt_init}
+use Rattle.token.specs.Answers.Encrypt.{encrypt_with, encrypt_in, encrypt, without_encryption}
 use Rattle.token.specs.Worlds.{value_of}
 
 -- a reply leaves the question as it was, and a question that is asked is out

@@ -7,11 +7,11 @@ use Rattle.std.proofs.lemmas.List.{append-nil, length-append, nil_from_length}
 use Rattle.std.proofs.lemmas.List.Concat.{flat_map-append}
 use Rattle.ck_calls.specs.declared.reply.Reply.{Reply}
 use Rattle.wire.specs.Messages.{frame, most}
-use Rattle.wire.specs.Stream.{Held, IsPartial, IsTooLong}
+use Rattle.wire.specs.Stream.{Held, IsPartial}
 use Rattle.line.specs.declared.fault.LineFault.{LineFault}
 use Rattle.line.specs.declared.fault.LineFault.TheVariants as faults
 use Rattle.line.specs.Lines.{Message, messages}
-use Rattle.line.specs.Serve.{reply_frame, HasReplyFrame, AreFrames, IsCutOff, LacksLast, IsWritten, counted, EndsBy, Serves}
+use Rattle.line.specs.Serve.{reply_frame, HasReplyFrame, AreFrames, IsWritten, counted, EndsBy, Serves}
 use Rattle.line.specs.Parts.{RestsBy, Answers}
 use Rattle.line.proofs.Lines.{Appends-none, Appends-then, Consumes-none, Consumes-kept, Consumes-then, all-append}
 use Rattle.line.proofs.Answering.{messages-append}
