@@ -1,14 +1,83 @@
--- What a line writes.
-use Rattle.std.specs.Prelude.{◌≡◌, ℕ, List, ◌++◌, Option, Result, Ok, Err}
-use Rattle.std.specs.Io.KnownBytes.{Appends}
+-- What a line reads and writes.
+use Rattle.std.specs.Prelude.{◌≡◌, ◌≢◌, ◌⊎◌, ℕ, ◌≤◌, ◌+◌, ◌-◌, ◌^◌, min, List, [], ◌∷◌, ◌++◌, length, Option, Result, Ok, Err}
+use Rattle.std.specs.List.{flat_map, AllByRecursion}
+use Rattle.std.specs.Io.KnownBytes.{Appends, Consumes, IsAtEnd}
+use Rattle.ck_calls.specs.declared.reply.Reply.{Reply}
+use Rattle.wire.specs.Messages.{frame, most}
+use Rattle.wire.specs.Replies.{reply_payload, Fits-reply}
+use Rattle.wire.specs.Stream.{IsPartial, IsTooLong}
 use Rattle.line.specs.declared.fault.LineFault.{LineFault}
 use Rattle.line.specs.declared.fault.LineFault.TheVariants as faults
+use Rattle.line.specs.Lines.{Message, messages}
 
--- a writer was given bytes to write: on its fault it took the first of them, and no others
-abbrev pub Writes : {U : Type 0} → Option (List ℕ) → Option (List ℕ) → List ℕ → Result U LineFault → Type 0
-Writes old new bytes (Ok done) = Appends old new bytes
-Writes old new bytes (Err faults.Write) = (front : List ℕ) × (more : List ℕ) × (bytes ≡ front ++ more) × Appends old new front
-Writes old new bytes (Err faults.Read) = ⊥
-Writes old new bytes (Err faults.TooLong) = ⊥
-Writes old new bytes (Err faults.Cut) = ⊥
-Writes old new bytes (Err faults.Memory) = ⊥
+-- ---- what is written
+
+abbrev pub reply_frame : Reply → List ℕ
+reply_frame reply = frame (reply_payload reply)
+
+-- each part of the reply has an encoding, and they are not too long
+abbrev pub HasReplyFrame : Reply → Type 0
+HasReplyFrame reply = Fits-reply reply × (length (reply_payload reply) ≤ most)
+
+-- the frames of the replies, in order
+pub record AreFrames (written : List ℕ) (said : List Reply) : Type 0 where
+  pub bytes : written ≡ flat_map reply_frame said
+  pub each : AllByRecursion HasReplyFrame said
+
+-- all but the last reply, and a part of that one's frame
+pub record IsCutOff (written : List ℕ) (said : List Reply) : Type 0 where
+  pub front : List Reply
+  pub last : Reply
+  pub all : said ≡ front ++ last ∷ []
+  pub before : List ℕ
+  pub frames : AreFrames before front
+  pub part : List ℕ
+  pub lacking : List ℕ
+  pub cut : reply_frame last ≡ part ++ lacking
+  pub bytes : written ≡ before ++ part
+
+-- all but the last reply
+pub record LacksLast (written : List ℕ) (said : List Reply) : Type 0 where
+  pub front : List Reply
+  pub last : Reply
+  pub all : said ≡ front ++ last ∷ []
+  pub frames : AreFrames written front
+
+-- How much of the replies was written: all, but the last in part where the writer failed, and perhaps all but the last
+-- where memory ran out.
+abbrev pub IsWritten : {U : Type 0} → Result U LineFault → List ℕ → List Reply → Type 0
+IsWritten (Ok done) written said = AreFrames written said
+IsWritten (Err faults.Read) written said = AreFrames written said
+IsWritten (Err faults.Write) written said = IsCutOff written said
+IsWritten (Err faults.TooLong) written said = AreFrames written said
+IsWritten (Err faults.Cut) written said = AreFrames written said
+IsWritten (Err faults.Memory) written said = AreFrames written said ⊎ LacksLast written said
+
+-- ---- why a line ended
+
+-- how many replies were counted; at its greatest value the count stays
+abbrev pub counted : ℕ → ℕ → ℕ
+counted old more = min (old + more) (2 ^ 64 - 1)
+
+-- by what was left of the stream, and what the reader has left
+abbrev pub EndsBy : Result ℕ LineFault → List (List ℕ) → List ℕ → Option (List ℕ) → Type 0
+EndsBy (Ok n) payloads rest remaining = (rest ≡ []) × IsAtEnd remaining × (n ≡ counted 0 (length payloads))
+EndsBy (Err faults.Read) payloads rest remaining = IsPartial rest
+EndsBy (Err faults.Write) payloads rest remaining = Unit {0}
+EndsBy (Err faults.TooLong) payloads rest remaining = IsTooLong rest
+EndsBy (Err faults.Cut) payloads rest remaining = (rest ≢ []) × IsPartial rest × IsAtEnd remaining
+EndsBy (Err faults.Memory) payloads rest remaining = Unit {0}
+
+-- What was read is the frames of payloads and a rest, and what was written is the frames of the replies to these
+-- payloads, in order, as far as it came; `leads` says that these are the replies.
+pub record Serves (leads : List Message → List Reply → Type 0) (read_old read_new write_old write_new : Option (List ℕ)) (r : Result ℕ LineFault) : Type 0 where
+  pub payloads : List (List ℕ)
+  pub rest : List ℕ
+  pub said : List Reply
+  pub written : List ℕ
+  pub each : AllByRecursion (λ p. length p ≤ most) payloads
+  pub read : Consumes read_old read_new (flat_map frame payloads ++ rest)
+  pub wrote : Appends write_old write_new written
+  pub front : IsWritten r written said
+  pub led : leads (messages payloads) said
+  pub ends : EndsBy r payloads rest read_new

@@ -1,8 +1,16 @@
 //! Answers the frames of a reader to a writer.
 
-ghost use Rattle.std.specs.Prelude.{◌≡◌, length};
+ghost use Rattle.std.specs.Prelude.{◌≡◌, ◌≤◌, ◌∷◌, [], ℕ, IfErr, IfOk, false, length};
 ghost use Rattle.ck_calls.specs.Need.{random_bytes};
-ghost use Rattle.line.specs.Serve.{Writes};
+ghost use Rattle.token.specs.Worlds.{World};
+ghost use Rattle.token.specs.Shown.{HasJobs};
+ghost use Rattle.token.specs.Stores.{Shows};
+ghost use Rattle.token.specs.Runs.{MayLeave};
+ghost use Rattle.wire.specs.Messages.{call_in};
+ghost use Rattle.line.specs.declared.fault.LineFault.TheVariants.{Memory};
+ghost use Rattle.line.specs.Lines.{Calls, Finishes, Leads, LeadsAway, Moved};
+ghost use Rattle.line.specs.Serve.{Serves};
+ghost use Rattle.line.specs.Parts.{Answers, Sends, Writes};
 
 use crate::fault::LineFault;
 use crate::words::Words;
@@ -10,55 +18,78 @@ use ck_calls::{Call, Reply, need};
 use ck_types::Rv;
 use keep::Keep;
 use std::alloc::Global;
-use std::io::{Read, Write};
-use token::{Event, Ran, Token};
+use std::io::{Error, ErrorKind, Read, Write};
+use token::{Out, Token};
 use wire::{FrameReader, WireFault, read_call, write_reply};
 
 /// How many bytes are read at once.
 const PIECE_LEN: usize = 4096;
 
-/// Writes all of the bytes. On a fault the first of them were written, and no others.
+/// Whether a read or write may be tried again.
+fn is_interrupted(error: &Error) -> bool {
+    matches!(error.kind(), ErrorKind::Interrupted)
+}
+
+/// Writes all of the bytes, by up to 2^64 - 1 writes; one that was interrupted counts. On a fault the
+/// first of the bytes were written, and no others.
 fn write_out<W: Write>(writer: &mut W, bytes: &[u8]) -> Result<(), LineFault>
     ensures { Writes (W.contents writer.old) (W.contents writer.new) bytes.now result }
 {
     let mut rest = bytes;
-    while !rest.is_empty() {
+    'rest: for _ in 0..u64::MAX {
+        if rest.is_empty() {
+            return Ok(());
+        }
         match writer.write(rest) {
             Ok(0) => return Err(LineFault::Write),
             Ok(count) => {
                 let (_, after) = rest.split_at(count);
                 rest = after;
             }
-            Err(_) => return Err(LineFault::Write),
+            Err(error) => {
+                if !is_interrupted(&error) {
+                    return Err(LineFault::Write);
+                }
+            }
         }
     }
-    Ok(())
+    Err(LineFault::Write)
 }
 
-/// The reply to a call, which may be two events.
+/// Writes the frame of a reply, and sees that it goes out.
+fn send<W: Write>(alloc: Global, writer: &mut W, reply: &Reply) -> Result<(), LineFault>
+    ensures { Sends (W.contents writer.old) (W.contents writer.new) reply.now result }
+{
+    let frame = match write_reply(alloc, reply) {
+        Ok(frame) => frame,
+        Err(WireFault::Memory) => return Err(LineFault::Memory),
+        Err(_) => return Err(LineFault::Write),
+    };
+    match write_out(writer, &frame) {
+        Ok(()) => {}
+        Err(fault) => return Err(fault),
+    }
+    match writer.flush() {
+        Ok(()) => Ok(()),
+        Err(_) => Err(LineFault::Write),
+    }
+}
+
+/// The reply to a call; a question that it asks is finished at once.
 fn answer_call<K: Keep>(
     alloc: Global,
     token: &mut Token<K>,
     app: u64,
     call: Call,
-    words: Vec<u8>,
-) -> Result<Reply, LineFault>
-    requires { length words.items ≡ random_bytes call }
+    random: Vec<u8>,
+) -> Reply
+    requires { length random.items ≡ random_bytes call }
+    ensures moved { K.doubt token.new.store.keep ≡ 0 → (w : World) → Shows K.holds token.old w → HasJobs w [] → Moved (Shows K.holds token.new) (MayLeave K.may_leave token.old) (MayLeave K.may_leave token.new) w ((app, Calls call random.items) ∷ (app, Finishes) ∷ []) ((app, result) ∷ []) }
+    ensures doubt { K.doubt token.old.store.keep ≤ K.doubt token.new.store.keep }
 {
-    let events = vec![in alloc; Event::Call { app, call, words }]?;
-    let Ran {
-        mut replies,
-        out,
-        ..
-    } = token.run(alloc, events, Vec::new(alloc));
-    if let Some((_, reply)) = replies.pop() {
-        return Ok(reply);
-    }
-    let events = vec![in alloc; Event::Finish { app }]?;
-    let Ran { mut replies, .. } = token.run(alloc, events, out);
-    match replies.pop() {
-        Some((_, reply)) => Ok(reply),
-        None => Err(LineFault::Memory),
+    match token.call(alloc, app, call, &random) {
+        Out::Reply(reply) => reply,
+        Out::Ask(job) => token.finish(alloc, app, job.run(alloc)),
     }
 }
 
@@ -66,27 +97,23 @@ fn answer_call<K: Keep>(
 fn answer<K: Keep>(
     alloc: Global,
     token: &mut Token<K>,
+    app: u64,
     words: &mut Words,
     payload: &[u8],
-) -> Result<Reply, LineFault> {
+) -> Result<Reply, LineFault>
+    ensures ok { IfOk result (λ reply. Leads K.holds K.may_leave K.doubt app token.old token.new words.old words.new (call_in payload.now ∷ []) (reply ∷ [])) }
+    ensures err { IfErr result (λ fault. (fault ≡ Memory) × (token.new ≡ token.old) × (words.new ≡ words.old)) }
+{
     match read_call(alloc, payload) {
         Ok(call) => {
-            let bytes = words.take(alloc, need(&call))?;
-            answer_call(alloc, token, words.app(), call, bytes)
+            let random = words.take(alloc, need(&call))?;
+            Ok(answer_call(alloc, token, app, call, random))
         }
         Err(WireFault::UnknownFunction) => Ok(Reply::Code(Rv::FunctionNotSupported)),
-        Err(WireFault::Malformed | WireFault::TooLong) => Ok(Reply::Code(Rv::ArgumentsBad)),
+        Err(WireFault::Malformed) => Ok(Reply::Code(Rv::ArgumentsBad)),
+        Err(WireFault::TooLong) => Ok(Reply::Code(Rv::ArgumentsBad)),
         Err(WireFault::Memory) => Err(LineFault::Memory),
     }
-}
-
-fn send<W: Write>(alloc: Global, writer: &mut W, reply: &Reply) -> Result<(), LineFault> {
-    match write_reply(alloc, reply) {
-        Ok(frame) => write_out(writer, &frame)?,
-        Err(WireFault::Memory) => return Err(LineFault::Memory),
-        Err(_) => return Err(LineFault::Write),
-    }
-    writer.flush().map_err(|_| LineFault::Write)
 }
 
 /// Answers each payload that is whole.
@@ -95,14 +122,19 @@ fn answer_all<W: Write, K: Keep>(
     frames: &mut FrameReader,
     writer: &mut W,
     token: &mut Token<K>,
+    app: u64,
     words: &mut Words,
     count: &mut u64,
-) -> Result<(), LineFault> {
+) -> Result<(), LineFault>
+    requires { frames.old.failed ≡ false }
+    ensures { Answers (Leads K.holds K.may_leave K.doubt app token.old token.new words.old words.new) frames.old frames.new count.old count.new (W.contents writer.old) (W.contents writer.new) result }
+{
+    let _counted = *count;
     loop {
         match frames.next(alloc) {
             Ok(None) => return Ok(()),
             Ok(Some(payload)) => {
-                let reply = answer(alloc, token, words, &payload)?;
+                let reply = answer(alloc, token, app, words, &payload)?;
                 send(alloc, writer, &reply)?;
                 *count = count.saturating_add(1);
             }
@@ -112,53 +144,90 @@ fn answer_all<W: Write, K: Keep>(
     }
 }
 
+/// Answers the frames of a reader, as `serve_one` does, for an application that stays.
 fn serve_frames<R: Read, W: Write, K: Keep>(
     alloc: Global,
     reader: &mut R,
     writer: &mut W,
     token: &mut Token<K>,
+    app: u64,
     words: &mut Words,
-) -> Result<u64, LineFault> {
+) -> Result<u64, LineFault>
+    ensures { Serves (Leads K.holds K.may_leave K.doubt app token.old token.new words.old words.new) (R.remaining reader.old) (R.remaining reader.new) (W.contents writer.old) (W.contents writer.new) result }
+{
     let mut frames = FrameReader::new(alloc);
     let mut piece = [0u8; PIECE_LEN];
     let mut count = 0;
     for _ in 0..u64::MAX {
-        let Ok(len) = reader.read(&mut piece) else {
-            return Err(LineFault::Read);
-        };
-        if len == 0 {
-            return if frames.is_empty() {
-                Ok(count)
-            } else {
-                Err(LineFault::Cut)
-            };
+        match reader.read(&mut piece) {
+            Ok(0) => {
+                if frames.is_empty() {
+                    return Ok(count);
+                }
+                return Err(LineFault::Cut);
+            }
+            Ok(len) => {
+                let (read, _) = piece.split_at(len);
+                match frames.feed(read) {
+                    Ok(()) => {}
+                    Err(_) => return Err(LineFault::Memory),
+                }
+                answer_all(alloc, &mut frames, writer, token, app, words, &mut count)?;
+            }
+            Err(error) => {
+                if !is_interrupted(&error) {
+                    return Err(LineFault::Read);
+                }
+            }
         }
-        let (read, _) = piece.split_at(len);
-        if frames.feed(read).is_err() {
-            return Err(LineFault::Memory);
-        }
-        answer_all(alloc, &mut frames, writer, token, words, &mut count)?;
     }
     Err(LineFault::Read)
 }
 
-/// Answers the frames of a reader, for the application of `words`, until the reader ends. The answer
-/// is how many replies were written, and stays at its greatest value. After any outcome the
-/// application is gone.
+/// Answers the frames of a reader, for the application of `words`, until the reader ends. Each is
+/// answered as soon as it is whole. The answer is how many replies were written, and stays at its
+/// greatest value. After any outcome the application is gone, with all that it has.
+///
+/// What was written is the frames of the replies to the messages of what was read, in order, whatever
+/// pieces the reader gives and the writer takes. A payload that is no call answers
+/// `CKR_ARGUMENTS_BAD`, and one that names no known function `CKR_FUNCTION_NOT_SUPPORTED`; neither
+/// changes the token nor takes random bytes. Each call takes the next of `words` that it needs, whether
+/// or not it succeeds, and is answered by the token.
 ///
 /// # Errors
 ///
-/// `Read` where the reader fails (also after 2^64 - 1 reads), `Write` where the writer does, `TooLong`
-/// for a frame above the limit, `Cut` where the reader ends within a frame, `Memory`. The replies to
-/// all whole frames before `TooLong` and `Cut` were written.
+/// - `Read` where the reader fails, also after 2^64 - 1 reads. One that was interrupted is tried again,
+///   and counts.
+/// - `Write` where the writer fails or takes nothing, also after 2^64 - 1 writes of one frame, of which
+///   one that was interrupted is tried again, and counts. The replies before the last were written, and
+///   perhaps a part of the last.
+/// - `TooLong` for a frame above the limit.
+/// - `Cut` where the reader ends within a frame.
+/// - `Memory` where memory was refused, but for a call's own work, which then answers
+///   `CKR_HOST_MEMORY`. Perhaps the last reply was not written, and a payload that was read is perhaps
+///   not answered.
+///
+/// At `Read`, `TooLong` and `Cut` the replies to all whole frames before were written.
 pub fn serve_one<R: Read, W: Write, K: Keep>(
     alloc: Global,
     reader: &mut R,
     writer: &mut W,
     token: &mut Token<K>,
     words: &mut Words,
-) -> Result<u64, LineFault> {
-    let ended = serve_frames(alloc, reader, writer, token, words);
-    token.gone(words.app());
+) -> Result<u64, LineFault>
+    // No question is out.
+    requires { (w : World) → Shows K.holds token.old w → HasJobs w [] }
+    // The bytes written are the frames of the replies to the messages of the bytes read. While the store is
+    // honest, these are a run of the token from each world that it showed, and it shows the world after
+    // that, without the application.
+    ensures serves { Serves (LeadsAway K.holds K.may_leave K.doubt words.old.stream token.old token.new words.old words.new) (R.remaining reader.old) (R.remaining reader.new) (W.contents writer.old) (W.contents writer.new) result }
+    // No question is out.
+    ensures idle { K.doubt token.new.store.keep ≡ 0 → (v : World) → Shows K.holds token.old v → (w : World) → Shows K.holds token.new w → HasJobs w [] }
+    // No lie of the disk is forgotten.
+    ensures doubt { K.doubt token.old.store.keep ≤ K.doubt token.new.store.keep }
+{
+    let app = words.app();
+    let ended = serve_frames(alloc, reader, writer, token, app, words);
+    token.gone(app);
     ended
 }

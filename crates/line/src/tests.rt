@@ -1,17 +1,20 @@
 //! The first run: open a session, make an AES key, begin ECB, and encrypt the block of FIPS 197, C.1.
 
-ghost use Rattle.std.specs.Prelude.{Some};
+ghost use Rattle.std.specs.Prelude.{[], IfOk, Some};
+ghost use Rattle.token.specs.Worlds.{World};
+ghost use Rattle.token.specs.Shown.{HasJobs};
+ghost use Rattle.token.specs.Stores.{Shows};
 
 use crate::{LineFault, Words, serve_one};
 use ck_calls::{Call, Reply};
 use ck_types::Rv;
-use keep::ListKeep;
+use keep::{Keep, ListKeep};
 use pin_record::Record;
 use std::alloc::Global;
 use std::io::{self, ErrorKind, Read, Write};
 use std::test::*;
-use token::Token;
-use wire::{read_reply, write_call};
+use token::{Out, Token};
+use wire::{FrameReader, WireFault, read_reply, write_call};
 
 const OPEN_SESSION: &[u8] =
     b"\x00\x00\x00\x12\x00\x07\x00\x00\x00\x00\x00\x00\x00\x00\x00\x00\x00\x00\x00\x00\x00\x06";
@@ -37,17 +40,23 @@ const OK: &[u8] = b"\x00\x00\x00\x08\x00\x00\x00\x00\x00\x00\x00\x00";
 const ENCRYPTED: &[u8] = b"\x00\x00\x00\x1d\x00\x00\x00\x00\x00\x00\x00\x00\x01\x00\x00\x00\x10\
 \x69\xc4\xe0\xd8\x6a\x7b\x04\x30\xd8\xcd\xb7\x80\x70\xb4\xc5\x5a";
 
-/// A writer that takes at most three bytes at once, and so many in all.
+/// A writer that takes at most three bytes at once, and so many in all. Every other call is
+/// interrupted.
 #[derive(Drop)]
 struct Narrow {
     bytes: Vec<u8>,
     room: usize,
+    interrupts: bool,
 }
 
 impl Write for Narrow {
     ghost contents = { λ writer. Some writer.bytes.items };
 
     fn write(&mut self, bytes: &[u8]) -> io::Result<usize> {
+        self.interrupts = !self.interrupts;
+        if self.interrupts {
+            return Err(ErrorKind::Interrupted.into());
+        }
         let count = bytes.len().min(3).min(self.room);
         if count == 0 {
             return Err(ErrorKind::BrokenPipe.into());
@@ -63,17 +72,23 @@ impl Write for Narrow {
     }
 }
 
-/// A reader that gives at most two bytes at once, and fails when so many were read.
+/// A reader that gives at most two bytes at once, and may fail at the end. Every other call is
+/// interrupted.
 #[derive(Drop)]
 struct Drip<'a> {
     rest: &'a [u8],
     fails: bool,
+    interrupts: bool,
 }
 
 impl Read for Drip<'_> {
     ghost remaining = { λ reader. Some reader.rest.now };
 
     fn read(&mut self, bytes: &mut [u8]) -> io::Result<usize> {
+        self.interrupts = !self.interrupts;
+        if self.interrupts {
+            return Err(ErrorKind::Interrupted.into());
+        }
         if self.fails && self.rest.is_empty() {
             return Err(ErrorKind::BrokenPipe.into());
         }
@@ -93,6 +108,16 @@ fn joined(alloc: Global, parts: &[&[u8]]) -> Result<Vec<u8>, Fail> {
     Ok(whole)
 }
 
+/// A token that nobody has called.
+fn token_over<K: Keep>(alloc: Global, keep: K) -> Result<Token<K>, Fail>
+    ensures { IfOk result (λ t. (w : World) → Shows K.holds t w → HasJobs w []) }
+{
+    match Token::new(alloc, keep) {
+        Ok(token) => Ok(token),
+        Err(_) => Err(Fail::new("the keeper refused")),
+    }
+}
+
 /// How a line over the input ends for a new token, and what it wrote.
 fn run(
     alloc: Global,
@@ -100,15 +125,17 @@ fn run(
     fails: bool,
     room: usize,
 ) -> Result<(Result<u64, LineFault>, Vec<u8>), Fail> {
-    let mut reader = Drip { rest: input, fails };
+    let mut reader = Drip {
+        rest: input,
+        fails,
+        interrupts: false,
+    };
     let mut writer = Narrow {
         bytes: Vec::new(alloc),
         room,
+        interrupts: false,
     };
-    let keep = ListKeep::new(alloc, Record::new());
-    let Ok(mut token) = Token::new(alloc, keep) else {
-        return Err(Fail::new("the keeper refused"));
-    };
+    let mut token = token_over(alloc, ListKeep::new(alloc, Record::new()))?;
     let mut words = Words::for_app([0; 32], 0);
     let ended = serve_one(alloc, &mut reader, &mut writer, &mut token, &mut words);
     Ok((ended, writer.bytes))
@@ -227,6 +254,76 @@ fn a_length_above_the_limit_ends_the_line_without_a_reply(rt: HostRuntime) -> Re
         let (ended, written) = run(rt.alloc(), &input, false, usize::MAX)?;
         assert_eq!(rt; ended, Err(LineFault::TooLong));
         assert_eq!(rt; written.as_slice(), NUMBER_ONE);
+    }
+    Ok(())
+}
+
+#[test]
+fn a_reader_of_frames_answers_too_long_for_ever(rt: HostRuntime) -> Result<(), Fail> {
+    let alloc = rt.alloc();
+    let mut frames = FrameReader::new(alloc);
+    frames.feed(b"\x00\x10\x00\x01")?;
+    for _ in 0..3 {
+        assert!(rt; matches!(frames.next(alloc), Err(WireFault::TooLong)));
+        assert!(rt; matches!(frames.feed(OPEN_SESSION), Err(WireFault::TooLong)));
+    }
+    Ok(())
+}
+
+#[test]
+fn a_payload_may_be_as_long_as_the_limit(rt: HostRuntime) -> Result<(), Fail> {
+    let alloc = rt.alloc();
+    let arguments_bad: &[u8] = b"\x00\x00\x00\x08\x00\x00\x00\x00\x00\x00\x00\x07";
+    let fronts: [(&[u8], usize); 2] = [
+        (b"\x00\x01\x00\x00\x00\x01", 65_536),
+        (b"\x00\x10\x00\x00\x00\x01", 1_048_576),
+    ];
+    for (front, len) in fronts {
+        let mut input = Vec::from_slice(alloc, front)?;
+        input.resize(4 + len, 0)?;
+        let mut written = Vec::<u8>::new(alloc);
+        let mut token = token_over(alloc, ListKeep::new(alloc, Record::new()))?;
+        let mut words = Words::for_app([0; 32], 0);
+        let ended = serve_one(
+            alloc,
+            &mut input.as_slice(),
+            &mut written,
+            &mut token,
+            &mut words,
+        );
+        assert_eq!(rt; ended, Ok(1), "{len} bytes");
+        assert_eq!(rt; written.as_slice(), arguments_bad, "{len} bytes");
+    }
+    Ok(())
+}
+
+#[test]
+fn an_application_is_gone_after_its_line(rt: HostRuntime) -> Result<(), Fail> {
+    let alloc = rt.alloc();
+    let endings: [(&[u8], Result<u64, LineFault>); 3] = [
+        (b"", Ok(1)),
+        (b"\x00\x00\x00\x12\x00", Err(LineFault::Cut)),
+        (b"\xff\xff\xff\xff", Err(LineFault::TooLong)),
+    ];
+    for (ending, wanted) in endings {
+        let input = joined(alloc, &[OPEN_SESSION, ending])?;
+        let mut written = Vec::<u8>::new(alloc);
+        let mut token = token_over(alloc, ListKeep::new(alloc, Record::new()))?;
+        let mut words = Words::for_app([0; 32], 0);
+        let ended = serve_one(
+            alloc,
+            &mut input.as_slice(),
+            &mut written,
+            &mut token,
+            &mut words,
+        );
+        assert_eq!(rt; ended, wanted);
+        assert_eq!(rt; written.as_slice(), NUMBER_ONE);
+        let Out::Reply(reply) = token.call(alloc, 0, Call::GetSessionInfo { session: 1 }, &[])
+        else {
+            return Err("a question".into());
+        };
+        assert_eq!(rt; reply, Reply::Code(Rv::SessionHandleInvalid));
     }
     Ok(())
 }

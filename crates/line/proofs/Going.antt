@@ -1,0 +1,61 @@
+-- At the end of a line its application goes.
+use Rattle.std.proofs.Common.{◌≡◌, ℕ, List, [], refl, sym, ◌∙◌, ap, subst, inl, inr}
+use Rattle.std.proofs.lemmas.Bool.{cases_eq, eq-eqb, ne_eqb}
+use Rattle.rand_chacha.specs.ChaCha.{ChaCha}
+use Rattle.ck_calls.specs.declared.reply.Reply.{Reply}
+use Rattle.keep.specs.Contents.{Contents}
+use Rattle.token.specs.declared.event.Event.TheVariants.{Gone}
+use Rattle.token.specs.Worlds.{World, goes, after}
+use Rattle.token.specs.Shown.{HasJobs}
+use Rattle.token.specs.Stores.{StoreState, TokenState, Shows}
+use Rattle.token.specs.Runs.{Lasting, MayLeave}
+use Rattle.line.specs.Lines.{Message, Leads, LeadsAway}
+use Rattle.line.proofs.Moving.{Idle, idle, no_jobs}
+
+-- one that goes leaves no question
+gone-idle : (w : World) (app : ℕ) → Idle w → Idle (goes w (Gone app))
+gone-idle w app i b = elim (cases_eq b app) [
+  | inl e ↦ rw (eq-eqb b app e) refl
+  | inr d ↦ rw (ne_eqb b app d) (i b)
+]
+
+module _ {K : Type 0} (holds may_leave : K → Contents → Type 0) (doubt : K → ℕ) where
+  -- whichever world a token shows, its questions are those of the desks
+  same-question : (t : TokenState K) (v w : World) → Shows holds t v → Shows holds t w → (b : ℕ) → (w.views b).question ≡ (v.views b).question
+  same-question t v w s z b = ap (λ u. u.question) (z.depicts.views b) ∙ sym (ap (λ u. u.question) (s.depicts.views b))
+
+  module _ (app : ℕ) (old mid new : TokenState K) (words words' : ChaCha) (ms : List Message) (said : List Reply) (p : Leads holds may_leave doubt app old mid words words' ms said)
+      (went : (w : World) → Shows holds mid w → Shows holds new (goes w (Gone app))) (same : new.store ≡ mid.store) (none : (w : World) → Shows holds old w → HasJobs w []) where
+    leaves-same : (l : Lasting) → MayLeave may_leave new l → MayLeave may_leave mid l
+    leaves-same l may = (may.0, subst (λ (s : StoreState K). may_leave s.keep may.0) same may.1, may.2)
+
+    gone : LeadsAway holds may_leave doubt app old new words words' ms said
+    gone = record {
+      one_each = p.one_each;
+      words = p.words;
+      run = λ sure w s.
+          let line = p.run (ap (λ (t : StoreState K). doubt t.keep) (sym same) ∙ sure) w s (none w s) in
+          record {
+            told = line.told;
+            moved = record {
+              moves = line.moved.moves;
+              took = line.moved.took;
+              tells = line.moved.tells;
+              shows = went (after w line.moved.moves) line.moved.shows;
+              idle = line.moved.idle;
+              leaves = λ l may. line.moved.leaves l (leaves-same l may);
+            };
+            each = line.each;
+            answered = line.answered;
+          };
+    }
+
+    pub leads-away : (of : ℕ) → app ≡ of → LeadsAway holds may_leave doubt of old new words words' ms said
+    leads-away of is = subst (λ (a : ℕ). LeadsAway holds may_leave doubt a old new words words' ms said) is gone
+
+    pub idle-after : doubt new.store.keep ≡ 0 → (v : World) → Shows holds old v → (w : World) → Shows holds new w → HasJobs w []
+    idle-after sure v s w z =
+        let line = p.run (ap (λ (t : StoreState K). doubt t.keep) (sym same) ∙ sure) v s (none v s) in
+        let u : World = after v line.moved.moves in
+        let none-out = gone-idle u app (idle u line.moved.idle) in
+        no_jobs w (λ b. same-question new (goes u (Gone app)) w (went u line.moved.shows) z b ∙ none-out b)

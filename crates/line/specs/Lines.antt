@@ -1,0 +1,118 @@
+-- What a line does with the messages that it reads, and what it answers. The frames and their payloads are this
+-- project's; a call is one of the functions of PKCS #11 v3.1, 5, and a message that is none is answered by a code of
+-- 5.1: CKR_FUNCTION_NOT_SUPPORTED for a function that isn't known, and CKR_ARGUMENTS_BAD for any other.
+use Rattle.std.specs.Prelude.{◌≡◌, ℕ, ◌+◌, ◌≤◌, List, [], ◌∷◌, ◌++◌, map, length, Result, Ok, Err}
+use Rattle.rand_chacha.specs.ChaCha.{ChaCha}
+use Rattle.ck_types.specs.declared.rv.Rv.TheVariants.{ArgumentsBad, FunctionNotSupported}
+use Rattle.ck_calls.specs.declared.call.Call.{Call as CallType}
+use Rattle.ck_calls.specs.declared.reply.Reply.{Reply}
+use Rattle.ck_calls.specs.declared.reply.Reply.TheVariants.{Code}
+use Rattle.ck_calls.specs.Need.{random_bytes}
+use Rattle.keep.specs.Contents.{Contents}
+use Rattle.wire.specs.declared.fault.WireFault.{WireFault}
+use Rattle.wire.specs.declared.fault.WireFault.TheVariants as faults
+use Rattle.wire.specs.Messages.{call_in}
+use Rattle.token.specs.declared.event.Event.{Event}
+use Rattle.token.specs.declared.event.Event.TheVariants.{Call, Finish, Gone}
+use Rattle.token.specs.Worlds.{World, Move, event_of, goes, after, replies}
+use Rattle.token.specs.Shown.{HasJobs}
+use Rattle.token.specs.Stores.{TokenState, Shows}
+use Rattle.token.specs.Runs.{Lasting, MayLeave, LeftAfter}
+use Rattle.line.specs.Words.{taken}
+
+-- a message is what a payload says: a call, or why it is none
+abbrev pub Message : Type 0
+Message = Result CallType WireFault
+
+abbrev pub messages : List (List ℕ) → List Message
+messages payloads = map call_in payloads
+
+-- ---- what is done
+
+-- what an application does; of the random bytes of a call their list alone counts
+pub data Act : Type 0 where
+  Calls : (call : CallType) (random : List ℕ) → Act
+  Finishes : Act
+  Leaves : Act
+
+abbrev pub act_of : Event → ℕ × Act
+act_of (Call app call random) = (app, Calls call random.items)
+act_of (Finish app) = (app, Finishes)
+act_of (Gone app) = (app, Leaves)
+
+-- A call is made with the random bytes that it takes, and its question is finished at once; where it has none, the
+-- finish is passed over. What is no call does nothing and takes no random bytes.
+abbrev pub acts_of : ℕ → ChaCha → Message → List (ℕ × Act)
+acts_of app words (Ok call) = (app, Calls call (taken (random_bytes call) words).0) ∷ (app, Finishes) ∷ []
+acts_of app words (Err fault) = []
+
+abbrev pub words_past : ChaCha → Message → ChaCha
+words_past words (Ok call) = (taken (random_bytes call) words).1
+words_past words (Err fault) = words
+
+-- and messages in turn
+abbrev pub acts : ℕ → ChaCha → List Message → List (ℕ × Act)
+acts app words [] = []
+acts app words (m ∷ ms) = acts_of app words m ++ acts app (words_past words m) ms
+
+abbrev pub words_after : ChaCha → List Message → ChaCha
+words_after words [] = words
+words_after words (m ∷ ms) = words_after (words_past words m) ms
+
+-- ---- what is answered
+
+abbrev pub refusal_of : WireFault → Reply
+refusal_of faults.UnknownFunction = Code FunctionNotSupported
+refusal_of faults.Malformed = Code ArgumentsBad
+refusal_of faults.TooLong = Code ArgumentsBad
+refusal_of faults.Memory = Code ArgumentsBad
+
+abbrev pub calls_in : List Message → ℕ
+calls_in [] = 0
+calls_in (Ok call ∷ ms) = calls_in ms + 1
+calls_in (Err fault ∷ ms) = calls_in ms
+
+-- the answers to messages, where the calls among them were told these in turn
+abbrev pub answers : List Message → List (ℕ × Reply) → List Reply
+answers [] told = []
+answers (Ok call ∷ ms) [] = []
+answers (Ok call ∷ ms) (t ∷ told) = t.1 ∷ answers ms told
+answers (Err fault ∷ ms) told = refusal_of fault ∷ answers ms told
+
+-- ---- runs
+
+-- From w these acts took place, each as it goes or refused by a fault set apart, and this was told. The token shows the
+-- world after them, no question is out, and a crash leaves the changes that were acknowledged, and perhaps one that
+-- was tried since, whole. What each application is told and sees of it follows from the moves by the token's laws.
+pub record Moved (showing : World → Type 0) (prior left : Lasting → Type 0) (w : World) (done : List (ℕ × Act)) (told : List (ℕ × Reply)) : Type 0 where
+  pub moves : List Move
+  pub took : map (λ m. act_of (event_of m)) moves ≡ done
+  pub tells : replies w moves ≡ told
+  pub shows : showing (after w moves)
+  pub idle : HasJobs (after w moves) []
+  pub leaves : (l : Lasting) → left l → LeftAfter prior w moves l
+
+-- The run of a line over messages: its calls were made in order by the one application, each told one reply, and the
+-- messages were answered so.
+pub record IsLine (showing : World → Type 0) (prior left : Lasting → Type 0) (app : ℕ) (w : World) (words : ChaCha) (ms : List Message) (said : List Reply) : Type 0 where
+  pub told : List (ℕ × Reply)
+  pub moved : Moved showing prior left w (acts app words ms) told
+  pub each : length told ≡ calls_in ms
+  pub answered : said ≡ answers ms told
+
+-- ---- two states of a token
+
+module _ {K : Type 0} (holds may_leave : K → Contents → Type 0) (doubt : K → ℕ) where
+  -- What a token and the words of an application became while these messages were answered so. No lie of the disk is
+  -- forgotten; while there was none, this is a line's run from each world that the token showed.
+  pub record Leads (app : ℕ) (old new : TokenState K) (words_old words_new : ChaCha) (ms : List Message) (said : List Reply) : Type 0 where
+    pub one_each : length said ≡ length ms
+    pub words : words_new ≡ words_after words_old ms
+    pub remembers : doubt old.store.keep ≤ doubt new.store.keep
+    pub run : doubt new.store.keep ≡ 0 → (w : World) → Shows holds old w → HasJobs w [] → IsLine (Shows holds new) (MayLeave may_leave old) (MayLeave may_leave new) app w words_old ms said
+
+  -- and then the application went
+  pub record LeadsAway (app : ℕ) (old new : TokenState K) (words_old words_new : ChaCha) (ms : List Message) (said : List Reply) : Type 0 where
+    pub one_each : length said ≡ length ms
+    pub words : words_new ≡ words_after words_old ms
+    pub run : doubt new.store.keep ≡ 0 → (w : World) → Shows holds old w → IsLine (λ v. Shows holds new (goes v (Gone app))) (MayLeave may_leave old) (MayLeave may_leave new) app w words_old ms said
