@@ -11,11 +11,13 @@ use Rattle.token.specs.declared.event.Event.TheVariants.{Call, Finish}
 use Rattle.token.specs.declared.event.Out.TheVariants.{Reply as OutReply}
 use Rattle.token.specs.Views.{Question}
 use Rattle.token.specs.Answering.{Said, Replies, Asks}
-use Rattle.token.specs.Worlds.{World, Move, Goes, Refuses, event_of, reveal_to_call, reveal_to_task, answer_at, result_at, change_for, set_apart, called, says_called, told, refused, finished, happens, reply_to, after, replies}
+use Rattle.token.specs.Worlds.{World, value_of, Move, Goes, Refuses, event_of, reveal_to_call, reveal_to_task, answer_at, result_at, change_for, set_apart, called, says_called, told, refused, finished, happens, reply_to, after, replies}
 use Rattle.token.specs.Shown.{move_of, moved, HasJobs}
 use Rattle.token.specs.Runs.{Lasting, LeavesBy, LeftBy, LeftAfter, call_change}
 use Rattle.line.specs.Lines.{Act, Calls, Finishes, act_of, Moved}
-use Rattle.line.proofs.Questions.{left_by, leaves-answer, over-result, seen-question}
+use Rattle.token.proofs.Proper.{over-result}
+use Rattle.token.proofs.Jobs.{seen-question}
+use Rattle.line.proofs.Questions.{left_by, leaves-answer}
 
 -- ---- no question is out
 
@@ -84,7 +86,7 @@ Others w app = (b : ℕ) → b ≢ app → (w.views b).question ≡ None
 
 over-finished : (w : World) (app : ℕ) (q : Question) → Others w app → Idle (finished w app (Some q))
 over-finished w app q others b = elim (cases_eq b app) [
-  | inl e ↦ rw (eq-eqb b app e) (over-result (w.views app) q.task (reveal_to_task w app q.task))
+  | inl e ↦ rw (eq-eqb b app e) (over-result (w.views app) (value_of q.task) (reveal_to_task w app q.task))
   | inr d ↦ rw (ne_eqb b app d) (seen-question (change_for b w app (result_at w app q)) (w.views b) ∙ others b d)
 ]
 

@@ -111,7 +111,7 @@ no_question w app out h is = only (w.views app).question (ap (map asked_by) (sym
   only (Some q) e = cc
 
 -- a change by others leaves the question
-seen-question : (change : Change) (v : View) → (seen change v).question ≡ v.question
+pub seen-question : (change : Change) (v : View) → (seen change v).question ≡ v.question
 seen-question Stays v = refl
 seen-question (Insert o) v = refl
 seen-question (Replace place o) v = refl

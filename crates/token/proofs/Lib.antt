@@ -1,9 +1,9 @@
 mod Lists
 mod Turning
 mod Masks
-mod Blind
+pub mod Blind
 mod Templates
-mod Proper
+pub mod Proper
 mod Told
 mod RunLaws
 mod Places
@@ -17,7 +17,7 @@ mod Steps
 mod Called
 mod Resulted
 mod Outcomes
-mod Jobs
+pub mod Jobs
 mod Runs
 mod Listing
 mod Destroying
