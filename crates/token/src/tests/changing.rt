@@ -28,9 +28,10 @@ enum Step {
 /// A row of a script: who does what, and is told what.
 type Row = (u64, Step, Told);
 
-/// The values of a type that is no AES key's, and of the length 16.
+/// A value of 17 bytes, which no AES key has.
 const LONG_KEY: &[u8] = b"\x00\x01\x02\x03\x04\x05\x06\x07\x08\x09\x0a\x0b\x0c\x0d\x0e\x0f\x10";
 
+/// The number 16, as CKA_VALUE_LEN has it.
 const SIXTEEN: &[u8] = b"\x00\x00\x00\x00\x00\x00\x00\x10";
 
 const NOTHING: &[Given] = &[];
