@@ -5,7 +5,9 @@
 //!   leaves them where they were.
 //! - `serve_one` answers the frames of a reader, each as soon as it is whole, until the reader ends or
 //!   the line fails. A payload that is no call answers `CKR_ARGUMENTS_BAD`, and one that names no known
-//!   function `CKR_FUNCTION_NOT_SUPPORTED`; neither changes the token nor takes random bytes.
+//!   function `CKR_FUNCTION_NOT_SUPPORTED`; neither changes the token nor takes random bytes. The bytes
+//!   that it reads and writes stand in `specs/Serve.antt`, and what the token does meanwhile in
+//!   `specs/Lines.antt`.
 //!
 //! ```
 //! let mut words = Words::for_app([0; 32], 0);

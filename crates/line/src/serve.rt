@@ -56,7 +56,8 @@ fn write_out<W: Write>(writer: &mut W, bytes: &[u8]) -> Result<(), LineFault>
     Err(LineFault::Write)
 }
 
-/// Writes the frame of a reply, and sees that it goes out.
+/// Writes the frame of a reply, and sees that it goes out. A reply that has no frame counts as a
+/// writer's failure, with nothing written.
 fn send<W: Write>(alloc: Global, writer: &mut W, reply: &Reply) -> Result<(), LineFault>
     ensures { Sends (W.contents writer.old) (W.contents writer.new) reply.now result }
 {
@@ -199,8 +200,8 @@ fn serve_frames<R: Read, W: Write, K: Keep>(
 /// - `Read` where the reader fails, also after 2^64 - 1 reads. One that was interrupted is tried again,
 ///   and counts.
 /// - `Write` where the writer fails or takes nothing, also after 2^64 - 1 writes of one frame, of which
-///   one that was interrupted is tried again, and counts. The replies before the last were written, and
-///   perhaps a part of the last.
+///   one that was interrupted is tried again, and counts; and for a reply that has no frame. The replies
+///   before the last were written, and perhaps a part of the last.
 /// - `TooLong` for a frame above the limit.
 /// - `Cut` where the reader ends within a frame.
 /// - `Memory` where memory was refused, but for a call's own work, which then answers
