@@ -199,8 +199,10 @@ impl<K: Keep> Token<K> {
     pub fn run(&mut self, alloc: Global, mut events: Vec<Event>, mut out: Vec<(u64, Job)>) -> Ran
         requires random { All HasRandom events.items }
         requires jobs { (w : World) → Shows K.holds self.old w → HasJobs w out.items }
-        ensures { K.doubt self.new.store.keep ≡ 0 → (w : World) → Shows K.holds self.old w
+        ensures run { K.doubt self.new.store.keep ≡ 0 → (w : World) → Shows K.holds self.old w
             → IsRun (Shows K.holds self.new) (MayLeave K.may_leave self.old) (MayLeave K.may_leave self.new) w events.items result.replies.items result.left.items result.out.items }
+        // No lie of the disk is forgotten.
+        ensures doubt { K.doubt self.old.store.keep ≤ K.doubt self.new.store.keep }
     {
         let mut replies = Vec::new(alloc);
         events.reverse();

@@ -19,8 +19,8 @@ events-preserved g c = (
 )
 
 -- what stops the run changes nothing
-pub returns : goal.returns
-returns g c = λ sure w s. elim c.events-test.branch [
+pub returns-clause-run : goal.returns-clause-run
+returns-clause-run g c = λ sure w s. elim c.events-test.branch [
   | else-events-test b ↦ rw (c.reverse-2.ensures.items, b.replies-is, b.events-is, b.out-is, b.self-is) (c.events.invariant.1 (rw b.self-is at sure) w s)
   | then-events-test+in-Err b ↦ rw (c.reverse-2.ensures.items, b.replies-is, b.events-is, b.out-is, b.self-is, b.in-Err.ensures.err.0, b.in-Err.ensures.err.1, b.in-Err.ensures.err.2, b.in-Err.ensures.err.3) (c.events.invariant.1 (rw (b.self-is, b.in-Err.ensures.err.3) at sure) w s)
 ]
