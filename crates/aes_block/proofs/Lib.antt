@@ -5,6 +5,7 @@ pub mod WordTests
 pub mod MixEntries
 pub mod RoundConstants
 pub mod Blocks
+pub mod TextBlocks
 pub mod WordProducts
 pub mod Steps
 pub mod Inverses

@@ -1,4 +1,5 @@
 pub mod Bytes
+pub mod Texts
 pub mod Field
 pub mod SBox
 pub mod State

@@ -20,7 +20,7 @@
 //!   polynomials, the key expansion and the rounds. Each entry of each table is the definition's.
 //!   `encipher_number` is the same cipher on the bytes of a number, the highest first.
 //! - `decipher` gives the block that is enciphered to the one given, and no other block is.
-//! - `xor_blocks` is the exclusive or, byte by byte.
+//! - `xor_blocks` is the exclusive or, byte by byte, and `block_at` a whole block of a text.
 //! - No call takes memory, and none can fail but `Key::new`, for the length.
 //!
 //! Of the definitions themselves, `proofs/` shows that each byte but 0 has an inverse and
@@ -45,20 +45,25 @@ mod state;
 mod tables;
 #[cfg(test)]
 mod tests;
+mod texts;
 mod word;
 
 ghost use Rattle.std.specs.Prelude.{◌≡◌, ℕ, ◌+◌, ◌/◌, ◌↔◌, List, length, IsSome, IfSome};
 ghost use Rattle.std.specs.Int.{w128, to_be_bytes};
-ghost use Rattle.aes_block.specs.Bytes.{AreBytes, IsBlock, xor_bytes};
+ghost use Rattle.aes_block.specs.Bytes.{IsBlock, xor_bytes};
 ghost use Rattle.aes_block.specs.KeyExpansion.{IsKey, IsKeyLength};
 ghost use Rattle.aes_block.specs.Encipher.{enciphered_block};
 
 use key_expansion::Schedule;
 use state::State;
 use std::marker::Model;
+pub use texts::{are_bytes, block_at};
+
+/// The length of a block in bytes (FIPS 197, 3.1).
+pub const BLOCK_SIZE: usize = 16;
 
 /// A block: the 16 bytes that the cipher takes and gives (FIPS 197, 3.1).
-pub type Block = [u8; 16];
+pub type Block = [u8; BLOCK_SIZE];
 
 /// A key of 128, 192 or 256 bits, expanded for enciphering and deciphering. Contracts see it as the
 /// list of its bytes.
@@ -159,12 +164,6 @@ fn rounds_of(size: usize) -> Option<usize>
         _ => None,
     }
 }
-
-// What the type of a slice says of its bytes.
-#[inline(always)]
-fn are_bytes(bytes: &[u8])
-    ensures { AreBytes bytes.now }
-{}
 
 /// The exclusive or of two blocks, byte by byte.
 #[inline(always)]

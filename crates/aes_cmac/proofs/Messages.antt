@@ -1,15 +1,11 @@
 -- Messages by their blocks.
-use Rattle.std.proofs.Common.{◌≡◌, ℕ, ◌+◌, ◌-◌, ◌*◌, ◌/◌, ◌<◌, List, [], ◌∷◌, ◌++◌, length, take, drop, set, get_or, replicate, if◌then◌else◌, ap, sym, ◌∙◌, arith, add-one, eq-eqb, Bool, inl, inr}
+use Rattle.std.proofs.Common.{◌≡◌, ℕ, ◌+◌, ◌-◌, ◌/◌, ◌<◌, List, [], ◌∷◌, ◌++◌, length, take, drop, set, get_or, replicate, if◌then◌else◌, ap, sym, ◌∙◌, arith, add-one, eq-eqb, Bool, inl, inr}
 use Rattle.std.proofs.lemmas.Bool.{ne_eqb, cases_eq}
 use Rattle.std.proofs.lemmas.List.{append_assoc, take_all, take_more, drop_more, drop-set, drop-replicate, length-take-le, set_at}
 use Rattle.aes_block.specs.Bytes.{xor_bytes}
+use Rattle.aes_block.specs.Texts.{block_of}
 use Rattle.aes_block.specs.Encipher.{enciphered_block}
-use Rattle.aes_cmac.specs.Cmac.{first_subkey, second_subkey, block_count, block_of, last_block, chained}
-
--- what a slice of 16 bytes is
-pub block_of-slice : (message : List ℕ) (i : ℕ) → take (16 * i + 16 - 16 * i) (drop (16 * i) message) ≡ block_of message i
-unfolding block_of
-block_of-slice message i = let n : 16 * i + 16 - 16 * i ≡ 16 = omega arith in ap (λ k. take k (drop (16 * i) message)) n
+use Rattle.aes_cmac.specs.Cmac.{first_subkey, second_subkey, block_count, last_block, chained}
 
 -- a message of one block
 pub block_of-whole : (message : List ℕ) → length message ≡ 16 → block_of message 0 ≡ message

@@ -1,8 +1,9 @@
 -- CMAC (SP 800-38B) with AES. Section and step numbers are the standard's. Blocks of a message are
 -- counted from 0, and the standard's from 1.
-use Rattle.std.specs.Prelude.{ℕ, zero, suc, ◌+◌, ◌-◌, ◌*◌, ◌/◌, ◌%◌, ◌^◌, List, ◌∷◌, ◌++◌, length, take, drop, replicate, bit_xor, nat_lt, ◌==◌, if◌then◌else◌}
+use Rattle.std.specs.Prelude.{ℕ, zero, suc, ◌+◌, ◌-◌, ◌*◌, ◌/◌, ◌%◌, ◌^◌, List, ◌∷◌, ◌++◌, length, drop, replicate, bit_xor, nat_lt, ◌==◌, if◌then◌else◌}
 use Rattle.std.specs.Int.{w128, from_be_bytes, to_be_bytes}
 use Rattle.aes_block.specs.Bytes.{xor_bytes}
+use Rattle.aes_block.specs.Texts.{block_of}
 use Rattle.aes_block.specs.Encipher.{enciphered_block}
 
 -- ---- the subkeys (6.1)
@@ -32,10 +33,6 @@ second_subkey key = doubled (first_subkey key)
 abbrev pub block_count : List ℕ → ℕ
 block_count message = if length message == 0 then 1 else (length message + 15) / 16
 
--- block i of a message, where it is whole (step 3)
-unfoldable pub block_of : List ℕ → ℕ → List ℕ
-block_of message i = take 16 (drop (16 * i) message)
-
 -- M_n, of the bytes that the message has behind the blocks before: a whole one with K1 added, another
 -- one with 1 0^j behind it and K2 added (step 4)
 unfoldable pub last_block : List ℕ → List ℕ → List ℕ
@@ -43,7 +40,7 @@ last_block key rest =
     if length rest == 16 then xor_bytes (first_subkey key) rest
     else xor_bytes (second_subkey key) (rest ++ 0x80 ∷ replicate (15 - length rest) 0)
 
--- C_i for the blocks before the last: C_0 is 0^128, and C_i is CIPH_K(C_(i-1) ⊕ M_i) (steps 5 and 6)
+-- C_i for the blocks before the last (step 3): C_0 is 0^128, and C_i is CIPH_K(C_(i-1) ⊕ M_i) (steps 5 and 6)
 unfoldable pub chained : List ℕ → List ℕ → ℕ → List ℕ
 chained key message zero = replicate 16 0
 chained key message (suc i) = enciphered_block key (xor_bytes (chained key message i) (block_of message i))

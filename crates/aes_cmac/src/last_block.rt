@@ -4,8 +4,7 @@ ghost use Rattle.std.specs.Prelude.{◌≡◌, ◌-◌, ◌<◌, ◌≤◌, ◌�
 ghost use Rattle.aes_cmac.specs.Cmac.{last_block};
 
 use crate::subkeys::{first_subkey, second_subkey};
-use crate::{BLOCK_SIZE, block_at};
-use aes_block::{Block, Key, xor_blocks};
+use aes_block::{BLOCK_SIZE, Block, Key, block_at, xor_blocks};
 
 /// Bytes that are no whole block, a bit 1, and bits 0 up to a block.
 fn bit_padded(bytes: &[u8]) -> Block

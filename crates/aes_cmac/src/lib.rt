@@ -22,25 +22,11 @@ mod subkeys;
 #[cfg(test)]
 mod tests;
 
-ghost use Rattle.std.specs.Prelude.{◌≡◌, ◌+◌, ◌*◌, ◌≤◌, length};
-ghost use Rattle.aes_cmac.specs.Cmac.{block_of, cmac};
+ghost use Rattle.std.specs.Prelude.{◌≡◌};
+ghost use Rattle.aes_cmac.specs.Cmac.{cmac};
 
-use aes_block::{Block, Key, xor_blocks};
+use aes_block::{BLOCK_SIZE, Key, block_at, xor_blocks};
 use last_block::last_block;
-
-/// The length of a block in bytes.
-const BLOCK_SIZE: usize = 16;
-
-/// Block `i` of a message, which is whole.
-#[inline(always)]
-fn block_at(message: &[u8], i: usize) -> Block
-    requires { 16 * i + 16 ≤ length message.now }
-    ensures { result ≡ block_of message.now i }
-{
-    let mut block = [0; BLOCK_SIZE];
-    block.copy_from_slice(&message[BLOCK_SIZE * i..BLOCK_SIZE * i + BLOCK_SIZE]);
-    block
-}
 
 /// The code of a message of any length (SP 800-38B, 6.2), in 16 bytes.
 pub fn cmac(key: &Key, message: &[u8]) -> [u8; 16]

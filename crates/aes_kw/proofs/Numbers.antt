@@ -1,19 +1,10 @@
 -- Numbers of 64 bits as bytes.
-use Rattle.std.proofs.Common.{◌≡◌, ℕ, zero, suc, ◌/◌, ◌%◌, ◌^◌, ◌<◌, List, [], ◌∷◌, length, bit_xor, ap, ◌∙◌, arith, mod-lt, lit<}
-use Rattle.std.specs.Int.{w64, byte_at, bytes_high_first, from_be_bytes, to_be_bytes}
+use Rattle.std.proofs.Common.{◌≡◌, ℕ, ◌/◌, ◌%◌, ◌^◌, List, [], ◌∷◌, length, bit_xor, ap, ◌∙◌}
+use Rattle.std.specs.Int.{w64, from_be_bytes, to_be_bytes}
 use Rattle.std.proofs.lemmas.Nat.{xor_shr, xor_mod, be_bytes_8}
-use Rattle.std.proofs.lemmas.List.Elements.{All-nil}
 use Rattle.aes_block.specs.Bytes.{AreBytes, xor_bytes}
-use Rattle.aes_block.proofs.Blocks.{AreBytes-cons, AreBytes-at}
-
-byte_at-below : (k n : ℕ) → byte_at k n < 256
-byte_at-below zero n = omega arith
-byte_at-below (suc k) n = mod-lt (n / 256 ^ suc k) (lit< tt)
-
-AreBytes-bytes_high_first : (k n : ℕ) → AreBytes (bytes_high_first k n)
-AreBytes-bytes_high_first zero n = All-nil (λ b. b < 256)
-AreBytes-bytes_high_first (suc k) n =
-    AreBytes-cons (byte_at k n) (bytes_high_first k n) (byte_at-below k n) (AreBytes-bytes_high_first k n)
+use Rattle.aes_block.proofs.Blocks.{AreBytes-at}
+use Rattle.aes_block.proofs.TextBlocks.{AreBytes-bytes_high_first}
 
 pub AreBytes-to_be_bytes : (n : ℕ) → AreBytes (to_be_bytes w64 n)
 AreBytes-to_be_bytes n = AreBytes-bytes_high_first 8 n

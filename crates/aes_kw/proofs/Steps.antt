@@ -91,67 +91,62 @@ module _ (key : List ℕ) (n t : ℕ) (some : 1 ≤ n) where
     IsBlock-enciphered : IsBlock (enciphered_block key (half x 0 ++ half x ((t - 1) % n + 1)))
     IsBlock-enciphered = IsBlock-enciphered_block key (half x 0 ++ half x ((t - 1) % n + 1)) is_key IsBlock-step
 
+    -- what a step enciphers to, and the A and the register that it makes
+    abbrev index : ℕ
+    index = (t - 1) % n + 1
+
+    abbrev after : List ℕ
+    after = enciphered_block key (half x 0 ++ half x index)
+
+    abbrev check_after : List ℕ
+    check_after = xor_bytes (half after 0) (to_be_bytes w64 t)
+
+    length-first : length (half after 0) ≡ 8
+    length-first = let is_block : IsBlock after = IsBlock-enciphered in length-half after 0 (omega (arith, is_block.size))
+
+    length-second : length (half after 1) ≡ 8
+    length-second = let is_block : IsBlock after = IsBlock-enciphered in length-half after 1 (omega (arith, is_block.size))
+
+    length-check : length check_after ≡ 8
+    length-check = length-xor_bytes (half after 0) (to_be_bytes w64 t) length-first ∙ length-first
+
     pub length-step : length (step key n t x) ≡ 8 * n + 8
     unfolding step
-    length-step =
-        let i : ℕ = (t - 1) % n + 1 in
-        let bounds = index-bounds n t some in
-        let b : List ℕ = enciphered_block key (half x 0 ++ half x i) in
-        let hb : IsBlock b = IsBlock-enciphered in
-        let b0 : length (half b 0) ≡ 8 = length-half b 0 (omega (arith, hb.size)) in
-        length-with_two x n i size bounds.0 bounds.1 (xor_bytes (half b 0) (to_be_bytes w64 t)) (half b 1)
-        (length-xor_bytes (half b 0) (to_be_bytes w64 t) b0 ∙ b0) (length-half b 1 (omega (arith, hb.size)))
+    length-step = let bounds = index-bounds n t some in length-with_two x n index size bounds.0 bounds.1 check_after (half after 1) length-check length-second
 
     pub AreBytes-step : AreBytes (step key n t x)
     unfolding step
     AreBytes-step =
-        let i : ℕ = (t - 1) % n + 1 in
-        let b : List ℕ = enciphered_block key (half x 0 ++ half x i) in
-        let hb : IsBlock b = IsBlock-enciphered in
-        let b0 : length (half b 0) ≡ 8 = length-half b 0 (omega (arith, hb.size)) in
-        let a : List ℕ = xor_bytes (half b 0) (to_be_bytes w64 t) in
-        AreBytes-with_half (with_half x 0 a) i (half b 1)
-        (AreBytes-with_half x 0 a bytes
-        (AreBytes-xor_bytes (half b 0) (to_be_bytes w64 t) b0 (AreBytes-half b 0 hb.bytes) (AreBytes-to_be_bytes t)))
-        (AreBytes-half b 1 hb.bytes)
+        let is_block : IsBlock after = IsBlock-enciphered in
+        AreBytes-with_half (with_half x 0 check_after) index (half after 1)
+        (AreBytes-with_half x 0 check_after bytes
+        (AreBytes-xor_bytes (half after 0) (to_be_bytes w64 t) length-first (AreBytes-half after 0 is_block.bytes) (AreBytes-to_be_bytes t)))
+        (AreBytes-half after 1 is_block.bytes)
 
     -- from registers after a step: what the step enciphered, to what
     pub step-block : (s check : List ℕ) → step key n t x ≡ s → check ≡ xor_bytes (half s 0) (to_be_bytes w64 t)
         → enciphered_block key (half x 0 ++ half x ((t - 1) % n + 1)) ≡ check ++ half s ((t - 1) % n + 1)
     unfolding step
     step-block s check is check_is =
-        let i : ℕ = (t - 1) % n + 1 in
         let bounds = index-bounds n t some in
-        let b : List ℕ = enciphered_block key (half x 0 ++ half x i) in
-        let hb : IsBlock b = IsBlock-enciphered in
-        let b0 : length (half b 0) ≡ 8 = length-half b 0 (omega (arith, hb.size)) in
-        let b1 : length (half b 1) ≡ 8 = length-half b 1 (omega (arith, hb.size)) in
-        let a : List ℕ = xor_bytes (half b 0) (to_be_bytes w64 t) in
-        let sa : length a ≡ 8 = length-xor_bytes (half b 0) (to_be_bytes w64 t) b0 ∙ b0 in
-        let first : half s 0 ≡ a = ap (λ r. half r 0) (sym is) ∙ half-with_two_first x n i size bounds.0 bounds.1 a (half b 1) sa b1 in
-        let same : half s i ≡ half b 1 = ap (λ r. half r i) (sym is) ∙ half-with_two_same x n i size bounds.0 bounds.1 a (half b 1) sa b1 in
-        let added : check ≡ half b 0 =
-        check_is ∙ ap (λ l. xor_bytes l (to_be_bytes w64 t)) first ∙ xor_bytes-twice (half b 0) (to_be_bytes w64 t) b0 in
-        sym ((λ u. added u ++ same u) ∙ halves-block b hb.size)
+        let is_block : IsBlock after = IsBlock-enciphered in
+        let first : half s 0 ≡ check_after = ap (λ r. half r 0) (sym is) ∙ half-with_two_first x n index size bounds.0 bounds.1 check_after (half after 1) length-check length-second in
+        let same : half s index ≡ half after 1 = ap (λ r. half r index) (sym is) ∙ half-with_two_same x n index size bounds.0 bounds.1 check_after (half after 1) length-check length-second in
+        let added : check ≡ half after 0 =
+        check_is ∙ ap (λ l. xor_bytes l (to_be_bytes w64 t)) first ∙ xor_bytes-twice (half after 0) (to_be_bytes w64 t) length-first in
+        sym ((λ u. added u ++ same u) ∙ halves-block after is_block.size)
 
     -- and the registers before it
     pub step-only : (s d : List ℕ) → step key n t x ≡ s → half x 0 ++ half x ((t - 1) % n + 1) ≡ d
         → x ≡ with_half (with_half s 0 (half d 0)) ((t - 1) % n + 1) (half d 1)
     unfolding step
     step-only s d is block =
-        let i : ℕ = (t - 1) % n + 1 in
         let bounds = index-bounds n t some in
-        let b : List ℕ = enciphered_block key (half x 0 ++ half x i) in
-        let hb : IsBlock b = IsBlock-enciphered in
-        let b0 : length (half b 0) ≡ 8 = length-half b 0 (omega (arith, hb.size)) in
-        let b1 : length (half b 1) ≡ 8 = length-half b 1 (omega (arith, hb.size)) in
-        let a : List ℕ = xor_bytes (half b 0) (to_be_bytes w64 t) in
-        let sa : length a ≡ 8 = length-xor_bytes (half b 0) (to_be_bytes w64 t) b0 ∙ b0 in
         let x0 : length (half x 0) ≡ 8 = length-half x 0 (omega arith) in
-        let xi : length (half x i) ≡ 8 = length-half x i (omega arith) in
-        let s_size : length s ≡ 8 * n + 8 = ap length (sym is) ∙ length-with_two x n i size bounds.0 bounds.1 a (half b 1) sa b1 in
-        let first : half d 0 ≡ half x 0 = ap (λ e. half e 0) (sym block) ∙ half-first (half x 0) (half x i) x0 in
-        let second : half d 1 ≡ half x i = ap (λ e. half e 1) (sym block) ∙ half-second (half x 0) (half x i) x0 xi in
-        sym ((λ u. with_half (with_half s 0 (first u)) i (second u))
-        ∙ with_two-is s n i s_size bounds.0 bounds.1 (half x 0) (half x i) x0 xi x size refl refl
-        (λ j nz ni. ap (λ r. half r j) (sym is) ∙ half-with_two_other x n i size bounds.0 bounds.1 a (half b 1) sa b1 j nz ni))
+        let xi : length (half x index) ≡ 8 = length-half x index (omega arith) in
+        let s_size : length s ≡ 8 * n + 8 = ap length (sym is) ∙ length-with_two x n index size bounds.0 bounds.1 check_after (half after 1) length-check length-second in
+        let first : half d 0 ≡ half x 0 = ap (λ e. half e 0) (sym block) ∙ half-first (half x 0) (half x index) x0 in
+        let second : half d 1 ≡ half x index = ap (λ e. half e 1) (sym block) ∙ half-second (half x 0) (half x index) x0 xi in
+        sym ((λ u. with_half (with_half s 0 (first u)) index (second u))
+        ∙ with_two-is s n index s_size bounds.0 bounds.1 (half x 0) (half x index) x0 xi x size refl refl
+        (λ j nz ni. ap (λ r. half r j) (sym is) ∙ half-with_two_other x n index size bounds.0 bounds.1 check_after (half after 1) length-check length-second j nz ni))

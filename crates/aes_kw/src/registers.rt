@@ -6,7 +6,7 @@ ghost use Rattle.aes_block.specs.Bytes.{AreBytes, xor_bytes};
 ghost use Rattle.aes_block.specs.KeyExpansion.{IsKey};
 ghost use Rattle.aes_kw.specs.KeyWrap.{half, with_half, step};
 
-use aes_block::{Block, Key};
+use aes_block::{Block, Key, are_bytes};
 
 /// The length of half a block in bytes.
 pub(crate) const HALF_SIZE: usize = 8;
@@ -53,12 +53,6 @@ fn with_number(check: Half, t: u64) -> Half
     are_bytes(&check);
     (u64::from_be_bytes(check) ^ t).to_be_bytes()
 }
-
-/// What the type of a slice says of its bytes.
-#[inline(always)]
-fn are_bytes(bytes: &[u8])
-    ensures { AreBytes bytes.now }
-{}
 
 /// What the type of a key says of its bytes.
 #[inline(always)]

@@ -4,7 +4,8 @@ use Rattle.std.proofs.lemmas.List.{take_all}
 use Rattle.aes_block.specs.Bytes.{xor_bytes}
 use Rattle.aes_block.specs.Encipher.{enciphered_block}
 use Rattle.aes_block.proofs.Blocks.{xor_bytes-twice}
-use Rattle.aes_modes.specs.Blocks.{IsWhole, block_of}
+use Rattle.aes_block.specs.Texts.{block_of}
+use Rattle.aes_modes.specs.Blocks.{IsWhole}
 use Rattle.aes_modes.specs.Modes.{ecb_block, ecb_blocks, ecb_enciphered, chained, cbc_block, cbc_blocks, cbc_enciphered}
 use Rattle.aes_modes.proofs.Texts.{block_of-append, block_of-last, first_blocks-more, back-more, block_of-drop, first_blocks-add, first_blocks-alike}
 

@@ -1,16 +1,15 @@
 -- CTR by its blocks, and twice.
-use Rattle.std.proofs.Common.{◌≡◌, ℕ, zero, suc, ◌+◌, ◌-◌, ◌*◌, ◌/◌, ◌%◌, ◌<◌, ◌≤◌, List, [], ◌∷◌, ◌++◌, length, take, drop, replicate, bit_xor, ap, refl, sym, ◌∙◌, arith, mod-lt, lit<, ◌^◌}
-use Rattle.std.specs.Int.{byte_at, bytes_high_first}
+use Rattle.std.proofs.Common.{◌≡◌, ℕ, suc, ◌+◌, ◌-◌, ◌*◌, ◌/◌, ◌%◌, ◌<◌, ◌≤◌, List, [], ◌∷◌, ◌++◌, length, take, drop, replicate, bit_xor, ap, refl, sym, ◌∙◌, arith}
 use Rattle.std.specs.Int.Bits.{xor_assoc, xor_zero_r, xor_self}
 use Rattle.std.proofs.lemmas.List.{take_all, length-take}
-use Rattle.std.proofs.lemmas.List.Elements.{All-nil}
-use Rattle.aes_block.specs.Bytes.{AreBytes, IsBlock, xor_bytes}
+use Rattle.aes_block.specs.Bytes.{IsBlock, xor_bytes}
 use Rattle.aes_block.specs.KeyExpansion.{IsKey}
-use Rattle.aes_block.proofs.Blocks.{AreBytes-cons}
 use Rattle.aes_block.proofs.KeySchedules.{IsBlock-enciphered_block}
-use Rattle.aes_modes.specs.Blocks.{block_of, first_blocks, blocks_begun}
+use Rattle.aes_block.specs.Texts.{block_of}
+use Rattle.aes_modes.specs.Blocks.{first_blocks, blocks_begun}
 use Rattle.aes_modes.specs.Counter.{counter_block}
 use Rattle.aes_modes.specs.Modes.{output_block, ctr_block, ctr_blocks, ctr_enciphered}
+use Rattle.aes_block.proofs.TextBlocks.{AreBytes-bytes_high_first}
 use Rattle.aes_modes.proofs.Texts.{length-block_of, first_blocks-more, first_blocks-alike, first_blocks-text, block_of-first_blocks, length-first_blocks-alike, block_of-append}
 
 -- ---- a sum with as many bytes of a longer list
@@ -37,15 +36,6 @@ take-xor_more (x ∷ s) more [] le = absurd (omega arith)
 take-xor_more (x ∷ s) more (y ∷ t) le = ap (λ l. bit_xor x y ∷ l) (take-xor_more s more t (omega arith))
 
 -- ---- blocks
-
-byte_at-below : (k n : ℕ) → byte_at k n < 256
-byte_at-below zero n = omega arith
-byte_at-below (suc k) n = mod-lt (n / 256 ^ suc k) (lit< tt)
-
-AreBytes-bytes_high_first : (k n : ℕ) → AreBytes (bytes_high_first k n)
-AreBytes-bytes_high_first zero n = All-nil (λ b. b < 256)
-AreBytes-bytes_high_first (suc k) n =
-    AreBytes-cons (byte_at k n) (bytes_high_first k n) (byte_at-below k n) (AreBytes-bytes_high_first k n)
 
 IsBlock-counter_block : (m : ℕ) (start : List ℕ) (i : ℕ) → IsBlock (counter_block m start i)
 unfolding counter_block

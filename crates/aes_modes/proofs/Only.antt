@@ -10,7 +10,8 @@ use Rattle.aes_block.specs.Encipher.{enciphered_block}
 use Rattle.aes_block.proofs.Blocks.{xor_bytes-twice, IsBlock-xor_bytes}
 use Rattle.aes_block.proofs.KeySchedules.{round_count-bounds, IsBlock-round_key, IsBlock-enciphered_block}
 use Rattle.aes_block.proofs.Inverses.{inverse_cipher-cipher}
-use Rattle.aes_modes.specs.Blocks.{block_of, first_blocks, IsWhole}
+use Rattle.aes_block.specs.Texts.{block_of}
+use Rattle.aes_modes.specs.Blocks.{first_blocks, IsWhole}
 use Rattle.aes_modes.specs.Modes.{ecb_block, ecb_enciphered, chained, cbc_block, cbc_enciphered, cbc_pad_enciphered}
 use Rattle.aes_modes.specs.Padding.{padded}
 use Rattle.aes_modes.proofs.Paddings.{AreBytes-padded, IsWhole-padded, length-padded-blocks, padded-only}

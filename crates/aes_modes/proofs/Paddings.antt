@@ -4,7 +4,8 @@ use Rattle.std.proofs.lemmas.List.{take_at, get_or-append_right, get_or-replicat
 use Rattle.std.proofs.lemmas.List.Elements.{All-append, All-from_get_or}
 use Rattle.aes_block.specs.Bytes.{AreBytes, xor_bytes}
 use Rattle.aes_block.specs.Encipher.{enciphered_block}
-use Rattle.aes_modes.specs.Blocks.{block_of, IsWhole}
+use Rattle.aes_block.specs.Texts.{block_of}
+use Rattle.aes_modes.specs.Blocks.{IsWhole}
 use Rattle.aes_modes.specs.Modes.{chained, cbc_block, cbc_blocks, cbc_pad_enciphered}
 use Rattle.aes_modes.specs.Padding.{pad_count, padded}
 use Rattle.aes_modes.proofs.Texts.{block_of-rest, block_of-behind, first_blocks-append}

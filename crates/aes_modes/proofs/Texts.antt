@@ -2,16 +2,12 @@
 use Rattle.std.proofs.Common.{◌≡◌, ℕ, zero, suc, ◌+◌, ◌-◌, ◌*◌, ◌/◌, ◌<◌, ◌≤◌, List, [], ◌∷◌, ◌++◌, length, take, drop, set, get_or, replicate, ap, refl, sym, ◌∙◌, arith, add-one, inl, inr}
 use Rattle.std.proofs.lemmas.Bool.{cases_lt}
 use Rattle.std.proofs.lemmas.List.{append-nil, drop-drop, append_assoc, drop-append-le, take-append-le, length-append, length-drop, drop_at, take_all, take-append-drop, take-take, drop-take, length-take-le, set_at, take_more}
-use Rattle.aes_modes.specs.Blocks.{block_of, first_blocks}
+use Rattle.aes_block.specs.Texts.{block_of}
+use Rattle.aes_modes.specs.Blocks.{first_blocks}
 
 pub length-block_of : (text : List ℕ) (i : ℕ) → 16 * i + 16 ≤ length text → length (block_of text i) ≡ 16
 unfolding block_of
 length-block_of text i le = length-take-le 16 (drop (16 * i) text) (omega (arith, length-drop (16 * i) text))
-
--- what a slice of 16 bytes is
-pub block_of-slice : (text : List ℕ) (i : ℕ) → take (16 * i + 16 - 16 * i) (drop (16 * i) text) ≡ block_of text i
-unfolding block_of
-block_of-slice text i = let n : 16 * i + 16 - 16 * i ≡ 16 = omega arith in ap (λ k. take k (drop (16 * i) text)) n
 
 -- a whole block stays when more follows
 pub block_of-append : (xs ys : List ℕ) (i : ℕ) → 16 * i + 16 ≤ length xs → block_of (xs ++ ys) i ≡ block_of xs i

@@ -2,7 +2,8 @@
 use Rattle.std.specs.Prelude.{ℕ, zero, suc, ◌/◌, List, length}
 use Rattle.aes_block.specs.Bytes.{xor_bytes}
 use Rattle.aes_block.specs.Encipher.{enciphered_block}
-use Rattle.aes_modes.specs.Blocks.{block_of, first_blocks, blocks_begun}
+use Rattle.aes_block.specs.Texts.{block_of}
+use Rattle.aes_modes.specs.Blocks.{first_blocks, blocks_begun}
 use Rattle.aes_modes.specs.Counter.{counter_block}
 use Rattle.aes_modes.specs.Padding.{padded}
 

@@ -2,26 +2,12 @@
 
 ghost use Rattle.std.specs.Prelude.{◌≡◌, ◌+◌, ◌-◌, ◌*◌, ◌/◌, ◌%◌, ◌≤◌, ◌++◌, length, replicate, IfOk};
 ghost use Rattle.std.specs.Int.{w64, w128, to_be_bytes};
-ghost use Rattle.aes_block.specs.Bytes.{AreBytes, xor_bytes};
+ghost use Rattle.aes_block.specs.Bytes.{xor_bytes};
 ghost use Rattle.aes_block.specs.KeyExpansion.{IsKey};
-ghost use Rattle.aes_modes.specs.Blocks.{block_of};
+ghost use Rattle.aes_block.specs.Texts.{block_of};
 
-use aes_block::{Block, Key};
+use aes_block::{BLOCK_SIZE, Block, Key, are_bytes};
 use std::alloc::AllocError;
-
-/// The length of a block in bytes.
-pub(crate) const BLOCK_SIZE: usize = 16;
-
-/// Block `i` of a text, which is whole.
-#[inline(always)]
-pub(crate) fn block_at(text: &[u8], i: usize) -> Block
-    requires { 16 * i + 16 ≤ length text.now }
-    ensures { result ≡ block_of text.now i }
-{
-    let mut block = [0; BLOCK_SIZE];
-    block.copy_from_slice(&text[BLOCK_SIZE * i..BLOCK_SIZE * i + BLOCK_SIZE]);
-    block
-}
 
 /// What a text has behind its whole blocks.
 pub(crate) fn rest_of(text: &[u8]) -> &[u8]
@@ -70,12 +56,6 @@ fn bytes_of(number: u64) -> [u8; 8]
 {
     number.swap_bytes().to_le_bytes()
 }
-
-/// What the type of a slice says of its bytes.
-#[inline(always)]
-pub(crate) fn are_bytes(bytes: &[u8])
-    ensures { AreBytes bytes.now }
-{}
 
 /// What the type of a key says of its bytes.
 #[inline(always)]

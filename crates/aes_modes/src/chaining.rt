@@ -6,9 +6,9 @@ ghost use Rattle.aes_modes.specs.Blocks.{IsWhole};
 ghost use Rattle.aes_modes.specs.Modes.{chained, cbc_blocks, cbc_enciphered};
 ghost use Rattle.aes_modes.specs.Directions.{IsTurned};
 
-use crate::blocks::{BLOCK_SIZE, are_bytes, block_at, is_key};
+use crate::blocks::is_key;
 use crate::{Direction, ModeFault};
-use aes_block::{Block, Key, xor_blocks};
+use aes_block::{BLOCK_SIZE, Block, Key, are_bytes, block_at, xor_blocks};
 use std::alloc::{AllocError, Global};
 
 /// Adds the text's whole blocks, enciphered, to `out`, and gives what the next block is added to.

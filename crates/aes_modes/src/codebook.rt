@@ -6,9 +6,9 @@ ghost use Rattle.aes_modes.specs.Blocks.{IsWhole};
 ghost use Rattle.aes_modes.specs.Modes.{ecb_enciphered};
 ghost use Rattle.aes_modes.specs.Directions.{IsTurned};
 
-use crate::blocks::{BLOCK_SIZE, are_bytes, block_at, is_key};
+use crate::blocks::is_key;
 use crate::{Direction, ModeFault};
-use aes_block::Key;
+use aes_block::{BLOCK_SIZE, Key, are_bytes, block_at};
 use std::alloc::{AllocError, Global};
 
 fn enciphered(alloc: Global, key: &Key, text: &[u8]) -> Result<Vec<u8>, AllocError>

@@ -6,10 +6,10 @@ ghost use Rattle.aes_modes.specs.Counter.{counter_start};
 ghost use Rattle.aes_modes.specs.Modes.{ctr_enciphered};
 ghost use Rattle.aes_modes.specs.Directions.{IsTurned};
 
-use crate::blocks::{BLOCK_SIZE, block_at, filled_block, is_key, push_number, rest_of, xor_number};
+use crate::blocks::{filled_block, is_key, push_number, rest_of, xor_number};
 use crate::counter::has_counters;
 use crate::{CounterBits, Direction, ModeFault};
-use aes_block::{Block, Key};
+use aes_block::{BLOCK_SIZE, Block, Key, block_at};
 use std::alloc::{AllocError, Global};
 
 /// The text enciphered, where each of its blocks has a counter.

@@ -7,9 +7,9 @@ ghost use Rattle.aes_modes.specs.Modes.{cbc_pad_enciphered};
 ghost use Rattle.aes_modes.specs.Padding.{padded};
 ghost use Rattle.aes_modes.specs.Directions.{IsTurned};
 
-use crate::blocks::{BLOCK_SIZE, filled_block, rest_of};
+use crate::blocks::{filled_block, rest_of};
 use crate::{Direction, ModeFault, chaining};
-use aes_block::{Block, Key, xor_blocks};
+use aes_block::{BLOCK_SIZE, Block, Key, xor_blocks};
 use std::alloc::{AllocError, Global};
 
 /// The length of the text that has `text` as its padded text, if one has.

@@ -78,3 +78,17 @@ mask-mask es =
 
 pub reveals-mask : (es : List Entry) (n : ℕ) → reveals (mask es) n ≡ reveals es n
 reveals-mask es n = ap (λ (b : Bool). not (b && eqb n (attr_type_number attr.Value))) (is_masked-mask es)
+
+-- what may not be seen is masked
+pub reveals-none : (es : List Entry) (n : ℕ) → reveals es n ≡ false → attribute (mask es) n ≡ None
+reveals-none es n kept_back =
+    let value : ℕ = attr_type_number attr.Value in
+    let step : (m b : Bool) → is_masked es ≡ m → eqb n value ≡ b → not (m && b) ≡ false → attribute (mask es) n ≡ None =
+    λ m. elim m as (λ k. (b : Bool) → is_masked es ≡ k → eqb n value ≡ b → not (k && b) ≡ false → attribute (mask es) n ≡ None) [
+      | true ↦ λ b. elim b as (λ k. is_masked es ≡ true → eqb n value ≡ k → not (true && k) ≡ false → attribute (mask es) n ≡ None) [
+        | true ↦ λ masked is e. ap (attribute (mask es)) (eqb-true n value is) ∙ attribute-mask-value es masked
+        | false ↦ λ masked is e. absurd (let no : true ≡ false = e in cc)
+      ]
+      | false ↦ λ b masked is e. absurd (let no : true ≡ false = e in cc)
+    ] in
+    step (is_masked es) (eqb n value) refl refl kept_back

@@ -2,7 +2,7 @@
 use Rattle.std.proofs.Common.{◌≡◌, ℕ, ◌≤◌, Bool, true, false, cond, ◌&&◌, ◌||◌, eqb, ltb, List, [], ◌∷◌, length, get_or, Option, Some, None, refl, sym, ap, subst, arith, lit≤}
 use Rattle.std.specs.Prelude.{filter}
 use Rattle.std.specs.List.{AllByRecursion, list_any}
-use Rattle.std.proofs.lemmas.Bool.{eqb-true, leb-true}
+use Rattle.std.proofs.lemmas.Bool.{and_parts, eqb-true, leb-true}
 use Rattle.ck_types.specs.declared.entry.Entry.{Entry}
 use Rattle.ck_types.specs.declared.attr_type.AttrType.{AttrType}
 use Rattle.ck_types.specs.declared.attr_type.AttrType.TheVariants as attr
@@ -46,10 +46,6 @@ key_type_at-none = refl
 
 -- ---- the attributes of some rows
 
-both_true : (a b : Bool) → (a && b) ≡ true → (a ≡ true) × (b ≡ true)
-both_true true b e = (refl, e)
-both_true false b e = absurd cc
-
 pub attr_type_number-small : (t : AttrType) → attr_type_number t ≤ 1000
 attr_type_number-small attr.Class = lit≤ tt
 attr_type_number-small attr.Token = lit≤ tt
@@ -80,7 +76,7 @@ attr_type_number-small attr.Destroyable = lit≤ tt
 attr_type_number-small attr.WrapWithTrusted = lit≤ tt
 
 form_small : (f : Form) (bytes : List ℕ) → has_form f bytes ≡ true → length bytes ≤ 1024
-form_small Truth bytes e = let h = eqb-true (length bytes) 1 (both_true (eqb (length bytes) 1) (ltb (get_or bytes 0 0) 2) e).0 in omega (arith, h)
+form_small Truth bytes e = let h = eqb-true (length bytes) 1 (and_parts (eqb (length bytes) 1) (ltb (get_or bytes 0 0) 2) e).0 in omega (arith, h)
 form_small Number bytes e = omega (arith, eqb-true (length bytes) 8 e)
 form_small Bytes bytes e = leb-true (length bytes) 1024 e
 
@@ -94,8 +90,8 @@ fits_rows-small [] [] e = (tt, refl)
 fits_rows-small [] (x ∷ es) e = absurd cc
 fits_rows-small (r ∷ rs) [] e = absurd cc
 fits_rows-small (r ∷ rs) (x ∷ es) e =
-    let a = both_true (eqb x.number (row_number r) && has_form r.form x.value) (fits_rows rs es) e in
-    let b = both_true (eqb x.number (row_number r)) (has_form r.form x.value) a.0 in
+    let a = and_parts (eqb x.number (row_number r) && has_form r.form x.value) (fits_rows rs es) e in
+    let b = and_parts (eqb x.number (row_number r)) (has_form r.form x.value) a.0 in
     let n : x.number ≡ row_number r = eqb-true x.number (row_number r) b.0 in
     let rest = fits_rows-small rs es a.1 in
     ((record { number_small = rw n (attr_type_number-small r.attribute); value_small = form_small r.form x.value b.1 }, rest.0), omega (arith, rest.1))
@@ -123,7 +119,7 @@ pub record HasRows (es : List Entry) : Type 0 where
 has_rows : (o : Option ObjectClass) (es : List Entry) → class_of es ≡ o → is_of_class o es ≡ true → HasRows es
 has_rows None es c e = absurd cc
 has_rows (Some Data) es c e = record { class = Data; class_is = c; rows = e }
-has_rows (Some SecretKey) es c e = record { class = SecretKey; class_is = c; rows = (both_true (fits_rows (rows_of SecretKey) es) (has_key_value es) e).0 }
+has_rows (Some SecretKey) es c e = record { class = SecretKey; class_is = c; rows = (and_parts (fits_rows (rows_of SecretKey) es) (has_key_value es) e).0 }
 
 pub IsObject-rows : (es : List Entry) → IsObject es → HasRows es
 IsObject-rows es is = has_rows (class_of es) es refl is
@@ -140,8 +136,8 @@ fits_rows-held [] [] n e held none = cc
 fits_rows-held [] (x ∷ es) n e held none = cc
 fits_rows-held (r ∷ rs) [] n e held none = cc
 fits_rows-held (r ∷ rs) (x ∷ es) n e held none =
-    let a = both_true (eqb x.number (row_number r) && has_form r.form x.value) (fits_rows rs es) e in
-    let b = both_true (eqb x.number (row_number r)) (has_form r.form x.value) a.0 in
+    let a = and_parts (eqb x.number (row_number r) && has_form r.form x.value) (fits_rows rs es) e in
+    let b = and_parts (eqb x.number (row_number r)) (has_form r.form x.value) a.0 in
     let same : eqb (row_number r) n ≡ eqb x.number n = ap (λ (m : ℕ). eqb m n) (sym (eqb-true x.number (row_number r) b.0)) in
     let step : (t : Bool) → eqb x.number n ≡ t → (t || list_any (λ r. eqb (row_number r) n) rs) ≡ true → cond t (Some x.value) (attribute es n) ≡ None → ⊥ =
     λ t. elim t as (λ u. eqb x.number n ≡ u → (u || list_any (λ r. eqb (row_number r) n) rs) ≡ true → cond u (Some x.value) (attribute es n) ≡ None → ⊥) [

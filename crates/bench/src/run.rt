@@ -33,6 +33,10 @@ pub(crate) enum Unit {
     Round,
     /// An event of the token.
     Event,
+    /// A call of the token.
+    Call,
+    /// A text of so many bytes.
+    Bytes(u32),
 }
 
 /// What a line says of a run.
@@ -187,7 +191,7 @@ impl Run {
         match report {
             Report::Sums => {
                 let sum = u128::from_be_bytes(self.sum);
-                println!(rt; "{bits:>4}  {what:<26}{count:>9}  {sum:032x}")
+                println!(rt; "{bits:>4}  {what:<38}{count:>9}  {sum:032x}")
             }
             Report::Times => {
                 let seconds = self.time.as_secs_f64();
@@ -196,9 +200,10 @@ impl Run {
                     Unit::Block => (f64::from(count) * 16.0 / 1e6 / seconds, "MB/s"),
                     Unit::Text => (f64::from(count) * 0.064 / seconds, "MB/s"),
                     Unit::Key => (f64::from(count) / 1e6 / seconds, "million keys/s"),
-                    Unit::Round | Unit::Event => (seconds * 1e3, "ms in all"),
+                    Unit::Bytes(len) => (f64::from(count) * f64::from(len) / 1e6 / seconds, "MB/s"),
+                    Unit::Round | Unit::Event | Unit::Call => (seconds * 1e3, "ms in all"),
                 };
-                println!(rt; "{bits:>4}  {what:<26}{count:>9}{each:>10.1}{rate:>10.2}  {unit}")
+                println!(rt; "{bits:>4}  {what:<38}{count:>9}{each:>10.1}{rate:>10.2}  {unit}")
             }
         }
     }

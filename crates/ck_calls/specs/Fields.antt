@@ -1,9 +1,8 @@
 -- The formats of the parts of a call and of a reply.
-use Rattle.std.proofs.Common.{◌≡◌, ℕ, zero, suc, ◌<◌, List, [], ◌∷◌, ◌++◌, length, Option, Some, None, refl, sym, ap, subst, ◌∙◌, append_assoc, Bool, true, false, cond, eqb, ◌==◌}
-use Rattle.std.specs.Prelude.{if◌then◌else◌, ◌&&◌}
+use Rattle.std.proofs.Common.{◌≡◌, ℕ, zero, suc, List, [], ◌∷◌, ◌++◌, length, Option, Some, None, refl, sym, ap, subst, ◌∙◌, append_assoc, Bool, true, false, cond, eqb, ◌==◌}
+use Rattle.std.specs.Prelude.{if◌then◌else◌}
 use Rattle.std.proofs.lemmas.Bool.{eqb-true, eq-eqb}
 use Rattle.ck_types.specs.declared.entry.Entry.{Entry}
-use Rattle.ck_types.specs.declared.session_state.SessionState.{SessionState}
 use Rattle.ck_types.specs.Format.{Format, ◌>>=◌, number64, fixed, byte_string, pair, mapped, narrowed, optional, list_below, first_bytes}
 use Rattle.ck_types.specs.Canonical.{IsCanonical, IsBytes, Takes, takes_then, takes_more, bind_some, some_is, when_ok, rest_bytes, first_bytes_sound, first_bytes_complete, number64_canonical, fixed_canonical, byte_string_canonical, pair_canonical, mapped_canonical, narrowed_canonical, optional_canonical, list_below_canonical}
 use Rattle.ck_types.specs.Entry.{entry, entry_canonical}

@@ -9,7 +9,10 @@ use crate::reply::{
     AttributeValue, MAX_PIN_LEN, MAX_SESSION_COUNT, MIN_PIN_LEN, MechanismInfo, Output,
     SessionInfo, TokenInfo,
 };
-use ck_types::{Bytes, Codec, CodecFault, Label, ListItem, SessionState, split_first};
+use ck_types::{
+    Bytes, Codec, CodecFault, Label, ListItem, RW_SESSION, SERIAL_SESSION, SessionState,
+    split_first,
+};
 use std::alloc::Global;
 
 /// The bytes after a number that is always the same.
@@ -124,10 +127,9 @@ impl Codec for MechanismInfo {
     }
 }
 
-/// CKF_SERIAL_SESSION, alone and with CKF_RW_SESSION.
-const READ_ONLY: u64 = 4;
+const READ_ONLY: u64 = SERIAL_SESSION;
 
-const READ_WRITE: u64 = 6;
+const READ_WRITE: u64 = SERIAL_SESSION | RW_SESSION;
 
 /// The flags of a session.
 fn session_flags(read_write: bool) -> u64

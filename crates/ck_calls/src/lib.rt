@@ -22,7 +22,7 @@ mod reply;
 pub use call::Call;
 pub use fields::{AttributeQuery, Mechanism, Query};
 pub use function::Function;
-pub use random::{MAX_RANDOM_LEN, MAX_SECRET_LEN, UNIQUE_ID_BYTES, need};
+pub use random::{MAX_RANDOM_LEN, need};
 pub use reply::{
     AttributeValue, MAX_PIN_LEN, MAX_SESSION_COUNT, MIN_PIN_LEN, MechanismInfo, Output, Reply,
     SessionInfo, TokenInfo,

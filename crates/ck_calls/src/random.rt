@@ -5,13 +5,7 @@ ghost use Rattle.ck_calls.specs.Need.{random_bytes, value_len_of, value_len_in};
 
 use crate::call::Call;
 use byteorder::{BigEndian, ByteOrder};
-use ck_types::{AttrType, Entry};
-
-/// The random bytes of a CKA_UNIQUE_ID, and of a PIN's salt.
-pub const UNIQUE_ID_BYTES: usize = 16;
-
-/// The greatest length of a secret key, in bytes.
-pub const MAX_SECRET_LEN: u64 = 512;
+use ck_types::{AttrType, Entry, MAX_SECRET_LEN, UNIQUE_ID_BYTES};
 
 /// The greatest number of bytes that C_GenerateRandom gives at once.
 pub const MAX_RANDOM_LEN: u64 = 32768;

@@ -8,6 +8,7 @@
 //! - `Codec` is a value's encoding. One definition, a `Format`, says both how a value is encoded and
 //!   how it is decoded. Each format is canonical: what is decoded is encoded by just the bytes that
 //!   were taken, and what is encoded is decoded again, whatever follows.
+//! - `RW_SESSION`, `SERIAL_SESSION` and others are numbers that are no codes.
 //!
 //! ```
 //! let (flags, rest) = u64::decode(alloc, bytes)?;
@@ -18,6 +19,7 @@
 
 mod attr_type;
 mod codec;
+mod constants;
 mod entry;
 mod fault;
 mod items;
@@ -33,6 +35,9 @@ mod user_type;
 
 pub use attr_type::AttrType;
 pub use codec::{Codec, decode_u32, decode_whole, encode_len, split_first};
+pub use constants::{
+    MAX_SECRET_LEN, RW_SESSION, SERIAL_SESSION, UNAVAILABLE_INFORMATION, UNIQUE_ID_BYTES,
+};
 pub use entry::{Bytes, Entry, Template};
 pub use fault::CodecFault;
 pub use items::Items;

@@ -4,15 +4,16 @@ use Rattle.std.specs.Option.{option_map}
 use Rattle.ck_types.specs.declared.entry.Entry.{Entry}
 use Rattle.attrs.specs.Objects.{flag}
 use Rattle.ck_types.specs.declared.attr_type.AttrType.TheVariants.{Private}
+use Rattle.lists.specs.Places.{updated_where}
 use Rattle.mech.specs.declared.job.Job.{Job}
 use Rattle.handles.specs.Handles.{HandleTable, no_handles, public_handles}
 use Rattle.sessions.specs.declared.Session.{Session}
 use Rattle.sessions.specs.Sessions.{SessionTable, no_sessions, session_at, with_work, without_session, logged_out}
 use Rattle.desk.specs.declared.own_object.OwnObject.{OwnObject}
-use Rattle.desk.specs.Operations.{Operation, Operations, no_operations}
+use Rattle.ops.specs.Operations.{Operation, Operations, no_operations}
 
 -- One application's sessions with their operations and its login, its session objects in the order of their
--- creation, its handles of token objects, the question that is out, and the number of the next one. Of memory it
+-- creation, its handles of token objects, the pending question, and the number of the next one. Of memory it
 -- tells how many session objects fit with no allocation.
 pub record DeskState : Type 0 where
   pub sessions : SessionTable Operations
@@ -30,7 +31,7 @@ empty_desk = record { sessions = no_sessions; own = []; own_capacity = 0; handle
 abbrev pub SameDesk : DeskState → DeskState → Type 0
 SameDesk old new = new ≡ record old { own_capacity = new.own_capacity; handles = record old.handles { capacity = new.handles.capacity } }
 
--- no call is taken: a question is out, or a next number is used up
+-- no call is taken: a question is pending, or a next number is used up
 abbrev pub is_busy : DeskState → Bool
 is_busy d = is_some d.question || (nat_le (2 ^ 63) d.sessions.next_number || (nat_le (2 ^ 63) d.handles.next_number || nat_le (2 ^ 63) d.next_question))
 
@@ -40,8 +41,7 @@ own_at own handle = option_map (λ e. e.object) (find (λ e. e.handle == handle)
 
 -- another object stands under a handle, in the place of the one that was there
 abbrev pub replaced_own : List OwnObject → ℕ → List Entry → List OwnObject
-replaced_own [] handle o = []
-replaced_own (e ∷ es) handle o = if e.handle == handle then record { handle = e.handle; session = e.session; object = o } ∷ es else e ∷ replaced_own es handle o
+replaced_own own handle o = updated_where (λ e. e.handle == handle) (λ e. record { handle = e.handle; session = e.session; object = o }) own
 
 -- handles of private objects are retired where nobody is logged in any more
 abbrev pub handles_for : Bool → HandleTable → HandleTable

@@ -7,24 +7,22 @@ ghost use Rattle.ck_types.specs.declared.user_type.UserType.TheVariants.{So};
 ghost use Rattle.handles.specs.Handles.{object_of, number_of, with_handle, without_object, HasRoomFor};
 ghost use Rattle.handles.specs.Handles.{IsTable as IsHandleTable};
 ghost use Rattle.sessions.specs.Sessions.{session_at, state_of, with_session, with_work, IsTable};
-ghost use Rattle.desk.specs.Operations.{no_operations};
+ghost use Rattle.ops.specs.Operations.{no_operations};
 ghost use Rattle.desk.specs.Desks.{DeskState, SameDesk, empty_desk, is_busy, own_at, replaced_own, closed, all_closed, logged_out_desk, encryption_at, with_encryption, with_question};
 ghost use Rattle.attrs.specs.Objects.{flag};
 ghost use Rattle.ck_types.specs.declared.attr_type.AttrType.TheVariants.{Private};
 
-use crate::operations::{Encryption, Operations};
 use crate::own_object::OwnObject;
 use crate::question::Question;
 use attrs::Object;
 use ck_types::{AttrType, SessionState, UserType};
 use handles::Handles;
+use lists::NUMBER_LIMIT;
 use mech::Job;
+use ops::{Encryption, Operations};
 use sessions::Sessions;
 use std::alloc::{AllocError, Global};
 use std::marker::Model;
-
-/// Numbers of sessions, handles and questions stay below it.
-pub const NUMBER_LIMIT: u64 = 1 << 63;
 
 /// How many session objects an application has at most.
 pub const SESSION_OBJECT_LIMIT: usize = 256;
@@ -62,7 +60,7 @@ impl Desk {
         }
     }
 
-    /// Whether no call is taken: a question is out, or a next number has reached its limit.
+    /// Whether no call is taken: a question is pending, or a next number has reached its limit.
     pub fn is_busy(&self) -> bool
         ensures { result ≡ is_busy self.now }
     {
@@ -260,7 +258,7 @@ impl Desk {
         self.next_question += 1;
     }
 
-    /// The question that is out.
+    /// The pending question.
     pub fn question(&self) -> Option<&Question>
         ensures { option_copied result ≡ self.now.question }
     {

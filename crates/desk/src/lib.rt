@@ -1,5 +1,5 @@
 //! One application's part of a token: its sessions with their operations, its login, its session
-//! objects, its handles of token objects, and the question that is out.
+//! objects, its handles of token objects, and the pending question.
 //!
 //! A desk knows nothing of the token objects but their ids, and nothing of other applications. What its
 //! numbers count, sessions, handles and questions, is its own, so that no application can tell from its
@@ -17,11 +17,11 @@
 #![tactic(auto)]
 
 mod desk;
-mod operations;
 mod own_object;
 mod question;
 
-pub use desk::{Desk, NUMBER_LIMIT, SESSION_OBJECT_LIMIT};
-pub use operations::{Encryption, Operations};
+pub use desk::{Desk, SESSION_OBJECT_LIMIT};
+pub use lists::NUMBER_LIMIT;
+pub use ops::{Encryption, Operations};
 pub use own_object::OwnObject;
 pub use question::Question;

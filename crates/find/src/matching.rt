@@ -5,13 +5,13 @@ ghost use Rattle.attrs.specs.Masking.{mask};
 ghost use Rattle.find.specs.Matching.{entry_matches, template_matches};
 
 use attrs::{Object, Template, find_attribute};
-use ck_types::{AttrType, Entry};
-use guard::masked;
+use ck_types::Entry;
+use guard::reveals_number;
 
 fn matches_entry(entry: &Entry, object: &Object) -> bool
     ensures { result ≡ entry_matches object.now entry.now }
 {
-    if entry.number == AttrType::Value.number() && masked(object) {
+    if !reveals_number(object, entry.number) {
         return false;
     }
     match find_attribute(object.entries(), entry.number) {

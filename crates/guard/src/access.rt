@@ -16,7 +16,8 @@ fn is_user_state(state: SessionState) -> bool
     }
 }
 
-fn is_read_write(state: SessionState) -> bool
+/// Whether a session in a state is a R/W session, which may write token objects (PKCS #11 v3.1, 3.3).
+pub fn is_read_write(state: SessionState) -> bool
     ensures { result ≡ is_rw state }
 {
     match state {

@@ -1,7 +1,8 @@
 //! What is shown of an object.
 
-ghost use Rattle.std.specs.Prelude.{◌≡◌};
+ghost use Rattle.std.specs.Prelude.{◌≡◌, None, false};
 ghost use Rattle.ck_types.specs.Numbers.{attr_type_number};
+ghost use Rattle.attrs.specs.Objects.{attribute};
 ghost use Rattle.attrs.specs.Masking.{is_masked, mask, reveals as reveals_by_number};
 
 use attrs::Object;
@@ -22,5 +23,16 @@ pub fn reveals(object: &Object, attribute: AttrType) -> bool
     ensures value { result ≡ reveals_by_number object.now (attr_type_number attribute) }
     ensures on_mask { result ≡ reveals_by_number (mask object.now) (attr_type_number attribute) }
 {
-    attribute != AttrType::Value || !masked(object)
+    reveals_number(object, attribute.number())
+}
+
+/// Whether the attribute with this number may be shown, where the object has it: all but CKA_VALUE of a
+/// masked key. The number may be that of no attribute. What may not be shown is no part of the object as
+/// others may see it.
+pub fn reveals_number(object: &Object, number: u64) -> bool
+    ensures value { result ≡ reveals_by_number object.now number }
+    ensures on_mask { result ≡ reveals_by_number (mask object.now) number }
+    ensures withheld { result ≡ false → attribute (mask object.now) number ≡ None }
+{
+    number != AttrType::Value.number() || !masked(object)
 }

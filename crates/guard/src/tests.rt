@@ -39,6 +39,13 @@ fn key(alloc: Global, is_true: &[AttrType]) -> Result<Option<Object>, AllocError
 }
 
 #[test]
+fn sessions_write_token_objects_in_three_states(rt: HostRuntime) {
+    for (i, state) in STATES.into_iter().enumerate() {
+        assert_eq!(rt; is_read_write(state), i >= 2, "{state:?}");
+    }
+}
+
+#[test]
 fn private_objects_are_seen_by_the_user_and_token_objects_written_in_rw_sessions(
     rt: HostRuntime,
 ) -> Result<(), Fail> {
@@ -98,6 +105,13 @@ fn sensitive_and_unextractable_keys_keep_their_value_back(rt: HostRuntime) -> Re
             "{is_true:?}"
         );
         assert!(rt; reveals(&object, AttrType::ValueLen), "{is_true:?}");
+        for number in [0x11, 0x161, 0x9999_9999] {
+            assert_eq!(rt;
+                reveals_number(&object, number),
+                number != 0x11 || !is_masked,
+                "{is_true:?} {number:#x}"
+            );
+        }
     }
     Ok(())
 }

@@ -5,9 +5,9 @@ use Rattle.std.specs.Option.{option_map}
 use Rattle.std.specs.List.{AllByRecursion}
 use Rattle.std.proofs.lemmas.Bool.{cases_Bool, eqb-true, eq-eqb, ne_eqb, true≢false}
 use Rattle.handles.specs.declared.Handle.{Handle}
-use Rattle.in_order.specs.InOrder.{NumbersRise}
+use Rattle.lists.specs.InOrder.{NumbersRise}
 use Rattle.handles.specs.Handles.{object_of, number_of, AreDistinct, IsTable}
-use Rattle.in_order.proofs.InOrderLemmas.{All-filter, All-weaken, PassesOnce, find-none, NumbersRise-above, NumbersRise-filter, NumbersRise-push}
+use Rattle.lists.proofs.InOrderLemmas.{All-filter, All-weaken, PassesOnce, find-none, NumbersRise-above, NumbersRise-filter, NumbersRise-push}
 
 -- ---- numbers
 NumbersRise-next : (low next : ℕ) (hs : List Handle) → NumbersRise (λ h. h.number) low hs next → NumbersRise (λ h. h.number) low hs (next + 1)

@@ -1,2 +1,2 @@
 pub mod HandleLemmas
-pub mod Retaining
+pub mod StoredLemmas

@@ -1,9 +1,9 @@
 -- What a contract sees of `Handles`.
-use Rattle.std.specs.Prelude.{◌≡◌, ℕ, ◌+◌, ◌≤◌, ◌==◌, Bool, false, not, is_some, List, [], ◌∷◌, ◌++◌, length, find, filter, Option, if◌then◌else◌}
+use Rattle.std.specs.Prelude.{◌≡◌, ℕ, ◌+◌, ◌≤◌, ◌==◌, Bool, false, not, is_some, List, [], ◌∷◌, ◌++◌, length, map, find, filter, Option, Some, if◌then◌else◌}
 use Rattle.std.specs.Option.{option_map}
 use Rattle.std.specs.List.{AllByRecursion}
 use Rattle.handles.specs.declared.Handle.{Handle}
-use Rattle.in_order.specs.InOrder.{NumbersRise}
+use Rattle.lists.specs.InOrder.{in_order, NumbersRise}
 
 -- one application's handles in the order in which they were given, the number of the next one, and
 -- how many fit with no allocation
@@ -50,3 +50,12 @@ AreDistinct (h ∷ hs) = AllByRecursion (λ x. x.id == h.id ≡ false) hs × Are
 pub record IsTable (next_number : ℕ) (hs : List Handle) : Type 0 where
   pub rising : NumbersRise (λ h. h.number) 1 hs next_number
   pub distinct : AreDistinct hs
+
+-- these handles by rising id
+abbrev pub by_rising_id : List Handle → List Handle
+by_rising_id hs = in_order (λ h. h.id) (map Some hs)
+
+-- how a table is stored: its handles, and the same ones by rising id
+pub record IsStored (next_number : ℕ) (hs by_id : List Handle) : Type 0 where
+  pub table : IsTable next_number hs
+  pub same : by_id ≡ by_rising_id hs

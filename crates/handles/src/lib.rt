@@ -6,7 +6,9 @@
 //! what the objects are, and takes no memory.
 //!
 //! Contracts see the handles as a list in the order in which they were given, with the number of
-//! the next one. How they are stored, in a slab whose keys are used again, no contract shows.
+//! the next one. They are stored twice, by rising number and by rising id, so that a handle is found
+//! by bisection either way. A new handle comes last by its number, and mostly by its id too, since the
+//! ids of new objects rise.
 //!
 //! ```text
 //! handles.reserve(1)?;
@@ -18,21 +20,18 @@
 //! ```
 #![tactic(auto)]
 
-ghost use Rattle.std.specs.Prelude.{◌≡◌, ◌+◌, ◌^◌, ◌<◌, ◌≤◌, ◌==◌, find, nat_lt, Some, option_map, IsOk, IfSome, OnOk};
-ghost use Rattle.slab.specs.Slab.{entries};
-ghost use Rattle.in_order.specs.InOrder.{in_order};
+ghost use Rattle.std.specs.Prelude.{◌≡◌, ◌+◌, ◌^◌, ◌<◌, ◌≤◌, nat_lt, Some, IsOk, IfSome, OnOk, vec_len};
+ghost use Rattle.std.specs.List.{insert};
+ghost use Rattle.std.specs.Vec.{vec_capacity};
 ghost use Rattle.handles.specs.Handles.{no_handles, object_of, number_of, with_handle, without_object, public_handles, HasRoomFor, IsTable};
+ghost use Rattle.lists.specs.Bisection.{KeysRise, IsPlaceOf};
 
 #[cfg(test)]
 mod tests;
 
-use slab::Slab;
+use lists::NUMBER_LIMIT;
 use std::alloc::{AllocError, Global};
 use std::marker::Model;
-
-/// The least number that is no handle any more: once it is the next, a caller gives no handle
-/// (`has_numbers`).
-pub const NUMBER_LIMIT: u64 = 1 << 63;
 
 /// A handle: its number, the id of its object, and whether that object is private (CKA_PRIVATE).
 #[derive(Clone, Copy, Debug, PartialEq, Eq)]
@@ -45,19 +44,23 @@ pub struct Handle {
 /// One application's handles of token objects.
 #[derive(Drop)]
 pub struct Handles {
-    entries: Slab<Handle>,
+    /// By rising number.
+    entries: Vec<Handle>,
+    /// The same handles by rising id.
+    by_id: Vec<Handle>,
     next_number: u64,
 }
 
 impl Model for Handles {
-    ghost use Rattle.in_order.specs.InOrder.{in_order};
-    ghost use Rattle.handles.specs.Handles.{HandleTable, IsTable};
+    ghost use Rattle.std.specs.Prelude.{min};
+    ghost use Rattle.std.specs.Vec.{vec_capacity};
+    ghost use Rattle.handles.specs.Handles.{HandleTable, IsStored};
 
     ghost Value = { HandleTable };
 
-    ghost view = { λ h. record { entries = in_order (λ e. e.number) h.entries.slots; next_number = h.next_number; capacity = h.entries.capacity } };
+    ghost view = { λ h. record { entries = h.entries.items; next_number = h.next_number; capacity = min (vec_capacity h.entries) (vec_capacity h.by_id) } };
 
-    ghost invariant = { λ h. IsTable h.next_number (in_order (λ e. e.number) h.entries.slots) };
+    ghost invariant = { λ h. IsStored h.next_number h.entries.items h.by_id.items };
 }
 
 impl Handles {
@@ -66,7 +69,8 @@ impl Handles {
         ensures { result ≡ no_handles }
     {
         Handles {
-            entries: Slab::new(alloc),
+            entries: Vec::new(alloc),
+            by_id: Vec::new(alloc),
             next_number: 1,
         }
     }
@@ -92,7 +96,10 @@ impl Handles {
         ensures matched { IfSome result (λ id. number_of self.now.entries id ≡ Some number) }
         ensures table { IsTable self.now.next_number self.now.entries }
     {
-        find_number(&self.entries, number).map(|handle| handle.id)
+        match place_of_number(&self.entries, number) {
+            Ok(at) => Some(self.entries[at].id),
+            Err(_) => None,
+        }
     }
 
     /// The handle of the object with this id.
@@ -101,7 +108,10 @@ impl Handles {
         ensures matched { IfSome result (λ number. object_of self.now.entries number ≡ Some id) }
         ensures table { IsTable self.now.next_number self.now.entries }
     {
-        find_object(&self.entries, id).map(|handle| handle.number)
+        match place_of_id(&self.by_id, id) {
+            Ok(at) => Some(self.by_id[at].number),
+            Err(_) => None,
+        }
     }
 
     /// Makes room for so many more handles. It fails only for want of memory, and either way the
@@ -112,7 +122,8 @@ impl Handles {
         ensures same { self.new ≡ record self.old { capacity = self.new.capacity } }
         ensures grows { self.old.capacity ≤ self.new.capacity }
     {
-        self.entries.reserve(additional)
+        self.entries.reserve(additional)?;
+        self.by_id.reserve(additional)
     }
 
     /// The handle of an object: the one that it has, or else the next one, which notes whether the
@@ -123,15 +134,18 @@ impl Handles {
         ensures given { self.new ≡ with_handle self.old id private }
         ensures number { number_of self.new.entries id ≡ Some result }
     {
-        if let Some(number) = self.number_of(id) {
-            return number;
-        }
+        let at = match place_of_id(&self.by_id, id) {
+            Ok(at) => return self.by_id[at].number,
+            Err(at) => at,
+        };
         let number = self.next_number;
-        self.entries.insert_reserved(Handle {
+        let handle = Handle {
             number,
             id,
             private,
-        });
+        };
+        self.entries.push_reserved(handle);
+        insert_reserved(&mut self.by_id, at, handle);
         self.next_number += 1;
         number
     }
@@ -152,6 +166,7 @@ impl Handles {
         ensures { self.new ≡ record self.old { entries = without_object self.old.entries id } }
     {
         remove_object(&mut self.entries, id);
+        remove_object(&mut self.by_id, id);
     }
 
     /// Retires the handles of private objects. No memory is taken.
@@ -159,37 +174,46 @@ impl Handles {
         ensures { self.new ≡ record self.old { entries = public_handles self.old.entries } }
     {
         remove_private(&mut self.entries);
+        remove_private(&mut self.by_id);
     }
 }
 
-fn find_number(handles: &Slab<Handle>, number: u64) -> Option<Handle>
-    ensures { result ≡ option_map (λ e. e.1) (find (λ e. e.1.number == number) (entries handles.now)) }
+/// Where the handle with this number stands among handles by rising number, or where it would go.
+fn place_of_number(handles: &[Handle], number: u64) -> Result<usize, usize>
+    requires { KeysRise (λ h. h.number) handles.now }
+    ensures { IsPlaceOf (λ h. h.number) handles.now number result }
 {
-    handles
-        .iter()
-        .find(|(_, handle)| handle.number == number)
-        .map(|(_, handle)| *handle)
+    handles.binary_search_by_key(&number, |handle| handle.number)
 }
 
-fn find_object(handles: &Slab<Handle>, id: u64) -> Option<Handle>
-    ensures { result ≡ option_map (λ e. e.1) (find (λ e. e.1.id == id) (entries handles.now)) }
+/// Where the handle of this object stands among handles by rising id, or where it would go.
+fn place_of_id(handles: &[Handle], id: u64) -> Result<usize, usize>
+    requires { KeysRise (λ h. h.id) handles.now }
+    ensures { IsPlaceOf (λ h. h.id) handles.now id result }
 {
-    handles
-        .iter()
-        .find(|(_, handle)| handle.id == id)
-        .map(|(_, handle)| *handle)
+    handles.binary_search_by_key(&id, |handle| handle.id)
 }
 
-fn remove_object(handles: &mut Slab<Handle>, id: u64)
-    ensures left { in_order (λ h. h.number) handles.new.slots ≡ without_object (in_order (λ h. h.number) handles.old.slots) id }
-    ensures capacity { handles.new.capacity ≡ handles.old.capacity }
+/// Puts a handle into the place where it goes, as there is room.
+fn insert_reserved(handles: &mut Vec<Handle>, at: usize, handle: Handle)
+    requires place { at ≤ vec_len handles.old }
+    requires room { vec_len handles.old < vec_capacity handles.old }
+    ensures items { handles.new.items ≡ insert handles.old.items at handle }
+    ensures capacity { vec_capacity handles.new ≡ vec_capacity handles.old }
 {
-    handles.retain(|_, handle| handle.id != id);
+    let _inserted = handles.insert(at, handle);
 }
 
-fn remove_private(handles: &mut Slab<Handle>)
-    ensures left { in_order (λ h. h.number) handles.new.slots ≡ public_handles (in_order (λ h. h.number) handles.old.slots) }
-    ensures capacity { handles.new.capacity ≡ handles.old.capacity }
+fn remove_object(handles: &mut Vec<Handle>, id: u64)
+    ensures left { handles.new.items ≡ without_object handles.old.items id }
+    ensures capacity { vec_capacity handles.new ≡ vec_capacity handles.old }
 {
-    handles.retain(|_, handle| !handle.private);
+    handles.retain(|handle| handle.id != id);
+}
+
+fn remove_private(handles: &mut Vec<Handle>)
+    ensures left { handles.new.items ≡ public_handles handles.old.items }
+    ensures capacity { vec_capacity handles.new ≡ vec_capacity handles.old }
+{
+    handles.retain(|handle| !handle.private);
 }

@@ -38,3 +38,36 @@ fn a_logout_retires_the_handles_of_private_objects(rt: HostRuntime) -> Result<()
     }
     Ok(())
 }
+
+#[test]
+fn an_object_is_found_whatever_the_order_of_ids(rt: HostRuntime) -> Result<(), Fail> {
+    let mut handles = Handles::new(rt.alloc());
+    let ids = [40, 10, 50, 20, 30, 60, 5];
+    for id in ids {
+        handles.reserve(1)?;
+        assert!(rt; handles.has_numbers());
+        handles.give(id, false);
+    }
+    handles.retire(20);
+    let numbers = [
+        (5, Some(7)),
+        (10, Some(2)),
+        (20, None),
+        (30, Some(5)),
+        (40, Some(1)),
+        (50, Some(3)),
+        (60, Some(6)),
+        (70, None),
+    ];
+    for (id, number) in numbers {
+        assert_eq!(rt; handles.number_of(id), number, "object {id}");
+        if let Some(number) = number {
+            assert_eq!(rt; handles.object_of(number), Some(id));
+        }
+    }
+    handles.reserve(1)?;
+    assert!(rt; handles.has_numbers());
+    assert_eq!(rt; handles.give(30, false), 5);
+    assert_eq!(rt; handles.object_of(4), None);
+    Ok(())
+}

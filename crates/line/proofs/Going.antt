@@ -4,10 +4,11 @@ use Rattle.std.proofs.lemmas.Bool.{cases_eq, eq-eqb, ne_eqb}
 use Rattle.rand_chacha.specs.ChaCha.{ChaCha}
 use Rattle.ck_calls.specs.declared.reply.Reply.{Reply}
 use Rattle.keep.specs.Contents.{Contents}
-use Rattle.token.specs.declared.event.Event.TheVariants.{Gone}
-use Rattle.token.specs.Worlds.{World, goes, after}
-use Rattle.token.specs.Shown.{HasJobs}
-use Rattle.token.specs.Stores.{StoreState, TokenState, Shows}
+use Rattle.token_model.specs.declared.event.Event.TheVariants.{Gone}
+use Rattle.token_model.specs.Worlds.{World, goes, after}
+use Rattle.token.specs.Applications.{HasJobs}
+use Rattle.token_store.specs.Stores.{StoreState}
+use Rattle.token.specs.Applications.{TokenState, Shows}
 use Rattle.token.specs.Runs.{Lasting, MayLeave}
 use Rattle.line.specs.Lines.{Message, Leads, LeadsAway}
 use Rattle.line.proofs.Moving.{Idle, idle, no_jobs}

@@ -7,9 +7,9 @@ use Rattle.ck_calls.specs.declared.reply.Reply.{Reply}
 use Rattle.ck_calls.specs.Need.{random_bytes}
 use Rattle.keep.specs.Contents.{Contents}
 use Rattle.wire.specs.declared.fault.WireFault.{WireFault}
-use Rattle.token.specs.Worlds.{World, after}
-use Rattle.token.specs.Shown.{HasJobs}
-use Rattle.token.specs.Stores.{TokenState, Shows}
+use Rattle.token_model.specs.Worlds.{World, after}
+use Rattle.token.specs.Applications.{HasJobs}
+use Rattle.token.specs.Applications.{TokenState, Shows}
 use Rattle.token.specs.Runs.{MayLeave}
 use Rattle.line.specs.Words.{taken}
 use Rattle.line.specs.Lines.{Message, Calls, Finishes, acts_of, words_past, acts, words_after, refusal_of, calls_in, answers, Moved, Leads}

@@ -6,20 +6,20 @@ use Rattle.std.proofs.lemmas.Bool.{cases_eq, eq-eqb, ne_eqb}
 use Rattle.std.proofs.lemmas.List.{append-nil}
 use Rattle.ck_calls.specs.declared.call.Call.{Call as CallType}
 use Rattle.ck_calls.specs.declared.reply.Reply.{Reply}
-use Rattle.keep.specs.declared.keep.KeepFault.{KeepFault}
-use Rattle.token.specs.declared.event.Event.TheVariants.{Call, Finish}
-use Rattle.token.specs.declared.event.Out.TheVariants.{Reply as OutReply}
-use Rattle.token.specs.Views.{Question}
-use Rattle.token.specs.Answering.{Said, Replies, Asks}
-use Rattle.token.specs.Worlds.{World, value_of, Move, Goes, Refuses, event_of, reveal_to_call, reveal_to_task, answer_at, result_at, change_for, set_apart, called, says_called, told, refused, finished, happens, reply_to, after, replies}
-use Rattle.token.specs.Shown.{move_of, moved, HasJobs}
+use Rattle.token_model.specs.declared.fault.Fault.{Fault}
+use Rattle.token_model.specs.declared.event.Event.TheVariants.{Call, Finish}
+use Rattle.token_store.specs.declared.out.Out.TheVariants.{Reply as OutReply}
+use Rattle.token_model.specs.Views.{Question}
+use Rattle.token_model.specs.Answering.{Said, Replies, Asks}
+use Rattle.token_model.specs.Worlds.{World, value_of, Move, Goes, Refuses, event_of, reveal_to_call, reveal_to_task, answer_at, result_at, change_for, set_apart, called, says_called, told, refused, finished, happens, reply_to, after, replies}
+use Rattle.token.specs.Applications.{move_of, moved, HasJobs}
 use Rattle.token.specs.Runs.{Lasting, LeavesBy, LeftBy, LeftAfter, call_change}
 use Rattle.line.specs.Lines.{Act, Calls, Finishes, act_of, Moved}
-use Rattle.token.proofs.Proper.{over-result}
+use Rattle.token_model.proofs.Proper.{over-result}
 use Rattle.token.proofs.Jobs.{seen-question}
 use Rattle.line.proofs.Questions.{left_by, leaves-answer}
 
--- ---- no question is out
+-- ---- no question is pending
 
 abbrev pub Idle : World → Type 0
 Idle w = (b : ℕ) → (w.views b).question ≡ None
@@ -119,7 +119,7 @@ module _ (w : World) (i : Idle w) (app : ℕ) (call : CallType) (random : Vec �
   pub moved-reply : (r : Reply) → Replies r ≡ says_called w app call random.items (set_apart r) → showing (called w app call random.items (set_apart r))
       → ((l : Lasting) → left l → LeavesBy prior (call_change w app call random.items) answered (set_apart r) l) → Moved showing prior left w Done ((app, r) ∷ [])
   moved-reply r says sh l = both (set_apart r) says sh l where
-    both : (o : Option KeepFault) → Replies r ≡ says_called w app call random.items o → showing (called w app call random.items o)
+    both : (o : Option Fault) → Replies r ≡ says_called w app call random.items o → showing (called w app call random.items o)
         → ((l : Lasting) → left l → LeavesBy prior (call_change w app call random.items) answered o l) → Moved showing prior left w Done ((app, r) ∷ [])
     both None is s l =
         let none : (answered.views app).question ≡ None = own (Replies r) is in
@@ -150,7 +150,7 @@ module _ (w : World) (i : Idle w) (app : ℕ) (call : CallType) (random : Vec �
   moved-ask mid r q says tells sh l k =
       let out : (answered.views app).question ≡ Some q = own (Asks q) says in
       both (set_apart r) out (tells out) (sh out) (k out) where
-        both : (o : Option KeepFault) → (answered.views app).question ≡ Some q → reply_to answered (moved (Finish app) o) ≡ (app, r) ∷ [] → showing (happens answered (moved (Finish app) o))
+        both : (o : Option Fault) → (answered.views app).question ≡ Some q → reply_to answered (moved (Finish app) o) ≡ (app, r) ∷ [] → showing (happens answered (moved (Finish app) o))
             → ((l : Lasting) → left l → LeftBy mid answered (moved (Finish app) o) l) → Moved showing prior left w Done ((app, r) ∷ [])
         both None out t s k = record {
           moves = Goes (Call app call random) ∷ Goes (Finish app) ∷ [];

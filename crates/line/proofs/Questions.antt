@@ -1,13 +1,13 @@
 -- The question of an application, over every answer: the token's laws of its answers.
 use Rattle.std.proofs.Common.{◌≡◌, ℕ, List, Option, Some}
 use Rattle.ck_calls.specs.declared.call.Call.{Call}
-use Rattle.token.specs.Views.{View, Question}
-use Rattle.token.specs.Answering.{Said, Replies, Asks, Reveal}
-use Rattle.token.specs.Answers.{answer}
-use Rattle.token.proofs.Blind.{Leaves}
-use Rattle.token.proofs.Proper.{leaves-answer as token_leaves}
+use Rattle.token_model.specs.Views.{View, Question}
+use Rattle.token_model.specs.Answering.{Said, Replies, Asks, Reveal}
+use Rattle.token_model.specs.Answers.{answer}
+use Rattle.token_model.proofs.Blind.{Leaves}
+use Rattle.token_model.proofs.Proper.{leaves-answer as token_leaves}
 
--- a reply leaves the question as it was, and a question that is asked is out
+-- a reply leaves the question as it was, and a question that is asked is pending
 abbrev pub left_by : Said → Option Question → Option Question
 left_by (Replies reply) old = old
 left_by (Asks question) old = Some question

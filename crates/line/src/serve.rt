@@ -2,9 +2,9 @@
 
 ghost use Rattle.std.specs.Prelude.{◌≡◌, ◌≤◌, ◌∷◌, [], ℕ, IfErr, IfOk, false, length};
 ghost use Rattle.ck_calls.specs.Need.{random_bytes};
-ghost use Rattle.token.specs.Worlds.{World};
-ghost use Rattle.token.specs.Shown.{HasJobs};
-ghost use Rattle.token.specs.Stores.{Shows};
+ghost use Rattle.token_model.specs.Worlds.{World};
+ghost use Rattle.token.specs.Applications.{HasJobs};
+ghost use Rattle.token.specs.Applications.{Shows};
 ghost use Rattle.token.specs.Runs.{MayLeave};
 ghost use Rattle.wire.specs.Messages.{call_in};
 ghost use Rattle.line.specs.declared.fault.LineFault.TheVariants.{Memory};
@@ -216,13 +216,13 @@ pub fn serve_one<R: Read, W: Write, K: Keep>(
     token: &mut Token<K>,
     words: &mut Words,
 ) -> Result<u64, LineFault>
-    // No question is out.
+    // No question is pending.
     requires { (w : World) → Shows K.holds token.old w → HasJobs w [] }
     // The bytes written are the frames of the replies to the messages of the bytes read. While the store is
     // honest, these are a run of the token from each world that it showed, and it shows the world after
     // that, without the application.
     ensures serves { Serves (LeadsAway K.holds K.may_leave K.doubt words.old.stream token.old token.new words.old words.new) (R.remaining reader.old) (R.remaining reader.new) (W.contents writer.old) (W.contents writer.new) result }
-    // No question is out.
+    // No question is pending.
     ensures idle { K.doubt token.new.store.keep ≡ 0 → (v : World) → Shows K.holds token.old v → (w : World) → Shows K.holds token.new w → HasJobs w [] }
     // No lie of the disk is forgotten.
     ensures doubt { K.doubt token.old.store.keep ≤ K.doubt token.new.store.keep }

@@ -1,9 +1,9 @@
 //! The first run: open a session, make an AES key, begin ECB, and encrypt the block of FIPS 197, C.1.
 
 ghost use Rattle.std.specs.Prelude.{[], IfOk, Some};
-ghost use Rattle.token.specs.Worlds.{World};
-ghost use Rattle.token.specs.Shown.{HasJobs};
-ghost use Rattle.token.specs.Stores.{Shows};
+ghost use Rattle.token_model.specs.Worlds.{World};
+ghost use Rattle.token.specs.Applications.{HasJobs};
+ghost use Rattle.token.specs.Applications.{Shows};
 
 use crate::{LineFault, Words, serve_one};
 use ck_calls::{Call, Reply};

@@ -1,7 +1,7 @@
 -- Tries, charges and checks under way.
 use Rattle.std.proofs.Common.{◌≡◌, ℕ, ◌+◌, ◌≤◌, ◌<◌, Bool, true, false, cond, not, List, [], ◌∷◌, ◌++◌, length, refl, sym, ◌∙◌, ap, arith, inl, inr, is_some}
 use Rattle.std.specs.Prelude.{◌==◌, ◌&&◌, nat_lt}
-use Rattle.std.proofs.lemmas.Bool.{cases_Bool, cases_eq, eq-eqb, ne_eqb, eqb-true, ltb-true}
+use Rattle.std.proofs.lemmas.Bool.{and_parts, cases_Bool, cases_eq, eq-eqb, ne_eqb, eqb-true, ltb-true}
 use Rattle.ck_types.specs.declared.user_type.UserType.{UserType}
 use Rattle.ck_types.specs.declared.user_type.UserType.TheVariants.{So, User}
 use Rattle.pin_record.specs.Records.{TokenRecord, charged, checked, initialized_record, is_initialized, tries_limit, tries_of, verifier_of, with_pin}
@@ -97,18 +97,14 @@ unmoved who s c d true e f is = rw (e, f) is
 unmoved who s c d false e f is = is
 
 -- the three parts of a test that a check may begin
-both_true : (a b : Bool) → (a && b) ≡ true → (a ≡ true) × (b ≡ true)
-both_true true b e = (refl, e)
-both_true false b e = let k : false ≡ true = e in absurd cc
-
 not-true : (b : Bool) → not b ≡ true → b ≡ false
 not-true true e = let k : false ≡ true = e in absurd cc
 not-true false e = refl
 
 may : (c : Charges) (who : UserType) (number : ℕ) → may_begin c who number ≡ true → (tries_of c.stored who < 10) × (is_under_way (checks_of c who) number ≡ false)
 may c who number e =
-    let p = both_true (is_some (verifier_of c.stored who)) (nat_lt (tries_of c.stored who) 10 && not (is_under_way (checks_of c who) number)) e in
-    let q = both_true (nat_lt (tries_of c.stored who) 10) (not (is_under_way (checks_of c who) number)) p.1 in
+    let p = and_parts (is_some (verifier_of c.stored who)) (nat_lt (tries_of c.stored who) 10 && not (is_under_way (checks_of c who) number)) e in
+    let q = and_parts (nat_lt (tries_of c.stored who) 10) (not (is_under_way (checks_of c who) number)) p.1 in
     (ltb-true (tries_of c.stored who) 10 q.0, not-true (is_under_way (checks_of c who) number) q.1)
 
 begins : (who : UserType) (s : ℕ) (c : Charges) (number : ℕ) (b : Bool) → may_begin c who number ≡ b → IsCharged who s c → IsCharged who s (cond b (with_stored (with_checks c who (checks_of c who ++ number ∷ [])) (charged c.stored who)) c)

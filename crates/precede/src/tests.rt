@@ -93,6 +93,19 @@ fn answers_by_the_last_row_where_it_alone_holds(rt: HostRuntime) {
 }
 
 #[test]
+fn answers_by_each_row_where_it_alone_holds(rt: HostRuntime) {
+    for (function, codes) in &CODES {
+        for (place, code) in codes.iter().enumerate() {
+            assert_eq!(rt;
+                answer(*function, place, place.saturating_add(1)),
+                Some(*code),
+                "call {function}, row {place}"
+            );
+        }
+    }
+}
+
+#[test]
 fn answers_by_each_row_where_all_from_it_on_hold(rt: HostRuntime) {
     for (function, codes) in &CODES {
         assert_eq!(rt; rows(*function).len(), codes.len(), "call {function}");

@@ -6,8 +6,8 @@ use Rattle.std.specs.List.{AllByRecursion, list_any}
 use Rattle.std.proofs.lemmas.Bool.{cases_Bool, lt-ltb, le-ltb, true≢false}
 use Rattle.std.proofs.lemmas.List.Sums.{sum_by-cons}
 use Rattle.slab.specs.Slab.{entries_from}
-use Rattle.in_order.specs.InOrder.{placed, in_order, NumbersRise}
-use Rattle.in_order.proofs.InOrderLemmas.{PassesOnce, placed-cases, All-placed, PassesOnce-placed, IsOrdered-in_order, filter-placed}
+use Rattle.lists.specs.InOrder.{placed, in_order, NumbersRise}
+use Rattle.lists.proofs.InOrderLemmas.{PassesOnce, placed-cases, All-placed, PassesOnce-placed, IsOrdered-in_order, filter-placed}
 
 module _ {E : Type 0} (number : E → ℕ) where
   -- ---- a removal and a write

@@ -10,9 +10,9 @@ use Rattle.slab.specs.Slab.{Slab, get, entries_from, entries, slab_len}
 use Rattle.ck_types.specs.declared.user_type.UserType.{UserType}
 use Rattle.ck_types.specs.declared.user_type.UserType.TheVariants.{So}
 use Rattle.sessions.specs.declared.Session.{Session}
-use Rattle.in_order.specs.InOrder.{in_order, NumbersRise}
+use Rattle.lists.specs.InOrder.{in_order, NumbersRise}
 use Rattle.sessions.specs.Sessions.{SessionTable, IsTable, session_at, has_read_only, with_session, login_among, without_session, busy_with, busy_at, with_work, logged_out}
-use Rattle.in_order.proofs.InOrderLemmas.{length-in_order, find-in_order, NumbersRise-end, NumbersRise-filter, NumbersRise-push, PassesOnce-number}
+use Rattle.lists.proofs.InOrderLemmas.{length-in_order, find-in_order, NumbersRise-end, NumbersRise-filter, NumbersRise-push, PassesOnce-number}
 use Rattle.sessions.proofs.ChangeLemmas.{found_entry, in_order-remove, in_order-write, keeps_number, NumbersRise-map}
 
 -- ---- lists

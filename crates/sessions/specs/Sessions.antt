@@ -6,7 +6,7 @@ use Rattle.ck_types.specs.declared.user_type.UserType.TheVariants.{So, User}
 use Rattle.ck_types.specs.declared.session_state.SessionState.{SessionState}
 use Rattle.ck_types.specs.declared.session_state.SessionState.TheVariants as state
 use Rattle.sessions.specs.declared.Session.{Session}
-use Rattle.in_order.specs.InOrder.{NumbersRise}
+use Rattle.lists.specs.InOrder.{NumbersRise}
 
 -- one application's sessions in the order in which they were opened, who is logged in, and the
 -- number of the next session

@@ -26,20 +26,17 @@ ghost use Rattle.std.specs.Prelude.{◌≡◌, ◌<◌, ◌==◌, [], length, fi
 ghost use Rattle.std.specs.Option.{option_copied_mut};
 ghost use Rattle.std.specs.Borrow.{sem};
 ghost use Rattle.slab.specs.Slab.{entries};
-ghost use Rattle.in_order.specs.InOrder.{in_order};
+ghost use Rattle.lists.specs.InOrder.{in_order};
 ghost use Rattle.sessions.specs.Sessions.{no_sessions, session_at, state_of, has_read_only, with_session, without_session, busy_with, logged_out, IsTable};
 
 #[cfg(test)]
 mod tests;
 
 use ck_types::{SessionState, UserType};
+use lists::NUMBER_LIMIT;
 use slab::Slab;
 use std::alloc::{AllocError, Global};
 use std::marker::Model;
-
-/// The least number that is no session any more: once it is the next, no session is opened
-/// (`has_numbers`).
-pub const NUMBER_LIMIT: u64 = 1 << 63;
 
 /// How many sessions an application has at most.
 pub const SESSION_LIMIT: usize = 64;
@@ -71,7 +68,7 @@ pub struct Sessions<W> {
 }
 
 impl<W> Model for Sessions<W> {
-    ghost use Rattle.in_order.specs.InOrder.{in_order};
+    ghost use Rattle.lists.specs.InOrder.{in_order};
     ghost use Rattle.sessions.specs.Sessions.{SessionTable, IsTable};
 
     ghost Value = { SessionTable W };

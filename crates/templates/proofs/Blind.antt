@@ -1,5 +1,5 @@
 -- What a copy or a change makes of an object, and why it makes nothing, tell nothing of a value that is kept back.
-use Rattle.std.proofs.Common.{◌≡◌, ◌≢◌, ℕ, Bool, true, false, cond, ◌&&◌, ◌||◌, not, List, [], ◌∷◌, Option, Some, None, refl, sym, ap, ◌∙◌, inl, inr}
+use Rattle.std.proofs.Common.{◌≡◌, ◌≢◌, ℕ, Bool, true, cond, ◌&&◌, ◌||◌, not, List, [], ◌∷◌, Option, Some, None, refl, sym, ap, ◌∙◌, inl, inr}
 use Rattle.std.specs.Prelude.{map, take, unwrap_or}
 use Rattle.std.specs.List.{list_any}
 use Rattle.std.proofs.lemmas.Bool.{cases_Bool, cases_eq, eq-eqb, ne_eqb}
@@ -18,12 +18,12 @@ use Rattle.attrs.specs.Objects.{attribute, class_of, flag}
 use Rattle.attrs.specs.Masking.{is_masked, mask, without}
 use Rattle.attrs.specs.MaskingLaws.{attribute-mask, class_of-mask, is_masked-mask}
 use Rattle.templates.specs.declared.call.Call.{Call}
-use Rattle.templates.specs.declared.call.Call.TheVariants as call
 use Rattle.templates.specs.Call.{rule}
-use Rattle.templates.specs.Faults.{template_fault, is_about, is_unknown, is_ill_formed, contradicts, is_read_only, is_excluded, is_inconsistent, disagrees, is_missing, has_bad_len, has_bad_unwrapped_len, refuses}
-use Rattle.templates.specs.Made.{object_made, made_of, made_entries, made_value, is_renewed}
+use Rattle.templates.specs.Faults.{template_fault, is_about, is_unknown, is_ill_formed, contradicts, is_read_only, is_inconsistent, disagrees, is_missing, has_bad_len, has_bad_unwrapped_len, refuses}
+use Rattle.templates.specs.Made.{alters, by_default, object_made, made_of, made_entries, made_value, is_renewed}
 use Rattle.templates.proofs.NoFault.{faultless}
-use Rattle.templates.proofs.Masked.{key_class, copied_masked, changed_masked}
+use Rattle.templates.proofs.Changes.{fixed_value, made_class-altered}
+use Rattle.templates.proofs.Masked.{key_class, stays_masked}
 
 -- ---- codes
 
@@ -31,19 +31,7 @@ any-same : (p q : Entry → Bool) (es : List Entry) → ((e : Entry) → p e ≡
 any-same p q [] same = refl
 any-same p q (e ∷ es) same = ap (λ b. b || list_any p es) (same e) ∙ ap (λ b. q e || b) (any-same p q es same)
 
--- no key's value is given, whatever it is
-abbrev RefusesValue : Call → Type 0
-RefusesValue c = (s : SessionState) (p : Option (List ℕ)) (v : List ℕ) → list_any (λ r. is_about (Some SecretKey) (attr_type_number attr.Value) r && refuses (rule c r) s p v) attribute_table ≡ true
-
-copy_refuses : RefusesValue call.Copy
-unfolding attribute_table
-copy_refuses s p v = refl
-
-set_refuses : RefusesValue call.Set
-unfolding attribute_table
-set_refuses s p v = refl
-
-module _ (c : Call) (refused : RefusesValue c) (s : SessionState) where
+module _ (c : Call) (alt : alters c ≡ true) (s : SessionState) where
   abbrev read_only_by : Option ObjectClass → ℕ → Option (List ℕ) → List ℕ → Bool
   read_only_by class n present v = list_any (λ r. is_about class n r && refuses (rule c r) s present v) attribute_table
 
@@ -51,7 +39,7 @@ module _ (c : Call) (refused : RefusesValue c) (s : SessionState) where
   value-refused o e class is =
       ap (λ k. read_only_by k e.number (attribute o e.number) e.value) class
       ∙ ap (λ n. read_only_by (Some SecretKey) n (attribute o n) e.value) is
-      ∙ refused s (attribute o (attr_type_number attr.Value)) e.value
+      ∙ fixed_value c alt s (attribute o (attr_type_number attr.Value)) e.value
 
   read_only-mask : (o : List Entry) (e : Entry) → is_read_only c s (mask o) e ≡ is_read_only c s o e
   read_only-mask o e = elim (cases_eq e.number (attr_type_number attr.Value)) [
@@ -76,7 +64,7 @@ module _ (c : Call) (refused : RefusesValue c) (s : SessionState) where
       cond (has_bad_len c template) (Some rv.AttributeValueInvalid) (
       cond (has_bad_unwrapped_len c template) (Some rv.WrappedKeyLenRange) None)))))))
 
-  fault-mask : (o template : List Entry) → template_fault c s (mask o) template ≡ template_fault c s o template
+  pub fault-mask : (o template : List Entry) → template_fault c s (mask o) template ≡ template_fault c s o template
   unfolding template_fault
   fault-mask o template =
       let unknown = λ (k : Option ObjectClass). list_any (is_unknown k) template in
@@ -84,12 +72,6 @@ module _ (c : Call) (refused : RefusesValue c) (s : SessionState) where
       let read_only = λ (x : List Entry). list_any (is_read_only c s x) template in
       ap (λ k. fault_by template (unknown k) (read_only (mask o)) (excluded k)) (class_of-mask o)
       ∙ ap (λ b. fault_by template (unknown (class_of o)) b (excluded (class_of o))) (any-same (is_read_only c s (mask o)) (is_read_only c s o) template (read_only-mask o))
-
-pub copy_fault-mask : (s : SessionState) (o template : List Entry) → template_fault call.Copy s (mask o) template ≡ template_fault call.Copy s o template
-copy_fault-mask s o template = fault-mask call.Copy copy_refuses s o template
-
-pub set_fault-mask : (s : SessionState) (o template : List Entry) → template_fault call.Set s (mask o) template ≡ template_fault call.Set s o template
-set_fault-mask s o template = fault-mask call.Set set_refuses s o template
 
 -- ---- objects
 
@@ -111,32 +93,22 @@ IsBlind c o template random = mask (object_made c (mask o) template random []) �
 both-masked : (x y : List Entry) → is_masked x ≡ true → is_masked y ≡ true → without attr.Value x ≡ without attr.Value y → mask x ≡ mask y
 both-masked x y p q same = ap (λ b. cond b (without attr.Value x) x) p ∙ same ∙ sym (ap (λ b. cond b (without attr.Value y) y) q)
 
-pub copy_made-mask : (s : SessionState) (o template : List Entry) (random : List ℕ) → template_fault call.Copy s o template ≡ None → IsBlind call.Copy o template random
-copy_made-mask s o template random none = elim (cases_Bool (is_masked o)) [
-  | inl masked ↦
-      let class = key_class (class_of o) (flag o attr.Sensitive || not (flag o attr.Extractable)) masked in
-      let x = made_entries call.Copy SecretKey (mask o) template random [] in
-      let y = made_entries call.Copy SecretKey o template random [] in
-      let same : (r : AttributeRow) → row_number r ≢ attr_type_number attr.Value → made_value call.Copy SecretKey (mask o) template random [] r ≡ made_value call.Copy SecretKey o template random [] r =
-      λ r other. ap (λ a. cond (is_renewed call.Copy r) (encode_lower (take 16 random)) (unwrap_or (attribute template (row_number r)) (unwrap_or a []))) (attribute-mask o (row_number r) other) in
-      ap (λ k. mask (made_of k call.Copy (mask o) template random [])) (class_of-mask o ∙ class)
-      ∙ both-masked x y (copied_masked s (mask o) template random (faultless call.Copy s (mask o) template (copy_fault-mask s o template ∙ none)) (is_masked-mask o ∙ masked)) (copied_masked s o template random (faultless call.Copy s o template none) masked)
-      (without-same (made_value call.Copy SecretKey (mask o) template random []) (made_value call.Copy SecretKey o template random []) (rows_of SecretKey) same)
-      ∙ sym (ap (λ k. mask (made_of k call.Copy o template random [])) class)
-  | inr shown ↦ ap (λ b. mask (object_made call.Copy (cond b (without attr.Value o) o) template random [])) shown
-]
+module _ (c : Call) (alt : alters c ≡ true) (s : SessionState) (o template : List Entry) (random : List ℕ) (none : template_fault c s o template ≡ None) where
+  -- what a key is made of
+  at_key : (x : List Entry) → class_of x ≡ Some SecretKey → mask (object_made c x template random []) ≡ mask (made_entries c SecretKey x template random [])
+  at_key x class = ap (λ k. mask (made_of k c x template random [])) (made_class-altered c alt x template ∙ class)
 
-pub set_made-mask : (s : SessionState) (o template : List Entry) (random : List ℕ) → template_fault call.Set s o template ≡ None → IsBlind call.Set o template random
-set_made-mask s o template random none = elim (cases_Bool (is_masked o)) [
-  | inl masked ↦
-      let class = key_class (class_of o) (flag o attr.Sensitive || not (flag o attr.Extractable)) masked in
-      let x = made_entries call.Set SecretKey (mask o) template random [] in
-      let y = made_entries call.Set SecretKey o template random [] in
-      let same : (r : AttributeRow) → row_number r ≢ attr_type_number attr.Value → made_value call.Set SecretKey (mask o) template random [] r ≡ made_value call.Set SecretKey o template random [] r =
-      λ r other. ap (λ a. cond (is_renewed call.Set r) (encode_lower (take 16 random)) (unwrap_or (attribute template (row_number r)) (unwrap_or a []))) (attribute-mask o (row_number r) other) in
-      ap (λ k. mask (made_of k call.Set (mask o) template random [])) (class_of-mask o ∙ class)
-      ∙ both-masked x y (changed_masked s (mask o) template random (faultless call.Set s (mask o) template (set_fault-mask s o template ∙ none)) (is_masked-mask o ∙ masked)) (changed_masked s o template random (faultless call.Set s o template none) masked)
-      (without-same (made_value call.Set SecretKey (mask o) template random []) (made_value call.Set SecretKey o template random []) (rows_of SecretKey) same)
-      ∙ sym (ap (λ k. mask (made_of k call.Set o template random [])) class)
-  | inr shown ↦ ap (λ b. mask (object_made call.Set (cond b (without attr.Value o) o) template random [])) shown
-]
+  pub made-mask : IsBlind c o template random
+  made-mask = elim (cases_Bool (is_masked o)) [
+    | inl masked ↦
+        let class = key_class (class_of o) (flag o attr.Sensitive || not (flag o attr.Extractable)) masked in
+        let x = made_entries c SecretKey (mask o) template random [] in
+        let y = made_entries c SecretKey o template random [] in
+        let same : (r : AttributeRow) → row_number r ≢ attr_type_number attr.Value → made_value c SecretKey (mask o) template random [] r ≡ made_value c SecretKey o template random [] r =
+        λ r other. ap (λ a. cond (is_renewed c r) (encode_lower (take 16 random)) (unwrap_or (attribute template (row_number r)) (cond (alters c) (unwrap_or a []) (by_default r.default c SecretKey template [] r.attribute)))) (attribute-mask o (row_number r) other) in
+        at_key (mask o) (class_of-mask o ∙ class)
+        ∙ both-masked x y (stays_masked c alt s (mask o) template random (faultless c s (mask o) template (fault-mask c alt s o template ∙ none)) (is_masked-mask o ∙ masked)) (stays_masked c alt s o template random (faultless c s o template none) masked)
+        (without-same (made_value c SecretKey (mask o) template random []) (made_value c SecretKey o template random []) (rows_of SecretKey) same)
+        ∙ sym (at_key o class)
+    | inr shown ↦ ap (λ b. mask (object_made c (cond b (without attr.Value o) o) template random [])) shown
+  ]

@@ -1,8 +1,11 @@
 -- Where no condition holds, a copy or a changed object is an object.
-use Rattle.std.proofs.Common.{◌≡◌, ℕ, true, eqb, List, [], ◌∷◌, Option, Some, None, refl, sym, ap, ◌∙◌}
-use Rattle.std.specs.Prelude.{unwrap_or}
+use Rattle.std.proofs.Common.{◌≡◌, ℕ, Bool, true, false, cond, eqb, ◌&&◌, ◌||◌, List, [], ◌∷◌, Option, Some, None, refl, sym, ap, subst, ◌∙◌}
+use Rattle.std.specs.Prelude.{map, take, unwrap_or}
 use Rattle.std.specs.List.{list_any, AllByRecursion}
+use Rattle.std.proofs.lemmas.Bool.{and_parts, eqb-true}
+use Rattle.hex.specs.Hex.{encode_lower}
 use Rattle.ck_types.specs.declared.entry.Entry.{Entry}
+use Rattle.ck_types.specs.declared.attr_type.AttrType.{AttrType}
 use Rattle.ck_types.specs.declared.attr_type.AttrType.TheVariants as attr
 use Rattle.ck_types.specs.declared.object_class.ObjectClass.{ObjectClass}
 use Rattle.ck_types.specs.declared.object_class.ObjectClass.TheVariants.{Data, SecretKey}
@@ -10,12 +13,15 @@ use Rattle.ck_types.specs.declared.session_state.SessionState.{SessionState}
 use Rattle.ck_types.specs.Numbers.{attr_type_number}
 use Rattle.attrs.specs.declared.table.AttributeRow.{AttributeRow}
 use Rattle.attrs.specs.Table.{attribute_table, row_number, rows_of, is_held_by}
-use Rattle.attrs.specs.Objects.{attribute, attribute_of, class_of, class_at, number_of, key_type_at, has_form, is_of_class, flag, is_true, IsObject, fits_rows, is_key_value, has_key_value}
+use Rattle.attrs.specs.Objects.{attribute, attribute_of, class_of, class_at, number_of, key_type_at, has_form, is_of_class, is_true, IsObject, fits_rows, is_key_value, has_key_value}
 use Rattle.attrs.specs.ObjectLaws.{class_at-none, fits_rows-held}
+use Rattle.templates.specs.declared.call.Call.{Call}
 use Rattle.templates.specs.declared.call.Call.TheVariants as call
-use Rattle.templates.specs.Made.{made_entries}
+use Rattle.templates.specs.Call.{rule}
+use Rattle.templates.specs.Faults.{is_about, refuses}
+use Rattle.templates.specs.Made.{alters, by_default, made_class, made_entries, made_value}
 use Rattle.templates.specs.Guarded.{StaysPlaced}
-use Rattle.templates.proofs.Entries.{both_true, AllByRecursion-filter}
+use Rattle.templates.proofs.Entries.{AllByRecursion-filter}
 use Rattle.templates.proofs.Formed.{IsFormed, table_formed, held_formed, row_formed}
 use Rattle.templates.proofs.NoFault.{IsFaultless, not_read_only}
 use Rattle.templates.proofs.Whole.{made_fit, is_data_object, is_key_object}
@@ -61,7 +67,7 @@ pub data_rows_fit : (es : List Entry) → class_of es ≡ Some Data → IsObject
 data_rows_fit es class is = ap (λ (k : Option ObjectClass). is_of_class k es) (sym class) ∙ is
 
 pub key_fits : (es : List Entry) → class_of es ≡ Some SecretKey → IsObject es → (fits_rows (rows_of SecretKey) es ≡ true) × (has_key_value es ≡ true)
-key_fits es class is = both_true (fits_rows (rows_of SecretKey) es) (has_key_value es) (ap (λ (k : Option ObjectClass). is_of_class k es) (sym class) ∙ is)
+key_fits es class is = and_parts (fits_rows (rows_of SecretKey) es) (has_key_value es) (ap (λ (k : Option ObjectClass). is_of_class k es) (sym class) ∙ is)
 
 -- ---- the parts of a changed object
 
@@ -79,101 +85,116 @@ key_kept es new class keeps value fits =
     ∙ ap (λ (o : Option (List ℕ)). is_key_value (key_type_at (number_of (attribute_of es attr.KeyType))) (attribute_of es attr.Value) (number_of o)) keeps.len_is
     ∙ value)
 
--- ---- C_CopyObject
+-- ---- a copy, or a changed object
 
-pub copied_keeps_class : (s : SessionState) (original template : List Entry) (random : List ℕ) → class_of original ≡ Some SecretKey → IsFaultless call.Copy s original template
-    → attribute_of (made_entries call.Copy SecretKey original template random []) attr.Class ≡ attribute_of original attr.Class
+-- what holds of C_CopyObject and of C_SetAttributeValue
+pub both : (P : Call → Type 0) → P call.Copy → P call.Set → (c : Call) → alters c ≡ true → P c
+both P copy set call.Create e = absurd cc
+both P copy set (call.Generate m) e = absurd cc
+both P copy set (call.Unwrap n) e = absurd cc
+both P copy set call.Copy e = copy
+both P copy set call.Set e = set
+
+-- the class stays
+pub made_class-altered : (c : Call) → alters c ≡ true → (original template : List Entry) → made_class c original template ≡ class_of original
+made_class-altered c alt original template = both (λ c. made_class c original template ≡ class_of original) refl refl c alt
+
+-- whether a call refuses a value of a type
+abbrev pub refused_by : Call → ObjectClass → AttrType → SessionState → Option (List ℕ) → List ℕ → Bool
+refused_by c k t s present v = list_any (λ r. is_about (Some k) (attr_type_number t) r && refuses (rule c r) s present v) attribute_table
+
+-- it refuses each
+abbrev pub IsFixed : ObjectClass → AttrType → Call → Type 0
+IsFixed k t c = (s : SessionState) (present : Option (List ℕ)) (v : List ℕ) → refused_by c k t s present v ≡ true
+
+-- what is given, else what was there
+abbrev pub given_or_kept : List Entry → List Entry → ℕ → List ℕ
+given_or_kept original template n = unwrap_or (attribute template n) (unwrap_or (attribute original n) [])
+
+row_kept : (c : Call) → alters c ≡ true → (k : ObjectClass) (original template : List Entry) (random : List ℕ) (n : ℕ) → eqb n (attr_type_number attr.UniqueId) ≡ false → (r : AttributeRow) → row_number r ≡ n
+    → made_value c k original template random [] r ≡ given_or_kept original template n
+row_kept c alt k original template random n other r is =
+    let digits = encode_lower (take 16 random) in
+    both (λ c. made_value c k original template random [] r ≡ given_or_kept original template n)
+    (ap (λ (m : ℕ). cond (eqb m (attr_type_number attr.UniqueId)) digits (given_or_kept original template m)) is ∙ ap (λ (b : Bool). cond b digits (given_or_kept original template n)) other)
+    (ap (given_or_kept original template) is)
+    c alt
+
+at_row : (f : AttributeRow → List ℕ) (v : List ℕ) (n : ℕ) → ((r : AttributeRow) → row_number r ≡ n → f r ≡ v) → (rs : List AttributeRow) → list_any (λ r. eqb (row_number r) n) rs ≡ true
+    → attribute (map (λ r. record { number = row_number r; value = f r }) rs) n ≡ Some v
+at_row f v n same [] there = absurd cc
+at_row f v n same (r ∷ rs) there =
+    let rest = attribute (map (λ r. record { number = row_number r; value = f r }) rs) n in
+    let step : (b : Bool) → eqb (row_number r) n ≡ b → (b || list_any (λ r. eqb (row_number r) n) rs) ≡ true → cond b (Some (f r)) rest ≡ Some v =
+    λ b. elim b as (λ d. eqb (row_number r) n ≡ d → (d || list_any (λ r. eqb (row_number r) n) rs) ≡ true → cond d (Some (f r)) rest ≡ Some v) [
+      | true ↦ λ is e. ap (λ (w : List ℕ). Some w) (same r (eqb-true (row_number r) n is))
+      | false ↦ λ is e. at_row f v n same rs e
+    ] in
+    step (eqb (row_number r) n) refl there
+
+pub kept_at : (c : Call) → alters c ≡ true → (k : ObjectClass) (original template : List Entry) (random : List ℕ) (n : ℕ) → eqb n (attr_type_number attr.UniqueId) ≡ false → list_any (λ r. eqb (row_number r) n) (rows_of k) ≡ true
+    → attribute (made_entries c k original template random []) n ≡ Some (given_or_kept original template n)
+kept_at c alt k original template random n other there =
+    at_row (made_value c k original template random []) (given_or_kept original template n) n (row_kept c alt k original template random n other) (rows_of k) there
+
+fixed_class : (c : Call) → alters c ≡ true → (k : ObjectClass) → IsFixed k attr.Class c
 unfolding attribute_table
-copied_keeps_class s original template random class ok =
-    stays template original (attr_type_number attr.Class) (not_read_only call.Copy s (Some SecretKey) original template (attr_type_number attr.Class) class (λ p v. refl) ok.writable) (held_class SecretKey original class)
+fixed_class c alt Data = both (IsFixed Data attr.Class) (λ s p v. refl) (λ s p v. refl) c alt
+fixed_class c alt SecretKey = both (IsFixed SecretKey attr.Class) (λ s p v. refl) (λ s p v. refl) c alt
 
-copied_keeps_keytype : (s : SessionState) (original template : List Entry) (random : List ℕ) → class_of original ≡ Some SecretKey → IsFaultless call.Copy s original template → fits_rows (rows_of SecretKey) original ≡ true
-    → attribute_of (made_entries call.Copy SecretKey original template random []) attr.KeyType ≡ attribute_of original attr.KeyType
+fixed_type : (c : Call) → alters c ≡ true → IsFixed SecretKey attr.KeyType c
 unfolding attribute_table
-copied_keeps_keytype s original template random class ok fits =
-    stays template original (attr_type_number attr.KeyType) (not_read_only call.Copy s (Some SecretKey) original template (attr_type_number attr.KeyType) class (λ p v. refl) ok.writable) (fits_rows-held (rows_of SecretKey) original (attr_type_number attr.KeyType) fits refl)
+fixed_type = both (IsFixed SecretKey attr.KeyType) (λ s p v. refl) (λ s p v. refl)
 
-copied_keeps_value : (s : SessionState) (original template : List Entry) (random : List ℕ) → class_of original ≡ Some SecretKey → IsFaultless call.Copy s original template → fits_rows (rows_of SecretKey) original ≡ true
-    → attribute_of (made_entries call.Copy SecretKey original template random []) attr.Value ≡ attribute_of original attr.Value
+pub fixed_value : (c : Call) → alters c ≡ true → IsFixed SecretKey attr.Value c
 unfolding attribute_table
-copied_keeps_value s original template random class ok fits =
-    stays template original (attr_type_number attr.Value) (not_read_only call.Copy s (Some SecretKey) original template (attr_type_number attr.Value) class (λ p v. refl) ok.writable) (fits_rows-held (rows_of SecretKey) original (attr_type_number attr.Value) fits refl)
+fixed_value = both (IsFixed SecretKey attr.Value) (λ s p v. refl) (λ s p v. refl)
 
-copied_keeps_valuelen : (s : SessionState) (original template : List Entry) (random : List ℕ) → class_of original ≡ Some SecretKey → IsFaultless call.Copy s original template → fits_rows (rows_of SecretKey) original ≡ true
-    → attribute_of (made_entries call.Copy SecretKey original template random []) attr.ValueLen ≡ attribute_of original attr.ValueLen
+fixed_len : (c : Call) → alters c ≡ true → IsFixed SecretKey attr.ValueLen c
 unfolding attribute_table
-copied_keeps_valuelen s original template random class ok fits =
-    stays template original (attr_type_number attr.ValueLen) (not_read_only call.Copy s (Some SecretKey) original template (attr_type_number attr.ValueLen) class (λ p v. refl) ok.writable) (fits_rows-held (rows_of SecretKey) original (attr_type_number attr.ValueLen) fits refl)
+fixed_len = both (IsFixed SecretKey attr.ValueLen) (λ s p v. refl) (λ s p v. refl)
 
-copied_data_keeps_class : (s : SessionState) (original template : List Entry) (random : List ℕ) → class_of original ≡ Some Data → IsFaultless call.Copy s original template → fits_rows (rows_of Data) original ≡ true
-    → attribute_of (made_entries call.Copy Data original template random []) attr.Class ≡ attribute_of original attr.Class
+has_class : (k : ObjectClass) → list_any (λ r. eqb (row_number r) (attr_type_number attr.Class)) (rows_of k) ≡ true
 unfolding attribute_table
-copied_data_keeps_class s original template random class ok fits =
-    stays template original (attr_type_number attr.Class) (not_read_only call.Copy s (Some Data) original template (attr_type_number attr.Class) class (λ p v. refl) ok.writable) (fits_rows-held (rows_of Data) original (attr_type_number attr.Class) fits refl)
+has_class Data = refl
+has_class SecretKey = refl
 
-pub copied_is_object : (s : SessionState) (original template : List Entry) (random : List ℕ) (class : ObjectClass) → class_of original ≡ Some class → IsObject original → IsFaultless call.Copy s original template → IsObject (made_entries call.Copy class original template random [])
-copied_is_object s original template random Data class is ok =
-    let fits = data_rows_fit original class is in
-    is_data_object (made_entries call.Copy Data original template random []) (ap (λ (o : Option (List ℕ)). class_at (number_of o)) (copied_data_keeps_class s original template random class ok fits) ∙ class)
-    (made_fit call.Copy Data original template random [] ok.formed (original_formed Data original fits))
-copied_is_object s original template random SecretKey class is ok =
-    let fits = key_fits original class is in
-    key_kept original (made_entries call.Copy SecretKey original template random []) class
-    (record {
-      class_is = copied_keeps_class s original template random class ok;
-      type_is = copied_keeps_keytype s original template random class ok fits.0;
-      value_is = copied_keeps_value s original template random class ok fits.0;
-      len_is = copied_keeps_valuelen s original template random class ok fits.0;
-    })
-    fits.1 (made_fit call.Copy SecretKey original template random [] ok.formed (original_formed SecretKey original fits.0))
+module _ (c : Call) (alt : alters c ≡ true) (s : SessionState) (original template : List Entry) (random : List ℕ) (ok : IsFaultless c s original template) where
+  abbrev new : ObjectClass → List Entry
+  new k = made_entries c k original template random []
 
--- ---- C_SetAttributeValue
+  keeps : (k : ObjectClass) (t : AttrType) → class_of original ≡ Some k → IsFixed k t c → eqb (attr_type_number t) (attr_type_number attr.UniqueId) ≡ false → list_any (λ r. eqb (row_number r) (attr_type_number t)) (rows_of k) ≡ true
+      → (attribute_of original t ≡ None → ⊥) → attribute_of (new k) t ≡ attribute_of original t
+  keeps k t class fixed other there held =
+      kept_at c alt k original template random (attr_type_number t) other there
+      ∙ stays template original (attr_type_number t) (not_read_only c s (Some k) original template (attr_type_number t) class (fixed s) ok.writable) held
 
-pub changed_keeps_class : (s : SessionState) (original template : List Entry) (random : List ℕ) → class_of original ≡ Some SecretKey → IsFaultless call.Set s original template
-    → attribute_of (made_entries call.Set SecretKey original template random []) attr.Class ≡ attribute_of original attr.Class
-unfolding attribute_table
-changed_keeps_class s original template random class ok =
-    stays template original (attr_type_number attr.Class) (not_read_only call.Set s (Some SecretKey) original template (attr_type_number attr.Class) class (λ p v. refl) ok.writable) (held_class SecretKey original class)
+  pub keeps_class : (k : ObjectClass) → class_of original ≡ Some k → class_of (new k) ≡ Some k
+  keeps_class k class =
+      ap (λ (o : Option (List ℕ)). class_at (number_of o)) (keeps k attr.Class class (fixed_class c alt k) refl (has_class k) (held_class k original class)) ∙ class
 
-changed_keeps_keytype : (s : SessionState) (original template : List Entry) (random : List ℕ) → class_of original ≡ Some SecretKey → IsFaultless call.Set s original template → fits_rows (rows_of SecretKey) original ≡ true
-    → attribute_of (made_entries call.Set SecretKey original template random []) attr.KeyType ≡ attribute_of original attr.KeyType
-unfolding attribute_table
-changed_keeps_keytype s original template random class ok fits =
-    stays template original (attr_type_number attr.KeyType) (not_read_only call.Set s (Some SecretKey) original template (attr_type_number attr.KeyType) class (λ p v. refl) ok.writable) (fits_rows-held (rows_of SecretKey) original (attr_type_number attr.KeyType) fits refl)
+  keeps_part : (t : AttrType) → class_of original ≡ Some SecretKey → fits_rows (rows_of SecretKey) original ≡ true → IsFixed SecretKey t c → eqb (attr_type_number t) (attr_type_number attr.UniqueId) ≡ false
+      → list_any (λ r. eqb (row_number r) (attr_type_number t)) (rows_of SecretKey) ≡ true → attribute_of (new SecretKey) t ≡ attribute_of original t
+  keeps_part t class fits fixed other there = keeps SecretKey t class fixed other there (fits_rows-held (rows_of SecretKey) original (attr_type_number t) fits there)
 
-changed_keeps_value : (s : SessionState) (original template : List Entry) (random : List ℕ) → class_of original ≡ Some SecretKey → IsFaultless call.Set s original template → fits_rows (rows_of SecretKey) original ≡ true
-    → attribute_of (made_entries call.Set SecretKey original template random []) attr.Value ≡ attribute_of original attr.Value
-unfolding attribute_table
-changed_keeps_value s original template random class ok fits =
-    stays template original (attr_type_number attr.Value) (not_read_only call.Set s (Some SecretKey) original template (attr_type_number attr.Value) class (λ p v. refl) ok.writable) (fits_rows-held (rows_of SecretKey) original (attr_type_number attr.Value) fits refl)
+  new_fits : (k : ObjectClass) → fits_rows (rows_of k) original ≡ true → fits_rows (rows_of k) (new k) ≡ true
+  new_fits k fits =
+      made_fit c k original template random [] ok.formed
+      (subst (λ (b : Bool). AllByRecursion (λ r. has_form r.form (cond b (unwrap_or (attribute original (row_number r)) []) (by_default r.default c k template [] r.attribute)) ≡ true) (rows_of k)) (sym alt) (original_formed k original fits))
 
-changed_keeps_valuelen : (s : SessionState) (original template : List Entry) (random : List ℕ) → class_of original ≡ Some SecretKey → IsFaultless call.Set s original template → fits_rows (rows_of SecretKey) original ≡ true
-    → attribute_of (made_entries call.Set SecretKey original template random []) attr.ValueLen ≡ attribute_of original attr.ValueLen
-unfolding attribute_table
-changed_keeps_valuelen s original template random class ok fits =
-    stays template original (attr_type_number attr.ValueLen) (not_read_only call.Set s (Some SecretKey) original template (attr_type_number attr.ValueLen) class (λ p v. refl) ok.writable) (fits_rows-held (rows_of SecretKey) original (attr_type_number attr.ValueLen) fits refl)
-
-changed_data_keeps_class : (s : SessionState) (original template : List Entry) (random : List ℕ) → class_of original ≡ Some Data → IsFaultless call.Set s original template → fits_rows (rows_of Data) original ≡ true
-    → attribute_of (made_entries call.Set Data original template random []) attr.Class ≡ attribute_of original attr.Class
-unfolding attribute_table
-changed_data_keeps_class s original template random class ok fits =
-    stays template original (attr_type_number attr.Class) (not_read_only call.Set s (Some Data) original template (attr_type_number attr.Class) class (λ p v. refl) ok.writable) (fits_rows-held (rows_of Data) original (attr_type_number attr.Class) fits refl)
-
-pub changed_is_object : (s : SessionState) (original template : List Entry) (random : List ℕ) (class : ObjectClass) → class_of original ≡ Some class → IsObject original → IsFaultless call.Set s original template → IsObject (made_entries call.Set class original template random [])
-changed_is_object s original template random Data class is ok =
-    let fits = data_rows_fit original class is in
-    is_data_object (made_entries call.Set Data original template random []) (ap (λ (o : Option (List ℕ)). class_at (number_of o)) (changed_data_keeps_class s original template random class ok fits) ∙ class)
-    (made_fit call.Set Data original template random [] ok.formed (original_formed Data original fits))
-changed_is_object s original template random SecretKey class is ok =
-    let fits = key_fits original class is in
-    key_kept original (made_entries call.Set SecretKey original template random []) class
-    (record {
-      class_is = changed_keeps_class s original template random class ok;
-      type_is = changed_keeps_keytype s original template random class ok fits.0;
-      value_is = changed_keeps_value s original template random class ok fits.0;
-      len_is = changed_keeps_valuelen s original template random class ok fits.0;
-    })
-    fits.1 (made_fit call.Set SecretKey original template random [] ok.formed (original_formed SecretKey original fits.0))
+  pub altered_is_object : (k : ObjectClass) → class_of original ≡ Some k → IsObject original → IsObject (new k)
+  unfolding attribute_table
+  altered_is_object Data class is = is_data_object (new Data) (keeps_class Data class) (new_fits Data (data_rows_fit original class is))
+  altered_is_object SecretKey class is =
+      let fits = key_fits original class is in
+      key_kept original (new SecretKey) class
+      (record {
+        class_is = keeps_part attr.Class class fits.0 (fixed_class c alt SecretKey) refl refl;
+        type_is = keeps_part attr.KeyType class fits.0 (fixed_type c alt) refl refl;
+        value_is = keeps_part attr.Value class fits.0 (fixed_value c alt) refl refl;
+        len_is = keeps_part attr.ValueLen class fits.0 (fixed_len c alt) refl refl;
+      })
+      fits.1 (new_fits SecretKey fits.0)
 
 -- a flag that isn't given stays
 flag_stays : (given present : Option (List ℕ)) → given ≡ None → is_true (Some (unwrap_or given (unwrap_or present []))) ≡ is_true present

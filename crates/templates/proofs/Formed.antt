@@ -2,7 +2,7 @@
 use Rattle.std.proofs.Common.{◌≡◌, ℕ, Bool, true, false, cond, ◌&&◌, not, eqb, List, [], ◌∷◌, Option, Some, None, refl, sym, subst, ◌∙◌}
 use Rattle.std.specs.Prelude.{unwrap_or}
 use Rattle.std.specs.List.{list_any, AllByRecursion}
-use Rattle.std.proofs.lemmas.Bool.{eqb-true}
+use Rattle.std.proofs.lemmas.Bool.{and_parts, eqb-true}
 use Rattle.ck_types.specs.declared.entry.Entry.{Entry}
 use Rattle.ck_types.specs.declared.object_class.ObjectClass.{ObjectClass}
 use Rattle.attrs.specs.declared.table.AttributeRow.{AttributeRow}
@@ -12,7 +12,7 @@ use Rattle.attrs.specs.Objects.{attribute, fits_rows, has_form}
 use Rattle.templates.specs.declared.call.Call.{Call}
 use Rattle.templates.specs.Faults.{form_in, fits_form_of, is_ill_formed, is_unlisted}
 use Rattle.templates.specs.Made.{truth, by_default, is_key_class, is_unwrap, is_generate, is_extractable, is_sensitive}
-use Rattle.templates.proofs.Entries.{both_true, both_false, not_false, any_false-attribute}
+use Rattle.templates.proofs.Entries.{both_false, not_false, any_false-attribute}
 
 -- the row says what form its attribute type has
 abbrev pub IsFormed : AttributeRow → Type 0
@@ -46,8 +46,8 @@ held_formed [] [] n v all fits e = absurd cc
 held_formed [] (x ∷ es) n v all fits e = absurd cc
 held_formed (r ∷ rs) [] n v all fits e = absurd cc
 held_formed (r ∷ rs) (x ∷ es) n v all fits e =
-    let a = both_true (eqb x.number (row_number r) && has_form r.form x.value) (fits_rows rs es) fits in
-    let b = both_true (eqb x.number (row_number r)) (has_form r.form x.value) a.0 in
+    let a = and_parts (eqb x.number (row_number r) && has_form r.form x.value) (fits_rows rs es) fits in
+    let b = and_parts (eqb x.number (row_number r)) (has_form r.form x.value) a.0 in
     let number_is = eqb-true x.number (row_number r) b.0 in
     let formed : IsFormed r = all.0 in
     let step : (t : Bool) → eqb x.number n ≡ t → cond t (Some x.value) (attribute es n) ≡ Some v → fits_form_of (form_in attribute_table n) v ≡ true =

@@ -6,3 +6,4 @@ pub mod NewKey
 pub mod Changes
 pub mod Masked
 pub mod Blind
+pub mod Results

@@ -1,30 +1,28 @@
 -- A masked key stays masked in its copies and changes.
-use Rattle.std.proofs.Common.{◌≡◌, ℕ, Bool, true, false, cond, ◌&&◌, ◌||◌, not, eqb, List, [], ◌∷◌, Option, Some, None, Result, Ok, Err, refl, sym, ap, subst, ◌∙◌}
-use Rattle.std.specs.Prelude.{unwrap_or, MatchResult, IfOk}
+use Rattle.std.proofs.Common.{◌≡◌, ℕ, Bool, true, false, cond, ◌&&◌, ◌||◌, not, eqb, List, [], ◌∷◌, Option, Some, None, refl, sym, ap, subst, ◌∙◌}
+use Rattle.std.specs.Prelude.{unwrap_or}
 use Rattle.std.specs.List.{list_any}
 use Rattle.std.specs.Str.{bytes_eq}
 use Rattle.std.proofs.lemmas.Slice.Eq.{bytes_eq-Decides}
-use Rattle.std.proofs.lemmas.Bool.{eqb-true}
+use Rattle.std.proofs.lemmas.Bool.{and_parts, eqb-true}
 use Rattle.ck_types.specs.declared.entry.Entry.{Entry}
+use Rattle.ck_types.specs.declared.attr_type.AttrType.{AttrType}
 use Rattle.ck_types.specs.declared.attr_type.AttrType.TheVariants as attr
 use Rattle.ck_types.specs.declared.object_class.ObjectClass.{ObjectClass}
 use Rattle.ck_types.specs.declared.object_class.ObjectClass.TheVariants.{Data, SecretKey}
-use Rattle.ck_types.specs.declared.rv.Rv.{Rv}
-use Rattle.ck_types.specs.declared.rv.Rv.TheVariants as rv
 use Rattle.ck_types.specs.declared.session_state.SessionState.{SessionState}
 use Rattle.ck_types.specs.Numbers.{attr_type_number}
 use Rattle.attrs.specs.declared.table.AttributeRow.{AttributeRow}
 use Rattle.attrs.specs.Table.{attribute_table, row_number, rows_of}
-use Rattle.attrs.specs.Objects.{attribute, attribute_of, class_of, class_at, number_of, flag, is_true, fits_rows, has_form, IsObject}
+use Rattle.attrs.specs.Objects.{attribute, attribute_of, class_of, flag, is_true, fits_rows, has_form, IsObject}
 use Rattle.attrs.specs.Masking.{is_masked, is_secret_key}
 use Rattle.templates.specs.declared.call.Call.{Call}
-use Rattle.templates.specs.declared.call.Call.TheVariants as call
 use Rattle.templates.specs.Faults.{is_about, is_read_only, refuses, is_set, is_present, is_so}
 use Rattle.templates.specs.Call.{rule}
-use Rattle.templates.specs.Made.{made_entries}
+use Rattle.templates.specs.Made.{alters, made_entries}
 use Rattle.templates.specs.Guarded.{IsAsGuarded}
-use Rattle.templates.proofs.Changes.{copied_keeps_class, changed_keeps_class, key_fits, data_rows_fit}
-use Rattle.templates.proofs.Entries.{both_true, both_false, not_false, any_false-attribute}
+use Rattle.templates.proofs.Changes.{both, refused_by, kept_at, keeps_class, data_rows_fit}
+use Rattle.templates.proofs.Entries.{both_false, not_false, any_false-attribute}
 use Rattle.templates.proofs.NoFault.{IsFaultless}
 
 -- what the rule of a given attribute says
@@ -99,14 +97,14 @@ absent [] [] n fits none = refl
 absent [] (x ∷ es) n fits none = absurd cc
 absent (r ∷ rs) [] n fits none = absurd cc
 absent (r ∷ rs) (x ∷ es) n fits none =
-    let a = both_true (eqb x.number (row_number r) && has_form r.form x.value) (fits_rows rs es) fits in
-    let b = both_true (eqb x.number (row_number r)) (has_form r.form x.value) a.0 in
+    let a = and_parts (eqb x.number (row_number r) && has_form r.form x.value) (fits_rows rs es) fits in
+    let b = and_parts (eqb x.number (row_number r)) (has_form r.form x.value) a.0 in
     let f = both_false (eqb (row_number r) n) (list_any (λ q. eqb (row_number q) n) rs) none in
     let differs : eqb x.number n ≡ false = ap (λ (m : ℕ). eqb m n) (eqb-true x.number (row_number r) b.0) ∙ f.0 in
     ap (λ (c : Bool). cond c (Some x.value) (attribute es n)) differs ∙ absent rs es n a.1 f.1
 
 masked_parts : (o : Option ObjectClass) (a b : Bool) → (is_secret_key o && (a || not b)) ≡ true → (a || not b) ≡ true
-masked_parts o a b e = (both_true (is_secret_key o) (a || not b) e).1
+masked_parts o a b e = (and_parts (is_secret_key o) (a || not b) e).1
 
 -- what is masked is a key
 pub key_class : (o : Option ObjectClass) (b : Bool) → (is_secret_key o && b) ≡ true → o ≡ Some SecretKey
@@ -122,114 +120,95 @@ either_flag false false c d e p q =
     let step : (x : Bool) → (x || true) ≡ true = λ x. elim x as (λ y. (y || true) ≡ true) [ true ↦ refl | false ↦ refl ] in
     ap (λ (x : Bool). c || not x) f ∙ step c
 
-pub ok_so : (P : List Entry → Type 0) (r : Result (List Entry) Rv) (m : List Entry) → MatchResult r (λ o. o ≡ m) (λ e. e ≡ rv.HostMemory) → P m → IfOk r (λ o. P o)
-ok_so P (Ok o) m e p = subst P (sym e) p
-ok_so P (Err x) m e p = tt
-
 no_wrapped : (es : List Entry) → fits_rows (rows_of Data) es ≡ true → attribute_of es attr.WrapWithTrusted ≡ None
 unfolding attribute_table
 no_wrapped es fits = absent (rows_of Data) es (attr_type_number attr.WrapWithTrusted) fits refl
 
--- ---- C_CopyObject
+-- ---- a copy, or a changed object
 
-copied_sensitive : (s : SessionState) (original template : List Entry) (random : List ℕ) → class_of original ≡ Some SecretKey → IsFaultless call.Copy s original template → flag original attr.Sensitive ≡ true
-    → flag (made_entries call.Copy SecretKey original template random []) attr.Sensitive ≡ true
+-- a flag that becomes no other than true, by TrueOnly, or than false, by FalseOnly, or true by the SO alone
+abbrev IsTrueOnly : AttrType → Call → Type 0
+IsTrueOnly t c = (s : SessionState) (p : Option (List ℕ)) (v : List ℕ) → refused_by c SecretKey t s p v ≡ ((not (is_set v) && not (is_present p v)) || false)
+
+abbrev IsFalseOnly : AttrType → Call → Type 0
+IsFalseOnly t c = (s : SessionState) (p : Option (List ℕ)) (v : List ℕ) → refused_by c SecretKey t s p v ≡ ((is_set v && not (is_present p v)) || false)
+
+abbrev IsTrueBySo : AttrType → Call → Type 0
+IsTrueBySo t c = (s : SessionState) (p : Option (List ℕ)) (v : List ℕ) → refused_by c SecretKey t s p v ≡ ((is_set v && (not (is_so s) && not (is_present p v))) || false)
+
+sensitive_rule : (c : Call) → alters c ≡ true → IsTrueOnly attr.Sensitive c
 unfolding attribute_table
-copied_sensitive s original template random class ok old =
-    stays_true (attribute_of template attr.Sensitive) (attribute_of original attr.Sensitive) old (λ v e. (both_false (not (is_set v) && not (is_present (attribute_of original attr.Sensitive) v)) false (given_allowed call.Copy s (Some SecretKey) original template (attr_type_number attr.Sensitive) v class ok.writable e)).0)
+sensitive_rule = both (IsTrueOnly attr.Sensitive) (λ s p v. refl) (λ s p v. refl)
 
-copied_extractable : (s : SessionState) (original template : List Entry) (random : List ℕ) → class_of original ≡ Some SecretKey → IsFaultless call.Copy s original template → flag original attr.Extractable ≡ false
-    → flag (made_entries call.Copy SecretKey original template random []) attr.Extractable ≡ false
+wrapped_rule : (c : Call) → alters c ≡ true → IsTrueOnly attr.WrapWithTrusted c
 unfolding attribute_table
-copied_extractable s original template random class ok old =
-    stays_false (attribute_of template attr.Extractable) (attribute_of original attr.Extractable) old (λ v e. (both_false (is_set v && not (is_present (attribute_of original attr.Extractable) v)) false (given_allowed call.Copy s (Some SecretKey) original template (attr_type_number attr.Extractable) v class ok.writable e)).0)
+wrapped_rule = both (IsTrueOnly attr.WrapWithTrusted) (λ s p v. refl) (λ s p v. refl)
 
-copied_wrapped : (s : SessionState) (original template : List Entry) (random : List ℕ) → class_of original ≡ Some SecretKey → IsFaultless call.Copy s original template → flag original attr.WrapWithTrusted ≡ true
-    → flag (made_entries call.Copy SecretKey original template random []) attr.WrapWithTrusted ≡ true
+extractable_rule : (c : Call) → alters c ≡ true → IsFalseOnly attr.Extractable c
 unfolding attribute_table
-copied_wrapped s original template random class ok old =
-    stays_true (attribute_of template attr.WrapWithTrusted) (attribute_of original attr.WrapWithTrusted) old (λ v e. (both_false (not (is_set v) && not (is_present (attribute_of original attr.WrapWithTrusted) v)) false (given_allowed call.Copy s (Some SecretKey) original template (attr_type_number attr.WrapWithTrusted) v class ok.writable e)).0)
+extractable_rule = both (IsFalseOnly attr.Extractable) (λ s p v. refl) (λ s p v. refl)
 
-copied_trusted : (s : SessionState) (original template : List Entry) (random : List ℕ) → class_of original ≡ Some SecretKey → IsFaultless call.Copy s original template → is_so s ≡ false
-    → flag (made_entries call.Copy SecretKey original template random []) attr.Trusted ≡ true → flag original attr.Trusted ≡ true
+trusted_rule : (c : Call) → alters c ≡ true → IsTrueBySo attr.Trusted c
 unfolding attribute_table
-copied_trusted s original template random class ok user new =
-    so_alone s (attribute_of template attr.Trusted) (attribute_of original attr.Trusted) user (λ v e. (both_false (is_set v && (not (is_so s) && not (is_present (attribute_of original attr.Trusted) v))) false (given_allowed call.Copy s (Some SecretKey) original template (attr_type_number attr.Trusted) v class ok.writable e)).0) new
+trusted_rule = both (IsTrueBySo attr.Trusted) (λ s p v. refl) (λ s p v. refl)
 
-copied_no_flags : (original template : List Entry) (random : List ℕ) → flag (made_entries call.Copy Data original template random []) attr.Trusted ≡ false
-unfolding attribute_table
-copied_no_flags original template random = refl
+module _ (c : Call) (alt : alters c ≡ true) (s : SessionState) (original template : List Entry) (random : List ℕ) (ok : IsFaultless c s original template) where
+  abbrev new : ObjectClass → List Entry
+  new k = made_entries c k original template random []
 
--- a masked key stays masked
-pub copied_masked : (s : SessionState) (original template : List Entry) (random : List ℕ) → IsFaultless call.Copy s original template → is_masked original ≡ true → is_masked (made_entries call.Copy SecretKey original template random []) ≡ true
-copied_masked s original template random ok e =
-    let class = key_class (class_of original) (flag original attr.Sensitive || not (flag original attr.Extractable)) e in
-    let new = made_entries call.Copy SecretKey original template random [] in
-    let class_is : class_of new ≡ Some SecretKey = ap (λ (o : Option (List ℕ)). class_at (number_of o)) (copied_keeps_class s original template random class ok) ∙ class in
-    ap (λ (o : Option ObjectClass). is_secret_key o && (flag new attr.Sensitive || not (flag new attr.Extractable))) class_is
-    ∙ either_flag (flag original attr.Sensitive) (flag original attr.Extractable) (flag new attr.Sensitive) (flag new attr.Extractable) (masked_parts (class_of original) (flag original attr.Sensitive) (flag original attr.Extractable) e)
-    (copied_sensitive s original template random class ok) (copied_extractable s original template random class ok)
+  -- what the rule of a flag says where it is given
+  allowed : (t : AttrType) (b : Bool) (v : List ℕ) → class_of original ≡ Some SecretKey → refused_by c SecretKey t s (attribute_of original t) v ≡ (b || false) → attribute_of template t ≡ Some v → b ≡ false
+  allowed t b v class rule given = (both_false b false (sym rule ∙ given_allowed c s (Some SecretKey) original template (attr_type_number t) v class ok.writable given)).0
 
-pub copied_guarded : (s : SessionState) (original template : List Entry) (random : List ℕ) (class : ObjectClass) → class_of original ≡ Some class → IsObject original → IsFaultless call.Copy s original template → IsAsGuarded s original (made_entries call.Copy class original template random [])
-copied_guarded s original template random Data class is ok = record {
-  masked = λ e. absurd (let no : false ≡ true = sym (ap (λ (o : Option ObjectClass). is_secret_key o && (flag original attr.Sensitive || not (flag original attr.Extractable))) class) ∙ e in cc);
-  wrapped_by_trusted = λ e. absurd (let no : false ≡ true = sym (ap is_true (no_wrapped original (data_rows_fit original class is))) ∙ e in cc);
-  trusted_by_so = λ user e. absurd (let no : false ≡ true = sym (copied_no_flags original template random) ∙ e in cc);
-}
-copied_guarded s original template random SecretKey class is ok = record {
-  masked = copied_masked s original template random ok;
-  wrapped_by_trusted = copied_wrapped s original template random class ok;
-  trusted_by_so = copied_trusted s original template random class ok;
-}
+  true_stays : (t : AttrType) → class_of original ≡ Some SecretKey → IsTrueOnly t c → flag original t ≡ true → after (attribute_of template t) (attribute_of original t) ≡ true
+  true_stays t class rule old =
+      stays_true (attribute_of template t) (attribute_of original t) old (λ v e. allowed t (not (is_set v) && not (is_present (attribute_of original t) v)) v class (rule s (attribute_of original t) v) e)
 
--- ---- C_SetAttributeValue
+  false_stays : (t : AttrType) → class_of original ≡ Some SecretKey → IsFalseOnly t c → flag original t ≡ false → after (attribute_of template t) (attribute_of original t) ≡ false
+  false_stays t class rule old =
+      stays_false (attribute_of template t) (attribute_of original t) old (λ v e. allowed t (is_set v && not (is_present (attribute_of original t) v)) v class (rule s (attribute_of original t) v) e)
 
-changed_sensitive : (s : SessionState) (original template : List Entry) (random : List ℕ) → class_of original ≡ Some SecretKey → IsFaultless call.Set s original template → flag original attr.Sensitive ≡ true
-    → flag (made_entries call.Set SecretKey original template random []) attr.Sensitive ≡ true
-unfolding attribute_table
-changed_sensitive s original template random class ok old =
-    stays_true (attribute_of template attr.Sensitive) (attribute_of original attr.Sensitive) old (λ v e. (both_false (not (is_set v) && not (is_present (attribute_of original attr.Sensitive) v)) false (given_allowed call.Set s (Some SecretKey) original template (attr_type_number attr.Sensitive) v class ok.writable e)).0)
+  -- a flag of the new key
+  flag_after : (t : AttrType) → eqb (attr_type_number t) (attr_type_number attr.UniqueId) ≡ false → list_any (λ r. eqb (row_number r) (attr_type_number t)) (rows_of SecretKey) ≡ true
+      → flag (new SecretKey) t ≡ after (attribute_of template t) (attribute_of original t)
+  flag_after t other there = ap is_true (kept_at c alt SecretKey original template random (attr_type_number t) other there)
 
-changed_extractable : (s : SessionState) (original template : List Entry) (random : List ℕ) → class_of original ≡ Some SecretKey → IsFaultless call.Set s original template → flag original attr.Extractable ≡ false
-    → flag (made_entries call.Set SecretKey original template random []) attr.Extractable ≡ false
-unfolding attribute_table
-changed_extractable s original template random class ok old =
-    stays_false (attribute_of template attr.Extractable) (attribute_of original attr.Extractable) old (λ v e. (both_false (is_set v && not (is_present (attribute_of original attr.Extractable) v)) false (given_allowed call.Set s (Some SecretKey) original template (attr_type_number attr.Extractable) v class ok.writable e)).0)
+  sensitive_stays : class_of original ≡ Some SecretKey → flag original attr.Sensitive ≡ true → flag (new SecretKey) attr.Sensitive ≡ true
+  unfolding attribute_table
+  sensitive_stays class old = flag_after attr.Sensitive refl refl ∙ true_stays attr.Sensitive class (sensitive_rule c alt) old
 
-changed_wrapped : (s : SessionState) (original template : List Entry) (random : List ℕ) → class_of original ≡ Some SecretKey → IsFaultless call.Set s original template → flag original attr.WrapWithTrusted ≡ true
-    → flag (made_entries call.Set SecretKey original template random []) attr.WrapWithTrusted ≡ true
-unfolding attribute_table
-changed_wrapped s original template random class ok old =
-    stays_true (attribute_of template attr.WrapWithTrusted) (attribute_of original attr.WrapWithTrusted) old (λ v e. (both_false (not (is_set v) && not (is_present (attribute_of original attr.WrapWithTrusted) v)) false (given_allowed call.Set s (Some SecretKey) original template (attr_type_number attr.WrapWithTrusted) v class ok.writable e)).0)
+  wrapped_stays : class_of original ≡ Some SecretKey → flag original attr.WrapWithTrusted ≡ true → flag (new SecretKey) attr.WrapWithTrusted ≡ true
+  unfolding attribute_table
+  wrapped_stays class old = flag_after attr.WrapWithTrusted refl refl ∙ true_stays attr.WrapWithTrusted class (wrapped_rule c alt) old
 
-changed_trusted : (s : SessionState) (original template : List Entry) (random : List ℕ) → class_of original ≡ Some SecretKey → IsFaultless call.Set s original template → is_so s ≡ false
-    → flag (made_entries call.Set SecretKey original template random []) attr.Trusted ≡ true → flag original attr.Trusted ≡ true
-unfolding attribute_table
-changed_trusted s original template random class ok user new =
-    so_alone s (attribute_of template attr.Trusted) (attribute_of original attr.Trusted) user (λ v e. (both_false (is_set v && (not (is_so s) && not (is_present (attribute_of original attr.Trusted) v))) false (given_allowed call.Set s (Some SecretKey) original template (attr_type_number attr.Trusted) v class ok.writable e)).0) new
+  unextractable_stays : class_of original ≡ Some SecretKey → flag original attr.Extractable ≡ false → flag (new SecretKey) attr.Extractable ≡ false
+  unfolding attribute_table
+  unextractable_stays class old = flag_after attr.Extractable refl refl ∙ false_stays attr.Extractable class (extractable_rule c alt) old
 
-changed_no_flags : (original template : List Entry) (random : List ℕ) → flag (made_entries call.Set Data original template random []) attr.Trusted ≡ false
-unfolding attribute_table
-changed_no_flags original template random = refl
+  trusted_stays : class_of original ≡ Some SecretKey → is_so s ≡ false → flag (new SecretKey) attr.Trusted ≡ true → flag original attr.Trusted ≡ true
+  unfolding attribute_table
+  trusted_stays class user trusted =
+      let old = attribute_of original attr.Trusted in
+      so_alone s (attribute_of template attr.Trusted) old user (λ v e. allowed attr.Trusted (is_set v && (not (is_so s) && not (is_present old v))) v class (trusted_rule c alt s old v) e)
+      (sym (flag_after attr.Trusted refl refl) ∙ trusted)
 
--- a masked key stays masked
-pub changed_masked : (s : SessionState) (original template : List Entry) (random : List ℕ) → IsFaultless call.Set s original template → is_masked original ≡ true → is_masked (made_entries call.Set SecretKey original template random []) ≡ true
-changed_masked s original template random ok e =
-    let class = key_class (class_of original) (flag original attr.Sensitive || not (flag original attr.Extractable)) e in
-    let new = made_entries call.Set SecretKey original template random [] in
-    let class_is : class_of new ≡ Some SecretKey = ap (λ (o : Option (List ℕ)). class_at (number_of o)) (changed_keeps_class s original template random class ok) ∙ class in
-    ap (λ (o : Option ObjectClass). is_secret_key o && (flag new attr.Sensitive || not (flag new attr.Extractable))) class_is
-    ∙ either_flag (flag original attr.Sensitive) (flag original attr.Extractable) (flag new attr.Sensitive) (flag new attr.Extractable) (masked_parts (class_of original) (flag original attr.Sensitive) (flag original attr.Extractable) e)
-    (changed_sensitive s original template random class ok) (changed_extractable s original template random class ok)
+  -- no data object is trusted
+  no_trusted : flag (new Data) attr.Trusted ≡ false
+  unfolding attribute_table
+  no_trusted = refl
 
-pub changed_guarded : (s : SessionState) (original template : List Entry) (random : List ℕ) (class : ObjectClass) → class_of original ≡ Some class → IsObject original → IsFaultless call.Set s original template → IsAsGuarded s original (made_entries call.Set class original template random [])
-changed_guarded s original template random Data class is ok = record {
-  masked = λ e. absurd (let no : false ≡ true = sym (ap (λ (o : Option ObjectClass). is_secret_key o && (flag original attr.Sensitive || not (flag original attr.Extractable))) class) ∙ e in cc);
-  wrapped_by_trusted = λ e. absurd (let no : false ≡ true = sym (ap is_true (no_wrapped original (data_rows_fit original class is))) ∙ e in cc);
-  trusted_by_so = λ user e. absurd (let no : false ≡ true = sym (changed_no_flags original template random) ∙ e in cc);
-}
-changed_guarded s original template random SecretKey class is ok = record {
-  masked = changed_masked s original template random ok;
-  wrapped_by_trusted = changed_wrapped s original template random class ok;
-  trusted_by_so = changed_trusted s original template random class ok;
-}
+  -- a masked key stays masked
+  pub stays_masked : is_masked original ≡ true → is_masked (new SecretKey) ≡ true
+  stays_masked e =
+      let class = key_class (class_of original) (flag original attr.Sensitive || not (flag original attr.Extractable)) e in
+      ap (λ (o : Option ObjectClass). is_secret_key o && (flag (new SecretKey) attr.Sensitive || not (flag (new SecretKey) attr.Extractable))) (keeps_class c alt s original template random ok SecretKey class)
+      ∙ either_flag (flag original attr.Sensitive) (flag original attr.Extractable) (flag (new SecretKey) attr.Sensitive) (flag (new SecretKey) attr.Extractable)
+      (masked_parts (class_of original) (flag original attr.Sensitive) (flag original attr.Extractable) e) (sensitive_stays class) (unextractable_stays class)
+
+  pub altered_guarded : (k : ObjectClass) → class_of original ≡ Some k → IsObject original → IsAsGuarded s original (new k)
+  altered_guarded Data class is = record {
+    masked = λ e. absurd (let no : false ≡ true = sym (ap (λ (o : Option ObjectClass). is_secret_key o && (flag original attr.Sensitive || not (flag original attr.Extractable))) class) ∙ e in cc);
+    wrapped_by_trusted = λ e. absurd (let no : false ≡ true = sym (ap is_true (no_wrapped original (data_rows_fit original class is))) ∙ e in cc);
+    trusted_by_so = λ user e. absurd (let no : false ≡ true = sym no_trusted ∙ e in cc);
+  }
+  altered_guarded SecretKey class is = record { masked = stays_masked; wrapped_by_trusted = wrapped_stays class; trusted_by_so = trusted_stays class }

@@ -3,7 +3,7 @@ use Rattle.std.proofs.Common.{◌≡◌, ℕ, ◌<◌, ◌≤◌, ◌^◌, Bool,
 use Rattle.std.specs.Prelude.{is_none}
 use Rattle.std.specs.Int.{w64, from_be_bytes}
 use Rattle.std.specs.List.{list_any}
-use Rattle.std.proofs.lemmas.Bool.{eqb-true, eq-eqb, leb-true}
+use Rattle.std.proofs.lemmas.Bool.{and_parts, eqb-true, eq-eqb, leb-true}
 use Rattle.std.proofs.lemmas.Nat.{from_be_bytes-to_be_bytes_8}
 use Rattle.ck_types.specs.declared.entry.Entry.{Entry}
 use Rattle.ck_types.specs.declared.attr_type.AttrType.TheVariants as attr
@@ -19,7 +19,7 @@ use Rattle.templates.specs.declared.call.Call.{Call}
 use Rattle.templates.specs.Call.{rule}
 use Rattle.templates.specs.Faults.{template_fault, is_unknown, is_ill_formed, is_unlisted, contradicts, is_read_only, is_excluded, disagrees, is_missing, has_bad_len, has_bad_unwrapped_len, is_about, is_held, is_inconsistent, is_required, refuses, is_other, form_in, fits_form_of}
 use Rattle.templates.specs.Made.{number_bytes}
-use Rattle.templates.proofs.Entries.{both_true, both_false, not_false, any_false-attribute}
+use Rattle.templates.proofs.Entries.{both_false, not_false, any_false-attribute}
 
 cond_none : {A : Type 0} (b : Bool) (x : A) (o : Option A) → cond b (Some x) o ≡ None → (b ≡ false) × (o ≡ None)
 cond_none true x o e = absurd cc
@@ -121,7 +121,7 @@ is_that n None e given = absurd (given refl)
 is_that n (Some m) e given = ap (λ (k : ℕ). Some k) (eqb-true m n (not_false (eqb m n) e))
 
 pub len_small : (t : KeyType) (n : ℕ) → is_key_len t n ≡ true → n ≤ 512
-len_small GenericSecret n e = leb-true n 512 (both_true (leb 1 n) (leb n 512) e).1
+len_small GenericSecret n e = leb-true n 512 (and_parts (leb 1 n) (leb n 512) e).1
 len_small Aes n e =
     let step : (a b c : Bool) → eqb n 16 ≡ a → eqb n 24 ≡ b → eqb n 32 ≡ c → (a || (b || c)) ≡ true → n ≤ 512 =
     λ a b c. elim a as (λ x. eqb n 16 ≡ x → eqb n 24 ≡ b → eqb n 32 ≡ c → (x || (b || c)) ≡ true → n ≤ 512) [

@@ -2,7 +2,7 @@
 use Rattle.std.proofs.Common.{◌≡◌, ℕ, ◌≤◌, Bool, true, false, cond, ◌&&◌, eqb, List, [], ◌∷◌, length, take, Option, Some, refl, sym, ap, subst, ◌∙◌, arith}
 use Rattle.std.specs.Prelude.{unwrap_or}
 use Rattle.std.specs.List.{list_any, AllByRecursion}
-use Rattle.std.proofs.lemmas.Bool.{eqb-true, eq-eqb, le-leb}
+use Rattle.std.proofs.lemmas.Bool.{and_parts, eqb-true, eq-eqb, le-leb}
 use Rattle.std.proofs.lemmas.List.{length-take}
 use Rattle.hex.specs.Hex.{encode_lower, lower_digits}
 use Rattle.hex.proofs.HexLemmas.{length-encode_with}
@@ -20,7 +20,7 @@ use Rattle.attrs.specs.Objects.{attribute, attribute_of, class_of, number_of, ke
 use Rattle.templates.specs.declared.call.Call.{Call}
 use Rattle.templates.specs.Faults.{form_in, is_ill_formed}
 use Rattle.templates.specs.Made.{made_value, made_entries, not_given, is_renewed, renews, by_default}
-use Rattle.templates.proofs.Entries.{both_true, AllByRecursion-filter, fits_rows-map}
+use Rattle.templates.proofs.Entries.{AllByRecursion-filter, fits_rows-map}
 use Rattle.templates.proofs.Formed.{IsFormed, table_formed, default_formed, chosen_formed}
 
 -- the identifier is small enough
@@ -37,7 +37,7 @@ value_formed c class original template random value r formed row_is other =
     let step : (b : Bool) → is_renewed c r ≡ b → has_form r.form (cond b (encode_lower (take 16 random)) (unwrap_or (attribute template (row_number r)) (not_given c class original template value r))) ≡ true =
     λ b. elim b as (λ d. is_renewed c r ≡ d → has_form r.form (cond d (encode_lower (take 16 random)) (unwrap_or (attribute template (row_number r)) (not_given c class original template value r))) ≡ true) [
       | true ↦ λ e.
-          let number_is : row_number r ≡ attr_type_number attr.UniqueId = eqb-true (row_number r) (attr_type_number attr.UniqueId) (both_true (renews c) (eqb (row_number r) (attr_type_number attr.UniqueId)) e).1 in
+          let number_is : row_number r ≡ attr_type_number attr.UniqueId = eqb-true (row_number r) (attr_type_number attr.UniqueId) (and_parts (renews c) (eqb (row_number r) (attr_type_number attr.UniqueId)) e).1 in
           let form_is : Some r.form ≡ Some Bytes = sym row_is ∙ ap (form_in attribute_table) number_is ∙ unique_id_form in
           let same : r.form ≡ Bytes = cc in
           subst (λ (f : Form). has_form f (encode_lower (take 16 random)) ≡ true) (sym same) (digits_formed random)

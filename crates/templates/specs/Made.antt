@@ -10,7 +10,6 @@ use Rattle.ck_types.specs.declared.object_class.ObjectClass.TheVariants.{Data, S
 use Rattle.ck_types.specs.declared.key_type.KeyType.{KeyType}
 use Rattle.ck_types.specs.declared.key_type.KeyType.TheVariants.{GenericSecret}
 use Rattle.ck_types.specs.declared.rv.Rv.{Rv}
-use Rattle.ck_types.specs.declared.rv.Rv.TheVariants as rv
 use Rattle.ck_types.specs.Numbers.{attr_type_number, key_type_number, mech_type_number, object_class_number}
 use Rattle.hex.specs.Hex.{encode_lower}
 use Rattle.attrs.specs.declared.table.AttributeRow.{AttributeRow}
@@ -20,6 +19,8 @@ use Rattle.attrs.specs.Table.{row_number, rows_of}
 use Rattle.attrs.specs.Objects.{attribute, attribute_of, is_true, number_of, class_of}
 use Rattle.templates.specs.declared.call.Call.{Call}
 use Rattle.templates.specs.declared.call.Call.TheVariants as call
+use Rattle.templates.specs.declared.fault.MakeFault.{MakeFault}
+use Rattle.templates.specs.declared.fault.MakeFault.TheVariants.{Refused, Memory}
 use Rattle.templates.specs.Call.{generated_type}
 
 abbrev pub truth : Bool → List ℕ
@@ -90,13 +91,18 @@ by_default TrueForKey c class template value t = truth (is_key_class class)
 by_default TrueUnwrapped c class template value t = truth (is_unwrap c)
 by_default Empty c class template value t = []
 
+-- C_CopyObject and C_SetAttributeValue make an object of another one
+abbrev pub alters : Call → Bool
+alters call.Create = false
+alters (call.Generate mechanism) = false
+alters (call.Unwrap len) = false
+alters call.Copy = true
+alters call.Set = true
+
 -- what is not given: as the original has it, or in a new object the default
 abbrev pub not_given : Call → ObjectClass → List Entry → List Entry → List ℕ → AttributeRow → List ℕ
-not_given call.Create class original template value r = by_default r.default call.Create class template value r.attribute
-not_given (call.Generate m) class original template value r = by_default r.default (call.Generate m) class template value r.attribute
-not_given (call.Unwrap n) class original template value r = by_default r.default (call.Unwrap n) class template value r.attribute
-not_given call.Copy class original template value r = unwrap_or (attribute original (row_number r)) []
-not_given call.Set class original template value r = unwrap_or (attribute original (row_number r)) []
+not_given c class original template value r =
+    if alters c then unwrap_or (attribute original (row_number r)) [] else by_default r.default c class template value r.attribute
 
 -- each call but C_SetAttributeValue gives a new CKA_UNIQUE_ID
 abbrev pub renews : Call → Bool
@@ -151,9 +157,9 @@ generated_len template = asked_len (number_of (attribute_of template attr.ValueL
 abbrev pub generated_value : List Entry → List ℕ → List ℕ
 generated_value template random = take (generated_len template) (drop 16 random)
 
--- the code of the first condition that holds, else the object, unless memory for it runs out
-abbrev pub Answers : Result (List Entry) Rv → Option Rv → List Entry → Type 0
+-- the code of the first condition that holds; where none does the object, unless memory for it runs out
+abbrev pub Answers : Result (List Entry) MakeFault → Option Rv → List Entry → Type 0
 Answers (Ok object) None made = object ≡ made
 Answers (Ok object) (Some code) made = ⊥
-Answers (Err e) None made = e ≡ rv.HostMemory
-Answers (Err e) (Some code) made = e ≡ code
+Answers (Err fault) None made = fault ≡ Memory
+Answers (Err fault) (Some code) made = fault ≡ Refused code

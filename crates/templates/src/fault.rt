@@ -1,12 +1,34 @@
-//! The first condition that holds.
+//! Why a template makes nothing: the first condition that holds.
 
 ghost use Rattle.std.specs.Prelude.{◌≡◌};
+ghost use Rattle.templates.specs.declared.fault.MakeFault.TheVariants.{Memory};
 ghost use Rattle.templates.specs.Faults.{template_fault};
 
 use crate::call::Call;
 use crate::conditions;
 use attrs::class_in;
 use ck_types::{Entry, Rv, SessionState};
+use std::alloc::AllocError;
+use thiserror::Error;
+
+/// Why a template makes or changes no object.
+#[derive(Clone, Copy, Debug, PartialEq, Eq, Error)]
+pub enum MakeFault {
+    /// The code of the first condition that holds.
+    #[error("the template is refused with {0:?}")]
+    Refused(Rv),
+    /// No condition holds, and there was no memory for the object.
+    #[error("out of memory")]
+    Memory,
+}
+
+impl From<AllocError> for MakeFault {
+    ghost from_gives = { λ _ fault. fault ≡ Memory };
+
+    fn from(_error: AllocError) -> MakeFault {
+        MakeFault::Memory
+    }
+}
 
 /// The code of the first condition that holds. The original is the object that is copied or changed,
 /// and empty where a new one is made.

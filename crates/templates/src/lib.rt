@@ -20,8 +20,9 @@
 //! A copied or changed key that is sensitive or unextractable stays so: what is kept back of it is kept
 //! back of the copy. `unwrap_fault` and its kin tell of an unwrapped key before its value is known.
 //!
-//! Only where none holds and memory for the object ran out, the code is CKR_HOST_MEMORY. Which
-//! attributes a call takes, and the defaults, are the table of the crate `attrs`.
+//! It is `MakeFault::Refused` with that code. `MakeFault::Memory` comes only where none of them holds and there
+//! was no memory for the object. Which attributes a call takes, and the defaults, are the table of the
+//! crate `attrs`.
 //!
 //! ```
 //! let key = templates::created(alloc, state, &template, &random)?;
@@ -39,4 +40,5 @@ mod tests;
 mod value;
 
 pub use ahead::{unwrap_fault, unwraps_private_key, unwraps_token_key};
+pub use fault::MakeFault;
 pub use make::{changed, copied, created, generated, random_len, unwrapped};

@@ -1,25 +1,22 @@
 //! The five calls that make or change an object.
 
-ghost use Rattle.std.specs.Prelude.{◌≡◌, ◌+◌, ◌≤◌, [], IfOk, MatchResult, length};
+ghost use Rattle.std.specs.Prelude.{◌≡◌, ◌+◌, ◌≤◌, [], IfOk, None, true, MatchResult, length};
 ghost use Rattle.attrs.specs.Objects.{IsObject};
-ghost use Rattle.ck_types.specs.declared.rv.Rv.TheVariants as rv;
+ghost use Rattle.ck_types.specs.declared.object_class.ObjectClass.TheVariants.{SecretKey};
 ghost use Rattle.templates.specs.declared.call.Call.TheVariants as calls;
+ghost use Rattle.templates.specs.declared.fault.MakeFault.TheVariants.{Memory};
 ghost use Rattle.templates.specs.Faults.{template_fault};
 ghost use Rattle.templates.specs.Guarded.{IsAsGuarded, StaysPlaced};
-ghost use Rattle.templates.specs.Made.{Answers, asked_len, generated_len, generated_value, given_value, made_entries, made_entry, object_made};
+ghost use Rattle.templates.specs.Made.{alters, Answers, asked_len, generated_len, generated_value, given_value, made_entries, made_entry, object_made};
 
 use crate::call::Call;
-use crate::fault::find_fault;
+use crate::fault::{MakeFault, find_fault};
 use crate::value::{Making, value_made};
 use attrs::{AttributeRow, Object, Template, attribute_in, attributes, class_in, number_in};
-use ck_types::{AttrType, Entry, Items, MechType, ObjectClass, Rv, SessionState};
+use ck_types::{
+    AttrType, Entry, Items, MAX_SECRET_LEN, MechType, ObjectClass, SessionState, UNIQUE_ID_BYTES,
+};
 use std::alloc::{AllocError, Global};
-
-/// How many random bytes a unique identifier takes.
-const UNIQUE_ID_BYTES: usize = 16;
-
-/// The longest generated value, in bytes.
-const MAX_VALUE: u64 = 512;
 
 fn make_entry(alloc: Global, making: &Making, row: &AttributeRow) -> Result<Entry, AllocError>
     requires { 16 ≤ length making.now.random.now }
@@ -43,15 +40,13 @@ fn make_entries(alloc: Global, making: &Making) -> Result<Items<Entry>, AllocErr
     Ok(entries)
 }
 
-fn make(alloc: Global, making: &Making) -> Result<Object, Rv>
+fn make(alloc: Global, making: &Making) -> Result<Object, MakeFault>
     requires random { 16 ≤ length making.now.random.now }
     requires object { IsObject (made_entries making.now.call making.now.class making.now.original.now making.now.template.now making.now.random.now making.now.value.now) }
-    ensures { MatchResult result (λ object. object ≡ made_entries making.now.call making.now.class making.now.original.now making.now.template.now making.now.random.now making.now.value.now) (λ code. code ≡ rv.HostMemory) }
+    ensures { MatchResult result (λ object. object ≡ made_entries making.now.call making.now.class making.now.original.now making.now.template.now making.now.random.now making.now.value.now) (λ fault. fault ≡ Memory) }
 {
-    match make_entries(alloc, making) {
-        Ok(entries) => Ok(Object::new(entries)),
-        Err(_) => Err(Rv::HostMemory),
-    }
+    let entries = make_entries(alloc, making)?;
+    Ok(Object::new(entries))
 }
 
 fn value_given(template: &[Entry]) -> &[u8]
@@ -69,13 +64,13 @@ pub fn created(
     state: SessionState,
     template: &Template,
     random: &[u8],
-) -> Result<Object, Rv>
+) -> Result<Object, MakeFault>
     requires { 16 ≤ length random.now }
     ensures { Answers result (template_fault calls.Create state [] template.now) (object_made calls.Create [] template.now random.now (given_value template.now)) }
 {
     let template = template.as_slice();
     if let Some(code) = find_fault(Call::Create, state, &[], template) {
-        return Err(code);
+        return Err(MakeFault::Refused(code));
     }
     let Some(class) = class_in(template) else {
         unreachable!()
@@ -95,7 +90,7 @@ fn len_asked_for(template: &[Entry]) -> usize
     ensures { result ≡ generated_len template.now }
 {
     match number_in(attribute_in(template, AttrType::ValueLen)) {
-        Some(len) if len <= MAX_VALUE => len as usize,
+        Some(len) if len <= MAX_SECRET_LEN => len as usize,
         Some(_) | None => 0,
     }
 }
@@ -108,25 +103,22 @@ pub fn random_len(template: &Template) -> usize
     UNIQUE_ID_BYTES + len_asked_for(template.as_slice())
 }
 
-/// The key that C_GenerateKey makes of a template by a mechanism that generates keys. The first 16
-/// random bytes make CKA_UNIQUE_ID, those that follow are the value; `random_len` says how many.
-pub fn generated(
+/// A key that is new, with this value.
+fn make_key(
     alloc: Global,
+    call: Call,
     state: SessionState,
-    mechanism: MechType,
-    template: &Template,
+    template: &[Entry],
     random: &[u8],
-) -> Result<Object, Rv>
-    requires { 16 + generated_len template.now ≤ length random.now }
-    ensures { Answers result (template_fault (calls.Generate mechanism) state [] template.now) (object_made (calls.Generate mechanism) [] template.now random.now (generated_value template.now random.now)) }
+    value: &[u8],
+) -> Result<Object, MakeFault>
+    requires random { 16 ≤ length random.now }
+    requires object { template_fault call state [] template.now ≡ None → IsObject (made_entries call SecretKey [] template.now random.now value.now) }
+    ensures { Answers result (template_fault call state [] template.now) (made_entries call SecretKey [] template.now random.now value.now) }
 {
-    let template = template.as_slice();
-    let call = Call::Generate(mechanism);
     if let Some(code) = find_fault(call, state, &[], template) {
-        return Err(code);
+        return Err(MakeFault::Refused(code));
     }
-    let (_, after) = random.split_at(UNIQUE_ID_BYTES);
-    let (value, _) = after.split_at(len_asked_for(template));
     let making = Making {
         call,
         class: ObjectClass::SecretKey,
@@ -138,6 +130,25 @@ pub fn generated(
     make(alloc, &making)
 }
 
+/// The key that C_GenerateKey makes of a template by a mechanism that generates keys. The first 16
+/// random bytes make CKA_UNIQUE_ID, those that follow are the value; `random_len` says how many.
+pub fn generated(
+    alloc: Global,
+    state: SessionState,
+    mechanism: MechType,
+    template: &Template,
+    random: &[u8],
+) -> Result<Object, MakeFault>
+    requires { 16 + generated_len template.now ≤ length random.now }
+    ensures { Answers result (template_fault (calls.Generate mechanism) state [] template.now) (object_made (calls.Generate mechanism) [] template.now random.now (generated_value template.now random.now)) }
+{
+    let template = template.as_slice();
+    let (_, after) = random.split_at(UNIQUE_ID_BYTES);
+    let (value, _) = after.split_at(len_asked_for(template));
+    let call = Call::Generate(mechanism);
+    make_key(alloc, call, state, template, random, value)
+}
+
 /// The key that C_UnwrapKey makes of a template and the unwrapped value. The first 16 random bytes make
 /// CKA_UNIQUE_ID. Where the value isn't known yet, `unwrap_fault` tells from its length whether there
 /// will be a key.
@@ -147,22 +158,39 @@ pub fn unwrapped(
     template: &Template,
     value: &[u8],
     random: &[u8],
-) -> Result<Object, Rv>
+) -> Result<Object, MakeFault>
     requires { 16 ≤ length random.now }
     ensures { Answers result (template_fault (calls.Unwrap (length value.now)) state [] template.now) (object_made (calls.Unwrap (length value.now)) [] template.now random.now value.now) }
 {
-    let template = template.as_slice();
     let call = Call::Unwrap(value.len());
-    if let Some(code) = find_fault(call, state, &[], template) {
-        return Err(code);
+    make_key(alloc, call, state, template.as_slice(), random, value)
+}
+
+/// What a copy or a change makes of an object, with the template's changes.
+fn altered(
+    alloc: Global,
+    call: Call,
+    state: SessionState,
+    original: &Object,
+    template: &[Entry],
+    random: &[u8],
+) -> Result<Object, MakeFault>
+    requires call { alters call ≡ true }
+    requires random { 16 ≤ length random.now }
+    ensures made { Answers result (template_fault call state original.now template.now) (object_made call original.now template.now random.now []) }
+    ensures guarded { IfOk result (λ object. IsAsGuarded state original.now object) }
+    ensures placed { call ≡ calls.Set → IfOk result (λ object. StaysPlaced original.now object) }
+{
+    if let Some(code) = find_fault(call, state, original.entries(), template) {
+        return Err(MakeFault::Refused(code));
     }
     let making = Making {
         call,
-        class: ObjectClass::SecretKey,
-        original: &[],
+        class: original.class(),
+        original: original.entries(),
         template,
         random,
-        value,
+        value: &[],
     };
     make(alloc, &making)
 }
@@ -175,24 +203,19 @@ pub fn copied(
     original: &Object,
     template: &Template,
     random: &[u8],
-) -> Result<Object, Rv>
+) -> Result<Object, MakeFault>
     requires { 16 ≤ length random.now }
     ensures made { Answers result (template_fault calls.Copy state original.now template.now) (object_made calls.Copy original.now template.now random.now []) }
     ensures guarded { IfOk result (λ object. IsAsGuarded state original.now object) }
 {
-    let template = template.as_slice();
-    if let Some(code) = find_fault(Call::Copy, state, original.entries(), template) {
-        return Err(code);
-    }
-    let making = Making {
-        call: Call::Copy,
-        class: original.class(),
-        original: original.entries(),
-        template,
+    altered(
+        alloc,
+        Call::Copy,
+        state,
+        original,
+        template.as_slice(),
         random,
-        value: &[],
-    };
-    make(alloc, &making)
+    )
 }
 
 /// What C_SetAttributeValue makes of an object, with the template's changes. A value that is kept back
@@ -202,23 +225,19 @@ pub fn changed(
     state: SessionState,
     original: &Object,
     template: &Template,
-) -> Result<Object, Rv>
+) -> Result<Object, MakeFault>
     ensures made { Answers result (template_fault calls.Set state original.now template.now) (object_made calls.Set original.now template.now [] []) }
     ensures guarded { IfOk result (λ object. IsAsGuarded state original.now object) }
     ensures placed { IfOk result (λ object. StaysPlaced original.now object) }
 {
-    let template = template.as_slice();
-    if let Some(code) = find_fault(Call::Set, state, original.entries(), template) {
-        return Err(code);
-    }
-    let making = Making {
-        call: Call::Set,
-        class: original.class(),
-        original: original.entries(),
-        template,
-        // CKA_UNIQUE_ID stays: these are not read.
-        random: &[0; UNIQUE_ID_BYTES],
-        value: &[],
-    };
-    make(alloc, &making)
+    // CKA_UNIQUE_ID stays: no random bytes are read.
+    let random = [0; UNIQUE_ID_BYTES];
+    altered(
+        alloc,
+        Call::Set,
+        state,
+        original,
+        template.as_slice(),
+        &random,
+    )
 }

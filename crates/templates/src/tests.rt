@@ -264,10 +264,8 @@ const RANDOM: [u8; 528] = [0xa5; 528];
 
 const UNWRAPPED: [u8; 513] = [0x3c; 513];
 
-fn original(alloc: Global, given: &[Given]) -> Result<Object, Rv> {
-    let Ok(template) = template(alloc, given) else {
-        return Err(Rv::HostMemory);
-    };
+fn original(alloc: Global, given: &[Given]) -> Result<Object, MakeFault> {
+    let template = template(alloc, given)?;
     created(alloc, SessionState::RwSo, &template, &RANDOM)
 }
 
@@ -277,17 +275,20 @@ fn generated_from(
     mechanism: MechType,
     template: &Template,
     random: &[u8],
-) -> Result<Object, Rv> {
+) -> Result<Object, MakeFault> {
     if random.len() < random_len(template) {
-        return Err(Rv::HostMemory);
+        return Err(MakeFault::Memory);
     }
     generated(alloc, state, mechanism, template, random)
 }
 
-fn made(alloc: Global, way: Way, state: SessionState, given: &[Given]) -> Result<Object, Rv> {
-    let Ok(template) = template(alloc, given) else {
-        return Err(Rv::HostMemory);
-    };
+fn made(
+    alloc: Global,
+    way: Way,
+    state: SessionState,
+    given: &[Given],
+) -> Result<Object, MakeFault> {
+    let template = template(alloc, given)?;
     match way {
         Way::Create => created(alloc, state, &template, &RANDOM),
         Way::Aes => generated_from(alloc, state, MechType::AesKeyGen, &template, &RANDOM),
@@ -313,7 +314,8 @@ fn expect_codes(rt: &impl Abort, alloc: Global, cases: &[Case]) -> Result<(), Fa
     for case in cases {
         let code = match made(alloc, case.way, case.state, case.given) {
             Ok(_) => Rv::Ok,
-            Err(code) => code,
+            Err(MakeFault::Refused(code)) => code,
+            Err(MakeFault::Memory) => Rv::HostMemory,
         };
         assert_eq!(rt; code, case.code, "{:?} {:?}", case.way, case.given);
         if let Way::Unwrap(len) = case.way {

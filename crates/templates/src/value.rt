@@ -7,11 +7,8 @@ ghost use Rattle.templates.specs.Made.{by_default, by_token, generator, is_extra
 
 use crate::call::{Call, generated_type_of};
 use attrs::{AttributeRow, DefaultValue, attribute_in, find_attribute};
-use ck_types::{AttrType, Bytes, Entry, KeyType, ObjectClass};
+use ck_types::{AttrType, Bytes, Entry, KeyType, ObjectClass, UNAVAILABLE_INFORMATION};
 use std::alloc::{AllocError, Global};
-
-/// CK_UNAVAILABLE_INFORMATION.
-const UNAVAILABLE: u64 = u64::MAX;
 
 /// What an object is made of.
 #[derive(Clone, Copy)]
@@ -75,7 +72,7 @@ fn generator_of(call: Call) -> u64
 {
     match call {
         Call::Generate(mechanism) => mechanism.number(),
-        Call::Create | Call::Unwrap(_) | Call::Copy | Call::Set => UNAVAILABLE,
+        Call::Create | Call::Unwrap(_) | Call::Copy | Call::Set => UNAVAILABLE_INFORMATION,
     }
 }
 

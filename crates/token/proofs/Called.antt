@@ -5,38 +5,39 @@ use Rattle.ck_types.specs.declared.rv.Rv.TheVariants.{DeviceError}
 use Rattle.ck_calls.specs.declared.call.Call.{Call}
 use Rattle.ck_calls.specs.declared.reply.Reply.TheVariants.{Code}
 use Rattle.keep.specs.Contents.{Contents}
-use Rattle.keep.specs.declared.keep.KeepFault.{KeepFault}
-use Rattle.keep.specs.declared.keep.KeepFault.TheVariants.{Memory, Device, Damaged}
+use Rattle.token_model.specs.declared.fault.Fault.{Fault}
+use Rattle.token_model.specs.declared.fault.Fault.TheVariants.{Memory, Device}
 use Rattle.desk.specs.Desks.{DeskState, SameDesk}
-use Rattle.token.specs.declared.check.Check.{Check}
-use Rattle.token.specs.declared.event.Out.{Out}
-use Rattle.token.specs.declared.event.Out.TheVariants.{Reply as OutReply}
-use Rattle.token.specs.Views.{View, sees}
-use Rattle.token.specs.Changes.{Change, Stays, in_list}
-use Rattle.token.specs.Answering.{Said, Replies, Answer, reveals_nothing}
-use Rattle.token.specs.Answers.{answer}
-use Rattle.token.specs.Worlds.{World, answer_at, apart, refusal, list_change, called, says_called}
-use Rattle.token.specs.Shown.{view_of, objects_of, desk_at, said_of, told_as, Changes}
-use Rattle.token.specs.Stores.{StoreState, TokenState, Shows, Serves}
+use Rattle.token_model.specs.declared.check.Check.{Check}
+use Rattle.token_store.specs.declared.out.Out.{Out}
+use Rattle.token_store.specs.declared.out.Out.TheVariants.{Reply as OutReply}
+use Rattle.token_model.specs.Views.{View, sees}
+use Rattle.token_model.specs.Changes.{Change, Stays, in_list}
+use Rattle.token_model.specs.Answering.{Said, Replies, Answer, reveals_nothing}
+use Rattle.token_model.specs.Answers.{answer}
+use Rattle.token_model.specs.Worlds.{World, answer_at, apart, refusal, list_change, called, says_called}
+use Rattle.token_store.specs.Shown.{view_of, objects_of, said_of, Changes}
+use Rattle.token.specs.Applications.{desk_at, told_as}
+use Rattle.token_store.specs.Stores.{StoreState, Serves}
+use Rattle.token.specs.Applications.{TokenState, Shows}
 use Rattle.token.specs.Runs.{Lasting, lasting_of, lasting_in, MayLeave, LeavesBy, call_change}
-use Rattle.token.proofs.Proper.{plain-answer}
-use Rattle.token.proofs.Changing.{objects-changed, record-changed}
+use Rattle.token_model.proofs.Proper.{plain-answer}
+use Rattle.token_store.proofs.Changing.{objects-changed, record-changed}
 use Rattle.token.proofs.Steps.{state, fits-given, depicts-given, fits-all, depicts-same}
 
 -- which of both it was is read off what is said
 went : (v : View) (call : Call) (random : List ℕ) (out : Out) → said_of out ≡ (answer v call random reveals_nothing).says → apart (said_of out) ≡ None
 went v call random out is = ap apart is ∙ plain-answer v call random reveals_nothing
 
-refused-apart : (fault : KeepFault) → (f : KeepFault) × (apart (said_of (told_as (Err fault))) ≡ Some f) × (Replies (refusal f) ≡ said_of (told_as (Err fault)))
+refused-apart : (fault : Fault) → (f : Fault) × (apart (said_of (told_as (Err fault))) ≡ Some f) × (Replies (refusal f) ≡ said_of (told_as (Err fault)))
 refused-apart Memory = (Memory, refl, refl)
 refused-apart Device = (Device, refl, refl)
-refused-apart Damaged = (Device, refl, refl)
 
 module _ {K : Type 0} (holds may_leave : K → Contents → Type 0) (old new : StoreState K) (ds ds' : List (ℕ × DeskState)) (cs : List Check) (app : ℕ) (call : Call) (random : List ℕ) (w : World) (s : Shows holds (record { store = old; desks = ds; checks = cs }) w) (others : (b : ℕ) → b ≢ app → SameDesk (desk_at ds b) (desk_at ds' b)) where
   abbrev given : Answer
   given = answer (view_of s.contents (desk_at ds app)) call random reveals_nothing
 
-  abbrev pub IsServed : Result Out KeepFault → Type 0
+  abbrev pub IsServed : Result Out Fault → Type 0
   IsServed r = Serves holds may_leave said_of given s.contents old new (desk_at ds app) (desk_at ds app) r (desk_at ds' app)
 
   given-is : answer_at w app call random ≡ given
@@ -45,13 +46,13 @@ module _ {K : Type 0} (holds may_leave : K → Contents → Type 0) (old new : S
   change-is : call_change w app call random ≡ in_list (sees (desk_at ds app).sessions.login) (objects_of s.contents) given.change
   change-is = rw (s.depicts.views app, s.depicts.objects) refl
 
-  refused-desks : (fault : KeepFault) → IsServed (Err fault) → (b : ℕ) → SameDesk (desk_at ds b) (desk_at ds' b)
+  refused-desks : (fault : Fault) → IsServed (Err fault) → (b : ℕ) → SameDesk (desk_at ds b) (desk_at ds' b)
   refused-desks fault m b = elim (cases_eq b app) [
     | inl is ↦ rw is m.same
     | inr differ ↦ others b differ
   ]
 
-  pub shows-called : (r : Result Out KeepFault) → IsServed r → Shows holds (record { store = new; desks = ds'; checks = cs }) (called w app call random (apart (said_of (told_as r))))
+  pub shows-called : (r : Result Out Fault) → IsServed r → Shows holds (record { store = new; desks = ds'; checks = cs }) (called w app call random (apart (said_of (told_as r))))
   shows-called (Ok out) m = record {
     contents = m.contents;
     has = m.has;
@@ -65,7 +66,7 @@ module _ {K : Type 0} (holds may_leave : K → Contents → Type 0) (old new : S
     depicts = depicts-same s.contents ds ds' cs w (refused-desks fault m) s.depicts;
   })
 
-  pub says-called : (r : Result Out KeepFault) → IsServed r → said_of (told_as r) ≡ says_called w app call random (apart (said_of (told_as r)))
+  pub says-called : (r : Result Out Fault) → IsServed r → said_of (told_as r) ≡ says_called w app call random (apart (said_of (told_as r)))
   says-called (Ok out) m = m.gives.says ∙ ap (λ (a : Answer). a.says) (sym given-is) ∙ sym (ap (says_called w app call random) (went (view_of s.contents (desk_at ds app)) call random out m.gives.says))
   says-called (Err fault) m = let f = refused-apart fault in rw f.1 (sym f.2)
 
@@ -75,7 +76,7 @@ module _ {K : Type 0} (holds may_leave : K → Contents → Type 0) (old new : S
       let change : Change = in_list (sees (desk_at ds app).sessions.login) (objects_of s.contents) given.change in
       rw (change-is, s.depicts.token_record, s.depicts.objects, objects-changed change s.contents d is, record-changed change s.contents d is) refl
 
-  pub leaves-called : (r : Result Out KeepFault) → IsServed r → (l : Lasting) → MayLeave may_leave (record { store = new; desks = ds'; checks = cs }) l
+  pub leaves-called : (r : Result Out Fault) → IsServed r → (l : Lasting) → MayLeave may_leave (record { store = new; desks = ds'; checks = cs }) l
       → LeavesBy (MayLeave may_leave (record { store = old; desks = ds; checks = cs })) (call_change w app call random) (called w app call random None) (apart (said_of (told_as r))) l
   leaves-called (Ok out) m l may =
       rw (went (view_of s.contents (desk_at ds app)) call random out m.gives.says) (elim (m.leaves may.0 may.1) [
@@ -88,8 +89,7 @@ module _ {K : Type 0} (holds may_leave : K → Contents → Type 0) (old new : S
   ])
 
   -- the device is to blame only where it failed
-  pub blames-device : (r : Result Out KeepFault) → IsServed r → told_as r ≡ OutReply (Code DeviceError) → (r ≡ Err Device) ⊎ (r ≡ Err Damaged)
+  pub blames-device : (r : Result Out Fault) → IsServed r → told_as r ≡ OutReply (Code DeviceError) → r ≡ Err Device
   blames-device (Ok out) m is = let p : Some Device ≡ None = ap (λ o. apart (said_of o)) (sym is) ∙ went (view_of s.contents (desk_at ds app)) call random out m.gives.says in cc
   blames-device (Err Memory) m is = cc
-  blames-device (Err Device) m is = inl refl
-  blames-device (Err Damaged) m is = inr refl
+  blames-device (Err Device) m is = refl

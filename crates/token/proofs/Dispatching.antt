@@ -1,22 +1,28 @@
--- Which definition answers a call.
-use Rattle.std.proofs.Common.{◌≡◌, ◌≢◌, ℕ, ◌^◌, false, List, Option, Some, None, refl, sym, ap}
-use Rattle.std.specs.Prelude.{is_some, ◌||◌, nat_le}
+-- Which definition answers a call, and what is told of it.
+use Rattle.std.proofs.Common.{◌≡◌, ℕ, ◌^◌, true, false, not, List, Option, Some, None, Result, Ok, Err, refl, sym, ◌∙◌, ap, subst}
+use Rattle.std.specs.Prelude.{is_some, ◌||◌, nat_le, IfOk}
 use Rattle.std.specs.Option.{option_map}
-use Rattle.std.proofs.lemmas.Bool.{false≢true}
-use Rattle.ck_types.specs.declared.entry.Entry.{Entry}
-use Rattle.ck_types.specs.declared.rv.Rv.TheVariants.{FunctionNotSupported}
-use Rattle.ck_calls.specs.declared.fields.AttributeQuery.{AttributeQuery}
-use Rattle.ck_calls.specs.declared.fields.Mechanism.{Mechanism}
 use Rattle.ck_calls.specs.declared.call.Call.{Call}
-use Rattle.ck_calls.specs.declared.call.Call.TheVariants as call
+use Rattle.ck_calls.specs.declared.reply.Reply.{Reply}
+use Rattle.ck_calls.specs.Functions.{function_of}
 use Rattle.keep.specs.Contents.{Contents}
+use Rattle.precede.specs.declared.row.Row.TheVariants.{Busy}
 use Rattle.mech.specs.declared.job.Job.{Job}
 use Rattle.desk.specs.Desks.{DeskState, is_busy}
-use Rattle.token.specs.Views.{View}
-use Rattle.token.specs.Answering.{Reveal, refuses, is_closed}
-use Rattle.token.specs.Answers.{answer, answer_to}
-use Rattle.token.specs.Built.{is_session_call, is_object_call, is_reading_call}
-use Rattle.token.specs.Shown.{question_of, view_of}
+use Rattle.token_model.specs.declared.fault.Fault.{Fault}
+use Rattle.token_model.specs.declared.fault.Fault.TheVariants as faults
+use Rattle.token_model.specs.Views.{View}
+use Rattle.token_model.specs.Answering.{Said, Answer, Reveal, reveals_nothing, refuses_by, is_closed}
+use Rattle.token_model.specs.Answers.{answer, answer_to, may_change_objects}
+use Rattle.token_model.proofs.Proper.{proper-answer_to}
+use Rattle.token_store.specs.declared.out.Out.{Out}
+use Rattle.token_store.specs.declared.out.Out.TheVariants.{Reply as OutReply}
+use Rattle.token_store.specs.declared.refusal.Refusal.{Refusal}
+use Rattle.token_store.specs.declared.refusal.Refusal.TheVariants as refusals
+use Rattle.token_store.specs.Refusing.{AtDesk, Done, refused_as, settled}
+use Rattle.token_store.specs.Shown.{IsFor, question_of, said_of, view_of}
+use Rattle.token_store.specs.Stores.{StoreState, Serves, Served}
+use Rattle.token_store.proofs.Refusals.{serves-done, serves-at-desk}
 
 closed-is : (c : Contents) (d : DeskState) → is_closed (view_of c d) ≡ is_busy d
 unfolding is_closed
@@ -30,41 +36,38 @@ pub answer-is : (c : Contents) (d : DeskState) (x : Call) (random : List ℕ) (r
 unfolding answer
 answer-is c d x random r free = rw (closed-is c d, free) refl
 
--- ---- calls of no arm
+pub busy-is : (c : Contents) (d : DeskState) (x : Call) (random : List ℕ) (r : Reveal) → is_busy d ≡ true → answer (view_of c d) x random r ≡ refuses_by (view_of c d) Busy
+unfolding answer
+busy-is c d x random r busy = rw (closed-is c d, busy) refl
 
-pub no_session_call : (x : Call) → ((slot flags : ℕ) → x ≢ call.OpenSession slot flags) → ((session : ℕ) → x ≢ call.CloseSession session) → ((slot : ℕ) → x ≢ call.CloseAllSessions slot) → ((session : ℕ) → x ≢ call.GetSessionInfo session) → is_session_call x ≡ false
-no_session_call (call.OpenSession slot flags) opens close all info = absurd (opens slot flags refl)
-no_session_call (call.CloseSession session) opens close all info = absurd (close session refl)
-no_session_call (call.CloseAllSessions slot) opens close all info = absurd (all slot refl)
-no_session_call (call.GetSessionInfo session) opens close all info = absurd (info session refl)
-no_session_call _ opens close all info = refl
+-- the same answer, written otherwise
+pub serves-is : {K : Type 0} (holds may_leave : K → Contents → Type 0) (a b : Answer) (c : Contents) (old new : StoreState K) (before desk : DeskState) (r : Result Out Fault) → a ≡ b → Serves holds may_leave said_of b c old new before before r desk → Serves holds may_leave said_of a c old new before before r desk
+serves-is holds may_leave a b c old new before desk r is serves = subst (λ x. Serves holds may_leave said_of x c old new before before r desk) (sym is) serves
 
-pub no_object_call : (x : Call) → ((session : ℕ) (template : List Entry) → x ≢ call.CreateObject session template) → ((session object : ℕ) (template : List Entry) → x ≢ call.CopyObject session object template) → ((session object : ℕ) → x ≢ call.DestroyObject session object) → ((session object : ℕ) (template : List Entry) → x ≢ call.SetAttributeValue session object template) → is_object_call x ≡ false
-no_object_call (call.CreateObject session template) create copy destroy set = absurd (create session template refl)
-no_object_call (call.CopyObject session object template) create copy destroy set = absurd (copy session object template refl)
-no_object_call (call.DestroyObject session object) create copy destroy set = absurd (destroy session object refl)
-no_object_call (call.SetAttributeValue session object template) create copy destroy set = absurd (set session object template refl)
-no_object_call _ create copy destroy set = refl
+-- a reply is no other application's job
+pub reply_for : (app : ℕ) (r : Result Reply Refusal) (out : Result Out Fault) → out ≡ settled OutReply r → IfOk out (IsFor app)
+reply_for app (Ok reply) out is = rw is tt
+reply_for app (Err (refusals.Row row)) out is = rw is tt
+reply_for app (Err (refusals.Code code)) out is = rw is tt
+reply_for app (Err refusals.Memory) out is = rw is tt
+reply_for app (Err refusals.Device) out is = rw is tt
 
-pub no_reading_call : (x : Call) → ((session object : ℕ) → x ≢ call.GetObjectSize session object) → ((session object : ℕ) (query : List AttributeQuery) → x ≢ call.GetAttributeValue session object query) → is_reading_call x ≡ false
-no_reading_call (call.GetObjectSize session object) size value = absurd (size session object refl)
-no_reading_call (call.GetAttributeValue session object query) size value = absurd (value session object query refl)
-no_reading_call _ size value = refl
+module _ {K : Type 0} (holds may_leave : K → Contents → Type 0) (doubt : K → ℕ) (call x : Call) (random : List ℕ) (is : call ≡ x) where
+  -- a call at the desk and the store
+  pub call-done : (old new : StoreState K) (before desk : DeskState) (r : Result Reply Refusal) (out : Result Out Fault) → out ≡ settled OutReply r → Done holds may_leave doubt (λ v. answer_to v x random reveals_nothing) old new before r desk
+      → Served holds may_leave doubt said_of (λ v. answer_to v call random reveals_nothing) old new before before out desk
+  call-done old new before desk r out told done = rw (is, told) (λ sure c h fits. serves-done holds may_leave (answer_to (view_of c before) x random reveals_nothing) c old new before desk r fits (done sure c h fits))
 
-pub unbuilt : (v : View) (x : Call) (random : List ℕ) (r : Reveal) → is_session_call x ≡ false → is_object_call x ≡ false
-    → ((session : ℕ) (mechanism : Option Mechanism) (key : ℕ) → x ≢ call.EncryptInit session mechanism key) → ((session : ℕ) (input : List ℕ) (room : Option ℕ) → x ≢ call.Encrypt session input room)
-    → is_reading_call x ≡ false → answer_to v x random r ≡ refuses v FunctionNotSupported
-unfolding answer_to
-unbuilt v (call.OpenSession slot flags) random r session object init encrypt = absurd (false≢true (sym session))
-unbuilt v (call.CloseSession s) random r session object init encrypt = absurd (false≢true (sym session))
-unbuilt v (call.CloseAllSessions slot) random r session object init encrypt = absurd (false≢true (sym session))
-unbuilt v (call.GetSessionInfo s) random r session object init encrypt = absurd (false≢true (sym session))
-unbuilt v (call.CreateObject s template) random r session object init encrypt = absurd (false≢true (sym object))
-unbuilt v (call.CopyObject s handle template) random r session object init encrypt = absurd (false≢true (sym object))
-unbuilt v (call.DestroyObject s handle) random r session object init encrypt = absurd (false≢true (sym object))
-unbuilt v (call.GetObjectSize s handle) random r session object init encrypt = λ reading. absurd (false≢true (sym reading))
-unbuilt v (call.GetAttributeValue s handle query) random r session object init encrypt = λ reading. absurd (false≢true (sym reading))
-unbuilt v (call.SetAttributeValue s handle template) random r session object init encrypt = absurd (false≢true (sym object))
-unbuilt v (call.EncryptInit s mechanism key) random r session object init encrypt = absurd (init s mechanism key refl)
-unbuilt v (call.Encrypt s input room) random r session object init encrypt = absurd (encrypt s input room refl)
-unbuilt v _ random r session object init encrypt = λ reading. refl
+  -- and at the desk alone
+  pub call-at-desk : {T : Type 0} (tell : T → Said) (as_out : T → Out) (store : StoreState K) (before desk : DeskState) (r : Result T Refusal) (out : Result Out Fault) → ((t : T) → said_of (as_out t) ≡ tell t) → may_change_objects (function_of x) ≡ false → out ≡ settled as_out r
+      → AtDesk tell (λ v. answer_to v x random reveals_nothing) before r desk → Served holds may_leave doubt said_of (λ v. answer_to v call random reveals_nothing) store store before before out desk
+  call-at-desk tell as_out store before desk r out same quiet told does = rw (is, told) (λ sure c h fits.
+      serves-at-desk holds may_leave tell as_out (answer_to (view_of c before) x random reveals_nothing) c store before desk r same (((proper-answer_to x random).fair (view_of c before) reveals_nothing).still (ap not quiet)) h fits (does.serves c fits))
+
+-- where no store is asked, no keeper is to blame
+pub not-device : {T P : Type 0} (as_out : T → Out) (r : Result T Refusal) (out : Result Out Fault) → out ≡ settled as_out r → (r ≡ Err refusals.Device → ⊥) → out ≡ Err faults.Device → P
+not-device as_out (Ok t) out is none blamed = let k : Ok (as_out t) ≡ Err faults.Device = sym is ∙ blamed in cc
+not-device as_out (Err (refusals.Row row)) out is none blamed = let k : refused_as (refusals.Row row) ≡ Err faults.Device = sym is ∙ blamed in cc
+not-device as_out (Err (refusals.Code code)) out is none blamed = let k : refused_as (refusals.Code code) ≡ Err faults.Device = sym is ∙ blamed in cc
+not-device as_out (Err refusals.Memory) out is none blamed = let k : refused_as refusals.Memory ≡ Err faults.Device = sym is ∙ blamed in cc
+not-device as_out (Err refusals.Device) out is none blamed = absurd (none refl)

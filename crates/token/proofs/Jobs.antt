@@ -1,4 +1,4 @@
--- The jobs that are out, over one event.
+-- The pending jobs, over one event.
 use Rattle.std.proofs.Common.{◌≡◌, ◌≢◌, ℕ, ◌+◌, ◌<◌, ◌≤◌, Bool, true, false, cond, suc, length, arith, not, List, [], ◌∷◌, ◌++◌, map, Option, Some, None, refl, sym, subst, ◌∙◌, ap, inl, inr}
 use Rattle.std.specs.Global.{Vec}
 use Rattle.ck_calls.specs.Functions.{function_number}
@@ -9,23 +9,25 @@ use Rattle.std.proofs.lemmas.Bool.Decides.{nat_tests}
 use Rattle.std.proofs.lemmas.Bool.{cases_eq, eq-eqb, ne_eqb}
 use Rattle.ck_calls.specs.declared.call.Call.{Call}
 use Rattle.ck_calls.specs.declared.reply.Reply.{Reply}
-use Rattle.keep.specs.declared.keep.KeepFault.{KeepFault}
+use Rattle.token_model.specs.declared.fault.Fault.{Fault}
 use Rattle.mech.specs.declared.job.Job.{Job}
 use Rattle.keep.specs.Contents.{Contents}
 use Rattle.desk.specs.Desks.{DeskState}
-use Rattle.token.specs.declared.check.Check.{Check}
-use Rattle.token.specs.Stores.{StoreState, Shows}
-use Rattle.token.specs.declared.event.Event.TheVariants.{Call as EventCall, Finish, Gone}
-use Rattle.token.specs.declared.event.Out.TheVariants.{Reply as OutReply}
-use Rattle.token.specs.Views.{View, Question}
-use Rattle.token.specs.Changes.{Change, Stays, Insert, Replace, Remove, Records, Resets, seen}
-use Rattle.token.specs.Answering.{Replies, Asks}
-use Rattle.token.specs.Worlds.{World, Move, Goes, Refuses, value_of, reveal_to_call, reveal_to_task, answer_at, result_at, change_for, set_apart, called, says_called, goes, happens, told, reply_to}
-use Rattle.token.specs.Shown.{desk_at, question_of, asked_by, is_answer, IsOther, move_of, moved, jobs_of, HasJobs, IsOpen, TakesJob}
+use Rattle.token_model.specs.declared.check.Check.{Check}
+use Rattle.token_store.specs.Stores.{StoreState}
+use Rattle.token.specs.Applications.{Shows}
+use Rattle.token_model.specs.declared.event.Event.TheVariants.{Call as EventCall, Finish, Gone}
+use Rattle.token_store.specs.declared.out.Out.TheVariants.{Reply as OutReply}
+use Rattle.token_model.specs.Views.{View, Question}
+use Rattle.token_model.specs.Changes.{Change, Stays, Insert, Replace, Remove, Records, Resets, seen}
+use Rattle.token_model.specs.Answering.{Replies, Asks}
+use Rattle.token_model.specs.Worlds.{World, Move, Goes, Refuses, value_of, reveal_to_call, reveal_to_task, answer_at, result_at, change_for, set_apart, called, says_called, goes, happens, told, reply_to}
+use Rattle.token_store.specs.Shown.{question_of}
+use Rattle.token.specs.Applications.{desk_at, asked_by, is_answer, IsOther, move_of, moved, jobs_of, HasJobs, IsOpen, TakesJob}
 use Rattle.token.specs.Runs.{Lasting, LeavesBy, LeftBy, IsStep, call_change}
-use Rattle.token.proofs.Lists.{map-push}
-use Rattle.token.proofs.Blind.{Leaves}
-use Rattle.token.proofs.Proper.{leaves-answer, none-asked, over-result}
+use Rattle.lists.proofs.ListLemmas.{map-push}
+use Rattle.token_model.proofs.Blind.{Leaves}
+use Rattle.token_model.proofs.Proper.{leaves-answer, none-asked, over-result}
 
 -- ---- the jobs of one application
 
@@ -135,7 +137,7 @@ module _ (w : World) (out : List (ℕ × Job)) (h : HasJobs w out) (app : ℕ) (
     pub step_reply : (r : Reply) → Replies r ≡ says_called w app call random.items (set_apart r) → shows (called w app call random.items (set_apart r))
         → ((l : Lasting) → left l → LeavesBy prior (call_change w app call random.items) (called w app call random.items None) (set_apart r) l) → IsStep shows prior left w (EventCall app call random) ((app, r) ∷ []) out
     step_reply r says sh l = both (set_apart r) says sh l where
-      both : (o : Option KeepFault) → Replies r ≡ says_called w app call random.items o → shows (called w app call random.items o)
+      both : (o : Option Fault) → Replies r ≡ says_called w app call random.items o → shows (called w app call random.items o)
           → ((l : Lasting) → left l → LeavesBy prior (call_change w app call random.items) (called w app call random.items None) o l) → IsStep shows prior left w (EventCall app call random) ((app, r) ∷ []) out
       both None is s l = record { move = Goes (EventCall app call random); takes = refl; tells = ap (told app) (sym is); shows = s; jobs = reply_jobs r is; leaves = l }
       both (Some fault) is s l = record { move = Refuses (EventCall app call random) fault; takes = refl; tells = ap (told app) (sym is); shows = s; jobs = h; leaves = l }
@@ -161,7 +163,7 @@ module _ (w : World) (out : List (ℕ × Job)) (h : HasJobs w out) (app : ℕ) (
 
   -- ---- a result
   module _ (rest : List (ℕ × Job)) (none : jobs_of app rest ≡ []) (others : (b : ℕ) → b ≢ app → jobs_of b rest ≡ jobs_of b out) where
-    finish_jobs : (q : Question) (o : Option KeepFault) → (w.views app).question ≡ Some q → HasJobs (happens w (moved (Finish app) o)) rest
+    finish_jobs : (q : Question) (o : Option Fault) → (w.views app).question ≡ Some q → HasJobs (happens w (moved (Finish app) o)) rest
     finish_jobs q None is = λ b. elim (cases_eq b app) [
       | inl e ↦ rw is (rw (eq-eqb b app e) (rw e (ap (map asked_by) none ∙ ap (asked app) (sym (over-result (w.views app) (value_of q.task) (reveal_to_task w app q.task))))))
       | inr d ↦ rw is (rw (ne_eqb b app d) (ap (map asked_by) (others b d) ∙ h b ∙ ap (asked b) (sym (seen-question (change_for b w app (result_at w app q)) (w.views b)))))
@@ -173,7 +175,7 @@ module _ (w : World) (out : List (ℕ × Job)) (h : HasJobs w out) (app : ℕ) (
 
     pub step_finish : (job : Job) (r : Reply) → IsOpen w app job → reply_to w (move_of (Finish app) (OutReply r)) ≡ (app, r) ∷ [] → shows (happens w (move_of (Finish app) (OutReply r))) → Left (move_of (Finish app) (OutReply r)) → IsStep shows prior left w (Finish app) ((app, r) ∷ []) rest
     step_finish job r is tells sh l = both (set_apart r) tells sh l where
-      both : (o : Option KeepFault) → reply_to w (moved (Finish app) o) ≡ (app, r) ∷ [] → shows (happens w (moved (Finish app) o)) → Left (moved (Finish app) o) → IsStep shows prior left w (Finish app) ((app, r) ∷ []) rest
+      both : (o : Option Fault) → reply_to w (moved (Finish app) o) ≡ (app, r) ∷ [] → shows (happens w (moved (Finish app) o)) → Left (moved (Finish app) o) → IsStep shows prior left w (Finish app) ((app, r) ∷ []) rest
       both None t s l = record { move = Goes (Finish app); takes = refl; tells = t; shows = s; jobs = finish_jobs (question_of job) None is.question; leaves = l }
       both (Some fault) t s l = record { move = Refuses (Finish app) fault; takes = refl; tells = t; shows = s; jobs = finish_jobs (question_of job) (Some fault) is.question; leaves = l }
 
@@ -191,7 +193,7 @@ module _ (w : World) (out : List (ℕ × Job)) (h : HasJobs w out) (app : ℕ) (
       ];
     }
 
-  -- ---- no question is out
+  -- ---- no question is pending
   pub step_pass : (w.views app).question ≡ None → shows w → ((l : Lasting) → left l → prior l) → IsStep shows prior left w (Finish app) [] out
   step_pass none sh l = record {
     move = Goes (Finish app);

@@ -7,24 +7,26 @@ use Rattle.ck_types.specs.declared.rv.Rv.TheVariants.{DeviceError}
 use Rattle.ck_calls.specs.declared.reply.Reply.{Reply}
 use Rattle.ck_calls.specs.declared.reply.Reply.TheVariants.{Code}
 use Rattle.keep.specs.Contents.{Contents}
-use Rattle.keep.specs.declared.keep.KeepFault.{KeepFault}
-use Rattle.keep.specs.declared.keep.KeepFault.TheVariants.{Memory, Device, Damaged}
+use Rattle.token_model.specs.declared.fault.Fault.{Fault}
+use Rattle.token_model.specs.declared.fault.Fault.TheVariants.{Memory, Device}
 use Rattle.mech.specs.declared.job.Job.{Job}
 use Rattle.mech.specs.declared.outcome.Outcome.{Outcome}
 use Rattle.desk.specs.Desks.{DeskState, SameDesk, empty_desk}
-use Rattle.token.specs.declared.check.Check.{Check}
-use Rattle.token.specs.declared.event.Event.TheVariants.{Finish, Gone}
-use Rattle.token.specs.declared.event.Out.TheVariants.{Reply as OutReply}
-use Rattle.token.specs.Views.{Task, Encrypts, sees}
-use Rattle.token.specs.Changes.{Change, Stays, in_list}
-use Rattle.token.specs.Answering.{Said, Replies, Answer, reveals_nothing, answered}
-use Rattle.token.specs.Answers.{answer_result}
-use Rattle.token.specs.Worlds.{World, Goes, Refuses, value_of, reveal_to_task, result_at, apart, refusal, set_apart, list_change, without_checks, stepped, unchecked, finished, finish_tells, goes, happens, told, reply_to}
-use Rattle.token.specs.Shown.{objects_of, view_of, question_of, desk_at, over, told_result, moved, move_of, Changes, IsOpen, HasJobs, opening}
-use Rattle.token.specs.Stores.{StoreState, TokenState, Has, Shows, Serves}
+use Rattle.token_model.specs.declared.check.Check.{Check}
+use Rattle.token_model.specs.declared.event.Event.TheVariants.{Finish, Gone}
+use Rattle.token_store.specs.declared.out.Out.TheVariants.{Reply as OutReply}
+use Rattle.token_model.specs.Views.{Task, Encrypts, sees}
+use Rattle.token_model.specs.Changes.{Change, Stays, in_list}
+use Rattle.token_model.specs.Answering.{Said, Replies, Answer, reveals_nothing, answered}
+use Rattle.token_model.specs.Answers.{answer_result}
+use Rattle.token_model.specs.Worlds.{World, Goes, Refuses, value_of, reveal_to_task, result_at, apart, refusal, set_apart, list_change, without_checks, stepped, unchecked, finished, finish_tells, goes, happens, told, reply_to}
+use Rattle.token_store.specs.Shown.{objects_of, view_of, question_of, over, Changes}
+use Rattle.token.specs.Applications.{desk_at, told_result, moved, move_of, IsOpen, HasJobs, opening}
+use Rattle.token_store.specs.Stores.{StoreState, Has, Serves}
+use Rattle.token.specs.Applications.{TokenState, Shows}
 use Rattle.token.specs.Runs.{Lasting, lasting_of, lasting_in, MayLeave, LeftBy, result_change}
-use Rattle.token.proofs.Proper.{plain-result}
-use Rattle.token.proofs.Changing.{objects-changed, record-changed}
+use Rattle.token_model.proofs.Proper.{plain-result}
+use Rattle.token_store.proofs.Changing.{objects-changed, record-changed}
 use Rattle.token.proofs.Steps.{state, fits-given, depicts-given, depicts-put, fits-put, fits-empty, depicts-gone, depicts-opening}
 
 -- no result reveals anything yet
@@ -38,7 +40,7 @@ module _ {K : Type 0} (holds may_leave : K → Contents → Type 0) (old new : S
   abbrev given : Answer
   given = answer_result (view_of s.contents (desk_at ds app)) outcome reveals_nothing
 
-  abbrev pub IsServed : Result Reply KeepFault → Type 0
+  abbrev pub IsServed : Result Reply Fault → Type 0
   IsServed r = Serves holds may_leave Replies given s.contents old new (desk_at ds app) (over (desk_at ds app)) r (desk_at ds' app)
 
   given-is : result_at w app (question_of job) ≡ given
@@ -53,12 +55,11 @@ module _ {K : Type 0} (holds may_leave : K → Contents → Type 0) (old new : S
   finishes : goes w (Finish app) ≡ unchecked (stepped w app given) app
   finishes = ap (finished w app) open_is.question ∙ ap (λ a. unchecked (stepped w app a) app) given-is
 
-  fault-apart : (fault : KeepFault) → (f : KeepFault) × (set_apart (refusal fault) ≡ Some f) × (refusal f ≡ refusal fault)
+  fault-apart : (fault : Fault) → (f : Fault) × (set_apart (refusal fault) ≡ Some f) × (refusal f ≡ refusal fault)
   fault-apart Memory = (Memory, refl, refl)
   fault-apart Device = (Device, refl, refl)
-  fault-apart Damaged = (Device, refl, refl)
 
-  pub shows-finished : (r : Result Reply KeepFault) → IsServed r → Shows holds (record { store = new; desks = ds'; checks = without_checks app cs }) (happens w (move_of (Finish app) (OutReply (told_result r))))
+  pub shows-finished : (r : Result Reply Fault) → IsServed r → Shows holds (record { store = new; desks = ds'; checks = without_checks app cs }) (happens w (move_of (Finish app) (OutReply (told_result r))))
   shows-finished (Ok reply) m =
       let d = depicts-given given s.contents m.contents ds ds' app s.fits others (Replies reply) m.gives cs w s.depicts in
       rw (went reply m.gives.says, finishes) (record {
@@ -74,7 +75,7 @@ module _ {K : Type 0} (holds may_leave : K → Contents → Type 0) (old new : S
     depicts = depicts-put s.contents ds ds' cs app (over (desk_at ds app)) (answered (w.views app)) w m.same (rw (s.depicts.views app) refl) others s.depicts;
   })
 
-  pub tells-finished : (r : Result Reply KeepFault) → IsServed r → reply_to w (move_of (Finish app) (OutReply (told_result r))) ≡ (app, told_result r) ∷ []
+  pub tells-finished : (r : Result Reply Fault) → IsServed r → reply_to w (move_of (Finish app) (OutReply (told_result r))) ≡ (app, told_result r) ∷ []
   tells-finished (Ok reply) m = rw (went reply m.gives.says) (ap (finish_tells w app) open_is.question ∙ ap (λ (a : Answer). told app a.says) given-is ∙ ap (told app) (sym m.gives.says))
   tells-finished (Err fault) m = let f = fault-apart fault in rw f.1 (ap (λ r. (app, r) ∷ []) f.2)
 
@@ -84,7 +85,7 @@ module _ {K : Type 0} (holds may_leave : K → Contents → Type 0) (old new : S
       let c : list_change w app given ≡ change = rw (s.depicts.views app, s.depicts.objects) refl in
       rw (finishes, c, s.depicts.token_record, s.depicts.objects, objects-changed change s.contents d is, record-changed change s.contents d is) refl
 
-  pub leaves-finished : (r : Result Reply KeepFault) → IsServed r → (l : Lasting) → MayLeave may_leave (record { store = new; desks = ds'; checks = without_checks app cs }) l
+  pub leaves-finished : (r : Result Reply Fault) → IsServed r → (l : Lasting) → MayLeave may_leave (record { store = new; desks = ds'; checks = without_checks app cs }) l
       → LeftBy (MayLeave may_leave (record { store = old; desks = ds; checks = cs })) w (move_of (Finish app) (OutReply (told_result r))) l
   leaves-finished (Ok reply) m l may =
       rw (went reply m.gives.says) (elim (m.leaves may.0 may.1) [
@@ -96,11 +97,10 @@ module _ {K : Type 0} (holds may_leave : K → Contents → Type 0) (old new : S
     | inr is ↦ inr (may.2 ∙ lasts may.0 is)
   ])
 
-  pub blames-device : (r : Result Reply KeepFault) → IsServed r → told_result r ≡ Code DeviceError → (r ≡ Err Device) ⊎ (r ≡ Err Damaged)
+  pub blames-device : (r : Result Reply Fault) → IsServed r → told_result r ≡ Code DeviceError → r ≡ Err Device
   blames-device (Ok reply) m is = let p : Some Device ≡ None = ap set_apart (sym is) ∙ went reply m.gives.says in cc
   blames-device (Err Memory) m is = cc
-  blames-device (Err Device) m is = inl refl
-  blames-device (Err Damaged) m is = inr refl
+  blames-device (Err Device) m is = refl
 
 module _ {K : Type 0} (holds may_leave : K → Contents → Type 0) where
   -- the desk has the question that is open

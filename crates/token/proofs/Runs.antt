@@ -2,12 +2,12 @@
 use Rattle.std.proofs.Common.{◌≡◌, ℕ, List, [], ◌∷◌, ◌++◌, map, Option, Some, None, inl, inr, refl, sym, ◌∙◌, ap, append_assoc}
 use Rattle.ck_calls.specs.declared.reply.Reply.{Reply}
 use Rattle.mech.specs.declared.job.Job.{Job}
-use Rattle.token.specs.declared.event.Event.{Event}
-use Rattle.token.specs.Worlds.{World, Move, Goes, Refuses, event_of, happens, reply_to, after, replies}
-use Rattle.token.specs.Shown.{HasJobs}
+use Rattle.token_model.specs.declared.event.Event.{Event}
+use Rattle.token_model.specs.Worlds.{World, Move, Goes, Refuses, event_of, happens, reply_to, after, replies}
+use Rattle.token.specs.Applications.{HasJobs}
 use Rattle.token.specs.Runs.{Lasting, LeftBy, LeftAfter, Advances, IsRun}
-use Rattle.token.proofs.Places.{append_nil}
-use Rattle.token.proofs.Told.{is_told}
+use Rattle.lists.proofs.PlaceLemmas.{append_nil}
+use Rattle.token_model.proofs.Told.{is_told}
 
 after-append : (w : World) (ms : List Move) (m : Move) → after w (ms ++ m ∷ []) ≡ happens (after w ms) m
 after-append w [] m = refl

@@ -7,22 +7,23 @@ use Rattle.ck_types.specs.declared.entry.Entry.{Entry}
 use Rattle.ck_types.specs.declared.user_type.UserType.{UserType}
 use Rattle.ck_calls.specs.declared.call.Call.{Call}
 use Rattle.keep.specs.Contents.{Contents, Kept}
-use Rattle.keep.specs.declared.keep.KeepFault.{KeepFault}
+use Rattle.token_model.specs.declared.fault.Fault.{Fault}
 use Rattle.desk.specs.Desks.{DeskState, SameDesk, empty_desk}
-use Rattle.token.specs.declared.check.Check.{Check}
-use Rattle.token.specs.declared.event.Event.TheVariants.{Gone}
-use Rattle.token.specs.declared.event.Out.{Out}
-use Rattle.token.specs.Views.{record_sight, TokenObject, View, Task, Encrypts, sees, without_handle, fresh, left}
-use Rattle.token.specs.Changes.{Change, seen, in_list, as_seen}
-use Rattle.token.specs.Answering.{Said, Replies, Asks, Answer, reveals_nothing}
-use Rattle.token.specs.Answers.{answer}
-use Rattle.token.specs.Stores.{StoreState, Serves}
-use Rattle.token.specs.Worlds.{World, list_change, change_for, checks_of, checked_by, checks_begun, without_checks, stepped, unchecked, with_view, goes}
-use Rattle.token.specs.Shown.{objects_of, sees_kept, token_object, view_of, IsNoted, Fits, Gives, said_of, State, desk_at, Depicts, opening, AllFit}
-use Rattle.token.proofs.Lists.{map-map, filter-map, filter-less}
-use Rattle.token.proofs.Places.{append_nil}
-use Rattle.token.proofs.Closing.{less-none}
-use Rattle.token.proofs.Changing.{fits-changed, objects-changed, record-changed, view_of-changed}
+use Rattle.token_model.specs.declared.check.Check.{Check}
+use Rattle.token_model.specs.declared.event.Event.TheVariants.{Gone}
+use Rattle.token_store.specs.declared.out.Out.{Out}
+use Rattle.token_model.specs.Views.{record_sight, TokenObject, View, Task, Encrypts, sees, without_handle, fresh, left}
+use Rattle.token_model.specs.Changes.{Change, seen, in_list, as_seen}
+use Rattle.token_model.specs.Answering.{Said, Replies, Asks, Answer, reveals_nothing}
+use Rattle.token_model.specs.Answers.{answer}
+use Rattle.token_store.specs.Stores.{StoreState, Serves}
+use Rattle.token_model.specs.Worlds.{World, list_change, change_for, checks_of, checked_by, checks_begun, without_checks, stepped, unchecked, with_view, goes}
+use Rattle.token_store.specs.Shown.{objects_of, sees_kept, token_object, view_of, IsNoted, Fits, Gives, said_of}
+use Rattle.token.specs.Applications.{State, desk_at, Depicts, opening, AllFit}
+use Rattle.lists.proofs.ListLemmas.{map-map, filter-map, filter-less}
+use Rattle.lists.proofs.PlaceLemmas.{append_nil}
+use Rattle.token_store.proofs.Seeing.{less-none}
+use Rattle.token_store.proofs.Changing.{fits-changed, objects-changed, record-changed, view_of-changed}
 
 abbrev pub state : Contents → List (ℕ × DeskState) → List Check → State
 state c ds cs = record { kept = c; desks = ds; checks = cs }
@@ -123,7 +124,7 @@ depicts-gone c ds ds' cs app w own others s =
     depicts-put c ds ds' cs app empty_desk (left (w.views app)) w (rw own refl) (view_of-left c (desk_at ds app) ∙ ap left (sym (s.views app))) (λ b differ. rw (others b differ) refl) s
 
 -- ---- a call at a desk that is the same but for the memory at hand
-pub served-same : {K : Type 0} (holds may_leave : K → Contents → Type 0) (call : Call) (random : List ℕ) (c : Contents) (old new : StoreState K) (d mid : DeskState) (r : Result Out KeepFault) (desk : DeskState) → SameDesk d mid
+pub served-same : {K : Type 0} (holds may_leave : K → Contents → Type 0) (call : Call) (random : List ℕ) (c : Contents) (old new : StoreState K) (d mid : DeskState) (r : Result Out Fault) (desk : DeskState) → SameDesk d mid
     → Serves holds may_leave said_of (answer (view_of c mid) call random reveals_nothing) c old new mid mid r desk → Serves holds may_leave said_of (answer (view_of c d) call random reveals_nothing) c old new d d r desk
 served-same holds may_leave call random c old new d mid (Ok out) desk same s = rw same at s
 served-same holds may_leave call random c old new d mid (Err fault) desk same s = record { has = s.has; same = rw same at s.same; leaves = rw same at s.leaves }

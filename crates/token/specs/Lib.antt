@@ -1,13 +1,2 @@
-pub mod Events
-pub mod Places
-pub mod Views
-pub mod Changes
-pub mod Answering
-pub mod Answers
-pub mod Worlds
-pub mod Traces
-pub mod Shown
-pub mod Stores
+pub mod Applications
 pub mod Runs
-pub mod Found
-pub mod Built

@@ -4,16 +4,17 @@ use Rattle.ck_types.specs.declared.entry.Entry.{Entry}
 use Rattle.ck_calls.specs.declared.call.Call.{Call as CallType}
 use Rattle.ck_calls.specs.declared.reply.Reply.{Reply}
 use Rattle.keep.specs.Contents.{Contents}
-use Rattle.keep.specs.declared.keep.KeepFault.{KeepFault}
+use Rattle.token_model.specs.declared.fault.Fault.{Fault}
 use Rattle.mech.specs.declared.job.Job.{Job}
-use Rattle.token.specs.declared.event.Event.{Event}
-use Rattle.token.specs.declared.event.Event.TheVariants.{Call, Finish, Gone}
-use Rattle.token.specs.Views.{RecordSight, record_sight, Question}
-use Rattle.token.specs.Changes.{Change, Stays}
-use Rattle.token.specs.Worlds.{World, Move, Goes, Refuses, event_of, answer_at, result_at, list_change, called, goes, happens, reply_to, after, replies}
-use Rattle.token.specs.Traces.{NotSetApart, IsTold}
-use Rattle.token.specs.Shown.{objects_of, HasJobs}
-use Rattle.token.specs.Stores.{TokenState}
+use Rattle.token_model.specs.declared.event.Event.{Event}
+use Rattle.token_model.specs.declared.event.Event.TheVariants.{Call, Finish, Gone}
+use Rattle.token_model.specs.Views.{RecordSight, record_sight, Question}
+use Rattle.token_model.specs.Changes.{Change, Stays}
+use Rattle.token_model.specs.Worlds.{World, Move, Goes, Refuses, event_of, answer_at, result_at, list_change, called, goes, happens, reply_to, after, replies}
+use Rattle.token_model.specs.Traces.{NotSetApart, IsTold}
+use Rattle.token_store.specs.Shown.{objects_of}
+use Rattle.token.specs.Applications.{HasJobs}
+use Rattle.token.specs.Applications.{TokenState}
 
 -- ---- crashes
 
@@ -35,7 +36,7 @@ MayLeave may_leave t l = (d : Contents) × may_leave t.store.keep d × (l ≡ la
 -- What a crash may leave after a change by which the world would be the next, by what it could leave before: the change
 -- alone, or, where nothing changes, what it could leave before; after a refusal what it could leave before, or the
 -- change, whole.
-abbrev pub LeavesBy : (Lasting → Type 0) → Change → World → Option KeepFault → Lasting → Type 0
+abbrev pub LeavesBy : (Lasting → Type 0) → Change → World → Option Fault → Lasting → Type 0
 LeavesBy prior change next None l = (prior l × (change ≡ Stays)) ⊎ (l ≡ lasting_of next)
 LeavesBy prior change next (Some fault) l = prior l ⊎ (l ≡ lasting_of next)
 
@@ -65,7 +66,7 @@ LeftAfter prior w (m ∷ ms) l = LeftAfter (LeftBy prior w m) (happens w m) ms l
 
 -- ---- runs
 
--- The token shows the world after the event, at which this was told, the jobs that are out are the world's, and a
+-- The token shows the world after the event, at which this was told, the pending jobs are the world's, and a
 -- crash may leave no more than that.
 pub record IsStep (showing : World → Type 0) (prior left : Lasting → Type 0) (w : World) (event : Event) (said : List (ℕ × Reply)) (out : List (ℕ × Job)) : Type 0 where
   pub move : Move

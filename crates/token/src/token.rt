@@ -1,6 +1,6 @@
 //! The token: one event at a time.
 
-ghost use Rattle.std.specs.Prelude.{◌≡◌, ◌≢◌, ◌∷◌, [], ℕ, ◌<◌, ◌≤◌, ◌==◌, All, IfErr, IfOk, IsSome, None, OnErr, OnOk, Some, length, option_to_list, reverse, vec_capacity, vec_len};
+ghost use Rattle.std.specs.Prelude.{◌≡◌, ◌≢◌, ◌∷◌, [], ℕ, ◌<◌, ◌≤◌, ◌==◌, All, IfErr, IfOk, IsErrOf, IsSome, None, OnErr, OnOk, Some, length, option_to_list, reverse, vec_capacity, vec_len};
 ghost use Rattle.std.specs.Option.{option_map};
 ghost use Rattle.std.specs.List.{position};
 ghost use Rattle.std.specs.BTreeMap.{get};
@@ -10,21 +10,22 @@ ghost use Rattle.ck_calls.specs.Need.{random_bytes};
 ghost use Rattle.ck_types.specs.declared.rv.Rv.TheVariants.{DeviceError, FunctionFailed};
 ghost use Rattle.desk.specs.Desks.{SameDesk, empty_desk};
 ghost use Rattle.keep.specs.Contents.{Contents};
-ghost use Rattle.keep.specs.Keeping.{Counted, HasCause, Rises, Stays};
-ghost use Rattle.token.specs.declared.event.Event.TheVariants.{Finish, Gone};
-ghost use Rattle.token.specs.declared.event.Out.TheVariants.{Reply as OutReply};
-ghost use Rattle.token.specs.Events.{HasRandom};
-ghost use Rattle.token.specs.Answering.{Replies, reveals_nothing};
-ghost use Rattle.token.specs.Answers.{answer, answer_result};
-ghost use Rattle.token.specs.Worlds.{World, apart, called, goes, happens, refusal, reply_to, says_called, value_of, without_checks};
-ghost use Rattle.token.specs.Shown.{HasJobs, IsFor, IsOpen, IsOther, TakesJob, desk_at, is_answer, move_of, opening, over, question_of, said_of, told_as, told_result};
-ghost use Rattle.token.specs.Stores.{Served, Shows};
+ghost use Rattle.keep.specs.Keeping.{Counted, Rises, Stays};
+ghost use Rattle.token_model.specs.declared.event.Event.TheVariants.{Finish, Gone};
+ghost use Rattle.token_store.specs.declared.out.Out.TheVariants.{Reply as OutReply};
+ghost use Rattle.token_model.specs.Events.{HasRandom};
+ghost use Rattle.token_model.specs.declared.fault.Fault.TheVariants.{Device};
+ghost use Rattle.token_model.specs.Answering.{reveals_nothing};
+ghost use Rattle.token_model.specs.Answers.{answer};
+ghost use Rattle.token_model.specs.Worlds.{World, apart, called, goes, happens, refusal, reply_to, says_called, without_checks};
+ghost use Rattle.token_store.specs.Shown.{IsFor, question_of, said_of};
+ghost use Rattle.token.specs.Applications.{FinishesAtDesk, HasJobs, IsOpen, IsOther, TakesJob, desk_at, is_answer, move_of, opening, told_as, told_result};
+ghost use Rattle.token_store.specs.Stores.{Served};
+ghost use Rattle.token.specs.Applications.{Shows};
 ghost use Rattle.token.specs.Runs.{Advances, IsRun, IsStep, Lasting, LeavesBy, LeftBy, MayLeave, call_change};
 
-use crate::check::Check;
-use crate::event::{Event, Out, Ran};
+use crate::ran::Ran;
 use crate::serving::{serve, serve_outcome};
-use crate::store::Store;
 use ck_calls::{Call, Reply};
 use ck_types::Rv;
 use desk::Desk;
@@ -33,6 +34,8 @@ use mech::{Done, Job};
 use std::alloc::{AllocError, Global};
 use std::collections::BTreeMap;
 use std::marker::Model;
+use token_model::{Check, Event, Fault};
+use token_store::{Out, Store};
 
 /// A token with one slot, over a keeper, for several applications, each of which is a number.
 #[derive(Drop)]
@@ -43,7 +46,7 @@ pub struct Token<K: Keep> {
 }
 
 impl<K: Keep> Model for Token<K> {
-    ghost use Rattle.token.specs.Stores.{TokenState};
+    ghost use Rattle.token.specs.Applications.{TokenState};
 
     ghost Value = { TokenState K };
 
@@ -56,7 +59,7 @@ impl<K: Keep> Token<K> {
     pub fn new(alloc: Global, keep: K) -> Result<Token<K>, (KeepFault, K)>
         // It shows what the keeper holds, and no application.
         ensures shows { (c : Contents) → K.holds keep c → IfOk result (λ t. K.doubt t.store.keep ≡ 0 → Shows K.holds t (opening c)) }
-        // No question is out.
+        // No question is pending.
         ensures jobs { IfOk result (λ t. (w : World) → Shows K.holds t w → HasJobs w []) }
         ensures leaves { IfOk result (λ t. (d : Contents) → K.may_leave t.store.keep d → K.may_leave keep d) }
         ensures back { IfErr result (λ e. Stays K.holds K.may_leave keep e.1) }
@@ -98,9 +101,9 @@ impl<K: Keep> Token<K> {
     }
 
     /// The end of an application's question. A `Done` of another application, question or function, or
-    /// without a question that is out, answers `CKR_FUNCTION_FAILED` and changes nothing. Where memory was
+    /// without a pending question, answers `CKR_FUNCTION_FAILED` and changes nothing. Where memory was
     /// refused, in the job too, the reply is `CKR_HOST_MEMORY`; the question is over.
-    pub fn finish(&mut self, alloc: Global, app: u64, done: Done) -> Reply
+    pub fn finish(&mut self, _alloc: Global, app: u64, done: Done) -> Reply
         // The token shows the world after the result.
         ensures world { K.doubt self.new.store.keep ≡ 0 → (w : World) → Shows K.holds self.old w → IsOpen w app done.job.value → Shows K.holds self.new (happens w (move_of (Finish app) (OutReply result))) }
         // What is told is the answer to the result of the question, or a refusal set apart.
@@ -113,11 +116,10 @@ impl<K: Keep> Token<K> {
         // CKR_DEVICE_ERROR comes only where a failure of the keeper was counted.
         ensures cause { K.doubt self.new.store.keep ≡ 0 → (w : World) → Shows K.holds self.old w → IsOpen w app done.job.value → result ≡ Code DeviceError → Rises (K.failures_of self.old.store.keep) (K.failures_of self.new.store.keep) }
     {
-        let _ = alloc;
         if !is_open(&self.desks, app, &done) {
             return Reply::Code(Rv::FunctionFailed);
         }
-        let reply = told_result(finish_app(&mut self.desks, &mut self.store, app, done));
+        let reply = told_result(finish_app(&mut self.desks, app, done));
         retain_others(&mut self.checks, app);
         reply
     }
@@ -132,7 +134,7 @@ impl<K: Keep> Token<K> {
         retain_others(&mut self.checks, app);
     }
 
-    /// One event, with the jobs that are out. A call may add one, for which there is room.
+    /// One event, with the pending jobs. A call may add one, for which there is room.
     fn event(
         &mut self,
         alloc: Global,
@@ -195,7 +197,7 @@ impl<K: Keep> Token<K> {
     }
 
     /// Takes the events in turn, as long as there is memory for the replies and jobs. `out` has the
-    /// job of each question that is out, once, and nothing else.
+    /// job of each pending question, once, and nothing else.
     pub fn run(&mut self, alloc: Global, mut events: Vec<Event>, mut out: Vec<(u64, Job)>) -> Ran
         requires random { All HasRandom events.items }
         requires jobs { (w : World) → Shows K.holds self.old w → HasJobs w out.items }
@@ -222,7 +224,7 @@ impl<K: Keep> Token<K> {
 }
 
 /// What an application is told of its call.
-fn told_as(outcome: Result<Out, KeepFault>) -> Out
+fn told_as(outcome: Result<Out, Fault>) -> Out
     ensures { result ≡ told_as outcome }
 {
     match outcome {
@@ -232,7 +234,7 @@ fn told_as(outcome: Result<Out, KeepFault>) -> Out
 }
 
 /// What an application is told of its result.
-fn told_result(outcome: Result<Reply, KeepFault>) -> Reply
+fn told_result(outcome: Result<Reply, Fault>) -> Reply
     ensures { result ≡ told_result outcome }
 {
     match outcome {
@@ -242,12 +244,12 @@ fn told_result(outcome: Result<Reply, KeepFault>) -> Reply
 }
 
 /// What an application is answered where its event was refused.
-fn refusal(fault: KeepFault) -> Reply
+fn refusal(fault: Fault) -> Reply
     ensures { result ≡ refusal fault }
 {
     match fault {
-        KeepFault::Memory => Reply::Code(Rv::HostMemory),
-        KeepFault::Device | KeepFault::Damaged => Reply::Code(Rv::DeviceError),
+        Fault::Memory => Reply::Code(Rv::HostMemory),
+        Fault::Device => Reply::Code(Rv::DeviceError),
     }
 }
 
@@ -259,37 +261,15 @@ fn serve_app<K: Keep>(
     store: &mut Store<K>,
     call: Call,
     random: &[u8],
-) -> Result<Out, KeepFault>
+) -> Result<Out, Fault>
     requires { length random.now ≡ random_bytes call }
     ensures serves { Served K.holds K.may_leave K.doubt said_of (λ v. answer v call random.now reveals_nothing) store.old store.new (desk_at desks.old.entries app) (desk_at desks.old.entries app) result (desk_at desks.new.entries app) }
     ensures others { (b : ℕ) → b ≢ app → SameDesk (desk_at desks.old.entries b) (desk_at desks.new.entries b) }
     ensures asker { IfOk result (IsFor app) }
     ensures counts { Counted K.doubt K.failures_of K.tried store.old.keep store.new.keep 1 }
-    ensures cause { HasCause (K.failures_of store.old.keep) (K.failures_of store.new.keep) result }
+    ensures cause { IsErrOf result Device → Rises (K.failures_of store.old.keep) (K.failures_of store.new.keep) }
 {
-    match seat(alloc, desks, app) {
-        Ok(()) => serve_seated(alloc, app, desks, store, call, random),
-        Err(fault) => Err(fault),
-    }
-}
-
-/// One call, at the desk that the application has.
-fn serve_seated<K: Keep>(
-    alloc: Global,
-    app: u64,
-    desks: &mut BTreeMap<u64, Desk>,
-    store: &mut Store<K>,
-    call: Call,
-    random: &[u8],
-) -> Result<Out, KeepFault>
-    requires random { length random.now ≡ random_bytes call }
-    requires seated { IsSome (get nat_cmp desks.old app) }
-    ensures serves { Served K.holds K.may_leave K.doubt said_of (λ v. answer v call random.now reveals_nothing) store.old store.new (desk_at desks.old.entries app) (desk_at desks.old.entries app) result (desk_at desks.new.entries app) }
-    ensures others { (b : ℕ) → b ≢ app → desk_at desks.new.entries b ≡ desk_at desks.old.entries b }
-    ensures asker { IfOk result (IsFor app) }
-    ensures counts { Counted K.doubt K.failures_of K.tried store.old.keep store.new.keep 1 }
-    ensures cause { HasCause (K.failures_of store.old.keep) (K.failures_of store.new.keep) result }
-{
+    seat(alloc, desks, app)?;
     match desks.get_mut(&app) {
         Some(desk) => serve(alloc, app, desk, store, call, random),
         None => unreachable!(),
@@ -297,10 +277,10 @@ fn serve_seated<K: Keep>(
 }
 
 /// Sees that the application has a desk.
-fn seat(alloc: Global, desks: &mut BTreeMap<u64, Desk>, app: u64) -> Result<(), KeepFault>
+fn seat(alloc: Global, desks: &mut BTreeMap<u64, Desk>, app: u64) -> Result<(), Fault>
     ensures same { (b : ℕ) → SameDesk (desk_at desks.old.entries b) (desk_at desks.new.entries b) }
     ensures there { OnOk result (IsSome (get nat_cmp desks.new app)) }
-    ensures cause { IfErr result (λ fault. fault ≡ KeepFault.Memory) }
+    ensures cause { IfErr result (λ fault. fault ≡ Fault.Memory) }
 {
     if !desks.contains_key(&app) {
         desks
@@ -310,7 +290,7 @@ fn seat(alloc: Global, desks: &mut BTreeMap<u64, Desk>, app: u64) -> Result<(), 
     Ok(())
 }
 
-/// Whether a job that was run is of the application's question that is out.
+/// Whether a job that was run is of the application's pending question.
 fn is_open(desks: &BTreeMap<u64, Desk>, app: u64, done: &Done) -> bool
     ensures { result ≡ is_answer (desk_at desks.now.entries app).question app done.now.job.value }
 {
@@ -327,35 +307,26 @@ fn is_open(desks: &BTreeMap<u64, Desk>, app: u64, done: &Done) -> bool
     }
 }
 
-/// The result of the application's question that is out.
-fn finish_app<K: Keep>(
-    desks: &mut BTreeMap<u64, Desk>,
-    store: &mut Store<K>,
-    app: u64,
-    done: Done,
-) -> Result<Reply, KeepFault>
-    ensures serves { option_map question_of (desk_at desks.old.entries app).question ≡ Some (question_of done.job.value) → Served K.holds K.may_leave K.doubt Replies (λ v. answer_result v (value_of (question_of done.job.value).task) reveals_nothing) store.old store.new (desk_at desks.old.entries app) (over (desk_at desks.old.entries app)) result (desk_at desks.new.entries app) }
+/// The result of the application's pending question.
+fn finish_app(desks: &mut BTreeMap<u64, Desk>, app: u64, done: Done) -> Result<Reply, Fault>
+    ensures serves { option_map question_of (desk_at desks.old.entries app).question ≡ Some (question_of done.job.value) → FinishesAtDesk done.job.value (desk_at desks.old.entries app) result (desk_at desks.new.entries app) }
     ensures others { (b : ℕ) → b ≢ app → desk_at desks.new.entries b ≡ desk_at desks.old.entries b }
-    ensures counts { Counted K.doubt K.failures_of K.tried store.old.keep store.new.keep 1 }
-    ensures cause { HasCause (K.failures_of store.old.keep) (K.failures_of store.new.keep) result }
 {
     match desks.get_mut(&app) {
-        Some(desk) => finish_at(desk, store, done),
+        Some(desk) => finish_at(desk, done),
         None => Ok(Reply::Code(Rv::FunctionFailed)),
     }
 }
 
-/// The result of the question that is out, at its desk.
-fn finish_at<K: Keep>(desk: &mut Desk, store: &mut Store<K>, done: Done) -> Result<Reply, KeepFault>
-    ensures serves { option_map question_of desk.old.question ≡ Some (question_of done.job.value) → Served K.holds K.may_leave K.doubt Replies (λ v. answer_result v (value_of (question_of done.job.value).task) reveals_nothing) store.old store.new desk.old (over desk.old) result desk.new }
-    ensures counts { Counted K.doubt K.failures_of K.tried store.old.keep store.new.keep 1 }
-    ensures cause { HasCause (K.failures_of store.old.keep) (K.failures_of store.new.keep) result }
+/// The result of the pending question, at its desk.
+fn finish_at(desk: &mut Desk, done: Done) -> Result<Reply, Fault>
+    ensures { option_map question_of desk.old.question ≡ Some (question_of done.job.value) → FinishesAtDesk done.job.value desk.old result desk.new }
 {
     match done.into_outcome() {
-        Ok(outcome) => serve_outcome(desk, store, outcome),
+        Ok(outcome) => Ok(serve_outcome(desk, outcome)),
         Err(_) => {
             desk.end_question();
-            Err(KeepFault::Memory)
+            Err(Fault::Memory)
         }
     }
 }

@@ -1,5 +1,5 @@
 -- What the payload of a reply says is encoded so, and what is encoded is said.
-use Rattle.std.proofs.Common.{◌≡◌, ℕ, ◌<◌, ◌≤◌, Bool, true, false, cond, ltb, eqb, List, [], ◌++◌, length, Option, Some, None, Result, Ok, Err, refl, sym, ap, subst, ◌∙◌, lit<}
+use Rattle.std.proofs.Common.{◌≡◌, ℕ, ◌≤◌, Bool, true, false, cond, ltb, eqb, List, [], ◌++◌, length, Option, Some, None, Result, Ok, Err, refl, sym, ap, subst, ◌∙◌, lit<}
 use Rattle.std.specs.Prelude.{IfOk, ◌||◌}
 use Rattle.std.proofs.lemmas.Bool.{ltb-false, le-ltb, eqb-true}
 use Rattle.std.proofs.lemmas.List.{append-nil, nil_from_length}
@@ -15,13 +15,13 @@ use Rattle.ck_calls.specs.declared.reply.Output.TheVariants.{Length, Data}
 use Rattle.ck_calls.specs.declared.reply.Reply.{Reply}
 use Rattle.ck_calls.specs.declared.reply.Reply.TheVariants as replies
 use Rattle.ck_calls.specs.Fields.{token_info, token_info_canonical, mechanism_info, mechanism_info_canonical, session_info, session_info_canonical, numbers, numbers_canonical, output, output_canonical, attribute_values, attribute_values_canonical}
-use Rattle.ck_calls.specs.Functions.{function_number, function_at}
+use Rattle.ck_calls.specs.Functions.{function_at}
 use Rattle.wire.specs.declared.fault.WireFault.{WireFault}
 use Rattle.wire.specs.declared.fault.WireFault.TheVariants as faults
 use Rattle.wire.specs.declared.shape.Shape.{Shape}
 use Rattle.wire.specs.declared.shape.Shape.TheVariants as shapes
 use Rattle.wire.specs.Messages.{most, Reads, or_malformed}
-use Rattle.wire.specs.Replies.{shape_of, carries, reply_payload, Fits-reply, HasShape, IsReplyTo, IsReplyAt, too_small, decode_carried, decode_after, decode_reply, reply_said, reply_in}
+use Rattle.wire.specs.Replies.{shape_of, carries, reply_payload, Fits-reply, HasShape, IsReplyAt, too_small, decode_carried, decode_after, decode_reply, reply_said, reply_in}
 use Rattle.wire.proofs.Requests.{function_at-number, function_at-again}
 use Rattle.wire.proofs.Messages.{or_malformed-ok, unless_fault}
 

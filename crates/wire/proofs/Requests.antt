@@ -10,7 +10,7 @@ use Rattle.ck_calls.specs.declared.function.Function.TheVariants as functions
 use Rattle.ck_calls.specs.declared.call.Call.{Call}
 use Rattle.ck_calls.specs.declared.call.Call.TheVariants as calls
 use Rattle.ck_calls.specs.Functions.{function_number, function_of, functions_all, function_at}
-use Rattle.ck_calls.specs.Fields.{mechanism, template, query, room, mechanism_canonical, optional_mechanism_canonical, template_canonical, query_canonical, room_canonical, optional_mechanism}
+use Rattle.ck_calls.specs.Fields.{mechanism, template, query, room, mechanism_canonical, optional_mechanism_canonical, template_canonical, query_canonical, room_canonical}
 use Rattle.wire.specs.Requests.{number_only, two_numbers, number_and_strings, number_and_string, numbers_and_string, number_and_template, numbers_and_template, numbers_and_query, init_fields, data_fields, final_fields, generate_fields, wrap_fields, unwrap_fields, encode_fields, Fits-fields, decode_fields}
 
 number_only_canonical : IsCanonical number_only

@@ -1,5 +1,5 @@
 -- A stream is split in one way only.
-use Rattle.std.proofs.Common.{◌≡◌, ℕ, ◌+◌, ◌≤◌, ◌<◌, ◌^◌, List, [], ◌∷◌, ◌++◌, length, Option, Some, refl, sym, ap, subst, ◌∙◌, append_assoc, arith, inl, inr, ◌⊎◌}
+use Rattle.std.proofs.Common.{◌≡◌, ℕ, ◌+◌, ◌≤◌, List, [], ◌∷◌, ◌++◌, length, refl, sym, ap, subst, ◌∙◌, append_assoc, arith, inl, inr}
 use Rattle.std.specs.Int.{w32, to_be_bytes}
 use Rattle.std.specs.List.{flat_map, AllByRecursion}
 use Rattle.std.proofs.lemmas.List.{length-append}
@@ -8,7 +8,7 @@ use Rattle.std.proofs.lemmas.Nat.{from_be_bytes-to_be_bytes_4}
 use Rattle.ck_types.specs.Format.{byte_string}
 use Rattle.ck_types.specs.Canonical.{byte_string_canonical, some_is}
 use Rattle.wire.specs.Messages.{frame, most}
-use Rattle.wire.specs.Stream.{length_at, IsPartial, IsTooLong, IsRest, Splits}
+use Rattle.wire.specs.Stream.{length_at, IsRest, Splits}
 
 frame_cancels : (p q x y : List ℕ) → length p ≤ most → length q ≤ most → frame p ++ x ≡ frame q ++ y → (p ≡ q) × (x ≡ y)
 frame_cancels p q x y hp hq e =

@@ -1,7 +1,7 @@
 -- Replies as bytes. The form is this project's: a return code in 64 bits, and fields where the function
 -- has some with that code. The payload of a reply does not tell the function, so it is read by the
 -- function of its call.
-use Rattle.std.specs.Prelude.{◌≡◌, ℕ, ◌<◌, ◌≤◌, List, [], ◌∷◌, ◌++◌, length, Option, Some, None, Result, Ok, Err, Bool, true, false, nat_lt, ◌==◌, ◌||◌, if◌then◌else◌}
+use Rattle.std.specs.Prelude.{◌≡◌, ℕ, ◌≤◌, List, length, Option, Some, None, Result, Err, Bool, true, false, nat_lt, ◌==◌, ◌||◌, if◌then◌else◌}
 use Rattle.ck_types.specs.declared.rv.Rv.{Rv}
 use Rattle.ck_types.specs.declared.rv.Rv.TheVariants as rv
 use Rattle.ck_types.specs.Numbers.{rv_number}

@@ -1,5 +1,5 @@
 -- The fields of each request: its encoding, which calls have one, and how it is decoded.
-use Rattle.std.specs.Prelude.{ℕ, List, Option, Some, None}
+use Rattle.std.specs.Prelude.{ℕ, List, Option, Some}
 use Rattle.ck_types.specs.declared.entry.Entry.{Entry}
 use Rattle.ck_types.specs.Format.{Format, ◌>>=◌, number64, byte_string, pair, optional, whole}
 use Rattle.ck_calls.specs.declared.fields.AttributeQuery.{AttributeQuery}

@@ -1,5 +1,5 @@
 -- A stream of frames.
-use Rattle.std.specs.Prelude.{◌≡◌, ℕ, ◌+◌, ◌<◌, ◌≤◌, List, [], ◌++◌, length, take, drop, Option, Some, None, Result, Ok, Err, Bool, true, false, ◌⊎◌}
+use Rattle.std.specs.Prelude.{◌≡◌, ℕ, ◌+◌, ◌<◌, ◌≤◌, List, ◌++◌, length, take, drop, Option, Some, None, Result, Ok, Err, Bool, true, false, ◌⊎◌}
 use Rattle.std.specs.Global.{Vec}
 use Rattle.std.proofs.Common.{Bor}
 use Rattle.std.specs.List.{flat_map, AllByRecursion}

@@ -7,7 +7,7 @@ ghost use Rattle.wire.specs.Messages.{call_in, call_payload, said_of, HasFrame, 
 ghost use Rattle.wire.specs.Requests.{Fits-fields};
 
 use crate::fault::WireFault;
-use crate::frame::{MAX_PAYLOAD_LEN, framed};
+use crate::frame::{MAX_PAYLOAD_LEN, frame_start, framed};
 use crate::request::{decode_fields, encode_fields};
 use byteorder::{BigEndian, ByteOrder};
 use ck_calls::{Call, Function};
@@ -71,8 +71,8 @@ pub fn read_call(alloc: Global, payload: &[u8]) -> Result<Call, WireFault>
 pub fn write_call(alloc: Global, call: &Call) -> Result<Vec<u8>, WireFault>
     ensures { Writes (call_payload call.now) (Fits-fields call.now) result }
 {
-    let mut payload = Vec::new(alloc);
-    payload.extend_from_slice(&Function::of(call).number().to_be_bytes())?;
-    encode_fields(call, &mut payload)?;
-    framed(alloc, &payload)
+    let mut frame = frame_start(alloc)?;
+    frame.extend_from_slice(&Function::of(call).number().to_be_bytes())?;
+    encode_fields(call, &mut frame)?;
+    framed(frame)
 }

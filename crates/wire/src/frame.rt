@@ -1,24 +1,33 @@
 //! Frames: a payload behind its length.
 
-ghost use Rattle.std.specs.Prelude.{◌≡◌, ◌++◌, ◌≤◌, ◌<◌, List, length};
+ghost use Rattle.std.specs.Prelude.{◌≡◌, ◌≤◌, IfOk, drop, length, replicate};
 ghost use Rattle.wire.specs.Messages.{Frames};
 
 use crate::fault::WireFault;
-use ck_types::encode_len;
-use std::alloc::Global;
+use std::alloc::{AllocError, Global};
 
 /// The greatest length of a payload, in bytes.
 pub const MAX_PAYLOAD_LEN: usize = 1_048_576;
 
-/// The frame of a payload.
-pub(crate) fn framed(alloc: Global, payload: &[u8]) -> Result<Vec<u8>, WireFault>
-    ensures { Frames payload.now result }
+/// How many bytes the length of a payload takes.
+const LEN_BYTES: usize = 4;
+
+/// The place of a length, behind which a payload is to be written.
+pub(crate) fn frame_start(alloc: Global) -> Result<Vec<u8>, AllocError>
+    ensures { IfOk result (λ v. v.items ≡ replicate 4 0) }
 {
+    vec![in alloc; 0; LEN_BYTES]
+}
+
+/// The frame of the payload behind the place of its length. Nothing is copied but the length.
+pub(crate) fn framed(mut frame: Vec<u8>) -> Result<Vec<u8>, WireFault>
+    requires { 4 ≤ length frame.items }
+    ensures { Frames (drop 4 frame.items) result }
+{
+    let (place, payload) = frame.split_at_mut(LEN_BYTES);
     if payload.len() > MAX_PAYLOAD_LEN {
         return Err(WireFault::TooLong);
     }
-    let mut frame = Vec::new(alloc);
-    encode_len(payload.len(), &mut frame)?;
-    frame.extend_from_slice(payload)?;
+    place.copy_from_slice(&(payload.len() as u32).to_be_bytes());
     Ok(frame)
 }

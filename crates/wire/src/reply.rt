@@ -11,7 +11,7 @@ ghost use Rattle.wire.specs.Replies.{decode_reply, decode_after, decode_carried,
 
 use crate::encode::encode_2;
 use crate::fault::WireFault;
-use crate::frame::{MAX_PAYLOAD_LEN, framed};
+use crate::frame::{MAX_PAYLOAD_LEN, frame_start, framed};
 use crate::shape::{Shape, is};
 use ck_calls::{AttributeValue, Function, MechanismInfo, Output, Reply, SessionInfo, TokenInfo};
 use ck_types::{Bytes, Codec, CodecFault, Items, Rv, decode_whole};
@@ -184,7 +184,7 @@ pub fn read_reply(alloc: Global, function: u16, payload: &[u8]) -> Result<Reply,
 pub fn write_reply(alloc: Global, reply: &Reply) -> Result<Vec<u8>, WireFault>
     ensures { Writes (reply_payload reply.now) (Fits-reply reply.now) result }
 {
-    let mut payload = Vec::new(alloc);
-    encode_reply(reply, &mut payload)?;
-    framed(alloc, &payload)
+    let mut frame = frame_start(alloc)?;
+    encode_reply(reply, &mut frame)?;
+    framed(frame)
 }

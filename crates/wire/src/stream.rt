@@ -1,6 +1,6 @@
 //! Payloads out of a stream that comes in pieces.
 
-ghost use Rattle.std.specs.Prelude.{◌≡◌, ◌==◌, ◌≤◌, ℕ, List, [], drop, length, false};
+ghost use Rattle.std.specs.Prelude.{◌≡◌, ◌==◌, ◌+◌, ◌≤◌, ℕ, List, [], drop, length, false};
 ghost use Rattle.wire.specs.Stream.{Feeds, Finds, Nexts, Splits};
 
 use crate::fault::WireFault;
@@ -28,14 +28,17 @@ impl Model for FrameReader {
     ghost invariant = { λ r. r.start ≤ length r.pending.items };
 }
 
-/// Takes bytes off the front.
+/// Takes bytes off the front, no fewer than stay: those that stay fit where these were, and are copied
+/// there in one piece.
 fn drop_front(bytes: &mut Vec<u8>, count: usize)
-    requires { count ≤ length bytes.old.items }
+    requires within { count ≤ length bytes.old.items }
+    requires most { length bytes.old.items ≤ count + count }
     ensures { bytes.new.items ≡ drop count bytes.old.items }
 {
-    let len = bytes.len();
-    bytes.copy_within(count..len, 0);
-    bytes.truncate(len - count);
+    let len = bytes.len() - count;
+    let (front, rest) = bytes.split_at_mut(count);
+    front[..len].copy_from_slice(rest);
+    bytes.truncate(len);
 }
 
 /// The payload of the frame at the front of the bytes, without a copy.
@@ -77,6 +80,9 @@ impl FrameReader {
 
     /// Takes the next piece of the stream, of any length.
     ///
+    /// What is held is moved to the front only where at least as much was given before it, so that in all
+    /// no more bytes are moved than were given.
+    ///
     /// # Errors
     ///
     /// `TooLong` where the reader has failed, `Memory` with the piece not taken.
@@ -86,8 +92,10 @@ impl FrameReader {
         if self.failed {
             return Err(WireFault::TooLong);
         }
-        drop_front(&mut self.pending, self.start);
-        self.start = 0;
+        if self.start >= self.pending.len() - self.start {
+            drop_front(&mut self.pending, self.start);
+            self.start = 0;
+        }
         self.pending.extend_from_slice(piece)?;
         Ok(())
     }

@@ -1,8 +1,6 @@
 use Rattle.std.proofs.Common.{not, rules}
-use Rattle.handles.proofs.Retaining.{retained_same, in_order-left_in}
+use Rattle.std.proofs.lemmas.Fn.{filter_same}
 use Rattle.handles.proofs.remove_private.Goals as goal
 
 pub returns-clause-left : goal.returns-clause-left
-returns-clause-left c =
-    rw (retained_same _ (λ h. not h.private) _ (λ key shown keep left next k. search rules) 0 _ _ c.retain.ensures.retained)
-    (in_order-left_in (λ h. h.number) (λ h. not h.private) c.args.handles.now.slots)
+returns-clause-left c = filter_same _ (λ h. not h.private) _ (λ h keep next called. search rules) _ _ c.retain.ensures.filtered

@@ -1,26 +1,38 @@
-use Rattle.std.proofs.Common.{◌≡◌, None, refl, sym, ◌∙◌}
-use Rattle.in_order.specs.InOrder.{in_order}
-use Rattle.handles.specs.Handles.{number_of}
-use Rattle.in_order.proofs.InOrderLemmas.{length-in_order, in_order-next}
-use Rattle.handles.proofs.HandleLemmas.{IsTable-push, number_of-push}
+use Rattle.std.proofs.Common.{refl, arith}
+use Rattle.handles.proofs.HandleLemmas.{number_of-push}
+use Rattle.handles.proofs.StoredLemmas.{IsStored-KeysRise, IsStored-found, IsStored-absent, IsStored-length, IsStored-push}
 use Rattle.handles.proofs.Handles.give.Goals as goal
 
-pub insert_reserved-requires : goal.insert_reserved-requires
-insert_reserved-requires c = rw (← c.self.view_is, length-in_order (λ h. h.number) c.self.inside.entries.slots) at c.requires.room
+pub place_of_id-requires : goal.place_of_id-requires
+place_of_id-requires c = rw c.deref.ensures.value (IsStored-KeysRise c.self.inside.next_number c.self.inside.entries.items _ c.self.invariant)
+
+pub returns-in-Ok-clause-number : goal.returns-in-Ok-clause-number
+returns-in-Ok-clause-number c =
+    let found = rw c.deref.ensures.value at c.in-Ok.ensures in
+    rw (← c.self.view_is) (IsStored-found c.self.inside.next_number c.args.id c.in-Ok.at _ _ _ c.self.invariant (found.1 c.index.result.now) c.index.ensures)
+
+pub returns-in-Ok-clause-given : goal.returns-in-Ok-clause-given
+returns-in-Ok-clause-given c = rw (returns-in-Ok-clause-number c) refl
+
+pub insert_reserved-requires-clause-room : goal.insert_reserved-requires-clause-room
+insert_reserved-requires-clause-room c =
+    let room = rw (← c.self.view_is) at c.requires.room in
+    omega (arith, room, c.self.inside.by_id.ok.0, IsStored-length c.self.inside.next_number _ _ c.self.invariant)
 
 pub invariant_of-self : goal.invariant_of-self
 invariant_of-self c =
-    let none : number_of (in_order (λ h. h.number) c.self.inside.entries.slots) c.args.id ≡ None = rw (← c.self.view_is) at (sym c.number_of.ensures.number ∙ c.in_default.is) in
-    rw (in_order-next (λ h. h.number) _ _ _ _ _ c.insert_reserved.ensures.was_vacant c.insert_reserved.ensures.updates refl c.self.invariant.rising)
-    (IsTable-push c.self.inside.next_number c.args.id c.args.private _ none c.self.invariant)
+    let gap = rw c.deref.ensures.value at c.in-Err.ensures in
+    let none = IsStored-absent c.self.inside.next_number c.args.id _ _ c.self.invariant gap.1 in
+    rw (c.push_reserved.ensures.items, c.insert_reserved.ensures.items, ← gap.2 (record { number = c.self.inside.next_number; id = c.args.id; private = c.args.private }) refl) (IsStored-push c.self.inside.next_number c.args.id c.args.private _ _ none c.self.invariant)
 
 pub returns-clause-given : goal.returns-clause-given
 returns-clause-given c =
-    let none : number_of (in_order (λ h. h.number) c.self.inside.entries.slots) c.args.id ≡ None = rw (← c.self.view_is) at (sym c.number_of.ensures.number ∙ c.in_default.is) in
-    rw (← c.self.view_is, none, in_order-next (λ h. h.number) _ _ _ _ _ c.insert_reserved.ensures.was_vacant c.insert_reserved.ensures.updates refl c.self.invariant.rising, c.insert_reserved.ensures.capacity) refl
+    let gap = rw c.deref.ensures.value at c.in-Err.ensures in
+    let none = IsStored-absent c.self.inside.next_number c.args.id _ _ c.self.invariant gap.1 in
+    rw (← c.self.view_is, none, c.push_reserved.ensures.items, c.push_reserved.ensures.capacity, c.insert_reserved.ensures.capacity) refl
 
 pub returns-clause-number : goal.returns-clause-number
 returns-clause-number c =
-    let none : number_of (in_order (λ h. h.number) c.self.inside.entries.slots) c.args.id ≡ None = rw (← c.self.view_is) at (sym c.number_of.ensures.number ∙ c.in_default.is) in
-    rw (in_order-next (λ h. h.number) _ _ _ _ _ c.insert_reserved.ensures.was_vacant c.insert_reserved.ensures.updates refl c.self.invariant.rising)
-    (number_of-push _ (record { number = c.self.inside.next_number; id = c.args.id; private = c.args.private }) none)
+    let gap = rw c.deref.ensures.value at c.in-Err.ensures in
+    let none = IsStored-absent c.self.inside.next_number c.args.id _ _ c.self.invariant gap.1 in
+    rw c.push_reserved.ensures.items (number_of-push _ (record { number = c.self.inside.next_number; id = c.args.id; private = c.args.private }) none)

@@ -1,12 +1,14 @@
-use Rattle.std.proofs.Common.{eqb, ◌∙◌, rules}
-use Rattle.in_order.proofs.InOrderLemmas.{find-in_order, PassesOnce-number}
+use Rattle.std.proofs.Common.{Some, sym, ap, ◌∙◌}
+use Rattle.std.specs.Option.{option_map}
+use Rattle.lists.proofs.BisectionLemmas.{KeysRise-numbers}
 use Rattle.handles.proofs.HandleLemmas.{IfSome-object_of}
 use Rattle.handles.proofs.Handles.object_of.Goals as goal
 
-pub returns-clause-object : goal.returns-clause-object
-returns-clause-object c =
-    let found = c.find_number.ensures ∙ find-in_order (λ h. h.number) (λ h. eqb h.number c.args.number) 0 c.self.inside.entries.slots (PassesOnce-number (λ h. h.number) 1 c.self.inside.next_number c.args.number _ c.self.invariant.rising) in
-    rw (← c.self.view_is, ← found) (search rules)
+pub place_of_number-requires : goal.place_of_number-requires
+place_of_number-requires c = rw c.deref.ensures.value (KeysRise-numbers (λ h. h.number) 1 c.self.inside.next_number _ c.self.invariant.table.rising)
 
-pub returns-clause-matched : goal.returns-clause-matched
-returns-clause-matched c = IfSome-object_of c.args.self.now.next_number c.args.number _ _ (rw (← c.self.view_is) c.self.invariant) (returns-clause-object c)
+pub returns-in-Ok-clause-matched : goal.returns-in-Ok-clause-matched
+returns-in-Ok-clause-matched c =
+    let found = rw c.deref.ensures.value at c.in-Ok.ensures in
+    let object = ap (λ h. Some h.id) c.index.ensures ∙ sym (ap (option_map (λ h. h.id)) (found.1 c.index.result.now)) in
+    rw (← c.self.view_is) (IfSome-object_of c.self.inside.next_number c.args.number _ (Some c.index.result.now.id) c.self.invariant.table object)

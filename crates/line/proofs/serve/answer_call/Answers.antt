@@ -1,6 +1,7 @@
 use Rattle.std.proofs.Common.{◌≡◌, Some, None, sym, ◌∙◌, ap, arith}
-use Rattle.token.specs.Worlds.{World, called}
-use Rattle.token.specs.Shown.{question_of, IsOpen}
+use Rattle.token_model.specs.Worlds.{World, called}
+use Rattle.token_store.specs.Shown.{question_of}
+use Rattle.token.specs.Applications.{IsOpen}
 use Rattle.line.proofs.Moving.{idle, moved-reply, moved-ask}
 use Rattle.line.proofs.serve.answer_call.Goals as goal
 

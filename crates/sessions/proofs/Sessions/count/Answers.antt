@@ -1,5 +1,5 @@
 use Rattle.std.proofs.Common.{sym, ◌∙◌}
-use Rattle.in_order.proofs.InOrderLemmas.{length-in_order}
+use Rattle.lists.proofs.InOrderLemmas.{length-in_order}
 use Rattle.sessions.proofs.Sessions.count.Goals as goal
 
 pub returns-clause-count : goal.returns-clause-count

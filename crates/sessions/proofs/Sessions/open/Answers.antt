@@ -1,6 +1,6 @@
 use Rattle.std.proofs.Common.{ap, refl}
-use Rattle.in_order.specs.InOrder.{in_order}
-use Rattle.in_order.proofs.InOrderLemmas.{in_order-next}
+use Rattle.lists.specs.InOrder.{in_order}
+use Rattle.lists.proofs.InOrderLemmas.{in_order-next}
 use Rattle.sessions.proofs.SessionLemmas.{IsTable-with_session}
 use Rattle.sessions.proofs.Sessions.open.Goals as goal
 

@@ -1,13 +1,22 @@
-use Rattle.std.proofs.Common.{sym, ◌∙◌, ap}
-use Rattle.token.specs.Answering.{reveals_nothing}
-use Rattle.token.specs.Answers.{answer_to}
-use Rattle.token.specs.Shown.{view_of}
-use Rattle.token.proofs.Dispatching.{answer-is}
-use Rattle.token.proofs.Gaves.{serves-is}
+use Rattle.std.proofs.Common.{rules, sym, ◌∙◌, subst}
+use Rattle.token_model.specs.Answering.{reveals_nothing}
+use Rattle.token_store.proofs.Gaves.{gave-reply}
+use Rattle.token.proofs.Dispatching.{answer-is, busy-is, serves-is}
 use Rattle.token.proofs.serving.serve.Goals as goal
 
-pub returns-in-CloseAllSessions-clause-serves : goal.returns-in-CloseAllSessions-clause-serves
-unfolding answer_to
-returns-in-CloseAllSessions-clause-serves g c = λ sure k h fits.
-    let is = answer-is k c.args.desk.now c.args.call c.args.random.now reveals_nothing (sym c.is_busy.ensures ∙ c.if-is_busy.false) in
-    serves-is _ _ _ _ _ k _ _ c.args.desk.now c.args.desk.now c.serve_all.new.desk c.serve_all.result (is ∙ ap (λ x. answer_to (view_of k c.args.desk.now) x c.args.random.now reveals_nothing) c.in-CloseAllSessions.is) (c.serve_all.ensures.serves sure k h fits)
+pub returns-then-is_busy : goal.returns-then-is_busy
+returns-then-is_busy g c = rw (c.code-then-is_busy.ensures, c.code.ensures) (record {
+  serves = λ sure k h fits. gave-reply _ _ _ k _ _ c.args.desk.now _ h (λ d may. may) fits (busy-is k c.args.desk.now c.args.call c.args.random.now reveals_nothing (sym c.is_busy.ensures ∙ c.if-is_busy.true));
+  says = search rules;
+  counts = search rules;
+  cause = search rules;
+})
+
+pub returns : goal.returns
+returns g c = record {
+  serves = λ sure k h fits.
+      serves-is _ _ _ _ k _ _ c.args.desk.now c.dispatch.new.desk c.dispatch.result (answer-is k c.args.desk.now c.args.call c.args.random.now reveals_nothing (sym c.is_busy.ensures ∙ c.if-is_busy.false)) (c.dispatch.ensures.serves sure k h fits);
+  says = search rules;
+  counts = search rules;
+  cause = search rules;
+}

@@ -1,16 +1,16 @@
 use Rattle.std.proofs.Common.{refl, sym, ◌∙◌}
-use Rattle.token.proofs.Outcomes.{gave-none, gave-other, gave-encrypted}
+use Rattle.token.proofs.Outcomes.{gives-none, gives-other, gives-encrypted}
 use Rattle.token.proofs.serving.serve_outcome.Goals as goal
 
-pub returns-in-None-clause-serves : goal.returns-in-None-clause-serves
-returns-in-None-clause-serves g c = λ sure k h fits. gave-none _ _ _ k c.args.desk.now h fits c.args.outcome (sym c.question.ensures ∙ rw c.in-None.is refl)
+pub returns-in-None : goal.returns-in-None
+returns-in-None c = λ k fits. gives-none k c.args.desk.now fits c.args.outcome (sym c.question.ensures ∙ rw c.in-None.is refl)
 
-pub returns-in-Encrypt-clause-serves : goal.returns-in-Encrypt-clause-serves
-returns-in-Encrypt-clause-serves g c = λ sure k h fits.
+pub returns-in-Encrypt : goal.returns-in-Encrypt
+returns-in-Encrypt c = λ k fits.
     rw (c.finish.ensures.reply, c.finish.ensures.ended, c.end_question.ensures, c.session.ensures)
-    (gave-encrypted _ _ _ k c.args.desk.now h fits c.args.outcome c.in-Some.question.now (sym c.question.ensures ∙ rw c.in-Some.is refl) (sym c.function.ensures ∙ c.in-Encrypt.is))
+    (gives-encrypted k c.args.desk.now fits c.args.outcome c.in-Some.question.now (sym c.question.ensures ∙ rw c.in-Some.is refl) (sym c.function.ensures ∙ c.in-Encrypt.is))
 
-pub returns-in_default-clause-serves : goal.returns-in_default-clause-serves
-returns-in_default-clause-serves g c = λ sure k h fits.
+pub returns-in_default : goal.returns-in_default
+returns-in_default c = λ k fits.
     rw c.end_question.ensures
-    (gave-other _ _ _ k c.args.desk.now h fits c.args.outcome c.in-Some.question.now (sym c.question.ensures ∙ rw c.in-Some.is refl) (λ e. c.in_default.not-Encrypt (c.function.ensures ∙ e)))
+    (gives-other k c.args.desk.now fits c.args.outcome c.in-Some.question.now (sym c.question.ensures ∙ rw c.in-Some.is refl) (λ e. c.in_default.not-Encrypt (c.function.ensures ∙ e)))

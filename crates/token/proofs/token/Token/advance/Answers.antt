@@ -1,7 +1,7 @@
 use Rattle.std.proofs.Common.{refl, [], ◌∷◌, sym, ◌∙◌, ap}
 use Rattle.std.specs.Prelude.{reverse}
 use Rattle.std.proofs.lemmas.List.{reverse-append}
-use Rattle.token.proofs.Places.{append_nil}
+use Rattle.lists.proofs.PlaceLemmas.{append_nil}
 use Rattle.token.proofs.token.Token.advance.Goals as goal
 
 pub returns-in-Some-event-clause-ok : goal.returns-in-Some-event-clause-ok

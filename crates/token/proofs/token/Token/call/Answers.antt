@@ -1,4 +1,4 @@
-use Rattle.std.proofs.Common.{refl, sym, ◌∙◌, inl, inr}
+use Rattle.std.proofs.Common.{refl, sym, ◌∙◌}
 use Rattle.token.proofs.Called.{shows-called, says-called, leaves-called, blames-device}
 use Rattle.token.proofs.token.Token.call.Goals as goal
 
@@ -20,7 +20,4 @@ returns-clause-leaves g c = λ sure w s.
 pub returns-clause-cause : goal.returns-clause-cause
 returns-clause-cause g c = λ sure w s is.
     let t = rw (← c.self.view_is) at s in
-    rw (← c.self.view_is) (elim (blames-device _ _ _ _ _ _ _ c.args.app c.args.call c.args.random.now w t c.serve_app.ensures.others c.serve_app.result (c.serve_app.ensures.serves sure t.contents t.has (t.fits c.args.app)) (sym c.told_as.ensures ∙ is)) [
-      | inl e ↦ c.serve_app.ensures.cause.device (rw e refl)
-      | inr e ↦ absurd (c.serve_app.ensures.cause.damaged (rw e refl))
-    ])
+    rw (← c.self.view_is) (c.serve_app.ensures.cause (rw (blames-device _ _ _ _ _ _ _ c.args.app c.args.call c.args.random.now w t c.serve_app.ensures.others c.serve_app.result (c.serve_app.ensures.serves sure t.contents t.has (t.fits c.args.app)) (sym c.told_as.ensures ∙ is)) refl))

@@ -1,5 +1,7 @@
-use Rattle.std.proofs.Common.{refl, sym, ◌∙◌, ap, inl, inr}
+use Rattle.std.proofs.Common.{refl, sym, ◌∙◌}
 use Rattle.std.proofs.lemmas.Bool.{true≢false}
+use Rattle.token.specs.Applications.{desk_at}
+use Rattle.token.proofs.Outcomes.{serves-finished, not-device}
 use Rattle.token.proofs.Jobs.{told-open, told-other}
 use Rattle.token.proofs.Resulted.{desk-question, shows-finished, tells-finished, leaves-finished, blames-device}
 use Rattle.token.proofs.token.Token.finish.Goals as goal
@@ -7,29 +9,28 @@ use Rattle.token.proofs.token.Token.finish.Goals as goal
 pub returns-clause-world : goal.returns-clause-world
 returns-clause-world g c = λ sure w s is.
     let t = rw (← c.self.view_is) at s in
-    rw (c.told_result-reply.ensures, c.retain_others.ensures) (shows-finished _ _ _ _ _ _ _ c.args.app c.args.done.job.value w t is (λ b differ. rw (c.finish_app.ensures.others b differ) refl) c.finish_app.result
-    (c.finish_app.ensures.serves (desk-question _ g.K.Keep.may_leave _ _ _ c.args.app c.args.done.job.value w t is) sure t.contents t.has (t.fits c.args.app)))
+    rw (c.told_result-reply.ensures, c.retain_others.ensures) (shows-finished _ g.K.Keep.may_leave _ _ _ _ _ c.args.app c.args.done.job.value w t is (λ b differ. rw (c.finish_app.ensures.others b differ) refl) c.finish_app.result
+    (serves-finished c.args.done.job.value t.contents _ _ g.K.Keep.holds g.K.Keep.may_leave _ c.finish_app.result t.has (c.finish_app.ensures.serves (desk-question _ g.K.Keep.may_leave _ _ _ c.args.app c.args.done.job.value w t is) t.contents (t.fits c.args.app))))
 
 pub returns-clause-told : goal.returns-clause-told
 returns-clause-told g c = λ sure w s is.
     let t = rw (← c.self.view_is) at s in
-    rw c.told_result-reply.ensures (tells-finished _ _ _ _ _ _ _ c.args.app c.args.done.job.value w t is (λ b differ. rw (c.finish_app.ensures.others b differ) refl) c.finish_app.result
-    (c.finish_app.ensures.serves (desk-question _ g.K.Keep.may_leave _ _ _ c.args.app c.args.done.job.value w t is) sure t.contents t.has (t.fits c.args.app)))
+    rw c.told_result-reply.ensures (tells-finished _ g.K.Keep.may_leave _ _ _ _ _ c.args.app c.args.done.job.value w t is (λ b differ. rw (c.finish_app.ensures.others b differ) refl) c.finish_app.result
+    (serves-finished c.args.done.job.value t.contents _ _ g.K.Keep.holds g.K.Keep.may_leave _ c.finish_app.result t.has (c.finish_app.ensures.serves (desk-question _ g.K.Keep.may_leave _ _ _ c.args.app c.args.done.job.value w t is) t.contents (t.fits c.args.app))))
 
 pub returns-clause-leaves : goal.returns-clause-leaves
 returns-clause-leaves g c = λ sure w s is.
     let t = rw (← c.self.view_is) at s in
-    rw (c.told_result-reply.ensures, ← c.self.view_is) (leaves-finished _ _ _ _ _ _ _ c.args.app c.args.done.job.value w t is (λ b differ. rw (c.finish_app.ensures.others b differ) refl) c.finish_app.result
-    (c.finish_app.ensures.serves (desk-question _ g.K.Keep.may_leave _ _ _ c.args.app c.args.done.job.value w t is) sure t.contents t.has (t.fits c.args.app)))
+    rw (c.told_result-reply.ensures, ← c.self.view_is) (leaves-finished _ g.K.Keep.may_leave _ _ _ _ _ c.args.app c.args.done.job.value w t is (λ b differ. rw (c.finish_app.ensures.others b differ) refl) c.finish_app.result
+    (serves-finished c.args.done.job.value t.contents _ _ g.K.Keep.holds g.K.Keep.may_leave _ c.finish_app.result t.has (c.finish_app.ensures.serves (desk-question _ g.K.Keep.may_leave _ _ _ c.args.app c.args.done.job.value w t is) t.contents (t.fits c.args.app))))
 
 pub returns-clause-cause : goal.returns-clause-cause
 returns-clause-cause g c = λ sure w s is blamed.
     let t = rw (← c.self.view_is) at s in
-    rw (← c.self.view_is) (elim (blames-device _ _ _ _ _ _ _ c.args.app c.args.done.job.value w t is (λ b differ. rw (c.finish_app.ensures.others b differ) refl) c.finish_app.result
-    (c.finish_app.ensures.serves (desk-question _ g.K.Keep.may_leave _ _ _ c.args.app c.args.done.job.value w t is) sure t.contents t.has (t.fits c.args.app)) (sym c.told_result-reply.ensures ∙ blamed)) [
-      | inl e ↦ c.finish_app.ensures.cause.device (rw e refl)
-      | inr e ↦ absurd (c.finish_app.ensures.cause.damaged (rw e refl))
-    ])
+    let job = c.args.done.job.value in
+    let finishes = c.finish_app.ensures.serves (desk-question _ g.K.Keep.may_leave _ _ _ c.args.app job w t is) t.contents (t.fits c.args.app) in
+    absurd (not-device job t.contents (desk_at c.self.inside.desks.entries c.args.app) (desk_at c.finish_app.new.desks.entries c.args.app) c.finish_app.result finishes (blames-device _ g.K.Keep.may_leave _ _ _ _ _ c.args.app job w t is (λ b differ. rw (c.finish_app.ensures.others b differ) refl) c.finish_app.result
+    (serves-finished job t.contents (desk_at c.self.inside.desks.entries c.args.app) (desk_at c.finish_app.new.desks.entries c.args.app) g.K.Keep.holds g.K.Keep.may_leave _ c.finish_app.result t.has finishes) (sym c.told_result-reply.ensures ∙ blamed)))
 
 -- ---- a job of no open question, and of an open one
 

@@ -1,7 +1,7 @@
 use Rattle.std.proofs.Common.{arith, ◌≡◌}
 use Rattle.std.proofs.lemmas.List.{reverse-reverse}
-use Rattle.token.specs.Events.{HasRandom}
-use Rattle.token.proofs.Turning.{All-reverse}
+use Rattle.token_model.specs.Events.{HasRandom}
+use Rattle.lists.proofs.Turning.{All-reverse}
 use Rattle.token.proofs.Runs.{nothing_yet, one_more}
 use Rattle.token.proofs.token.Token.run.Goals as goal
 use Rattle.token.proofs.token.Token.run.Goals.{else-events-test, then-events-test+in-Err}

@@ -1,8 +1,8 @@
 use Rattle.std.proofs.Common.{◌≡◌, ◌≤◌, All, length}
 use Rattle.std.specs.Prelude.{reverse}
-use Rattle.token.specs.Events.{HasRandom}
-use Rattle.token.specs.Worlds.{World}
-use Rattle.token.specs.Stores.{Shows}
+use Rattle.token_model.specs.Events.{HasRandom}
+use Rattle.token_model.specs.Worlds.{World}
+use Rattle.token.specs.Applications.{Shows}
 use Rattle.token.specs.Runs.{MayLeave, IsRun}
 use Rattle.token.proofs.token.Token.run.Given as goal
 

@@ -1,0 +1,190 @@
+// Frames of C_Encrypt through a line, in pieces, beside the cipher alone.
+
+ghost use Rattle.std.specs.Prelude.{None, Some};
+
+use crate::run::{KEY, Run, Unit, key_of};
+use aes_modes::{Direction, ecb};
+use ck_calls::{Call, Mechanism};
+use ck_types::{AttrType, Bytes, Entry, KeyType, MechType, ObjectClass, Template};
+use keep::ListKeep;
+use line::{Words, serve_one};
+use pin_record::Record;
+use std::alloc::Global;
+use std::io::{self, Read, Write};
+use std::time::CpuClock;
+use token::Token;
+use wire::write_call;
+
+/// The session, and the handle of its key.
+const SESSION: u64 = 1;
+
+const OBJECT: u64 = 1;
+
+fn failed() -> io::Error {
+    io::Error::from(io::ErrorKind::Other)
+}
+
+// A reader of bytes that gives no more than so many at once, or one where `most` is 0.
+#[derive(Drop)]
+struct Pieces<'a> {
+    rest: &'a [u8],
+    most: usize,
+}
+
+impl Read for Pieces<'_> {
+    ghost remaining = { λ reader. Some reader.rest.now };
+
+    fn read(&mut self, bytes: &mut [u8]) -> io::Result<usize> {
+        let count = self.rest.len().min(self.most.max(1)).min(bytes.len());
+        let (front, rest) = self.rest.split_at(count);
+        bytes[..count].copy_from_slice(front);
+        self.rest = rest;
+        Ok(count)
+    }
+}
+
+// A writer that keeps the length of what it was given, and the exclusive or of its last bytes.
+#[derive(Drop)]
+struct Tally {
+    written: u64,
+    last: u8,
+}
+
+impl Write for Tally {
+    ghost contents = { λ writer. None };
+
+    fn write(&mut self, bytes: &[u8]) -> io::Result<usize> {
+        self.written = self.written.wrapping_add(bytes.len() as u64);
+        if let Some(last) = bytes.last() {
+            self.last ^= *last;
+        }
+        Ok(bytes.len())
+    }
+
+    fn flush(&mut self) -> io::Result<()> {
+        Ok(())
+    }
+}
+
+fn add(alloc: Global, stream: &mut Vec<u8>, call: &Call) -> io::Result<()> {
+    let Ok(frame) = write_call(alloc, call) else {
+        return Err(failed());
+    };
+    stream.extend_from_slice(&frame)?;
+    Ok(())
+}
+
+// A session with an AES key of 16 bytes.
+fn beginning(alloc: Global, stream: &mut Vec<u8>) -> io::Result<()> {
+    let mut template = Template::new(alloc);
+    let class = ObjectClass::SecretKey.number().to_be_bytes();
+    let key_type = KeyType::Aes.number().to_be_bytes();
+    let (key, _) = KEY.split_at(16);
+    for (attribute, value) in [
+        (AttrType::Class, &class[..]),
+        (AttrType::KeyType, &key_type[..]),
+        (AttrType::Value, key),
+        (AttrType::Private, &[0][..]),
+    ] {
+        template.push(Entry {
+            number: attribute.number(),
+            value: Bytes::from_slice(alloc, value)?,
+        })?;
+    }
+    add(alloc, stream, &Call::OpenSession { slot: 0, flags: 6 })?;
+    add(
+        alloc,
+        stream,
+        &Call::CreateObject {
+            session: SESSION,
+            template,
+        },
+    )
+}
+
+fn encryption(alloc: Global, stream: &mut Vec<u8>, text: &[u8]) -> io::Result<()> {
+    let init = Call::EncryptInit {
+        session: SESSION,
+        mechanism: Some(Mechanism {
+            number: MechType::AesEcb.number(),
+            parameter: Bytes::new(alloc),
+        }),
+        key: OBJECT,
+    };
+    add(alloc, stream, &init)?;
+    let encrypt = Call::Encrypt {
+        session: SESSION,
+        data: Bytes::from_slice(alloc, text)?,
+        room: Some(text.len() as u64),
+    };
+    add(alloc, stream, &encrypt)
+}
+
+/// So many texts, each by C_EncryptInit and C_Encrypt, read in pieces of no more than `most` bytes.
+pub(crate) fn frames(
+    rt: &impl CpuClock,
+    alloc: Global,
+    what: &'static str,
+    text_len: u32,
+    most: usize,
+    count: u32,
+) -> io::Result<Run> {
+    let text = vec![in alloc; 0x5a_u8; text_len as usize]?;
+    let mut stream = Vec::new(alloc);
+    beginning(alloc, &mut stream)?;
+    for _ in 0..count {
+        encryption(alloc, &mut stream, &text)?;
+    }
+    let Ok(mut token) = Token::new(alloc, ListKeep::new(alloc, Record::new())) else {
+        return Err(failed());
+    };
+    let mut words = Words::for_app([0; 32], 0);
+    let mut reader = Pieces {
+        rest: &stream,
+        most,
+    };
+    let mut writer = Tally {
+        written: 0,
+        last: 0,
+    };
+    let start = rt.thread_cpu_time()?;
+    let Ok(replies) = serve_one(alloc, &mut reader, &mut writer, &mut token, &mut words) else {
+        return Err(failed());
+    };
+    let time = rt.thread_cpu_time()?.saturating_sub(start);
+    let sum = u128::from(writer.written) << 64 | u128::from(replies) << 8 | u128::from(writer.last);
+    Ok(Run {
+        what,
+        unit: Unit::Bytes(text_len),
+        count,
+        sum: sum.to_be_bytes(),
+        time,
+    })
+}
+
+/// The cipher alone over as many such texts.
+pub(crate) fn cipher(
+    rt: &impl CpuClock,
+    alloc: Global,
+    what: &'static str,
+    text_len: u32,
+    count: u32,
+) -> io::Result<Run> {
+    let key = key_of(&KEY, 16)?;
+    let text = vec![in alloc; 0x5a_u8; text_len as usize]?;
+    let mut last = 0;
+    let start = rt.thread_cpu_time()?;
+    for _ in 0..count {
+        let Ok(out) = ecb(alloc, &key, Direction::Encipher, &text) else {
+            return Err(failed());
+        };
+        last = out.last().copied().unwrap_or(0);
+    }
+    Ok(Run {
+        what,
+        unit: Unit::Bytes(text_len),
+        count,
+        sum: u128::from(last).to_be_bytes(),
+        time: rt.thread_cpu_time()?.saturating_sub(start),
+    })
+}

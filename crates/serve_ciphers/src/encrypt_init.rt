@@ -1,0 +1,98 @@
+//! C_EncryptInit (PKCS #11 v3.1, 5.8).
+
+ghost use Rattle.std.specs.Prelude.{◌≡◌, true, Some};
+ghost use Rattle.ck_types.specs.declared.attr_type.AttrType.TheVariants as attr;
+ghost use Rattle.attrs.specs.Masking.{is_secret_key};
+ghost use Rattle.attrs.specs.Objects.{attribute_of, class_of, key_type_of};
+ghost use Rattle.token_model.specs.Answers.EncryptInit.{cipher_at, encrypt_init, is_aes};
+ghost use Rattle.token_store.specs.Refusing.{IsDone};
+
+use aes_block::Key;
+use attrs::Object;
+use ck_calls::{Mechanism, Reply};
+use ck_types::{AttrType, KeyType, MechType, ObjectClass, Rv};
+use desk::{Desk, Encryption};
+use keep::Keep;
+use precede::Row;
+use std::alloc::Global;
+use token_store::{Refusal, Store, find};
+
+/// Begins an encryption under a copy of a key's value; without a mechanism the one that is under way ends.
+pub fn serve<K: Keep>(
+    alloc: Global,
+    desk: &mut Desk,
+    store: &mut Store<K>,
+    session: u64,
+    mechanism: Option<Mechanism>,
+    key: u64,
+) -> Result<Reply, Refusal>
+    ensures { IsDone K.holds K.may_leave K.doubt K.failures_of K.tried 0 (λ v. encrypt_init v session mechanism key) store.old store.new desk.old result desk.new }
+{
+    let _ = desk.state(session).ok_or(Row::NoSession)?;
+    let Some(mechanism) = mechanism else {
+        desk.set_encryption(session, None);
+        return Ok(Reply::Code(Rv::Ok));
+    };
+    if desk.encryption(session).is_some() {
+        return Err(Refusal::Row(Row::OperationActive));
+    }
+    let _ = cipher_at(mechanism.number).ok_or(Row::WrongMechanism)?;
+    if !mechanism.parameter.is_empty() {
+        return Err(Refusal::Row(Row::WrongParameter));
+    }
+    let found = find(alloc, desk, store, key)?.ok_or(Row::NoKey)?;
+    if !is_secret_key(&found.object) {
+        return Err(Refusal::Row(Row::NoKey));
+    }
+    if !is_aes(&found.object) {
+        return Err(Refusal::Row(Row::WrongKeyType));
+    }
+    if !found.object.flag(AttrType::Encrypt) {
+        return Err(Refusal::Row(Row::KeyNotPermitted));
+    }
+    let key = key_of(&found.object);
+    desk.set_encryption(session, Some(Encryption { key }));
+    Ok(Reply::Code(Rv::Ok))
+}
+
+/// The mechanism of this number, if it enciphers data and is built.
+fn cipher_at(number: u64) -> Option<MechType>
+    ensures { result ≡ cipher_at number }
+{
+    if number == MechType::AesEcb.number() {
+        Some(MechType::AesEcb)
+    } else {
+        None
+    }
+}
+
+fn is_secret_key(object: &Object) -> bool
+    ensures { result ≡ is_secret_key (class_of object.now) }
+{
+    match object.class() {
+        ObjectClass::SecretKey => true,
+        ObjectClass::Data => false,
+    }
+}
+
+fn is_aes(object: &Object) -> bool
+    ensures { result ≡ is_aes (key_type_of object.now) }
+{
+    match object.key_type() {
+        Some(KeyType::Aes) => true,
+        Some(KeyType::GenericSecret) | None => false,
+    }
+}
+
+/// The key that is the value of an AES key's object.
+fn key_of(object: &Object) -> Key
+    requires secret { is_secret_key (class_of object.now) ≡ true }
+    requires aes { is_aes (key_type_of object.now) ≡ true }
+    ensures { attribute_of object.now attr.Value ≡ Some result }
+{
+    let _entries = object.entries();
+    match Key::new(object.value()) {
+        Some(key) => key,
+        None => unreachable!(),
+    }
+}

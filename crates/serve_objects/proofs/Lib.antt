@@ -1,0 +1,4 @@
+pub mod Making
+pub mod Creating
+pub mod Destroying
+pub mod Setting

@@ -1,0 +1,33 @@
+use Rattle.std.proofs.Common.{◌≡◌, rules, not, arith, false, refl, sym, ◌∙◌, ap, subst}
+use Rattle.std.specs.Prelude.{◌&&◌}
+use Rattle.guard.specs.Access.{is_rw}
+use Rattle.token_store.specs.Found.{IsFound}
+use Rattle.token_store.specs.Shown.{view_of}
+use Rattle.token_store.proofs.Refusals.{does-is, does-after}
+use Rattle.token_store.proofs.Seated.{seated}
+use Rattle.token_store.proofs.Storing.{has-still}
+use Rattle.serve_objects.proofs.Making.{made-object, set-is}
+use Rattle.serve_objects.proofs.set_attribute_value.serve.Goals as goal
+use Rattle.serve_objects.proofs.set_attribute_value.serve.Goals.{else-flag-via-then-flag+else-not-is_read_write, else-flag-via-else-flag}
+
+pub returns : goal.returns
+returns g c = record {
+  serves = λ sure k h fits.
+      let d = c.args.desk.now in
+      let clean : g.K.Keep.doubt c.find.new.store.keep ≡ 0 = omega (arith, c.put.ensures.counts.doubt, sure) in
+      let found = subst (λ x. IsFound k d c.args.handle x) c.in_ok-found.ensures.ok_part (c.in_ok-find.ensures.found clean k h fits) in
+      let held = has-still _ _ _ _ k c.find.ensures.same c.find.ensures.ids h in
+      let s = seated _ _ c.state.result _ c.state.ensures c.in_ok-state.ensures.ok_part in
+      let o = c.in_ok-found.found.object in
+      let test : (c.flag.result && not (is_rw c.in_ok-state.state)) ≡ false = elim c.else-flag.branch [
+        | else-flag-via-then-flag+else-not-is_read_write w ↦ rw (w.if-flag.true, ← w.is_read_write.ensures, w.if-not-is_read_write.false) refl
+        | else-flag-via-else-flag w ↦ rw w.if-flag.false refl
+      ] in
+      let writable = ap (λ b. b && not (is_rw c.in_ok-state.state)) (sym c.flag.ensures) ∙ test in
+      let made = made-object _ _ c.in_ok-object.object c.in_ok-object.ensures.made in
+      does-is _ _ _ _ k _ _ d c.put.new.desk c.put.result
+      (set-is (view_of k d) c.args.session c.args.template.now s.0 s.1 c.args.handle o found.0 (rw s.2 writable) (ap not (sym c.flag-2.ensures ∙ c.if-not-flag.false)) c.in_ok-object.object (rw s.2 made.0) made.1)
+      (does-after _ _ _ k _ c.find.new.store _ d c.put.new.desk c.put.result c.find.ensures.same.crash (c.put.ensures.serves o (ap not c.in_ok-object.ensures.placed.private) sure k held fits found.1));
+  counts = search rules;
+  cause = search rules;
+}

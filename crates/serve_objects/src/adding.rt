@@ -1,0 +1,62 @@
+//! Objects that are new.
+
+ghost use Rattle.std.specs.Prelude.{◌≡◌, ◌<◌, ◌^◌, true};
+ghost use Rattle.guard.specs.Access.{is_user};
+ghost use Rattle.keep.specs.Contents.{IsTokenObject};
+ghost use Rattle.serve_objects.specs.Adding.{adds_where};
+ghost use Rattle.token_model.specs.Answers.CreateObject.{adds_token_object};
+ghost use Rattle.token_model.specs.Views.{is_user_in, sees};
+ghost use Rattle.token_store.specs.Refusing.{IsDone};
+
+use attrs::Object;
+use ck_calls::Reply;
+use ck_types::{AttrType, SessionState};
+use desk::Desk;
+use guard::{is_read_write, visible};
+use keep::Keep;
+use precede::Row;
+use token_store::{Refusal, Store};
+
+/// Adds an object, if a session in this state may and there is room.
+pub(crate) fn add_object<K: Keep>(
+    desk: &mut Desk,
+    store: &mut Store<K>,
+    session: u64,
+    state: SessionState,
+    object: Object,
+) -> Result<Reply, Refusal>
+    requires below { desk.old.handles.next_number < 2 ^ 63 }
+    requires state { is_user state ≡ is_user_in desk.old.sessions.login }
+    ensures { IsDone K.holds K.may_leave K.doubt K.failures_of K.tried 1 (λ v. adds_where v session state object) store.old store.new desk.old result desk.new }
+{
+    let is_token = object.flag(AttrType::Token);
+    if is_token && !is_read_write(state) {
+        return Err(Refusal::Row(Row::TokenObjectReadOnly));
+    }
+    if !visible(state, &object) {
+        return Err(Refusal::Row(Row::PrivateObject));
+    }
+    if is_token {
+        return add_token_object(desk, store, &object);
+    }
+    if desk.has_all_objects() {
+        return Err(Refusal::Row(Row::ObjectLimit));
+    }
+    Ok(Reply::Object(desk.add_own(session, object)?))
+}
+
+/// There is room for the handle before the object is written.
+fn add_token_object<K: Keep>(
+    desk: &mut Desk,
+    store: &mut Store<K>,
+    object: &Object,
+) -> Result<Reply, Refusal>
+    requires below { desk.old.handles.next_number < 2 ^ 63 }
+    requires token { IsTokenObject object.now }
+    requires seen { sees desk.old.sessions.login object.now ≡ true }
+    ensures { IsDone K.holds K.may_leave K.doubt K.failures_of K.tried 1 (λ v. adds_token_object v object.now) store.old store.new desk.old result desk.new }
+{
+    desk.reserve_handle()?;
+    let id = store.insert(object)?;
+    Ok(Reply::Object(desk.give_handle(id, object.flag(AttrType::Private))))
+}

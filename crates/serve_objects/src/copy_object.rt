@@ -1,0 +1,38 @@
+//! C_CopyObject (PKCS #11 v3.1, 5.7).
+
+ghost use Rattle.std.specs.Prelude.{◌<◌, ◌≤◌, ◌^◌, length};
+ghost use Rattle.token_model.specs.Answers.CopyObject.{copy_object};
+ghost use Rattle.token_store.specs.Refusing.{IsDone};
+
+use crate::adding::add_object;
+use ck_calls::Reply;
+use ck_types::{AttrType, Template};
+use desk::Desk;
+use keep::Keep;
+use precede::Row;
+use std::alloc::Global;
+use templates::copied;
+use token_store::{Refusal, Store, find};
+
+/// Copies the object under a handle, with a template's changes, and gives the copy's handle.
+pub fn serve<K: Keep>(
+    alloc: Global,
+    desk: &mut Desk,
+    store: &mut Store<K>,
+    session: u64,
+    handle: u64,
+    template: &Template,
+    random: &[u8],
+) -> Result<Reply, Refusal>
+    requires below { desk.old.handles.next_number < 2 ^ 63 }
+    requires random { 16 ≤ length random.now }
+    ensures { IsDone K.holds K.may_leave K.doubt K.failures_of K.tried 1 (λ v. copy_object v session handle template.now random.now) store.old store.new desk.old result desk.new }
+{
+    let state = desk.state(session).ok_or(Row::NoSession)?;
+    let found = find(alloc, desk, store, handle)?.ok_or(Row::NoObject)?;
+    if !found.object.flag(AttrType::Copyable) {
+        return Err(Refusal::Row(Row::NotCopyable));
+    }
+    let object = copied(alloc, state, &found.object, template, random)?;
+    add_object(desk, store, session, state, object)
+}

@@ -1,0 +1,33 @@
+//! C_CreateObject (PKCS #11 v3.1, 5.7).
+
+ghost use Rattle.std.specs.Prelude.{◌<◌, ◌≤◌, ◌^◌, length};
+ghost use Rattle.token_model.specs.Answers.CreateObject.{create_object};
+ghost use Rattle.token_store.specs.Refusing.{IsDone};
+
+use crate::adding::add_object;
+use ck_calls::Reply;
+use ck_types::Template;
+use desk::Desk;
+use keep::Keep;
+use precede::Row;
+use std::alloc::Global;
+use templates::created;
+use token_store::{Refusal, Store};
+
+/// Makes an object of a template, and gives its handle.
+pub fn serve<K: Keep>(
+    alloc: Global,
+    desk: &mut Desk,
+    store: &mut Store<K>,
+    session: u64,
+    template: &Template,
+    random: &[u8],
+) -> Result<Reply, Refusal>
+    requires below { desk.old.handles.next_number < 2 ^ 63 }
+    requires random { 16 ≤ length random.now }
+    ensures { IsDone K.holds K.may_leave K.doubt K.failures_of K.tried 1 (λ v. create_object v session template.now random.now) store.old store.new desk.old result desk.new }
+{
+    let state = desk.state(session).ok_or(Row::NoSession)?;
+    let object = created(alloc, state, template, random)?;
+    add_object(desk, store, session, state, object)
+}

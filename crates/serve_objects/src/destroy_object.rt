@@ -1,0 +1,68 @@
+//! C_DestroyObject (PKCS #11 v3.1, 5.7).
+
+ghost use Rattle.std.specs.Prelude.{◌≡◌, List, IsErrOf};
+ghost use Rattle.ck_types.specs.declared.entry.Entry.{Entry};
+ghost use Rattle.handles.specs.Handles.{IsTable};
+ghost use Rattle.keep.specs.Contents.{Contents};
+ghost use Rattle.keep.specs.Keeping.{Counted, Rises};
+ghost use Rattle.token_model.specs.Answering.{place_of};
+ghost use Rattle.token_model.specs.Answers.DestroyObject.{destroy_object, destroyed};
+ghost use Rattle.token_store.specs.declared.refusal.Refusal.TheVariants.{Device};
+ghost use Rattle.token_store.specs.Found.{IsAt};
+ghost use Rattle.token_store.specs.Refusing.{Does, IsDone};
+ghost use Rattle.token_store.specs.Shown.{Fits, view_of};
+ghost use Rattle.token_store.specs.Stores.{Has};
+
+use ck_calls::Reply;
+use ck_types::{AttrType, Rv};
+use desk::Desk;
+use keep::Keep;
+use precede::Row;
+use std::alloc::Global;
+use token_store::{Refusal, Store, find};
+
+/// Destroys the object under a handle.
+pub fn serve<K: Keep>(
+    alloc: Global,
+    desk: &mut Desk,
+    store: &mut Store<K>,
+    session: u64,
+    handle: u64,
+) -> Result<Reply, Refusal>
+    ensures { IsDone K.holds K.may_leave K.doubt K.failures_of K.tried 1 (λ v. destroy_object v session handle) store.old store.new desk.old result desk.new }
+{
+    let read_write = desk.is_read_write(session).ok_or(Row::NoSession)?;
+    let found = find(alloc, desk, store, handle)?.ok_or(Row::NoObject)?;
+    if found.object.flag(AttrType::Token) && !read_write {
+        return Err(Refusal::Row(Row::TokenObjectReadOnly));
+    }
+    if !found.object.flag(AttrType::Destroyable) {
+        return Err(Refusal::Row(Row::NotDestroyable));
+    }
+    destroy(desk, store, handle, found.id)
+}
+
+/// Destroys the session object under a handle, or the token object of an id.
+fn destroy<K: Keep>(
+    desk: &mut Desk,
+    store: &mut Store<K>,
+    handle: u64,
+    id: Option<u64>,
+) -> Result<Reply, Refusal>
+    requires { IsTable desk.old.handles.next_number desk.old.handles.entries }
+    ensures serves { (object : List Entry) → K.doubt store.new.keep ≡ 0 → (c : Contents) → Has K.holds store.old c → Fits c desk.old.handles.entries → IsAt c desk.old handle object id → Does K.holds K.may_leave (destroyed (view_of c desk.old) handle (place_of (view_of c desk.old).tokens handle)) c store.old store.new desk.old result desk.new }
+    ensures counts { Counted K.doubt K.failures_of K.tried store.old.keep store.new.keep 1 }
+    ensures cause { IsErrOf result Device → Rises (K.failures_of store.old.keep) (K.failures_of store.new.keep) }
+{
+    match id {
+        Some(id) => {
+            store.remove(id)?;
+            desk.retire(id);
+            Ok(Reply::Code(Rv::Ok))
+        }
+        None => {
+            desk.remove_own(handle);
+            Ok(Reply::Code(Rv::Ok))
+        }
+    }
+}

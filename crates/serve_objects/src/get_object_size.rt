@@ -1,0 +1,38 @@
+//! C_GetObjectSize (PKCS #11 v3.1, 5.7).
+
+ghost use Rattle.std.specs.Prelude.{◌≡◌, length};
+ghost use Rattle.attrs.specs.Stored.{stored_form};
+ghost use Rattle.token_model.specs.Answers.GetObjectSize.{get_object_size, object_size};
+ghost use Rattle.token_store.specs.Refusing.{IsDone};
+
+use attrs::{Object, size};
+use ck_calls::Reply;
+use desk::Desk;
+use keep::Keep;
+use precede::Row;
+use std::alloc::Global;
+use token_store::{Refusal, Store, find};
+
+/// The size of the object under a handle, in bytes.
+pub fn serve<K: Keep>(
+    alloc: Global,
+    desk: &Desk,
+    store: &mut Store<K>,
+    session: u64,
+    handle: u64,
+) -> Result<Reply, Refusal>
+    ensures { IsDone K.holds K.may_leave K.doubt K.failures_of K.tried 0 (λ v. get_object_size v session handle) store.old store.new desk.now result desk.now }
+{
+    let _ = desk.state(session).ok_or(Row::NoSession)?;
+    let found = find(alloc, desk, store, handle)?.ok_or(Row::NoObject)?;
+    Ok(Reply::ObjectSize(size_of(&found.object)))
+}
+
+/// The length of an object's stored form, in bytes.
+fn size_of(object: &Object) -> u64
+    ensures stored { result ≡ length (stored_form object.now) }
+    ensures told { result ≡ object_size object.now }
+{
+    let _entries = object.entries();
+    size(object) as u64
+}

@@ -1,0 +1,76 @@
+//! C_SetAttributeValue (PKCS #11 v3.1, 5.7).
+
+ghost use Rattle.std.specs.Prelude.{◌≡◌, List, IfSome, IsErrOf};
+ghost use Rattle.ck_types.specs.declared.entry.Entry.{Entry};
+ghost use Rattle.guard.specs.Access.{is_public};
+ghost use Rattle.handles.specs.Handles.{IsTable};
+ghost use Rattle.keep.specs.Contents.{Contents, IsTokenObject};
+ghost use Rattle.keep.specs.Keeping.{Counted, Rises};
+ghost use Rattle.token_model.specs.Answering.{place_of};
+ghost use Rattle.token_model.specs.Answers.SetAttributeValue.{puts, set_attribute_value};
+ghost use Rattle.token_store.specs.declared.refusal.Refusal.TheVariants.{Device};
+ghost use Rattle.token_store.specs.Found.{IsAt};
+ghost use Rattle.token_store.specs.Refusing.{Does, IsDone};
+ghost use Rattle.token_store.specs.Shown.{Fits, view_of};
+ghost use Rattle.token_store.specs.Stores.{Has};
+
+use attrs::Object;
+use ck_calls::Reply;
+use ck_types::{AttrType, Rv, Template};
+use desk::Desk;
+use guard::is_read_write;
+use keep::Keep;
+use precede::Row;
+use std::alloc::Global;
+use templates::changed;
+use token_store::{Refusal, Store, find};
+
+/// Changes the object under a handle by a template.
+pub fn serve<K: Keep>(
+    alloc: Global,
+    desk: &mut Desk,
+    store: &mut Store<K>,
+    session: u64,
+    handle: u64,
+    template: &Template,
+) -> Result<Reply, Refusal>
+    ensures { IsDone K.holds K.may_leave K.doubt K.failures_of K.tried 1 (λ v. set_attribute_value v session handle template.now) store.old store.new desk.old result desk.new }
+{
+    let state = desk.state(session).ok_or(Row::NoSession)?;
+    let found = find(alloc, desk, store, handle)?.ok_or(Row::NoObject)?;
+    if found.object.flag(AttrType::Token) && !is_read_write(state) {
+        return Err(Refusal::Row(Row::TokenObjectReadOnly));
+    }
+    if !found.object.flag(AttrType::Modifiable) {
+        return Err(Refusal::Row(Row::NotModifiable));
+    }
+    let object = changed(alloc, state, &found.object, template)?;
+    put(desk, store, handle, found.id, object)
+}
+
+/// Puts a changed object in the place of the session object under a handle, or of the token object of an
+/// id.
+fn put<K: Keep>(
+    desk: &mut Desk,
+    store: &mut Store<K>,
+    handle: u64,
+    id: Option<u64>,
+    object: Object,
+) -> Result<Reply, Refusal>
+    requires table { IsTable desk.old.handles.next_number desk.old.handles.entries }
+    requires token { IfSome id (λ i. IsTokenObject object) }
+    ensures serves { (old : List Entry) → is_public object ≡ is_public old → K.doubt store.new.keep ≡ 0 → (c : Contents) → Has K.holds store.old c → Fits c desk.old.handles.entries → IsAt c desk.old handle old id → Does K.holds K.may_leave (puts (view_of c desk.old) handle object (place_of (view_of c desk.old).tokens handle)) c store.old store.new desk.old result desk.new }
+    ensures counts { Counted K.doubt K.failures_of K.tried store.old.keep store.new.keep 1 }
+    ensures cause { IsErrOf result Device → Rises (K.failures_of store.old.keep) (K.failures_of store.new.keep) }
+{
+    match id {
+        Some(id) => {
+            store.replace(id, &object)?;
+            Ok(Reply::Code(Rv::Ok))
+        }
+        None => {
+            desk.replace_own(handle, object);
+            Ok(Reply::Code(Rv::Ok))
+        }
+    }
+}

@@ -1,0 +1,32 @@
+//! C_CloseSession and C_CloseAllSessions (PKCS #11 v3.1, 5.6).
+
+ghost use Rattle.token_model.specs.Answering.{Replies};
+ghost use Rattle.token_model.specs.Answers.CloseSession.{close_all_sessions, close_session};
+ghost use Rattle.token_store.specs.Refusing.{AtDesk};
+
+use crate::SLOT;
+use ck_calls::Reply;
+use ck_types::Rv;
+use desk::Desk;
+use precede::Row;
+use token_store::Refusal;
+
+/// Closes a session, with its objects. `CKR_SESSION_HANDLE_INVALID` where there is none.
+pub fn serve(desk: &mut Desk, session: u64) -> Result<Reply, Refusal>
+    ensures { AtDesk Replies (λ v. close_session v session) desk.old result desk.new }
+{
+    let _ = desk.state(session).ok_or(Row::NoSession)?;
+    desk.close(session);
+    Ok(Reply::Code(Rv::Ok))
+}
+
+/// Closes all sessions of the application. `CKR_SLOT_ID_INVALID` where the slot isn't the one that there is.
+pub fn serve_all(desk: &mut Desk, slot: u64) -> Result<Reply, Refusal>
+    ensures { AtDesk Replies (λ v. close_all_sessions v slot) desk.old result desk.new }
+{
+    if slot != SLOT {
+        return Err(Refusal::Row(Row::NoSlot));
+    }
+    desk.close_all();
+    Ok(Reply::Code(Rv::Ok))
+}

@@ -1,9 +1,0 @@
-use Rattle.std.proofs.Common.{◌∙◌, ap}
-use Rattle.token.proofs.Telling.{codes-more, values-more}
-use Rattle.token.proofs.serving.get_attribute_value.tell.Goals as goal
-
-pub loop-asked-preserved : goal.loop-asked-preserved
-loop-asked-preserved c = record {
-  code = c.code_of_both-code.ensures ∙ codes-more c.args.object.now c.args.query.now c.loop-asked.asked-index _ c.loop-asked-test.true c.loop-asked.code c.in_ok-own_code.own_code c.loop-asked.invariant.code (ap (λ t. t.0) c.in_ok-own_code.ensures);
-  values = c.in_ok-push.ensures.ok ∙ values-more c.args.object.now c.args.query.now c.loop-asked.asked-index _ c.loop-asked-test.true _ c.in_ok-own_code.value c.loop-asked.invariant.values (ap (λ t. t.1) c.in_ok-own_code.ensures);
-}

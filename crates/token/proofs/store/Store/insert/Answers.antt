@@ -1,8 +1,0 @@
-use Rattle.std.proofs.Common.{◌∙◌, ap, ◌++◌, ◌∷◌, []}
-use Rattle.token.proofs.Storing.{has-inserted}
-use Rattle.token.proofs.store.Store.insert.Goals as goal
-
-pub returns-clause-has : goal.returns-clause-has
-returns-clause-has g c = λ sure k h.
-    let t = rw (← c.self.view_is) at h in
-    has-inserted _ _ _ k c.args.object.now c.in_ok-id.id c.requires t (c.in_ok-id.ensures.id sure k t.held) (c.in_ok-id.ensures.ok.held k t.held) (c.push_reserved.ensures.items ∙ ap (λ xs. xs ++ c.in_ok-id.id ∷ []) c.reserve.ensures.items)

@@ -1,0 +1,135 @@
+-- What a token is to all applications: the desk of each, and the world that the token shows by them.
+use Rattle.std.specs.Prelude.{◌≡◌, ◌≢◌, ◌⊎◌, ℕ, ◌==◌, ◌&&◌, Bool, false, List, [], ◌∷◌, map, filter, unwrap_or, option_to_list, Option, Some, None, Result, Ok, Err}
+use Rattle.std.specs.Ordering.{nat_cmp}
+use Rattle.std.specs.BTreeMap.{is_at}
+use Rattle.std.specs.Map.{lookup}
+use Rattle.keep.specs.Contents.{Contents}
+use Rattle.token_model.specs.declared.fault.Fault.{Fault}
+use Rattle.token_model.specs.declared.fault.Fault.TheVariants.{Memory, Device}
+use Rattle.mech.specs.declared.job.Job.{Job}
+use Rattle.desk.specs.Desks.{DeskState, SameDesk, empty_desk}
+use Rattle.ck_calls.specs.declared.reply.Reply.{Reply}
+use Rattle.ck_calls.specs.Functions.{function_number}
+use Rattle.token_model.specs.declared.event.Event.{Event}
+use Rattle.token_store.specs.declared.out.Out.{Out}
+use Rattle.token_store.specs.declared.out.Out.TheVariants.{Reply as OutReply}
+use Rattle.token_model.specs.declared.check.Check.{Check}
+use Rattle.token_model.specs.Views.{record_sight, Question, View, fresh}
+use Rattle.token_model.specs.Answering.{Replies, Answer, reveals_nothing}
+use Rattle.token_model.specs.Answers.{answer_result}
+use Rattle.token_model.specs.Worlds.{World, Move, Goes, Refuses, value_of, refusal, apart}
+use Rattle.token_store.specs.Shown.{objects_of, view_of, Fits, Gives, said_of, question_of, over}
+use Rattle.token_store.specs.Stores.{StoreState, Has}
+
+-- ---- all desks
+
+pub record State : Type 0 where
+  pub kept : Contents
+  pub desks : List (ℕ × DeskState)
+  pub checks : List Check
+
+abbrev pub desk_at : List (ℕ × DeskState) → ℕ → DeskState
+desk_at ds app = unwrap_or (lookup (is_at (nat_cmp app)) ds) empty_desk
+
+abbrev pub view_at : State → ℕ → View
+view_at t app = view_of t.kept (desk_at t.desks app)
+
+-- the state is the world's
+pub record Depicts (t : State) (w : World) : Type 0 where
+  pub token_record : w.token_record ≡ record_sight t.kept.token_record
+  pub objects : w.objects ≡ objects_of t.kept
+  pub checks : w.checks ≡ t.checks
+  pub views : (app : ℕ) → w.views app ≡ view_at t app
+
+-- the world of a keeper before any event
+abbrev pub opening : Contents → World
+opening c =
+    record {
+      token_record = record_sight c.token_record;
+      objects = objects_of c;
+      checks = [];
+      views = λ app. fresh (record_sight c.token_record) (objects_of c);
+    }
+
+abbrev pub AllFit : Contents → List (ℕ × DeskState) → Type 0
+AllFit c ds = (app : ℕ) → Fits c (desk_at ds app).handles.entries
+
+-- ---- a result at its desk
+
+-- The answer to the result of the job is given, whatever is kept; or memory was refused, and the desk is without its
+-- question. No keeper is asked, so none is to blame.
+abbrev pub Finishes : Answer → Contents → DeskState → Result Reply Fault → DeskState → Type 0
+Finishes a c old (Ok reply) new = Gives a old.sessions.login c (Replies reply) c new
+Finishes a c old (Err Memory) new = SameDesk (over old) new
+Finishes a c old (Err Device) new = ⊥
+
+abbrev pub FinishesAtDesk : Job → DeskState → Result Reply Fault → DeskState → Type 0
+FinishesAtDesk job old result new =
+    (c : Contents) → Fits c old.handles.entries → Finishes (answer_result (view_of c old) (value_of (question_of job).task) reveals_nothing) c old result new
+
+-- ---- how an event took place
+
+abbrev pub moved : Event → Option Fault → Move
+moved event None = Goes event
+moved event (Some fault) = Refuses event fault
+
+-- what an application is told: a refusal in place of an answer
+abbrev pub told_as : Result Out Fault → Out
+told_as (Ok out) = out
+told_as (Err fault) = OutReply (refusal fault)
+
+abbrev pub told_result : Result Reply Fault → Reply
+told_result (Ok reply) = reply
+told_result (Err fault) = refusal fault
+
+-- which of both it was is read off what is given out, since the codes of a refusal set apart have no other cause
+abbrev pub move_of : Event → Out → Move
+move_of event out = moved event (apart (said_of out))
+
+-- ---- jobs
+
+-- the job is of the application's pending question
+pub record IsOpen (w : World) (app : ℕ) (job : Job) : Type 0 where
+  pub asker : job.app ≡ app
+  pub question : (w.views app).question ≡ Some (question_of job)
+
+-- the job is none of the pending question: no question is, or it has another application, question number or
+-- function number
+abbrev pub IsOther : Option Question → ℕ → Job → Type 0
+IsOther None app job = Unit {0}
+IsOther (Some q) app job = (job.app ≢ app) ⊎ (job.question ≢ q.number) ⊎ (function_number job.function ≢ function_number q.function)
+
+-- and the test of it, of a desk's question
+abbrev pub is_answer : Option Job → ℕ → Job → Bool
+is_answer None app job = false
+is_answer (Some j) app job = job.app == app && (job.question == j.question && function_number job.function == function_number j.function)
+
+-- the jobs of an application
+abbrev pub jobs_of : ℕ → List (ℕ × Job) → List Job
+jobs_of app out = map (λ j. j.1) (filter (λ j. app == j.0) out)
+
+abbrev pub asked_by : Job → ℕ × Question
+asked_by j = (j.app, question_of j)
+
+-- the jobs of the pending questions, each once, and nothing else
+abbrev pub HasJobs : World → List (ℕ × Job) → Type 0
+HasJobs w out = (app : ℕ) → map asked_by (jobs_of app out) ≡ map (λ q. (app, q)) (option_to_list (w.views app).question)
+
+-- the application's job is taken out of the list, if there is one
+abbrev pub TakesJob : ℕ → List (ℕ × Job) → Option Job → List (ℕ × Job) → Type 0
+TakesJob app old None new = (jobs_of app old ≡ []) × (new ≡ old)
+TakesJob app old (Some job) new = (jobs_of app old ≡ job ∷ jobs_of app new) × ((b : ℕ) → b ≢ app → jobs_of b new ≡ jobs_of b old)
+
+-- ---- tokens
+
+pub record TokenState (K : Type 0) : Type 0 where
+  pub store : StoreState K
+  pub desks : List (ℕ × DeskState)
+  pub checks : List Check
+
+-- the token shows the world: its keeper holds contents that do, with the desks
+pub record Shows {K : Type 0} (holds : K → Contents → Type 0) (t : TokenState K) (w : World) : Type 0 where
+  pub contents : Contents
+  pub has : Has holds t.store contents
+  pub fits : AllFit contents t.desks
+  pub depicts : Depicts (record { kept = contents; desks = t.desks; checks = t.checks }) w

@@ -1,0 +1,16 @@
+//! What came of a list of events.
+
+use ck_calls::Reply;
+use mech::Job;
+use token_model::Event;
+
+/// What came of a list of events.
+#[derive(Drop)]
+pub struct Ran {
+    /// The replies, each with its application.
+    pub replies: Vec<(u64, Reply)>,
+    /// The pending jobs.
+    pub out: Vec<(u64, Job)>,
+    /// The events that were not taken, which are some only where memory was refused.
+    pub left: Vec<Event>,
+}

@@ -1,0 +1,9 @@
+pub mod Masks
+pub mod Blind
+pub mod Checks
+pub mod Templates
+pub mod Sizes
+pub mod Telling
+pub mod Proper
+pub mod Told
+pub mod RunLaws

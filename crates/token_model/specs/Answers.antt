@@ -1,0 +1,82 @@
+-- What an application is answered, from its view alone: one definition for each call.
+pub mod OpenSession
+pub mod CloseSession
+pub mod GetSessionInfo
+pub mod CreateObject
+pub mod CopyObject
+pub mod DestroyObject
+pub mod GetObjectSize
+pub mod GetAttributeValue
+pub mod SetAttributeValue
+pub mod EncryptInit
+pub mod Encrypt
+use Rattle.std.specs.Prelude.{ℕ, Bool, true, false, List, if◌then◌else◌, Option, Some, None}
+use Rattle.ck_types.specs.declared.rv.Rv.TheVariants.{FunctionFailed, FunctionNotSupported}
+use Rattle.ck_calls.specs.declared.call.Call.{Call}
+use Rattle.ck_calls.specs.declared.call.Call.TheVariants as call
+use Rattle.ck_calls.specs.declared.function.Function.{Function}
+use Rattle.ck_calls.specs.declared.function.Function.TheVariants as function
+use Rattle.mech.specs.declared.outcome.Outcome.{Outcome}
+use Rattle.precede.specs.declared.row.Row.TheVariants.{Busy}
+use Rattle.token_model.specs.Views.{View, Question}
+use Rattle.token_model.specs.Answering.{Answer, Reveal, refuses, refuses_by, answered, is_closed}
+use Rattle.token_model.specs.Answers.OpenSession.{open_session}
+use Rattle.token_model.specs.Answers.CloseSession.{close_session, close_all_sessions}
+use Rattle.token_model.specs.Answers.GetSessionInfo.{get_session_info}
+use Rattle.token_model.specs.Answers.CreateObject.{create_object}
+use Rattle.token_model.specs.Answers.CopyObject.{copy_object}
+use Rattle.token_model.specs.Answers.DestroyObject.{destroy_object}
+use Rattle.token_model.specs.Answers.GetObjectSize.{get_object_size}
+use Rattle.token_model.specs.Answers.GetAttributeValue.{get_attribute_value}
+use Rattle.token_model.specs.Answers.SetAttributeValue.{set_attribute_value}
+use Rattle.token_model.specs.Answers.EncryptInit.{encrypt_init}
+use Rattle.token_model.specs.Answers.Encrypt.{encrypt, encrypted}
+
+-- a call with its random bytes
+unfoldable pub answer_to : View → Call → List ℕ → Reveal → Answer
+answer_to v (call.OpenSession slot flags) random reveal = open_session v slot flags
+answer_to v (call.CloseSession session) random reveal = close_session v session
+answer_to v (call.CloseAllSessions slot) random reveal = close_all_sessions v slot
+answer_to v (call.GetSessionInfo session) random reveal = get_session_info v session
+answer_to v (call.CreateObject session template) random reveal = create_object v session template random
+answer_to v (call.CopyObject session object template) random reveal = copy_object v session object template random
+answer_to v (call.DestroyObject session object) random reveal = destroy_object v session object
+answer_to v (call.GetObjectSize session object) random reveal = get_object_size v session object
+answer_to v (call.GetAttributeValue session object query) random reveal = get_attribute_value v session object query
+answer_to v (call.SetAttributeValue session object template) random reveal = set_attribute_value v session object template
+answer_to v (call.EncryptInit session mechanism key) random reveal = encrypt_init v session mechanism key
+answer_to v (call.Encrypt session input room) random reveal = encrypt v session input room
+answer_to v _ random reveal = refuses v FunctionNotSupported
+
+unfoldable pub answer : View → Call → List ℕ → Reveal → Answer
+answer v call random reveal = if is_closed v then refuses_by v Busy else answer_to v call random reveal
+
+-- the answer to the result of the pending question, by the call that asked it
+abbrev pub answer_outcome : View → ℕ → Function → Outcome → Reveal → Answer
+answer_outcome v session function.Encrypt outcome reveal = encrypted v session outcome
+answer_outcome v session _ outcome reveal = refuses (answered v) FunctionFailed
+
+abbrev pub answer_question : View → Option Question → Outcome → Reveal → Answer
+answer_question v None outcome reveal = refuses_by v Busy
+answer_question v (Some q) outcome reveal = answer_outcome v q.session q.function outcome reveal
+
+unfoldable pub answer_result : View → Outcome → Reveal → Answer
+answer_result v outcome reveal = answer_question v v.question outcome reveal
+
+-- C_Login, C_SetPIN, C_InitPIN and C_InitToken
+abbrev pub is_pin_function : Function → Bool
+is_pin_function function.Login = true
+is_pin_function function.SetPin = true
+is_pin_function function.InitPin = true
+is_pin_function function.InitToken = true
+is_pin_function _ = false
+
+-- the calls that may make, change or destroy an object
+abbrev pub may_change_objects : Function → Bool
+may_change_objects function.CreateObject = true
+may_change_objects function.CopyObject = true
+may_change_objects function.GenerateKey = true
+may_change_objects function.UnwrapKey = true
+may_change_objects function.SetAttributeValue = true
+may_change_objects function.DestroyObject = true
+may_change_objects _ = false

@@ -1,0 +1,9 @@
+pub mod Events
+pub mod Views
+pub mod Changes
+pub mod Answering
+pub mod Checked
+pub mod Calls
+pub mod Answers
+pub mod Worlds
+pub mod Traces

@@ -1,0 +1,180 @@
+-- All that a token is to all applications, and what an event makes of it.
+use Rattle.std.specs.Prelude.{ℕ, Bool, true, false, not, ◌==◌, List, [], ◌∷◌, ◌++◌, filter, unwrap_or, if◌then◌else◌, Option, Some, None}
+use Rattle.ck_types.specs.declared.entry.Entry.{Entry}
+use Rattle.ck_types.specs.declared.rv.Rv.TheVariants.{HostMemory, DeviceError}
+use Rattle.ck_types.specs.declared.user_type.UserType.{UserType}
+use Rattle.ck_calls.specs.declared.call.Call.{Call as CallType}
+use Rattle.ck_calls.specs.declared.reply.Reply.{Reply}
+use Rattle.ck_calls.specs.declared.reply.Reply.TheVariants.{Code}
+use Rattle.mech.specs.declared.outcome.Outcome.{Outcome}
+use Rattle.mech.specs.declared.outcome.Outcome.TheVariants.{Data}
+use Rattle.mech.specs.Values.{encrypted}
+use Rattle.token_model.specs.declared.check.Check.{Check}
+use Rattle.token_model.specs.declared.event.Event.{Event}
+use Rattle.token_model.specs.declared.event.Event.TheVariants.{Call, Finish, Gone}
+use Rattle.token_model.specs.declared.fault.Fault.{Fault}
+use Rattle.token_model.specs.declared.fault.Fault.TheVariants.{Memory, Device}
+use Rattle.token_model.specs.Views.{RecordSight, View, Task, Encrypts, Question, sees, left}
+use Rattle.token_model.specs.Changes.{Change, changed, recorded, seen, in_list, as_seen}
+use Rattle.token_model.specs.Answering.{Said, Replies, Asks, Answer, Reveal, reveals_nothing, answered}
+use Rattle.token_model.specs.Answers.{answer, answer_result}
+
+-- The token's record, the token objects with their values, the checks that are under way, and the full view of each
+-- application. One that isn't there has the fresh view.
+pub record World : Type 0 where
+  pub token_record : RecordSight
+  pub objects : List (List Entry)
+  pub checks : List Check
+  pub views : ℕ → View
+
+-- ---- one application's answer, for all
+
+-- the change of the list of token objects that it makes
+abbrev pub list_change : World → ℕ → Answer → Change
+list_change w app a = in_list (sees (w.views app).sessions.login) w.objects a.change
+
+-- and as another application sees it
+abbrev pub change_for : ℕ → World → ℕ → Answer → Change
+change_for b w app a = as_seen (sees (w.views b).sessions.login) w.objects (list_change w app a)
+
+-- the PIN that a task checks
+abbrev pub checked_by : Task → Option UserType
+checked_by (Encrypts operation input) = None
+
+abbrev pub checks_of : ℕ → Option UserType → List Check
+checks_of app None = []
+checks_of app (Some user) = record { user = user; app = app } ∷ []
+
+abbrev pub checks_begun : ℕ → Said → List Check
+checks_begun app (Replies reply) = []
+checks_begun app (Asks q) = checks_of app (checked_by q.task)
+
+-- a check ends with its question, and with its application
+abbrev pub without_checks : ℕ → List Check → List Check
+without_checks app cs = filter (λ c. not (c.app == app)) cs
+
+-- the application takes its answer, and each other one sees its change
+abbrev pub stepped : World → ℕ → Answer → World
+stepped w app a =
+    record {
+      token_record = recorded (list_change w app a) w.token_record;
+      objects = changed (list_change w app a) w.objects;
+      checks = w.checks ++ checks_begun app a.says;
+      views = λ b. if b == app then a.view else seen (change_for b w app a) (w.views b);
+    }
+
+-- the application's check is over
+abbrev pub unchecked : World → ℕ → World
+unchecked w app = record w { checks = without_checks app w.checks }
+
+-- one application's view is replaced
+abbrev pub with_view : World → ℕ → View → World
+with_view w app v = record w { views = λ b. if b == app then v else w.views b }
+
+-- ---- results
+
+-- the result of a question (its task on full views): the output of the mechanism
+abbrev pub value_of : Task → Outcome
+value_of (Encrypts operation input) = Data (encrypted operation.mechanism operation.parameter (unwrap_or operation.key []) input)
+
+-- what a call, and what a result, reveals from outside
+abbrev pub reveal_to_call : World → ℕ → CallType → Reveal
+reveal_to_call w app call = reveals_nothing
+
+abbrev pub reveal_to_task : World → ℕ → Task → Reveal
+reveal_to_task w app (Encrypts operation input) = reveals_nothing
+
+-- the answers to a call and to a result
+abbrev pub answer_at : World → ℕ → CallType → List ℕ → Answer
+answer_at w app call random = answer (w.views app) call random (reveal_to_call w app call)
+
+abbrev pub result_at : World → ℕ → Question → Answer
+result_at w app q = answer_result (w.views app) (value_of q.task) (reveal_to_task w app q.task)
+
+-- ---- events
+
+-- an event, as it goes by the answer, or refused by a fault that is no part of it
+pub data Move : Type 0 where
+  Goes : (event : Event) → Move
+  Refuses : (event : Event) (fault : Fault) → Move
+
+abbrev pub refusal : Fault → Reply
+refusal Memory = Code HostMemory
+refusal Device = Code DeviceError
+
+-- the replies that are refusals set apart, each with its fault: no other reply has these codes
+abbrev pub set_apart : Reply → Option Fault
+set_apart (Code HostMemory) = Some Memory
+set_apart (Code DeviceError) = Some Device
+set_apart _ = None
+
+abbrev pub apart : Said → Option Fault
+apart (Replies reply) = set_apart reply
+apart (Asks q) = None
+
+abbrev pub event_of : Move → Event
+event_of (Goes event) = event
+event_of (Refuses event fault) = event
+
+-- a result is that of the pending question; without one the event is passed over
+abbrev pub finished : World → ℕ → Option Question → World
+finished w app None = w
+finished w app (Some q) = unchecked (stepped w app (result_at w app q)) app
+
+-- a call, by its answer, or refused by a fault that is no part of it
+abbrev pub called : World → ℕ → CallType → List ℕ → Option Fault → World
+called w app call random None = stepped w app (answer_at w app call random)
+called w app call random (Some fault) = w
+
+abbrev pub goes : World → Event → World
+goes w (Call app call random) = called w app call random.items None
+goes w (Finish app) = finished w app (w.views app).question
+goes w (Gone app) = unchecked (with_view w app (left (w.views app))) app
+
+-- what a refusal leaves: the question is over, and nothing else
+abbrev pub refused : World → Event → World
+refused w (Call app call random) = w
+refused w (Finish app) = unchecked (with_view w app (answered (w.views app))) app
+refused w (Gone app) = w
+
+-- the world after an event
+abbrev pub happens : World → Move → World
+happens w (Goes event) = goes w event
+happens w (Refuses event fault) = refused w event
+
+-- ---- replies
+
+-- what is said to a call
+abbrev pub says_called : World → ℕ → CallType → List ℕ → Option Fault → Said
+says_called w app call random None = (answer_at w app call random).says
+says_called w app call random (Some fault) = Replies (refusal fault)
+
+-- a reply for the application
+abbrev pub told : ℕ → Said → List (ℕ × Reply)
+told app (Replies reply) = (app, reply) ∷ []
+told app (Asks question) = []
+
+abbrev pub finish_tells : World → ℕ → Option Question → List (ℕ × Reply)
+finish_tells w app None = []
+finish_tells w app (Some q) = told app (result_at w app q).says
+
+-- the reply to an event, and to whom
+abbrev pub reply_to : World → Move → List (ℕ × Reply)
+reply_to w (Goes (Call app call random)) = told app (answer_at w app call random.items).says
+reply_to w (Goes (Finish app)) = finish_tells w app (w.views app).question
+reply_to w (Goes (Gone app)) = []
+reply_to w (Refuses (Call app call random) fault) = (app, refusal fault) ∷ []
+reply_to w (Refuses (Finish app) fault) = (app, refusal fault) ∷ []
+reply_to w (Refuses (Gone app) fault) = []
+
+-- ---- runs
+
+-- the world after a list of events
+abbrev pub after : World → List Move → World
+after w [] = w
+after w (m ∷ ms) = after (happens w m) ms
+
+-- all replies, in order
+abbrev pub replies : World → List Move → List (ℕ × Reply)
+replies w [] = []
+replies w (m ∷ ms) = reply_to w m ++ replies (happens w m) ms

@@ -1,0 +1,22 @@
+//! What happens to a token.
+
+use ck_calls::Call;
+
+/// What happens to a token.
+#[derive(Debug, Drop)]
+pub enum Event {
+    /// An application calls, with the random bytes that the call takes.
+    Call {
+        app: u64,
+        call: Call,
+        words: Vec<u8>,
+    },
+    /// The job of an application's question is run, and the question ends.
+    Finish {
+        app: u64,
+    },
+    /// An application goes.
+    Gone {
+        app: u64,
+    },
+}

@@ -1,0 +1,43 @@
+//! Laws of the definitions alone: of answers, and of any two worlds and runs.
+
+ghost use Rattle.std.specs.Prelude.{◌≡◌, ℕ, List};
+ghost use Rattle.ck_calls.specs.declared.call.Call.{Call};
+ghost use Rattle.mech.specs.declared.outcome.Outcome.{Outcome};
+ghost use Rattle.token_model.specs.Views.{View, mask};
+ghost use Rattle.token_model.specs.Answering.{Reveal, mask_reveal, shown};
+ghost use Rattle.token_model.specs.Answers.{answer, answer_result};
+ghost use Rattle.token_model.specs.Worlds.{World, Move, event_of, happens, after, replies};
+ghost use Rattle.token_model.specs.Traces.{trace, replies_to, NotSetApart, IsTold, IsQuiet, AllQuiet, own_moves};
+
+/// What is shown of an answer depends on what is shown of the view, and of what comes in from outside,
+/// alone: no value that is kept back, of a masked key, of a key in use or of a PIN's verifier, is in a
+/// reply, in the view after it or in what others see.
+pub fn blind_answers()
+    ensures calls { (v : View) (call : Call) (random : List ℕ) (r : Reveal) → shown (answer (mask v) call random (mask_reveal r)) ≡ shown (answer v call random r) }
+    ensures results { (v : View) (outcome : Outcome) (r : Reveal) → shown (answer_result (mask v) outcome (mask_reveal r)) ≡ shown (answer_result v outcome r) }
+{}
+
+/// An application that met no refusal set apart was told, and sees, what the fold of its own trace tells.
+pub fn told_by_trace()
+    ensures { (app : ℕ) (w : World) (ms : List Move) → NotSetApart app (replies w ms) → IsTold app w ms }
+{}
+
+/// Two runs in which the same comes to an application, from worlds in which it sees the same, tell it
+/// the same and leave it the same view, whatever else the worlds hold.
+pub fn agreeing_runs()
+    ensures replies { (app : ℕ) (v w : World) (ms ns : List Move) → mask (v.views app) ≡ mask (w.views app) → trace app v ms ≡ trace app w ns
+        → NotSetApart app (replies v ms) → NotSetApart app (replies w ns) → replies_to app (replies v ms) ≡ replies_to app (replies w ns) }
+    ensures views { (app : ℕ) (v w : World) (ms ns : List Move) → mask (v.views app) ≡ mask (w.views app) → trace app v ms ≡ trace app w ns
+        → NotSetApart app (replies v ms) → NotSetApart app (replies w ns) → mask ((after v ms).views app) ≡ mask ((after w ns).views app) }
+{}
+
+/// A quiet event of another application leaves the full view, and so the view.
+pub fn quiet_event()
+    ensures { (app : ℕ) (w : World) (m : Move) → IsQuiet app w (event_of m) → (happens w m).views app ≡ w.views app }
+{}
+
+/// Where the others are quiet, an application is told what it would be told alone.
+pub fn quiet_run()
+    ensures replies { (app : ℕ) (w : World) (ms : List Move) → AllQuiet app w ms → replies_to app (replies w ms) ≡ replies_to app (replies w (own_moves app ms)) }
+    ensures views { (app : ℕ) (w : World) (ms : List Move) → AllQuiet app w ms → (after w ms).views app ≡ (after w (own_moves app ms)).views app }
+{}

@@ -1,0 +1,4 @@
+pub mod Shown
+pub mod Stores
+pub mod Found
+pub mod Refusing

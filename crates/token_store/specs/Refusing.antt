@@ -1,0 +1,94 @@
+-- What a call does whose refusals are an Err: nothing has changed then.
+use Rattle.std.specs.Prelude.{◌≡◌, ℕ, Result, Ok, Err, IsErrOf, IfOk}
+use Rattle.ck_types.specs.declared.rv.Rv.TheVariants as rv
+use Rattle.ck_calls.specs.declared.reply.Reply.{Reply}
+use Rattle.ck_calls.specs.declared.reply.Reply.TheVariants.{Code}
+use Rattle.keep.specs.Contents.{Contents}
+use Rattle.keep.specs.Keeping.{Counted, Rises}
+use Rattle.keep.specs.declared.keep.KeepFault.{KeepFault}
+use Rattle.keep.specs.declared.keep.KeepFault.TheVariants as keep_faults
+use Rattle.templates.specs.declared.fault.MakeFault.{MakeFault}
+use Rattle.templates.specs.declared.fault.MakeFault.TheVariants as make_faults
+use Rattle.precede.specs.Row.{code_of}
+use Rattle.desk.specs.Desks.{DeskState, SameDesk}
+use Rattle.token_model.specs.declared.fault.Fault.{Fault}
+use Rattle.token_model.specs.declared.fault.Fault.TheVariants as faults
+use Rattle.token_model.specs.Views.{View}
+use Rattle.token_model.specs.Answering.{Said, Replies, Answer, refuses, refuses_by}
+use Rattle.token_store.specs.declared.out.Out.{Out}
+use Rattle.token_store.specs.declared.out.Out.TheVariants.{Reply as OutReply}
+use Rattle.token_store.specs.declared.refusal.Refusal.{Refusal}
+use Rattle.token_store.specs.declared.refusal.Refusal.TheVariants as refusals
+use Rattle.token_store.specs.Shown.{view_of, said_of, Fits, Gives}
+use Rattle.token_store.specs.Stores.{StoreState, Has, LeavesAsBefore, Gave, Refused, Served}
+
+-- the refusal that a keeper's fault is
+abbrev pub of_fault : KeepFault → Refusal
+of_fault keep_faults.Memory = refusals.Memory
+of_fault _ = refusals.Device
+
+-- and that of a template that makes nothing
+abbrev pub of_make_fault : MakeFault → Refusal
+of_make_fault (make_faults.Refused code) = refusals.Code code
+of_make_fault make_faults.Memory = refusals.Memory
+
+-- ---- at the desk alone
+
+-- The answer is given to what the application sees, whatever is kept; or it is the refusal, and nothing has changed; or
+-- memory was refused, and nothing has changed but the memory that is at hand.
+abbrev pub DoesAtDesk : {T : Type 0} → (T → Said) → Answer → Contents → DeskState → Result T Refusal → DeskState → Type 0
+DoesAtDesk tell a c old (Ok out) new = Gives a old.sessions.login c (tell out) c new
+DoesAtDesk tell a c old (Err (refusals.Row row)) new = (a ≡ refuses_by (view_of c old) row) × (new ≡ old)
+DoesAtDesk tell a c old (Err (refusals.Code code)) new = (a ≡ refuses (view_of c old) code) × (new ≡ old)
+DoesAtDesk tell a c old (Err refusals.Memory) new = SameDesk old new
+DoesAtDesk tell a c old (Err refusals.Device) new = ⊥
+
+-- what a call does that asks no store, in one clause; so no keeper is to blame
+pub record AtDesk {T : Type 0} (tell : T → Said) (f : View → Answer) (old : DeskState) (result : Result T Refusal) (new : DeskState) : Type 0 where
+  pub serves : (c : Contents) → Fits c old.handles.entries → DoesAtDesk tell (f (view_of c old)) c old result new
+  pub cause : IsErrOf result refusals.Device → ⊥
+
+-- ---- at the desk and the store
+
+-- nothing has changed
+pub record Stands {K : Type 0} (holds may_leave : K → Contents → Type 0) (c : Contents) (old new : StoreState K) (before now : DeskState) : Type 0 where
+  pub has : Has holds new c
+  pub leaves : LeavesAsBefore may_leave old new
+  pub desk : now ≡ before
+
+abbrev pub Does : {K : Type 0} → (K → Contents → Type 0) → (K → Contents → Type 0) → Answer → Contents → StoreState K → StoreState K → DeskState → Result Reply Refusal → DeskState → Type 0
+Does holds may_leave a c old new before (Ok reply) desk = Gave holds may_leave a before.sessions.login c old new (Replies reply) desk
+Does holds may_leave a c old new before (Err (refusals.Row row)) desk = (a ≡ refuses_by (view_of c before) row) × Stands holds may_leave c old new before desk
+Does holds may_leave a c old new before (Err (refusals.Code code)) desk = (a ≡ refuses (view_of c before) code) × Stands holds may_leave c old new before desk
+Does holds may_leave a c old new before (Err refusals.Memory) desk = Refused holds may_leave a before.sessions.login c old new before desk
+Does holds may_leave a c old new before (Err refusals.Device) desk = Refused holds may_leave a before.sessions.login c old new before desk
+
+abbrev pub Done : {K : Type 0} → (K → Contents → Type 0) → (K → Contents → Type 0) → (K → ℕ) → (View → Answer) → StoreState K → StoreState K → DeskState → Result Reply Refusal → DeskState → Type 0
+Done holds may_leave doubt f old new before result desk =
+    doubt new.keep ≡ 0 → (c : Contents) → Has holds old c → Fits c before.handles.entries → Does holds may_leave (f (view_of c before)) c old new before result desk
+
+-- What a call does, in one clause: its answer is given or refused while the store is honest, it tries no more than so
+-- many writes, and the device is to blame only where a failure of the keeper was counted.
+pub record IsDone {K : Type 0} (holds may_leave : K → Contents → Type 0) (doubt failures tried : K → ℕ) (writes : ℕ) (f : View → Answer) (old new : StoreState K) (before : DeskState) (result : Result Reply Refusal) (desk : DeskState) : Type 0 where
+  pub serves : Done holds may_leave doubt f old new before result desk
+  pub counts : Counted doubt failures tried old.keep new.keep writes
+  pub cause : IsErrOf result refusals.Device → Rises (failures old.keep) (failures new.keep)
+
+-- ---- as it is told
+
+abbrev pub refused_as : Refusal → Result Out Fault
+refused_as (refusals.Row row) = Ok (OutReply (Code (code_of rv.Ok row)))
+refused_as (refusals.Code code) = Ok (OutReply (Code code))
+refused_as refusals.Memory = Err faults.Memory
+refused_as refusals.Device = Err faults.Device
+
+abbrev pub settled : {T : Type 0} → (T → Out) → Result T Refusal → Result Out Fault
+settled as_out (Ok out) = Ok (as_out out)
+settled as_out (Err refusal) = refused_as refusal
+
+-- and in one clause
+pub record IsServed {K : Type 0} (holds may_leave : K → Contents → Type 0) (doubt failures tried : K → ℕ) (kind : Out → Type 0) (f : View → Answer) (old new : StoreState K) (before : DeskState) (result : Result Out Fault) (desk : DeskState) : Type 0 where
+  pub serves : Served holds may_leave doubt said_of f old new before before result desk
+  pub says : IfOk result kind
+  pub counts : Counted doubt failures tried old.keep new.keep 1
+  pub cause : IsErrOf result faults.Device → Rises (failures old.keep) (failures new.keep)

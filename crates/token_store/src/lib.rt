@@ -1,0 +1,28 @@
+//! One desk over the store: what the crates that serve calls stand on.
+//!
+//! `Store` is the keeper of the token objects with their ids in the order of their creation; `find` copies the object
+//! that an application sees under a handle. A call answers `Result<Reply, Refusal>` or, where it may ask a question,
+//! `Result<Out, Refusal>`: an `Err` always means that nothing has changed. `settle` makes of it what is told.
+//!
+//! Contracts speak of what an application sees (`specs/Shown.antt`: `view_of`), of what the store has and what a crash
+//! may leave (`specs/Stores.antt`), and of what a call does in one clause: `IsDone` where it reads or writes the store,
+//! `AtDesk` where it doesn't (`specs/Refusing.antt`).
+//!
+//! ```text
+//! let _ = desk.state(session).ok_or(Row::NoSession)?;
+//! let found = find(alloc, desk, store, handle)?.ok_or(Row::NoObject)?;
+//! Ok(Reply::ObjectSize(size(&found.object)))
+//! ```
+#![tactic(auto)]
+
+mod asking;
+mod finding;
+mod out;
+mod refusal;
+mod store;
+
+pub use asking::ask;
+pub use finding::{Found, find};
+pub use out::Out;
+pub use refusal::{Refusal, settle, settle_asking};
+pub use store::Store;

@@ -1,0 +1,129 @@
+//! The keeper, with the ids of its objects in the order of their creation.
+
+ghost use Rattle.std.specs.Prelude.{◌≡◌, ◌==◌, ◌+◌, not, filter, IfOk, IfErr, OnOk, OnErr, IfSome};
+ghost use Rattle.std.specs.List.{list_any};
+ghost use Rattle.keep.specs.Contents.{Contents, IsTokenObject, object_at, with_object, with_replacement, without_object};
+ghost use Rattle.keep.specs.Keeping.{Stays, HasCause, Counted};
+ghost use Rattle.lists.specs.Bisection.{IsPlaceOf, KeysRise};
+ghost use Rattle.token_store.specs.Stores.{Has, LeavesAlone, LeavesOr};
+
+use attrs::Object;
+use keep::{Keep, KeepFault};
+use std::alloc::Global;
+use std::marker::Model;
+
+/// A keeper and the ids of its objects. The keeper is asked for no id that it doesn't have.
+#[derive(Drop)]
+pub struct Store<K: Keep> {
+    keep: K,
+    ids: Vec<u64>,
+}
+
+impl<K: Keep> Model for Store<K> {
+    ghost use Rattle.token_store.specs.Stores.{StoreState};
+
+    ghost Value = { StoreState K };
+
+    ghost view = { λ s. record { keep = s.keep; ids = s.ids.items } };
+}
+
+impl<K: Keep> Store<K> {
+    /// Reads the ids of a keeper. One that refuses comes back beside its fault.
+    pub fn adopt(alloc: Global, mut keep: K) -> Result<Store<K>, (KeepFault, K)>
+        ensures has { (c : Contents) → K.holds keep c → IfOk result (λ s. K.doubt s.keep ≡ 0 → Has K.holds s c) }
+        ensures leaves { IfOk result (λ s. (d : Contents) → K.may_leave s.keep d → K.may_leave keep d) }
+        ensures back { IfErr result (λ e. Stays K.holds K.may_leave keep e.1) }
+    {
+        match keep.ids(alloc) {
+            Ok(ids) => Ok(Store { keep, ids }),
+            Err(fault) => Err((fault, keep)),
+        }
+    }
+
+    pub fn into_keep(self) -> K
+        ensures { result ≡ self.keep }
+    {
+        let Store { keep, .. } = self;
+        keep
+    }
+
+    /// Whether there is an object under the id, where the ids rise.
+    fn has_id(&self, id: u64) -> bool
+        ensures { KeysRise (λ i. i) self.now.ids → result ≡ list_any (λ i. i == id) self.now.ids }
+    {
+        place_of_id(&self.ids, id).is_ok()
+    }
+
+    /// A copy of the object under an id.
+    pub fn object(&mut self, alloc: Global, id: u64) -> Result<Option<Object>, KeepFault>
+        ensures object { K.doubt self.new.keep ≡ 0 → (c : Contents) → Has K.holds self.old c → IfOk result (λ found. found ≡ object_at c id) }
+        ensures token { IfOk result (λ found. IfSome found IsTokenObject) }
+        ensures same { Stays K.holds K.may_leave self.old.keep self.new.keep }
+        ensures ids { self.new.ids ≡ self.old.ids }
+        ensures counts { Counted K.doubt K.failures_of K.tried self.old.keep self.new.keep 0 }
+        ensures cause { HasCause (K.failures_of self.old.keep) (K.failures_of self.new.keep) result }
+    {
+        if !self.has_id(id) {
+            return Ok(None);
+        }
+        Ok(Some(self.keep.object(alloc, id)?))
+    }
+
+    /// Adds a token object at the end. There is room for its id before it is written.
+    pub fn insert(&mut self, object: &Object) -> Result<u64, KeepFault>
+        requires { IsTokenObject object.now }
+        ensures id { K.doubt self.new.keep ≡ 0 → (c : Contents) → Has K.holds self.old c → IfOk result (λ id. id ≡ c.last_id + 1) }
+        ensures has { K.doubt self.new.keep ≡ 0 → (c : Contents) → Has K.holds self.old c → OnOk result (Has K.holds self.new (with_object object.now c)) }
+        ensures leaves { (c : Contents) → Has K.holds self.old c → OnOk result (LeavesAlone K.may_leave self.new (with_object object.now c)) }
+        ensures same { (c : Contents) → Has K.holds self.old c → OnErr result (Has K.holds self.new c) }
+        ensures leaves_or { (c : Contents) → Has K.holds self.old c → OnErr result (LeavesOr K.may_leave self.old self.new (with_object object.now c)) }
+        ensures counts { Counted K.doubt K.failures_of K.tried self.old.keep self.new.keep 1 }
+        ensures cause { HasCause (K.failures_of self.old.keep) (K.failures_of self.new.keep) result }
+    {
+        self.ids.reserve(1)?;
+        let id = self.keep.insert(object)?;
+        self.ids.push_reserved(id);
+        Ok(id)
+    }
+
+    /// Puts another token object in the place of the one under an id.
+    pub fn replace(&mut self, id: u64, object: &Object) -> Result<(), KeepFault>
+        requires { IsTokenObject object.now }
+        ensures has { (c : Contents) → Has K.holds self.old c → OnOk result (Has K.holds self.new (with_replacement id object.now c)) }
+        ensures leaves { (c : Contents) → Has K.holds self.old c → OnOk result (LeavesAlone K.may_leave self.new (with_replacement id object.now c)) }
+        ensures same { (c : Contents) → Has K.holds self.old c → OnErr result (Has K.holds self.new c) }
+        ensures leaves_or { (c : Contents) → Has K.holds self.old c → OnErr result (LeavesOr K.may_leave self.old self.new (with_replacement id object.now c)) }
+        ensures counts { Counted K.doubt K.failures_of K.tried self.old.keep self.new.keep 1 }
+        ensures cause { HasCause (K.failures_of self.old.keep) (K.failures_of self.new.keep) result }
+    {
+        self.keep.replace(id, object)?;
+        Ok(())
+    }
+
+    /// Removes the object under an id.
+    pub fn remove(&mut self, id: u64) -> Result<(), KeepFault>
+        ensures has { (c : Contents) → Has K.holds self.old c → OnOk result (Has K.holds self.new (without_object id c)) }
+        ensures leaves { (c : Contents) → Has K.holds self.old c → OnOk result (LeavesAlone K.may_leave self.new (without_object id c)) }
+        ensures same { (c : Contents) → Has K.holds self.old c → OnErr result (Has K.holds self.new c) }
+        ensures leaves_or { (c : Contents) → Has K.holds self.old c → OnErr result (LeavesOr K.may_leave self.old self.new (without_object id c)) }
+        ensures counts { Counted K.doubt K.failures_of K.tried self.old.keep self.new.keep 1 }
+        ensures cause { HasCause (K.failures_of self.old.keep) (K.failures_of self.new.keep) result }
+    {
+        self.keep.remove(id)?;
+        remove_id(&mut self.ids, id);
+        Ok(())
+    }
+}
+
+/// Where an id stands among ids that rise, or where it would go.
+fn place_of_id(ids: &[u64], id: u64) -> Result<usize, usize>
+    ensures { KeysRise (λ i. i) ids.now → IsPlaceOf (λ i. i) ids.now id result }
+{
+    ids.binary_search_by_key(&id, |i| *i)
+}
+
+fn remove_id(ids: &mut Vec<u64>, id: u64)
+    ensures { ids.new.items ≡ filter (λ i. not (i == id)) ids.old.items }
+{
+    ids.retain(|i| *i != id);
+}

@@ -1,0 +1,15 @@
+//! The tests of `token`: scripts of what applications do and are told, on one bench (`tests/bench.rt`), and the order in
+//! which each call's faults are told (`tests/order.rt`). They stand in a crate of their own, so that neither waits for the
+//! other where `token` is proved and its edits are tried.
+//!
+//! ```text
+//! let rows = [
+//!     (A, OPEN, Told::Session(1)),
+//!     (A, Step::CreateObject(1, TOKEN_KEY), Told::Object(1)),
+//! ];
+//! play(&rt, rt.alloc(), &rows)
+//! ```
+#![tactic(auto)]
+
+#[cfg(test)]
+mod tests;

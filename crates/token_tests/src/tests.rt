@@ -1,0 +1,9 @@
+mod bench;
+mod ciphers;
+mod given;
+mod isolation;
+mod objects;
+mod order;
+mod runs;
+mod session_calls;
+mod steps;

@@ -1,0 +1,209 @@
+//! A bench for scripts: tables of rows, each of which says what an application does and what it is told.
+
+ghost use Rattle.std.specs.Prelude.{◌≡◌, All, IfOk, length, vec_len};
+ghost use Rattle.ck_calls.specs.Need.{random_bytes};
+ghost use Rattle.token_model.specs.Events.{HasRandom};
+
+use super::steps::{Row, Step, Told, call_of, reply_of};
+use ck_calls::{Call, Reply, need};
+use keep::ListKeep;
+use pin_record::Record;
+use std::alloc::Global;
+use std::fmt::Debug;
+use std::process::Abort;
+use std::test::*;
+use token::{Event, Job, Out, Ran, Token};
+
+/// What a token is given for random bytes, again and again.
+const RANDOM: &[u8; 16] = b"\x76\xb8\xe0\xad\xa0\xf1\x3d\x90\x40\x5d\x6a\xe5\x53\x86\xbd\x28";
+
+/// A token over a list, with the jobs of the pending questions.
+#[derive(Drop)]
+pub(super) struct Bench {
+    alloc: Global,
+    token: Token<ListKeep>,
+    out: Vec<(u64, Job)>,
+}
+
+impl Bench {
+    pub(super) fn new(alloc: Global) -> Result<Bench, Fail> {
+        match Token::new(alloc, ListKeep::new(alloc, Record::new())) {
+            Ok(token) => Ok(Bench {
+                alloc,
+                token,
+                out: Vec::new(alloc),
+            }),
+            Err(_) => Err("the keeper refused".into()),
+        }
+    }
+
+    /// Sees that each row goes as it says.
+    pub(super) fn play(&mut self, rt: &impl Abort, rows: &[Row]) -> Result<(), Fail> {
+        for (number, row) in rows.iter().enumerate() {
+            self.expect(rt, number, *row)?;
+        }
+        Ok(())
+    }
+
+    /// Sees that a step, again and again, is told the numbers from `first` to `last`, of sessions or objects.
+    pub(super) fn fill(
+        &mut self,
+        rt: &impl Abort,
+        (app, step): (u64, Step),
+        first: u64,
+        last: u64,
+    ) -> Result<(), Fail> {
+        for number in first..=last {
+            let told = match step {
+                Step::OpenSession(..) => Told::Session(number),
+                _ => Told::Object(number),
+            };
+            self.expect(rt, number, (app, step, told))?;
+        }
+        Ok(())
+    }
+
+    /// Sees that a row goes as it says. A question is finished at once, if the row says what comes of it.
+    pub(super) fn expect(
+        &mut self,
+        rt: &impl Abort,
+        place: impl Debug + Drop,
+        row: Row,
+    ) -> Result<(), Fail> {
+        let (app, step, told) = row;
+        let wanted = reply_of(self.alloc, told)?;
+        let mut got = self.told(app, step)?;
+        if got.is_none() && wanted.is_some() {
+            got = self.told(app, Step::Finish)?;
+        }
+        assert!(rt;
+            got == wanted,
+            "row {place:?}, {app} makes {step:?}: wanted {wanted:?}, got {got:?}"
+        );
+        Ok(())
+    }
+
+    /// What the application is told at once.
+    pub(super) fn told(&mut self, app: u64, step: Step) -> Result<Option<Reply>, Fail> {
+        match step {
+            Step::Finish => Ok(self.finish(app, app)),
+            Step::FinishOf(asker) => Ok(self.finish(app, asker)),
+            Step::Goes => {
+                let _ = take_job(&mut self.out, app);
+                self.token.gone(app);
+                Ok(None)
+            }
+            _ => {
+                let call = call_of(self.alloc, step)?;
+                self.call(app, call)
+            }
+        }
+    }
+
+    fn call(&mut self, app: u64, call: Call) -> Result<Option<Reply>, Fail> {
+        let random = random_for(self.alloc, &call)?;
+        self.out.reserve(1)?;
+        match self.token.call(self.alloc, app, call, &random) {
+            Out::Reply(reply) => Ok(Some(reply)),
+            Out::Ask(job) => {
+                self.out.push_reserved((app, job));
+                Ok(None)
+            }
+        }
+    }
+
+    /// What an application is told of the result of the asker's question.
+    fn finish(&mut self, app: u64, asker: u64) -> Option<Reply> {
+        let job = take_job(&mut self.out, asker)?;
+        let done = job.run(self.alloc);
+        Some(self.token.finish(self.alloc, app, done))
+    }
+}
+
+fn take_job(out: &mut Vec<(u64, Job)>, asker: u64) -> Option<Job> {
+    let place = out.iter().position(|job| asker == job.0)?;
+    Some(out.remove(place).1)
+}
+
+/// As many random bytes as the call takes.
+fn random_for(alloc: Global, call: &Call) -> Result<Vec<u8>, Fail>
+    ensures { IfOk result (λ random. vec_len random ≡ random_bytes call.now) }
+{
+    let mut random = vec![in alloc; 0u8; need(call)]?;
+    put_random(&mut random);
+    Ok(random)
+}
+
+fn put_random(bytes: &mut [u8])
+    ensures { length bytes.new ≡ length bytes.old }
+{
+    for place in 0..bytes.len() {
+        bytes[place] = RANDOM[place % 16];
+    }
+}
+
+/// Sees that a new token goes as the rows say.
+pub(super) fn play(rt: &impl Abort, alloc: Global, rows: &[Row]) -> Result<(), Fail> {
+    Bench::new(alloc)?.play(rt, rows)
+}
+
+/// Sees that a new token that takes all rows as one list of events gives the replies that they say, and
+/// that no question is left.
+pub(super) fn run(rt: &impl Abort, alloc: Global, rows: &[Row]) -> Result<(), Fail> {
+    let events = events_of(alloc, rows)?;
+    let Ok(mut token) = Token::new(alloc, ListKeep::new(alloc, Record::new())) else {
+        return Err("the keeper refused".into());
+    };
+    let ran = token.run(alloc, events, Vec::new(alloc));
+    assert_eq!(rt; ran.out.len(), 0, "jobs that are left");
+    assert_eq!(rt; ran.left.len(), 0, "events that are left");
+    expect_replies(rt, alloc, &ran.replies, rows)
+}
+
+fn expect_replies(
+    rt: &impl Abort,
+    alloc: Global,
+    replies: &[(u64, Reply)],
+    rows: &[Row],
+) -> Result<(), Fail> {
+    let mut count = 0;
+    for (number, row) in rows.iter().enumerate() {
+        let (app, step, told) = *row;
+        if let Some(reply) = reply_of(alloc, told)? {
+            let got = replies.get(count);
+            let wanted = (app, reply);
+            assert!(rt;
+                got == Some(&wanted),
+                "row {number}, {app} makes {step:?}: wanted {wanted:?}, got {got:?}"
+            );
+            count += 1;
+        }
+    }
+    assert_eq!(rt; replies.len(), count, "replies");
+    Ok(())
+}
+
+fn event_of(alloc: Global, app: u64, step: Step) -> Result<Event, Fail>
+    ensures { IfOk result HasRandom }
+{
+    match step {
+        Step::Finish => Ok(Event::Finish { app }),
+        Step::Goes => Ok(Event::Gone { app }),
+        _ => {
+            let call = call_of(alloc, step)?;
+            let words = random_for(alloc, &call)?;
+            Ok(Event::Call { app, call, words })
+        }
+    }
+}
+
+fn events_of(alloc: Global, rows: &[Row]) -> Result<Vec<Event>, Fail>
+    ensures { IfOk result (λ events. All HasRandom events.items) }
+{
+    let mut events = Vec::new(alloc);
+    for row in rows {
+        let (app, step, _) = *row;
+        events.push(event_of(alloc, app, step)?)?;
+    }
+    Ok(events)
+}

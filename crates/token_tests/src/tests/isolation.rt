@@ -1,0 +1,149 @@
+//! Applications beside one another.
+
+use super::bench::{Bench, play};
+use super::given::*;
+use super::steps::{Given, Step, Told};
+use ck_types::AttrType;
+use std::alloc::Global;
+use std::process::Abort;
+use std::test::*;
+
+#[test]
+fn a_new_application_has_no_handle_for_the_objects_of_others(rt: HostRuntime) -> Result<(), Fail> {
+    let rows = [
+        (A, OPEN, Told::Session(1)),
+        (A, Step::CreateObject(1, TOKEN_DATA), Told::Object(1)),
+        (A, Step::CreateObject(1, SESSION_DATA), Told::Object(2)),
+        (B, OPEN, Told::Session(1)),
+        (B, Step::DestroyObject(1, 1), NO_OBJECT),
+        (B, Step::DestroyObject(1, 2), NO_OBJECT),
+        (B, Step::CreateObject(1, SESSION_DATA), Told::Object(1)),
+        (A, Step::DestroyObject(1, 1), OK),
+    ];
+    play(&rt, rt.alloc(), &rows)
+}
+
+#[test]
+fn a_done_of_another_application_changes_nothing(rt: HostRuntime) -> Result<(), Fail> {
+    let rows = [
+        (A, OPEN, Told::Session(1)),
+        (A, Step::CreateObject(1, TOKEN_KEY), Told::Object(1)),
+        (A, Step::EncryptInit(1, ECB, 1), OK),
+        (A, Step::Encrypt(1, TEXT, Some(16)), Told::Nothing),
+        (A, OPEN, FAILED),
+        (B, Step::FinishOf(A), FAILED),
+        (A, OPEN, FAILED),
+    ];
+    play(&rt, rt.alloc(), &rows)
+}
+
+#[test]
+fn nothing_is_told_of_an_object_without_its_session_and_handle(
+    rt: HostRuntime,
+) -> Result<(), Fail> {
+    let rows = [
+        (A, OPEN, Told::Session(1)),
+        (A, Step::CreateObject(1, LABELLED_DATA), Told::Object(1)),
+        (B, OPEN, Told::Session(1)),
+        (A, Step::GetObjectSize(2, 1), NO_SESSION),
+        (
+            A,
+            Step::GetAttributeValue(2, 1, &[(LABEL, None)]),
+            NO_SESSION,
+        ),
+        (A, Step::GetObjectSize(1, 2), NO_OBJECT),
+        (
+            A,
+            Step::GetAttributeValue(1, 2, &[(LABEL, None)]),
+            NO_OBJECT,
+        ),
+        (B, Step::GetObjectSize(1, 1), NO_OBJECT),
+        (
+            B,
+            Step::GetAttributeValue(1, 1, &[(LABEL, None)]),
+            NO_OBJECT,
+        ),
+    ];
+    play(&rt, rt.alloc(), &rows)
+}
+
+/// The key of the token, but for its value.
+const OTHER_KEY: Given = &[
+    (AttrType::Class, SECRET_KEY),
+    (AttrType::KeyType, AES),
+    (AttrType::Value, TEXT),
+    (AttrType::Private, NO),
+    (AttrType::Token, YES),
+];
+
+/// The calls of A that are compared.
+const ASKED: [Step; 10] = [
+    Step::GetSessionInfo(1),
+    Step::GetObjectSize(1, 1),
+    Step::GetAttributeValue(
+        1,
+        1,
+        &[
+            (VALUE, Some(64)),
+            (VALUE_LEN, Some(8)),
+            (UNIQUE_ID, Some(32)),
+            (LABEL, None),
+        ],
+    ),
+    OPEN_READ_ONLY,
+    Step::EncryptInit(1, ECB, 1),
+    Step::Encrypt(1, TEXT, None),
+    Step::Encrypt(1, TEXT, Some(3)),
+    Step::CreateObject(1, TOKEN_DATA),
+    Step::DestroyObject(1, 2),
+    Step::GetObjectSize(1, 3),
+];
+
+/// A bench with a sensitive and unextractable key of A.
+fn with_key(rt: &impl Abort, alloc: Global, key: Given) -> Result<Bench, Fail> {
+    let mut bench = Bench::new(alloc)?;
+    open_with_key(rt, &mut bench, key)?;
+    Ok(bench)
+}
+
+fn open_with_key(rt: &impl Abort, bench: &mut Bench, key: Given) -> Result<(), Fail> {
+    let rows = [
+        (A, OPEN, Told::Session(1)),
+        (A, Step::CreateObject(1, key), Told::Object(1)),
+    ];
+    bench.play(rt, &rows)
+}
+
+/// A bench with such a key, after B has made token objects, so that other ids are given next, and has
+/// other sessions and objects.
+fn with_key_beside_others(rt: &impl Abort, alloc: Global, key: Given) -> Result<Bench, Fail> {
+    let mut bench = Bench::new(alloc)?;
+    let rows = [
+        (B, OPEN, Told::Session(1)),
+        (B, OPEN_READ_ONLY, Told::Session(2)),
+        (B, Step::CreateObject(1, TOKEN_KEY), Told::Object(1)),
+        (B, Step::DestroyObject(1, 1), OK),
+        (B, Step::CreateObject(1, SESSION_DATA), Told::Object(2)),
+        (B, Step::CreateObject(2, SESSION_DATA), Told::Object(3)),
+    ];
+    bench.play(rt, &rows)?;
+    open_with_key(rt, &mut bench, key)?;
+    Ok(bench)
+}
+
+#[test]
+fn what_an_application_cannot_see_is_in_none_of_its_replies(rt: HostRuntime) -> Result<(), Fail> {
+    let mut one = with_key(&rt, rt.alloc(), TOKEN_KEY)?;
+    let mut other = with_key_beside_others(&rt, rt.alloc(), OTHER_KEY)?;
+    for step in ASKED {
+        let told = one.told(A, step)?;
+        assert_eq!(rt; other.told(A, step)?, told, "{step:?}");
+    }
+    // The keys do differ, which a result that is asked for shows.
+    let question = [(A, Step::Encrypt(1, TEXT, Some(16)), Told::Nothing)];
+    one.play(&rt, &question)?;
+    other.play(&rt, &question)?;
+    let told = one.told(A, Step::Finish)?;
+    assert_ne!(rt; other.told(A, Step::Finish)?, told);
+    Ok(())
+}

@@ -1,0 +1,118 @@
+//! Of two faults of a call the one is told that stands first in the call's table.
+
+mod cases;
+
+use super::bench::Bench;
+use super::given::*;
+use super::steps::{Step, Told, call_of};
+use cases::{BEFORE, CASES, ENCRYPTS, LEFT_OUT, SECONDS, WRITES};
+use ck_calls::Function;
+use ck_types::Rv;
+use precede::{Row as Fault, rows};
+use std::alloc::Global;
+use std::process::Abort;
+use std::test::*;
+
+/// What is told of a call whose first fault this is.
+fn told_of(fault: Fault) -> Result<Told, Fail> {
+    Ok(match fault {
+        Fault::Busy => FAILED,
+        Fault::NoSlot => NO_SLOT,
+        Fault::NotSerial => Told::Code(Rv::SessionParallelNotSupported),
+        Fault::UnknownFlag => Told::Code(Rv::ArgumentsBad),
+        Fault::SessionLimit => SESSION_LIMIT,
+        Fault::NoSession => NO_SESSION,
+        Fault::NoObject => NO_OBJECT,
+        Fault::NotCopyable | Fault::NotDestroyable | Fault::NotModifiable => PROHIBITED,
+        Fault::TemplateRefused => Told::Code(Rv::AttributeValueInvalid),
+        Fault::TokenObjectReadOnly => READ_ONLY_SESSION,
+        Fault::PrivateObject => NOT_LOGGED_IN,
+        Fault::ObjectLimit => OBJECT_LIMIT,
+        Fault::NoMechanism => OK,
+        Fault::OperationActive => OPERATION_ACTIVE,
+        Fault::WrongMechanism => Told::Code(Rv::MechanismInvalid),
+        Fault::WrongParameter => Told::Code(Rv::MechanismParamInvalid),
+        Fault::NoKey => NO_KEY,
+        Fault::WrongKeyType => Told::Code(Rv::KeyTypeInconsistent),
+        Fault::KeyNotPermitted => Told::Code(Rv::KeyFunctionNotPermitted),
+        Fault::NoOperation => NO_OPERATION,
+        Fault::DataLength => Told::Code(Rv::DataLenRange),
+        Fault::NoBuffer => Told::Length(16),
+        Fault::SmallBuffer => Told::BufferTooSmall(16),
+        _ => return Err("no call that is built has this fault".into()),
+    })
+}
+
+/// A bench on which the fault can hold.
+fn bench_for(rt: &impl Abort, alloc: Global, fault: Fault) -> Result<Bench, Fail> {
+    let mut bench = Bench::new(alloc)?;
+    bench.play(rt, &BEFORE)?;
+    match fault {
+        Fault::SessionLimit => bench.fill(rt, (A, OPEN), 4, 64)?,
+        Fault::ObjectLimit => bench.fill(
+            rt,
+            (A, Step::CreateObject(WRITES, SESSION_DATA)),
+            6,
+            261,
+        )?,
+        _ => {}
+    }
+    Ok(bench)
+}
+
+#[test]
+fn of_two_faults_the_first_is_told(rt: HostRuntime) -> Result<(), Fail> {
+    for (first, second, alone, both) in CASES {
+        let mut bench = bench_for(&rt, rt.alloc(), second)?;
+        bench.expect(&rt, second, (A, alone, told_of(second)?))?;
+        bench.expect(&rt, (first, second), (A, both, told_of(first)?))?;
+    }
+    Ok(())
+}
+
+#[test]
+fn a_question_that_is_out_comes_before_every_fault(rt: HostRuntime) -> Result<(), Fail> {
+    let mut bench = bench_for(&rt, rt.alloc(), Fault::Busy)?;
+    for (fault, step) in SECONDS {
+        bench.expect(&rt, fault, (A, step, told_of(fault)?))?;
+    }
+    bench.play(
+        &rt,
+        &[(A, Step::Encrypt(ENCRYPTS, TEXT, Some(16)), Told::Nothing)],
+    )?;
+    for (fault, step) in SECONDS {
+        bench.expect(&rt, (Fault::Busy, fault), (A, step, FAILED))?;
+    }
+    bench.play(&rt, &[(A, Step::Finish, CIPHERTEXT)])
+}
+
+fn function_of(alloc: Global, step: Step) -> Result<Function, Fail> {
+    Ok(Function::of(&call_of(alloc, step)?))
+}
+
+/// Whether one of the cases has these faults of the function, or they are left out.
+fn has_case(alloc: Global, function: Function, first: Fault, second: Fault) -> Result<bool, Fail> {
+    for (one, other, _, both) in CASES {
+        if one == first && other == second && function_of(alloc, both)? == function {
+            return Ok(true);
+        }
+    }
+    Ok(LEFT_OUT.iter().any(|out| *out == (function, first, second)))
+}
+
+#[test]
+fn each_pair_of_neighbours_has_a_case_or_is_left_out(rt: HostRuntime) -> Result<(), Fail> {
+    for (fault, step) in SECONDS {
+        let function = function_of(rt.alloc(), step)?;
+        let table = rows(function.number());
+        assert_eq!(rt; table.first(), Some(&Fault::Busy), "{function:?}");
+        assert_eq!(rt; table.get(1), Some(&fault), "{function:?}");
+        let mut first = fault;
+        for second in table.iter().skip(2) {
+            let has_case = has_case(rt.alloc(), function, first, *second)?;
+            assert!(rt; has_case, "{function:?}: {first:?}, {second:?}");
+            first = *second;
+        }
+    }
+    Ok(())
+}
