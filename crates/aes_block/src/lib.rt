@@ -43,8 +43,6 @@ mod key_expansion;
 mod round;
 mod state;
 mod tables;
-#[cfg(test)]
-mod tests;
 mod texts;
 mod word;
 

@@ -19,8 +19,6 @@
 
 mod last_block;
 mod subkeys;
-#[cfg(test)]
-mod tests;
 
 ghost use Rattle.std.specs.Prelude.{◌≡◌};
 ghost use Rattle.aes_cmac.specs.Cmac.{cmac};

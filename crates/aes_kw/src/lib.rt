@@ -28,8 +28,6 @@
 
 mod fault;
 mod registers;
-#[cfg(test)]
-mod tests;
 mod wrapping;
 
 pub use fault::KwFault;

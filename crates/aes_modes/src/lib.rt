@@ -44,8 +44,6 @@ mod counter_mode;
 mod direction;
 mod fault;
 mod padded_chaining;
-#[cfg(test)]
-mod tests;
 
 pub use chaining::cbc;
 pub use codebook::ecb;

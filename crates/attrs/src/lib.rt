@@ -26,8 +26,6 @@ mod fault;
 mod object;
 mod stored;
 mod table;
-#[cfg(test)]
-mod tests;
 
 pub use check::{
     attribute_in, class_from, class_in, find_attribute, fits_form, fits_key_type, key_type_from,

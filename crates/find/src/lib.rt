@@ -13,7 +13,5 @@
 #![tactic(auto)]
 
 mod matching;
-#[cfg(test)]
-mod tests;
 
 pub use matching::matches;

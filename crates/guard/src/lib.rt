@@ -20,8 +20,6 @@
 
 mod access;
 mod masking;
-#[cfg(test)]
-mod tests;
 
 pub use access::{is_read_write, visible, writable};
 pub use masking::{masked, reveals, reveals_number};

@@ -33,8 +33,6 @@ use sha2::{Sha224, Sha256, Sha384, Sha512};
 mod hash_function;
 mod key_derivation;
 mod stepwise;
-#[cfg(test)]
-mod tests;
 mod xor;
 
 pub use hash_function::HashFunction;

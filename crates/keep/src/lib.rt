@@ -33,8 +33,6 @@ mod keep;
 pub mod laws;
 mod list_keep;
 mod memory_contents;
-#[cfg(test)]
-mod tests;
 
 pub use keep::{GREATEST_ID, Keep, KeepFault};
 pub use list_keep::ListKeep;

@@ -39,8 +39,6 @@ pub mod laws;
 mod pin;
 mod record;
 mod stored;
-#[cfg(test)]
-mod tests;
 mod verifier;
 
 pub use checks::{begin_check, end_check};

@@ -22,8 +22,6 @@
 mod facts;
 mod row;
 mod table;
-#[cfg(test)]
-mod tests;
 
 pub use facts::{Facts, first_fault};
 pub use row::Row;

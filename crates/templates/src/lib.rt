@@ -35,8 +35,6 @@ mod call;
 mod conditions;
 mod fault;
 mod make;
-#[cfg(test)]
-mod tests;
 mod value;
 
 pub use ahead::{unwrap_fault, unwraps_private_key, unwraps_token_key};

@@ -3,11 +3,11 @@
 //! other where `token` is proved and its edits are tried.
 //!
 //! ```text
-//! let rows = [
+//! const ROWS: &[Row] = &[
 //!     (A, OPEN, Told::Session(1)),
 //!     (A, Step::CreateObject(1, TOKEN_KEY), Told::Object(1)),
 //! ];
-//! play(&rt, rt.alloc(), &rows)
+//! play(&rt, rt.alloc(), ROWS)
 //! ```
 #![tactic(auto)]
 

@@ -34,5 +34,3 @@ pub use frame::MAX_PAYLOAD_LEN;
 pub use reply::{read_reply, write_reply};
 pub use stream::{FrameReader, one_split};
 
-#[cfg(test)]
-mod tests;

@@ -2,12 +2,12 @@
 
 use super::bench::play;
 use super::given::*;
-use super::steps::{Step, Told};
+use super::steps::{Row, Step, Told};
 use std::test::*;
 
 #[test]
 fn an_operation_runs_on_after_its_key_was_destroyed(rt: HostRuntime) -> Result<(), Fail> {
-    let rows = [
+    const ROWS: &[Row] = &[
         (A, OPEN, Told::Session(1)),
         (A, Step::CreateObject(1, TOKEN_KEY), Told::Object(1)),
         (A, Step::Encrypt(1, TEXT, None), NO_OPERATION),
@@ -24,5 +24,5 @@ fn an_operation_runs_on_after_its_key_was_destroyed(rt: HostRuntime) -> Result<(
         (A, Step::Encrypt(1, TEXT, Some(16)), NO_OPERATION),
         (A, Step::EncryptInit(1, ECB, 1), NO_KEY),
     ];
-    play(&rt, rt.alloc(), &rows)
+    play(&rt, rt.alloc(), ROWS)
 }

@@ -2,7 +2,8 @@
 
 use super::bench::{Bench, play};
 use super::given::*;
-use super::steps::{Given, Step, Told};
+use super::steps::{Given, Row, Step, Told};
+use ck_calls::Reply;
 use ck_types::AttrType;
 use std::alloc::Global;
 use std::process::Abort;
@@ -10,7 +11,7 @@ use std::test::*;
 
 #[test]
 fn a_new_application_has_no_handle_for_the_objects_of_others(rt: HostRuntime) -> Result<(), Fail> {
-    let rows = [
+    const ROWS: &[Row] = &[
         (A, OPEN, Told::Session(1)),
         (A, Step::CreateObject(1, TOKEN_DATA), Told::Object(1)),
         (A, Step::CreateObject(1, SESSION_DATA), Told::Object(2)),
@@ -20,12 +21,12 @@ fn a_new_application_has_no_handle_for_the_objects_of_others(rt: HostRuntime) ->
         (B, Step::CreateObject(1, SESSION_DATA), Told::Object(1)),
         (A, Step::DestroyObject(1, 1), OK),
     ];
-    play(&rt, rt.alloc(), &rows)
+    play(&rt, rt.alloc(), ROWS)
 }
 
 #[test]
 fn a_done_of_another_application_changes_nothing(rt: HostRuntime) -> Result<(), Fail> {
-    let rows = [
+    const ROWS: &[Row] = &[
         (A, OPEN, Told::Session(1)),
         (A, Step::CreateObject(1, TOKEN_KEY), Told::Object(1)),
         (A, Step::EncryptInit(1, ECB, 1), OK),
@@ -34,14 +35,14 @@ fn a_done_of_another_application_changes_nothing(rt: HostRuntime) -> Result<(), 
         (B, Step::FinishOf(A), FAILED),
         (A, OPEN, FAILED),
     ];
-    play(&rt, rt.alloc(), &rows)
+    play(&rt, rt.alloc(), ROWS)
 }
 
 #[test]
 fn nothing_is_told_of_an_object_without_its_session_and_handle(
     rt: HostRuntime,
 ) -> Result<(), Fail> {
-    let rows = [
+    const ROWS: &[Row] = &[
         (A, OPEN, Told::Session(1)),
         (A, Step::CreateObject(1, LABELLED_DATA), Told::Object(1)),
         (B, OPEN, Told::Session(1)),
@@ -64,7 +65,7 @@ fn nothing_is_told_of_an_object_without_its_session_and_handle(
             NO_OBJECT,
         ),
     ];
-    play(&rt, rt.alloc(), &rows)
+    play(&rt, rt.alloc(), ROWS)
 }
 
 /// The key of the token, but for its value.
@@ -77,7 +78,7 @@ const OTHER_KEY: Given = &[
 ];
 
 /// The calls of A that are compared.
-const ASKED: [Step; 10] = [
+const ASKED: &[Step] = &[
     Step::GetSessionInfo(1),
     Step::GetObjectSize(1, 1),
     Step::GetAttributeValue(
@@ -107,18 +108,15 @@ fn with_key(rt: &impl Abort, alloc: Global, key: Given) -> Result<Bench, Fail> {
 }
 
 fn open_with_key(rt: &impl Abort, bench: &mut Bench, key: Given) -> Result<(), Fail> {
-    let rows = [
-        (A, OPEN, Told::Session(1)),
-        (A, Step::CreateObject(1, key), Told::Object(1)),
-    ];
-    bench.play(rt, &rows)
+    bench.expect(rt, 1, (A, OPEN, Told::Session(1)))?;
+    bench.expect(rt, 2, (A, Step::CreateObject(1, key), Told::Object(1)))
 }
 
 /// A bench with such a key, after B has made token objects, so that other ids are given next, and has
 /// other sessions and objects.
 fn with_key_beside_others(rt: &impl Abort, alloc: Global, key: Given) -> Result<Bench, Fail> {
     let mut bench = Bench::new(alloc)?;
-    let rows = [
+    const ROWS: &[Row] = &[
         (B, OPEN, Told::Session(1)),
         (B, OPEN_READ_ONLY, Told::Session(2)),
         (B, Step::CreateObject(1, TOKEN_KEY), Told::Object(1)),
@@ -126,9 +124,15 @@ fn with_key_beside_others(rt: &impl Abort, alloc: Global, key: Given) -> Result<
         (B, Step::CreateObject(1, SESSION_DATA), Told::Object(2)),
         (B, Step::CreateObject(2, SESSION_DATA), Told::Object(3)),
     ];
-    bench.play(rt, &rows)?;
+    bench.play(rt, ROWS)?;
     open_with_key(rt, &mut bench, key)?;
     Ok(bench)
+}
+
+/// What A is told of a text that is enciphered.
+fn ciphertext(rt: &impl Abort, bench: &mut Bench) -> Result<Option<Reply>, Fail> {
+    bench.expect(rt, 0, (A, Step::Encrypt(1, TEXT, Some(16)), Told::Nothing))?;
+    bench.told(A, Step::Finish)
 }
 
 #[test]
@@ -136,14 +140,11 @@ fn what_an_application_cannot_see_is_in_none_of_its_replies(rt: HostRuntime) -> 
     let mut one = with_key(&rt, rt.alloc(), TOKEN_KEY)?;
     let mut other = with_key_beside_others(&rt, rt.alloc(), OTHER_KEY)?;
     for step in ASKED {
-        let told = one.told(A, step)?;
-        assert_eq!(rt; other.told(A, step)?, told, "{step:?}");
+        let told = one.told(A, *step)?;
+        assert_eq!(rt; other.told(A, *step)?, told, "{step:?}");
     }
     // The keys do differ, which a result that is asked for shows.
-    let question = [(A, Step::Encrypt(1, TEXT, Some(16)), Told::Nothing)];
-    one.play(&rt, &question)?;
-    other.play(&rt, &question)?;
-    let told = one.told(A, Step::Finish)?;
-    assert_ne!(rt; other.told(A, Step::Finish)?, told);
+    let told = ciphertext(&rt, &mut one)?;
+    assert_ne!(rt; ciphertext(&rt, &mut other)?, told);
     Ok(())
 }

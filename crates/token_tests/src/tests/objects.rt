@@ -108,15 +108,17 @@ const READ_ONLY_ATTRIBUTE: Told = Told::Code(Rv::AttributeReadOnly);
 
 const INCONSISTENT: Told = Told::Code(Rv::TemplateInconsistent);
 
+const INCOMPLETE: Told = Told::Code(Rv::TemplateIncomplete);
+
+const INVALID: Told = Told::Code(Rv::AttributeValueInvalid);
+
 #[test]
 fn a_template_that_makes_nothing_has_its_code(rt: HostRuntime) -> Result<(), Fail> {
-    let incomplete = Told::Code(Rv::TemplateIncomplete);
-    let invalid = Told::Code(Rv::AttributeValueInvalid);
-    let rows = [
+    const ROWS: &[Row] = &[
         (A, OPEN, Told::Session(1)),
-        (A, Step::CreateObject(1, KEY_WITHOUT_VALUE), incomplete),
+        (A, Step::CreateObject(1, KEY_WITHOUT_VALUE), INCOMPLETE),
         (A, Step::CreateObject(1, KEY_WITH_LENGTH), INCONSISTENT),
-        (A, Step::CreateObject(1, KEY_OF_17_BYTES), invalid),
+        (A, Step::CreateObject(1, KEY_OF_17_BYTES), INVALID),
         (A, Step::CreateObject(1, PRIVATE_KEY), NOT_LOGGED_IN),
         (A, Step::CreateObject(1, UNTRUSTED_DATA), INCONSISTENT),
         (A, Step::CreateObject(1, AES_KEY), Told::Object(1)),
@@ -138,12 +140,12 @@ fn a_template_that_makes_nothing_has_its_code(rt: HostRuntime) -> Result<(), Fai
         ),
         (A, Step::CopyObject(1, 1, PRIVATE), NOT_LOGGED_IN),
     ];
-    play(&rt, rt.alloc(), &rows)
+    play(&rt, rt.alloc(), ROWS)
 }
 
 #[test]
 fn a_copy_is_an_object_of_its_own(rt: HostRuntime) -> Result<(), Fail> {
-    let rows = [
+    const ROWS: &[Row] = &[
         (A, OPEN, Told::Session(1)),
         (A, OPEN_READ_ONLY, Told::Session(2)),
         (A, Step::CreateObject(1, AES_KEY), Told::Object(1)),
@@ -158,12 +160,12 @@ fn a_copy_is_an_object_of_its_own(rt: HostRuntime) -> Result<(), Fail> {
         (A, Step::SetAttributeValue(1, 3, NEW_LABEL), NO_OBJECT),
         (A, Step::SetAttributeValue(1, 2, NEW_LABEL), OK),
     ];
-    play(&rt, rt.alloc(), &rows)
+    play(&rt, rt.alloc(), ROWS)
 }
 
 #[test]
 fn a_changed_object_stays_under_its_handle(rt: HostRuntime) -> Result<(), Fail> {
-    let rows = [
+    const ROWS: &[Row] = &[
         (A, OPEN, Told::Session(1)),
         (A, OPEN_READ_ONLY, Told::Session(2)),
         (A, Step::CreateObject(1, PLAIN_TOKEN_DATA), Told::Object(1)),
@@ -193,12 +195,12 @@ fn a_changed_object_stays_under_its_handle(rt: HostRuntime) -> Result<(), Fail> 
         (A, Step::DestroyObject(1, 1), OK),
         (A, Step::SetAttributeValue(1, 1, NEW_LABEL), NO_OBJECT),
     ];
-    play(&rt, rt.alloc(), &rows)
+    play(&rt, rt.alloc(), ROWS)
 }
 
 #[test]
 fn an_object_forbids_what_it_says(rt: HostRuntime) -> Result<(), Fail> {
-    let rows = [
+    const ROWS: &[Row] = &[
         (A, OPEN, Told::Session(1)),
         (A, Step::CreateObject(1, FIXED_DATA), Told::Object(1)),
         (A, Step::CopyObject(1, 1, NOTHING), PROHIBITED),
@@ -208,7 +210,7 @@ fn an_object_forbids_what_it_says(rt: HostRuntime) -> Result<(), Fail> {
         (A, Step::SetAttributeValue(1, 3, NEW_LABEL), PROHIBITED),
         (A, Step::SetAttributeValue(1, 2, NEW_LABEL), OK),
     ];
-    play(&rt, rt.alloc(), &rows)
+    play(&rt, rt.alloc(), ROWS)
 }
 
 #[test]
@@ -222,7 +224,7 @@ fn an_application_has_at_most_256_session_objects(rt: HostRuntime) -> Result<(),
 
 #[test]
 fn the_size_of_an_object_is_the_length_of_its_stored_form(rt: HostRuntime) -> Result<(), Fail> {
-    let rows = [
+    const ROWS: &[Row] = &[
         (A, OPEN, Told::Session(1)),
         (A, Step::CreateObject(1, PLAIN_DATA), Told::Object(1)),
         (A, Step::GetObjectSize(1, 1), Told::ObjectSize(128)),
@@ -233,11 +235,11 @@ fn the_size_of_an_object_is_the_length_of_its_stored_form(rt: HostRuntime) -> Re
         (A, Step::CreateObject(1, LABELLED_KEY), Told::Object(4)),
         (A, Step::GetObjectSize(1, 4), Told::ObjectSize(311)),
     ];
-    play(&rt, rt.alloc(), &rows)
+    play(&rt, rt.alloc(), ROWS)
 }
 
 /// The objects that are asked, and what is told of each attribute that is asked for.
-const ASKED: [Row; 14] = [
+const ASKED: &[Row] = &[
     (A, OPEN, Told::Session(1)),
     (A, Step::CreateObject(1, LABELLED_KEY), Told::Object(1)),
     (A, Step::CreateObject(1, UNEXTRACTABLE_KEY), Told::Object(2)),
@@ -316,5 +318,5 @@ const ASKED: [Row; 14] = [
 
 #[test]
 fn each_attribute_that_is_asked_for_is_answered(rt: HostRuntime) -> Result<(), Fail> {
-    play(&rt, rt.alloc(), &ASKED)
+    play(&rt, rt.alloc(), ASKED)
 }

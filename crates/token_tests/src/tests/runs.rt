@@ -7,7 +7,7 @@ use std::test::*;
 
 /// A job waits while others call; a result without a question is passed over; an application that goes
 /// takes its job along.
-const ROWS: [Row; 14] = [
+const ROWS: &[Row] = &[
     (A, OPEN, Told::Session(1)),
     (B, OPEN, Told::Session(1)),
     (A, Step::CreateObject(1, TOKEN_KEY), Told::Object(1)),
@@ -26,10 +26,10 @@ const ROWS: [Row; 14] = [
 
 #[test]
 fn a_run_gives_each_reply_to_its_application(rt: HostRuntime) -> Result<(), Fail> {
-    run(&rt, rt.alloc(), &ROWS)
+    run(&rt, rt.alloc(), ROWS)
 }
 
 #[test]
 fn events_in_turn_give_what_a_run_gives(rt: HostRuntime) -> Result<(), Fail> {
-    play(&rt, rt.alloc(), &ROWS)
+    play(&rt, rt.alloc(), ROWS)
 }

@@ -2,14 +2,14 @@
 
 use super::bench::{Bench, play};
 use super::given::*;
-use super::steps::{Step, Told};
+use super::steps::{Row, Step, Told};
 use ck_calls::SessionInfo;
 use ck_types::{Rv, SessionState};
 use std::test::*;
 
 #[test]
 fn a_number_is_never_used_again(rt: HostRuntime) -> Result<(), Fail> {
-    let rows = [
+    const ROWS: &[Row] = &[
         (A, OPEN, Told::Session(1)),
         (A, OPEN, Told::Session(2)),
         (A, Step::CloseSession(2), OK),
@@ -20,12 +20,12 @@ fn a_number_is_never_used_again(rt: HostRuntime) -> Result<(), Fail> {
         (A, Step::DestroyObject(1, 1), NO_OBJECT),
         (A, Step::CreateObject(1, TOKEN_DATA), Told::Object(2)),
     ];
-    play(&rt, rt.alloc(), &rows)
+    play(&rt, rt.alloc(), ROWS)
 }
 
 #[test]
 fn an_application_that_goes_has_nothing_when_it_comes_again(rt: HostRuntime) -> Result<(), Fail> {
-    let rows = [
+    const ROWS: &[Row] = &[
         (A, OPEN, Told::Session(1)),
         (A, Step::CreateObject(1, TOKEN_DATA), Told::Object(1)),
         (A, Step::Goes, Told::Nothing),
@@ -33,12 +33,12 @@ fn an_application_that_goes_has_nothing_when_it_comes_again(rt: HostRuntime) -> 
         (A, OPEN, Told::Session(1)),
         (A, Step::DestroyObject(1, 1), NO_OBJECT),
     ];
-    play(&rt, rt.alloc(), &rows)
+    play(&rt, rt.alloc(), ROWS)
 }
 
 #[test]
 fn session_objects_go_with_the_session_that_made_them(rt: HostRuntime) -> Result<(), Fail> {
-    let rows = [
+    const ROWS: &[Row] = &[
         (A, OPEN, Told::Session(1)),
         (A, OPEN_READ_ONLY, Told::Session(2)),
         (A, Step::CreateObject(1, SESSION_DATA), Told::Object(1)),
@@ -50,12 +50,12 @@ fn session_objects_go_with_the_session_that_made_them(rt: HostRuntime) -> Result
         (A, Step::CloseAllSessions(0), OK),
         (A, Step::CloseSession(2), NO_SESSION),
     ];
-    play(&rt, rt.alloc(), &rows)
+    play(&rt, rt.alloc(), ROWS)
 }
 
 #[test]
 fn what_a_session_may_not_do_has_its_code(rt: HostRuntime) -> Result<(), Fail> {
-    let rows = [
+    const ROWS: &[Row] = &[
         (
             A,
             Step::OpenSession(0, 2),
@@ -66,31 +66,31 @@ fn what_a_session_may_not_do_has_its_code(rt: HostRuntime) -> Result<(), Fail> {
         (A, Step::CreateObject(1, TOKEN_DATA), READ_ONLY_SESSION),
         (A, Step::CreateObject(1, PRIVATE_DATA), NOT_LOGGED_IN),
     ];
-    play(&rt, rt.alloc(), &rows)
+    play(&rt, rt.alloc(), ROWS)
 }
 
 #[test]
 fn an_application_has_at_most_64_sessions(rt: HostRuntime) -> Result<(), Fail> {
     let mut bench = Bench::new(rt.alloc())?;
     bench.fill(&rt, (A, OPEN), 1, 64)?;
-    let rows = [
+    const ROWS: &[Row] = &[
         (A, OPEN, SESSION_LIMIT),
         (A, OPEN, SESSION_LIMIT),
         (B, OPEN, Told::Session(1)),
     ];
-    bench.play(&rt, &rows)
+    bench.play(&rt, ROWS)
 }
 
 #[test]
 fn a_session_tells_its_state(rt: HostRuntime) -> Result<(), Fail> {
-    let info = SessionInfo {
+    const INFO: SessionInfo = SessionInfo {
         slot: 0,
         state: SessionState::RoPublic,
         read_write: false,
     };
-    let rows = [
+    const ROWS: &[Row] = &[
         (A, OPEN_READ_ONLY, Told::Session(1)),
-        (A, Step::GetSessionInfo(1), Told::SessionInfo(info)),
+        (A, Step::GetSessionInfo(1), Told::SessionInfo(INFO)),
     ];
-    play(&rt, rt.alloc(), &rows)
+    play(&rt, rt.alloc(), ROWS)
 }

@@ -104,7 +104,7 @@ const KEY_GENERATION_WITH_PARAMETER: Option<GivenMechanism> = Some((0x1080, TEXT
 const ODD_TEXT: &[u8] = b"fifteen bytes..";
 
 /// What each case begins with.
-pub(super) const BEFORE: [Row; 9] = [
+pub(super) const BEFORE: &[Row] = &[
     (A, OPEN, Told::Session(WRITES)),
     (A, OPEN_READ_ONLY, Told::Session(READS)),
     (A, OPEN, Told::Session(ENCRYPTS)),
@@ -125,7 +125,7 @@ pub(super) const BEFORE: [Row; 9] = [
 ];
 
 /// Each call, with the fault that stands right after a pending question, and with that fault.
-pub(super) const SECONDS: [(Fault, Step); 12] = [
+pub(super) const SECONDS: &[(Fault, Step)] = &[
     (NoSlot, OpenSession(1, READ_WRITE)),
     (NoSession, CloseSession(NOWHERE)),
     (NoSlot, CloseAllSessions(1)),
@@ -144,7 +144,7 @@ pub(super) const SECONDS: [(Fault, Step); 12] = [
 pub(super) type Case = (Fault, Fault, Step, Step);
 
 /// Neighbours of the tables after the first two rows, and rows between which one can't hold.
-pub(super) const CASES: [Case; 32] = [
+pub(super) const CASES: &[Case] = &[
     (NoSlot, NotSerial, OpenSession(0, 2), OpenSession(1, 2)),
     (NotSerial, UnknownFlag, OpenSession(0, 5), OpenSession(0, 1)),
     (UnknownFlag, SessionLimit, OPEN, OpenSession(0, 7)),
@@ -326,7 +326,7 @@ pub(super) const CASES: [Case; 32] = [
 ];
 
 /// The neighbours that can't both hold.
-pub(super) const LEFT_OUT: [(Function, Fault, Fault); 10] = [
+pub(super) const LEFT_OUT: &[(Function, Fault, Fault)] = &[
     // No call logs the SO in yet.
     (Function::OpenSession, UnknownFlag, SoLoggedIn),
     (Function::OpenSession, SoLoggedIn, SessionLimit),

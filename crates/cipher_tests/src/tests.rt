@@ -1,0 +1,5 @@
+mod block_cipher;
+mod codes_by_cipher;
+mod codes_by_hash;
+mod key_wrap;
+mod modes;

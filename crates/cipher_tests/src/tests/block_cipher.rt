@@ -1,0 +1,53 @@
+use aes_block::{Key, xor_blocks};
+use std::alloc::Global;
+use std::test::Fail;
+use vectors::VECTORS;
+
+mod vectors;
+
+// The key of these words.
+fn key_of(alloc: Global, words: &[u64]) -> Result<Key, Fail> {
+    let mut bytes = Vec::new(alloc);
+    for word in words {
+        bytes.extend_from_slice(&word.to_be_bytes())?;
+    }
+    let key = Key::new(&bytes).ok_or("no key of this length")?;
+    Ok(key)
+}
+
+#[test]
+fn enciphers_and_deciphers_the_standards_examples(rt: HostRuntime) -> Result<(), Fail> {
+    for vector in &VECTORS {
+        let source = vector.source;
+        let key = key_of(rt.alloc(), vector.key)?;
+        let plain = vector.plain.to_be_bytes();
+        let enciphered = vector.enciphered.to_be_bytes();
+        assert_eq!(rt; key.encipher(plain), enciphered, "enciphering of {source}");
+        assert_eq!(rt; key.decipher(enciphered), plain, "deciphering of {source}");
+        assert_eq!(rt;
+            key.encipher_number(vector.plain),
+            vector.enciphered,
+            "enciphering of the number of {source}"
+        );
+        assert_eq!(rt;
+            key.copied().encipher(plain),
+            enciphered,
+            "a copied key of {source}"
+        );
+        assert_eq!(rt;
+            key.size(),
+            8 * vector.key.len(),
+            "the key's size of {source}"
+        );
+    }
+    Ok(())
+}
+
+// SP 800-38A, F.2.1, block 1: the plain text, the start vector, and the input block that they make.
+#[test]
+fn adds_the_blocks_of_the_standards_chaining_example(rt: HostRuntime) {
+    let plain = 0x6bc1bee22e409f96e93d7e117393172a_u128.to_be_bytes();
+    let start = 0x000102030405060708090a0b0c0d0e0f_u128.to_be_bytes();
+    let input = 0x6bc0bce12a459991e134741a7f9e1925_u128.to_be_bytes();
+    assert_eq!(rt; xor_blocks(plain, start), input);
+}

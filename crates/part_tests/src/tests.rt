@@ -1,0 +1,10 @@
+mod access;
+mod handle_table;
+mod keepers;
+mod matching;
+mod messages;
+mod objects;
+mod order;
+mod records;
+mod session_table;
+mod templates_made;

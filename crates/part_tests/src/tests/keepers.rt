@@ -1,0 +1,267 @@
+ghost use Rattle.std.specs.Prelude.{◌≡◌, ◌≤◌, ◌+◌, ◌⊎◌, Some, IfNone, IfOk, IfSome, OnErr, OnSome};
+ghost use Rattle.pin_record.specs.Records.{charged};
+ghost use Rattle.keep.specs.Contents.{Contents, object_at, with_record};
+ghost use Rattle.keep.specs.Keeping.{HasCause};
+
+use attrs::{Form, Object, attributes};
+use ck_types::{AttrType, Bytes, Entry, Items, ObjectClass, UserType};
+use keep::*;
+use pin_record::{Record, begin_check};
+use std::alloc::{AllocError, Global};
+use std::process::Abort;
+use std::test::Fail;
+
+/// Charges a check of a PIN, and then reads an object. `None` where the PIN isn't set or is locked.
+fn charge_and_read<K: Keep>(
+    alloc: Global,
+    keep: &mut K,
+    who: UserType,
+    id: u64,
+) -> Result<Option<Object>, KeepFault>
+    ensures charged { (c : Contents) → K.holds keep.old c → IfOk result (λ found. OnSome found (K.holds keep.new (with_record (charged c.token_record who) c))) }
+    ensures refused { (c : Contents) → K.holds keep.old c → IfOk result (λ found. IfNone found (K.holds keep.new c)) }
+    ensures object { K.doubt keep.new ≡ 0 → (c : Contents) → K.holds keep.old c → IfOk result (λ found. IfSome found (λ object. object_at c id ≡ Some object)) }
+    ensures either { (c : Contents) → K.holds keep.old c → OnErr result (K.holds keep.new c ⊎ K.holds keep.new (with_record (charged c.token_record who) c)) }
+    ensures crash { (c d : Contents) → K.holds keep.old c → K.may_leave keep.new d → IfOk result (λ found. OnSome found (d ≡ with_record (charged c.token_record who) c)) }
+    ensures tried { K.tried keep.new ≤ K.tried keep.old + 1 }
+    ensures doubt { K.doubt keep.old ≤ K.doubt keep.new }
+    ensures cause { HasCause (K.failures_of keep.old) (K.failures_of keep.new) result }
+{
+    let record = keep.get_record();
+    if record.verifier(who).is_none() || record.is_locked(who) {
+        return Ok(None);
+    }
+    keep.set_record(begin_check(record, who))?;
+    Ok(Some(keep.object(alloc, id)?))
+}
+
+/// What a data object has for each attribute, with CKA_TOKEN true and CKA_VALUE of one byte.
+fn value_of(alloc: Global, attribute: AttrType, form: Form, byte: u8) -> Result<Bytes, AllocError> {
+    match attribute {
+        AttrType::Token => Bytes::from_slice(alloc, &[1]),
+        AttrType::Value => Bytes::from_slice(alloc, &[byte]),
+        _ => match form {
+            Form::Truth => Bytes::from_slice(alloc, &[0]),
+            Form::Number => Bytes::from_slice(alloc, &[0; 8]),
+            Form::Bytes => Ok(Bytes::new(alloc)),
+        },
+    }
+}
+
+fn token_object(alloc: Global, byte: u8) -> Result<Object, Fail> {
+    let mut entries = Items::new(alloc);
+    for row in attributes() {
+        if row.is_held_by(ObjectClass::Data) {
+            let value = value_of(alloc, row.attribute, row.form, byte)?;
+            let number = row.attribute.number();
+            entries.push(Entry { number, value })?;
+        }
+    }
+    Ok(Object::from_entries(entries).ok_or("a data object")?)
+}
+
+/// Inserts a token object with this value.
+fn insert<K: Keep>(alloc: Global, keep: &mut K, byte: u8) -> Result<u64, Fail> {
+    let object = token_object(alloc, byte)?;
+    if !object.flag(AttrType::Token) {
+        return Err("a token object".into());
+    }
+    Ok(keep.insert(&object)?)
+}
+
+/// Replaces an object by one with this value.
+fn replace<K: Keep>(
+    alloc: Global,
+    keep: &mut K,
+    id: u64,
+    byte: u8,
+) -> Result<Result<(), KeepFault>, Fail> {
+    let object = token_object(alloc, byte)?;
+    if !object.flag(AttrType::Token) {
+        return Err("a token object".into());
+    }
+    Ok(keep.replace(id, &object))
+}
+
+/// What happens to a keeper. Objects are named by their place among those that are there.
+#[derive(Clone, Copy, Debug)]
+enum Step {
+    Insert,
+    Replace(usize),
+    Remove(usize),
+}
+
+use Step::{Insert, Remove, Replace};
+
+/// Twelve steps, after which there are two more objects.
+const STEPS: [Step; 12] = [
+    Insert,
+    Insert,
+    Replace(0),
+    Insert,
+    Remove(1),
+    Replace(7),
+    Insert,
+    Remove(0),
+    Insert,
+    Replace(3),
+    Remove(5),
+    Replace(11),
+];
+
+/// The id and the value of each object, in the order in which they were made.
+type Rows = Vec<(u64, u8)>;
+
+/// Takes a step with the keeper and with a plain list.
+fn take<K: Keep>(
+    alloc: Global,
+    keep: &mut K,
+    rows: &mut Rows,
+    step: Step,
+    byte: u8,
+) -> Result<(), Fail> {
+    match step {
+        Insert => rows.push((insert(alloc, keep, byte)?, byte))?,
+        Replace(place) => {
+            if !rows.is_empty() {
+                let at = place % rows.len();
+                replace(alloc, keep, rows[at].0, byte)??;
+                rows[at].1 = byte;
+            }
+        }
+        Remove(place) => {
+            if !rows.is_empty() {
+                let (id, _) = rows.remove(place % rows.len());
+                keep.remove(id)?;
+            }
+        }
+    }
+    Ok(())
+}
+
+/// What the keeper has.
+fn rows_of<K: Keep>(alloc: Global, keep: &mut K) -> Result<Rows, Fail> {
+    let mut rows = Vec::new(alloc);
+    for id in keep.ids(alloc)? {
+        let object = keep.object(alloc, id)?;
+        match object.value() {
+            [byte] => rows.push((id, *byte))?,
+            _ => return Err("a value of one byte".into()),
+        }
+    }
+    Ok(rows)
+}
+
+/// Whether the keeper has just these.
+fn has_rows<K: Keep>(alloc: Global, keep: &mut K, rows: &[(u64, u8)]) -> Result<bool, Fail> {
+    Ok(rows_of(alloc, keep)?.as_slice() == rows)
+}
+
+#[test]
+fn a_keeper_in_memory_is_a_plain_list_under_300_steps(rt: HostRuntime) -> Result<(), Fail> {
+    let alloc = rt.alloc();
+    let mut keep = ListKeep::new(alloc, Record::new());
+    let mut rows = Vec::new(alloc);
+    for number in 0..300 {
+        let step = STEPS[number % 12];
+        take(alloc, &mut keep, &mut rows, step, (number % 256) as u8)?;
+        assert!(rt; has_rows(alloc, &mut keep, &rows)?, "step {number}");
+    }
+    assert_eq!(rt; (rows.len(), keep.failures()), (50, 0));
+    assert_eq!(rt; insert(alloc, &mut keep, 0)?, 126);
+    Ok(())
+}
+
+/// Sees that inserts get these ids. The value of each is its id.
+fn expect_ids<K: Keep>(
+    rt: &impl Abort,
+    alloc: Global,
+    keep: &mut K,
+    ids: &[u8],
+) -> Result<(), Fail> {
+    for id in ids {
+        assert_eq!(rt; insert(alloc, keep, *id)?, *id as u64);
+    }
+    Ok(())
+}
+
+#[test]
+fn an_id_is_never_used_again(rt: HostRuntime) -> Result<(), Fail> {
+    let alloc = rt.alloc();
+    let mut keep = ListKeep::new(alloc, Record::new());
+    expect_ids(&rt, alloc, &mut keep, &[1, 2])?;
+    keep.remove(2)?;
+    expect_ids(&rt, alloc, &mut keep, &[3])?;
+    keep.reset(Record::new())?;
+    assert!(rt; has_rows(alloc, &mut keep, &[])?);
+    expect_ids(&rt, alloc, &mut keep, &[4])?;
+    assert!(rt; has_rows(alloc, &mut keep, &[(4, 4)])?);
+    Ok(())
+}
+
+/// Whether reading, replacing and removing fail by the device.
+fn is_refused<K: Keep>(alloc: Global, keep: &mut K, id: u64) -> Result<bool, Fail> {
+    let device = Err(KeepFault::Device);
+    let is_read = keep.object(alloc, id).is_ok();
+    Ok(!is_read && replace(alloc, keep, id, 2)? == device && keep.remove(id) == device)
+}
+
+#[test]
+fn an_id_that_is_not_there_is_a_counted_failure(rt: HostRuntime) -> Result<(), Fail> {
+    let alloc = rt.alloc();
+    let mut keep = ListKeep::new(alloc, Record::new());
+    insert(alloc, &mut keep, 1)?;
+    for (round, id) in [0, 2, GREATEST_ID, u64::MAX].into_iter().enumerate() {
+        assert!(rt; is_refused(alloc, &mut keep, id)?, "id {id}");
+        assert_eq!(rt; keep.failures(), 3 * (round as u64 + 1), "{id}");
+    }
+    assert!(rt; has_rows(alloc, &mut keep, &[(1, 1)])?);
+    Ok(())
+}
+
+/// A token's record with an SO PIN of so many tries, and no user PIN.
+fn record_with_tries(alloc: Global, tries: u8) -> Result<Record, Fail> {
+    let mut bytes = Vec::new(alloc);
+    bytes.extend_from_slice(&[2, 1])?;
+    bytes.extend_from_slice(&[b'x'; 32])?;
+    bytes.push(1)?;
+    bytes.extend_from_slice(&[0xa5; 16])?;
+    bytes.extend_from_slice(&[0, 0, 0x4e, 0x20])?;
+    bytes.extend_from_slice(&[0x5a; 32])?;
+    bytes.extend_from_slice(&[tries, 0, 0])?;
+    Ok(pin_record::decode(&bytes)?)
+}
+
+/// What is read after a check was charged: a value of one byte, or the fault.
+fn charge_and_read_byte<K: Keep>(
+    alloc: Global,
+    keep: &mut K,
+    who: UserType,
+    id: u64,
+) -> Result<Result<Option<u8>, KeepFault>, Fail> {
+    match charge_and_read(alloc, keep, who, id) {
+        Ok(None) => Ok(Ok(None)),
+        Ok(Some(object)) => Ok(Ok(Some(*object.value().first().ok_or("a byte")?))),
+        Err(fault) => Ok(Err(fault)),
+    }
+}
+
+#[test]
+fn a_check_is_charged_before_an_object_is_read(rt: HostRuntime) -> Result<(), Fail> {
+    let alloc = rt.alloc();
+    let mut keep = ListKeep::new(alloc, record_with_tries(alloc, 8)?);
+    let id = insert(alloc, &mut keep, 7)?;
+    // Who is checked, which object is read, what comes of it, and the tries of the SO's PIN.
+    let rows = [
+        (UserType::So, id, Ok(Some(7)), 9),
+        (UserType::So, GREATEST_ID, Err(KeepFault::Device), 10),
+        (UserType::So, id, Ok(None), 10),
+        (UserType::User, id, Ok(None), 10),
+    ];
+    for (who, id, wanted, tries) in rows {
+        assert_eq!(rt; charge_and_read_byte(alloc, &mut keep, who, id)?, wanted);
+        assert_eq!(rt; keep.get_record(), record_with_tries(alloc, tries)?);
+    }
+    assert_eq!(rt; keep.failures(), 1);
+    Ok(())
+}

@@ -1,0 +1,276 @@
+use ck_calls::{
+    AttributeQuery, AttributeValue, Call, Function, Mechanism, MechanismInfo, Output, Query, Reply,
+    SessionInfo, TokenInfo,
+};
+use ck_types::{Bytes, Entry, Items, Label, Rv, SessionState, Template};
+use std::alloc::Global;
+use std::test::*;
+use wire::{WireFault, read_call, read_reply, write_call, write_reply};
+
+fn bytes(alloc: Global, text: &[u8]) -> Result<Bytes, Fail> {
+    Ok(Bytes::from_slice(alloc, text)?)
+}
+
+fn template(alloc: Global, count: u64) -> Result<Template, Fail> {
+    let mut entries = Template::new(alloc);
+    for number in 0..count {
+        let value = bytes(alloc, b"value")?;
+        entries.push(Entry { number, value })?;
+    }
+    Ok(entries)
+}
+
+fn query(alloc: Global) -> Result<Query, Fail> {
+    let mut query = Query::new(alloc);
+    query.push(AttributeQuery {
+        number: 3,
+        room: Some(64),
+    })?;
+    query.push(AttributeQuery {
+        number: 17,
+        room: None,
+    })?;
+    Ok(query)
+}
+
+fn mechanism(alloc: Global, number: u64, parameter: &[u8]) -> Result<Mechanism, Fail> {
+    let parameter = bytes(alloc, parameter)?;
+    Ok(Mechanism { number, parameter })
+}
+
+/// How many calls there are below.
+const CALL_COUNT: usize = 9;
+
+/// Calls that have each kind of field, and the length of their frames.
+fn call_of(alloc: Global, place: usize) -> Result<(Call, usize), Fail> {
+    let session = 1;
+    let key = 2;
+    Ok(match place {
+        0 => (Call::GetTokenInfo { slot: 0 }, 14),
+        1 => {
+            let pin = bytes(alloc, b"1234")?;
+            (
+                Call::Login {
+                    session,
+                    user_type: 1,
+                    pin,
+                },
+                30,
+            )
+        }
+        2 => {
+            let template = template(alloc, 32)?;
+            (Call::CreateObject { session, template }, 562)
+        }
+        3 => {
+            let query = query(alloc)?;
+            (
+                Call::GetAttributeValue {
+                    session,
+                    object: 2,
+                    query,
+                },
+                52,
+            )
+        }
+        4 => {
+            let mechanism = Some(mechanism(alloc, 0x1082, &[7; 16])?);
+            (
+                Call::EncryptInit {
+                    session,
+                    mechanism,
+                    key,
+                },
+                51,
+            )
+        }
+        5 => (
+            Call::EncryptInit {
+                session,
+                mechanism: None,
+                key,
+            },
+            23,
+        ),
+        6 => (verify(alloc)?, 26),
+        7 => {
+            let mechanism = mechanism(alloc, 0x2109, &[])?;
+            let room = None;
+            (
+                Call::WrapKey {
+                    session,
+                    mechanism,
+                    wrapping_key: 2,
+                    key: 3,
+                    room,
+                },
+                43,
+            )
+        }
+        _ => (Call::GenerateRandom { session, len: 16 }, 22),
+    })
+}
+
+fn verify(alloc: Global) -> Result<Call, Fail> {
+    Ok(Call::Verify {
+        session: 1,
+        data: bytes(alloc, b"data")?,
+        signature: bytes(alloc, &[])?,
+    })
+}
+
+/// Whether the call has a frame of so many bytes, and is read from it.
+fn is_read_again(alloc: Global, call: &Call, len: usize) -> Result<bool, Fail> {
+    let frame = write_call(alloc, call)?;
+    let again = read_call(alloc, frame.get(4..).unwrap_or(&[]))?;
+    Ok(frame.len() == len && again == *call)
+}
+
+#[test]
+fn a_call_that_is_written_is_read(rt: HostRuntime) -> Result<(), Fail> {
+    for place in 0..CALL_COUNT {
+        let (call, len) = call_of(rt.alloc(), place)?;
+        assert!(rt; is_read_again(rt.alloc(), &call, len)?, "call {place}");
+    }
+    Ok(())
+}
+
+fn values(alloc: Global) -> Result<Items<AttributeValue>, Fail> {
+    let mut values = Items::new(alloc);
+    values.push(AttributeValue {
+        len: 2,
+        value: Some(bytes(alloc, b"k1")?),
+    })?;
+    values.push(AttributeValue {
+        len: u64::MAX,
+        value: None,
+    })?;
+    Ok(values)
+}
+
+fn handles(alloc: Global) -> Result<Items<u64>, Fail> {
+    let mut handles = Items::new(alloc);
+    handles.push(7)?;
+    Ok(handles)
+}
+
+const TOKEN: TokenInfo = TokenInfo {
+    label: Label::BLANK,
+    flags: 5,
+    session_count: 1,
+    rw_session_count: 1,
+};
+
+const MECHANISM: MechanismInfo = MechanismInfo {
+    min_key_size: 16,
+    max_key_size: 32,
+    flags: 0x300,
+};
+
+const SESSION: SessionInfo = SessionInfo {
+    slot: 0,
+    state: SessionState::RwUser,
+    read_write: true,
+};
+
+/// How many replies there are below.
+const REPLY_COUNT: usize = 15;
+
+/// Replies of each shape, with a function that has it and the length of their frames.
+fn reply_of(alloc: Global, place: usize) -> Result<(Reply, Function, usize), Fail> {
+    Ok(match place {
+        0 => (Reply::Code(Rv::Ok), Function::CloseSession, 12),
+        1 => (Reply::Code(Rv::PinLocked), Function::GetTokenInfo, 12),
+        2 => (Reply::TokenInfo(TOKEN), Function::GetTokenInfo, 100),
+        3 => (
+            Reply::MechanismList(Items::new(alloc)),
+            Function::GetMechanismList,
+            16,
+        ),
+        4 => (
+            Reply::MechanismInfo(MECHANISM),
+            Function::GetMechanismInfo,
+            36,
+        ),
+        5 => (Reply::Session(1), Function::OpenSession, 20),
+        6 => (Reply::SessionInfo(SESSION), Function::GetSessionInfo, 44),
+        7 => (Reply::Object(2), Function::UnwrapKey, 20),
+        8 => (Reply::ObjectSize(309), Function::GetObjectSize, 20),
+        9 => {
+            let values = values(alloc)?;
+            let code = Rv::AttributeSensitive;
+            (
+                Reply::AttributeValues { code, values },
+                Function::GetAttributeValue,
+                36,
+            )
+        }
+        10 => (Reply::Objects(handles(alloc)?), Function::FindObjects, 24),
+        11 => (Reply::Output(Output::Length(16)), Function::Encrypt, 21),
+        12 => (
+            Reply::Output(Output::Data(bytes(alloc, &[9; 16])?)),
+            Function::WrapKey,
+            33,
+        ),
+        13 => (Reply::BufferTooSmall(16), Function::SignFinal, 21),
+        _ => (
+            Reply::Random(bytes(alloc, &[1; 5])?),
+            Function::GenerateRandom,
+            21,
+        ),
+    })
+}
+
+/// Whether the reply has a frame of so many bytes, and is read from it.
+fn is_reply_read_again(
+    alloc: Global,
+    reply: &Reply,
+    function: Function,
+    len: usize,
+) -> Result<bool, Fail> {
+    let frame = write_reply(alloc, reply)?;
+    let again = read_reply(alloc, function.number(), frame.get(4..).unwrap_or(&[]))?;
+    Ok(frame.len() == len && again == *reply)
+}
+
+#[test]
+fn a_reply_that_is_written_is_read(rt: HostRuntime) -> Result<(), Fail> {
+    for place in 0..REPLY_COUNT {
+        let (reply, function, len) = reply_of(rt.alloc(), place)?;
+        let is_read = is_reply_read_again(rt.alloc(), &reply, function, len)?;
+        assert!(rt; is_read, "reply {place}");
+    }
+    Ok(())
+}
+
+/// Why a reply has no frame.
+fn refusal_of(alloc: Global, reply: &Reply) -> Option<WireFault> {
+    write_reply(alloc, reply).err()
+}
+
+/// Why a C_GenerateRandom of so many bytes has no reply.
+fn refusal_of_random(alloc: Global, len: usize) -> Result<Option<WireFault>, Fail> {
+    let random = vec![in alloc; 0u8; len]?;
+    Ok(refusal_of(alloc, &Reply::Random(Bytes::from_vec(random))))
+}
+
+#[test]
+fn what_has_no_bytes_is_malformed_or_too_long(rt: HostRuntime) -> Result<(), Fail> {
+    let template = template(rt.alloc(), 33)?;
+    let call = Call::CreateObject {
+        session: 1,
+        template,
+    };
+    let refused = write_call(rt.alloc(), &call).err();
+    assert_eq!(rt; refused, Some(WireFault::Malformed));
+    let reply = Reply::AttributeValues {
+        code: Rv::PinIncorrect,
+        values: Items::new(rt.alloc()),
+    };
+    assert_eq!(rt; refusal_of(rt.alloc(), &reply), Some(WireFault::Malformed));
+    // The greatest C_GenerateRandom that a payload could carry, and a byte more.
+    assert_eq!(rt; refusal_of_random(rt.alloc(), 1_048_576 - 12)?, None);
+    let refused = refusal_of_random(rt.alloc(), 1_048_576 - 11)?;
+    assert_eq!(rt; refused, Some(WireFault::TooLong));
+    Ok(())
+}

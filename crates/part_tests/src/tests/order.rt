@@ -1,0 +1,269 @@
+use ck_types::Rv;
+use precede::{Facts, Row, first_fault, rows};
+
+/// The code of the maker in each test: CKR_TEMPLATE_INCOMPLETE, which is no row's own.
+const MADE: u64 = 0xd0;
+
+/// The codes of each call's rows in order, by their numbers in pkcs11t.h; the row of the template has `MADE`.
+const CODES: [(u16, &[u64]); 41] = [
+    (1, &[0x6, 0x3]),
+    (2, &[0x6, 0x3]),
+    (3, &[0x6, 0x3, 0x70]),
+    (4, &[0x6, 0x3, 0x7, 0xb6, 0xa2, 0xa4]),
+    (5, &[0x6, 0xb3, 0x101, 0xa2]),
+    (6, &[0x6, 0xb3, 0xb5, 0x102, 0xa2, 0xa4]),
+    (7, &[0x6, 0x3, 0xb4, 0x7, 0xb8, 0xb1]),
+    (8, &[0x6, 0xb3]),
+    (9, &[0x6, 0x3]),
+    (10, &[0x6, 0xb3]),
+    (11, &[0x6, 0xb3, 0x103, 0x100, 0x104, 0xb7, 0x102, 0xa4]),
+    (12, &[0x6, 0xb3, 0x101]),
+    (13, &[0x6, 0xb3, MADE, 0xb5, 0x101, 0x31]),
+    (14, &[0x6, 0xb3, 0x82, 0x1b, MADE, 0xb5, 0x101, 0x31]),
+    (15, &[0x6, 0xb3, 0x82, 0xb5, 0x1b]),
+    (16, &[0x6, 0xb3, 0x82]),
+    (17, &[0x6, 0xb3, 0x82]),
+    (18, &[0x6, 0xb3, 0x82, 0xb5, 0x1b, MADE]),
+    (19, &[0x6, 0xb3, 0x90]),
+    (20, &[0x6, 0xb3, 0x91]),
+    (21, &[0x6, 0xb3, 0x91]),
+    (22, &[0x6, 0xb3, 0x0, 0x90, 0x70, 0x71, 0x60, 0x63, 0x68]),
+    (23, &[0x6, 0xb3, 0x91, 0x90, 0x21, 0x41, 0x0, 0x150]),
+    (24, &[0x6, 0xb3, 0x91, 0x21, 0x0, 0x150]),
+    (25, &[0x6, 0xb3, 0x91, 0x21, 0x41, 0x0, 0x150]),
+    (26, &[0x6, 0xb3, 0x0, 0x90, 0x70, 0x71, 0x60, 0x63, 0x68]),
+    (27, &[0x6, 0xb3, 0x91, 0x90, 0x21, 0x41, 0x0, 0x150]),
+    (28, &[0x6, 0xb3, 0x91, 0x21, 0x0, 0x150]),
+    (29, &[0x6, 0xb3, 0x91, 0x21, 0x41, 0x0, 0x150]),
+    (30, &[0x6, 0xb3, 0x0, 0x90, 0x70, 0x71, 0x60, 0x63, 0x68]),
+    (31, &[0x6, 0xb3, 0x91, 0x90, 0x0, 0x150]),
+    (32, &[0x6, 0xb3, 0x91]),
+    (33, &[0x6, 0xb3, 0x91, 0x0, 0x150]),
+    (34, &[0x6, 0xb3, 0x0, 0x90, 0x70, 0x71, 0x60, 0x63, 0x68]),
+    (35, &[0x6, 0xb3, 0x91, 0x90, 0xc1]),
+    (36, &[0x6, 0xb3, 0x91]),
+    (37, &[0x6, 0xb3, 0x91, 0xc1]),
+    (38, &[0x6, 0xb3, 0x70, 0x71, MADE, 0xb5, 0x101, 0x31]),
+    (
+        39,
+        &[
+            0x6, 0xb3, 0x70, 0x71, 0x113, 0x60, 0x115, 0x68, 0x6a, 0x69, 0x62, 0x0, 0x150,
+        ],
+    ),
+    (
+        40,
+        &[
+            0x6, 0xb3, 0x70, 0x71, 0xf0, 0xf2, 0x68, 0x112, MADE, 0x112, 0xb5, 0x101, 0x31,
+        ],
+    ),
+    (41, &[0x6, 0xb3, 0x7]),
+];
+
+/// The number of the code that answers the call where the places from `from` to `to` hold.
+fn answer(function: u16, from: usize, to: usize) -> Option<u64> {
+    let mut facts = Facts::new(function, Rv::TemplateIncomplete);
+    for place in 0..16 {
+        facts.holds[place] = from <= place && place < to;
+    }
+    first_fault(&facts).map(|code| code.number())
+}
+
+#[test]
+fn answers_by_the_first_row_where_all_hold(rt: HostRuntime) {
+    for (function, codes) in &CODES {
+        assert_eq!(rt;
+            answer(*function, 0, codes.len()),
+            Some(0x6),
+            "call {function}"
+        );
+        assert_eq!(rt; answer(*function, 0, 16), Some(0x6), "call {function}");
+    }
+}
+
+#[test]
+fn answers_by_the_last_row_where_it_alone_holds(rt: HostRuntime) {
+    for (function, codes) in &CODES {
+        let rows = codes.len();
+        assert_eq!(rt;
+            answer(*function, rows.saturating_sub(1), rows),
+            codes.last().copied(),
+            "call {function}"
+        );
+    }
+}
+
+#[test]
+fn answers_by_each_row_where_it_alone_holds(rt: HostRuntime) {
+    for (function, codes) in &CODES {
+        for (place, code) in codes.iter().enumerate() {
+            assert_eq!(rt;
+                answer(*function, place, place.saturating_add(1)),
+                Some(*code),
+                "call {function}, row {place}"
+            );
+        }
+    }
+}
+
+#[test]
+fn answers_by_each_row_where_all_from_it_on_hold(rt: HostRuntime) {
+    for (function, codes) in &CODES {
+        assert_eq!(rt; rows(*function).len(), codes.len(), "call {function}");
+        for (place, code) in codes.iter().enumerate() {
+            assert_eq!(rt;
+                answer(*function, place, codes.len()),
+                Some(*code),
+                "call {function}, row {place}"
+            );
+        }
+    }
+}
+
+#[test]
+fn answers_nothing_past_a_table_and_for_the_number_of_no_call(rt: HostRuntime) {
+    for (function, codes) in &CODES {
+        assert_eq!(rt; answer(*function, codes.len(), 16), None, "call {function}");
+    }
+    for function in [0, 42, 99, 65535] {
+        assert_eq!(rt; answer(function, 0, 16), None, "call {function}");
+        assert_eq!(rt; rows(function).len(), 0, "call {function}");
+    }
+}
+
+struct Case {
+    call: &'static str,
+    function: u16,
+    holding: &'static [Row],
+    made: Rv,
+    answer: Option<u64>,
+}
+
+const CASES: [Case; 15] = [
+    Case {
+        call: "C_OpenSession of a slot that isn't there, without flags",
+        function: 7,
+        holding: &[Row::NotSerial, Row::NoSlot],
+        made: Rv::Ok,
+        answer: Some(0x3),
+    },
+    Case {
+        call: "C_DestroyObject with unknown session and handle",
+        function: 15,
+        holding: &[Row::NoObject, Row::NoSession],
+        made: Rv::Ok,
+        answer: Some(0xb3),
+    },
+    Case {
+        call: "C_Login of an unknown type while the user is logged in",
+        function: 11,
+        holding: &[Row::OtherUserLoggedIn, Row::UnknownUserType],
+        made: Rv::Ok,
+        answer: Some(0x103),
+    },
+    Case {
+        call: "C_EncryptInit with a mechanism that generates keys and handle 0",
+        function: 22,
+        holding: &[Row::NoKey, Row::WrongMechanism],
+        made: Rv::Ok,
+        answer: Some(0x70),
+    },
+    Case {
+        call: "C_CreateObject with an unknown attribute, without a value, of a private key",
+        function: 13,
+        holding: &[Row::PrivateObject, Row::TemplateRefused],
+        made: Rv::AttributeTypeInvalid,
+        answer: Some(0x12),
+    },
+    Case {
+        call: "C_CreateObject of a private token object in a read-only public session",
+        function: 13,
+        holding: &[Row::PrivateObject, Row::TokenObjectReadOnly],
+        made: Rv::Ok,
+        answer: Some(0xb5),
+    },
+    Case {
+        call: "C_WrapKey of an unextractable key without a buffer",
+        function: 39,
+        holding: &[Row::NoBuffer, Row::KeyUnextractable],
+        made: Rv::Ok,
+        answer: Some(0x6a),
+    },
+    Case {
+        call: "C_WrapKey of an unextractable key that only a trusted key wraps",
+        function: 39,
+        holding: &[Row::KeyNotWrappable, Row::KeyUnextractable],
+        made: Rv::Ok,
+        answer: Some(0x6a),
+    },
+    Case {
+        call: "C_WrapKey of a key of 20 bytes that only a trusted key wraps",
+        function: 39,
+        holding: &[Row::KeyLength, Row::KeyNotWrappable],
+        made: Rv::Ok,
+        answer: Some(0x69),
+    },
+    Case {
+        call: "C_EncryptInit without a mechanism while an operation is active",
+        function: 22,
+        holding: &[Row::OperationActive, Row::NoMechanism],
+        made: Rv::Ok,
+        answer: Some(0x0),
+    },
+    Case {
+        call: "C_Encrypt in pieces, then of a whole text, with a small buffer",
+        function: 23,
+        holding: &[Row::SmallBuffer, Row::DataTaken],
+        made: Rv::Ok,
+        answer: Some(0x90),
+    },
+    Case {
+        call: "C_UnwrapKey of a length that no AES key has, with a template that is refused",
+        function: 40,
+        holding: &[Row::WrappedLengthOfType, Row::TemplateRefused],
+        made: Rv::TemplateInconsistent,
+        answer: Some(0xd1),
+    },
+    Case {
+        call: "C_InitToken with a row of another call's table",
+        function: 4,
+        holding: &[Row::NoSession],
+        made: Rv::Ok,
+        answer: None,
+    },
+    Case {
+        call: "C_Logout without a fault",
+        function: 12,
+        holding: &[],
+        made: Rv::Ok,
+        answer: None,
+    },
+    Case {
+        call: "a call that isn't there",
+        function: 42,
+        holding: &[Row::Busy, Row::NoSession],
+        made: Rv::Ok,
+        answer: None,
+    },
+];
+
+#[test]
+fn answers_calls_with_several_faults_by_the_first(rt: HostRuntime) {
+    for case in &CASES {
+        let mut facts = Facts::new(case.function, case.made);
+        for row in case.holding {
+            facts.set(*row, true);
+        }
+        let answer = first_fault(&facts).map(|code| code.number());
+        assert_eq!(rt; answer, case.answer, "{}", case.call);
+    }
+}
+
+#[test]
+fn forgets_a_row_that_is_set_to_false(rt: HostRuntime) {
+    let mut facts = Facts::new(15, Rv::Ok);
+    facts.set(Row::TokenObjectReadOnly, true);
+    facts.set(Row::NotDestroyable, true);
+    assert_eq!(rt; first_fault(&facts), Some(Rv::SessionReadOnly));
+    facts.set(Row::TokenObjectReadOnly, false);
+    assert_eq!(rt; first_fault(&facts), Some(Rv::ActionProhibited));
+}
