@@ -26,7 +26,6 @@ ghost use Rattle.std.specs.Vec.{vec_capacity};
 ghost use Rattle.handles.specs.Handles.{no_handles, object_of, number_of, with_handle, without_object, public_handles, HasRoomFor, IsTable};
 ghost use Rattle.lists.specs.Bisection.{KeysRise, IsPlaceOf};
 
-
 use lists::NUMBER_LIMIT;
 use std::alloc::{AllocError, Global};
 use std::marker::Model;

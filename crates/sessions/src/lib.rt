@@ -29,7 +29,6 @@ ghost use Rattle.slab.specs.Slab.{entries};
 ghost use Rattle.lists.specs.InOrder.{in_order};
 ghost use Rattle.sessions.specs.Sessions.{no_sessions, session_at, state_of, has_read_only, with_session, without_session, busy_with, logged_out, IsTable};
 
-
 use ck_types::{SessionState, UserType};
 use lists::NUMBER_LIMIT;
 use slab::Slab;

@@ -33,4 +33,3 @@ pub use fault::WireFault;
 pub use frame::MAX_PAYLOAD_LEN;
 pub use reply::{read_reply, write_reply};
 pub use stream::{FrameReader, one_split};
-
