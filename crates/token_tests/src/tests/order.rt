@@ -65,7 +65,7 @@ fn of_two_faults_the_first_is_told(rt: HostRuntime) -> Result<(), Fail> {
     for (first, second, alone, both) in CASES {
         let mut bench = bench_for(&rt, rt.alloc(), *second)?;
         bench.expect(&rt, second, (A, *alone, told_of(*second)?))?;
-        bench.expect(&rt, (first, second), (A, *both, told_of(*first)?))?;
+        bench.expect(&rt, (*first, *second), (A, *both, told_of(*first)?))?;
     }
     Ok(())
 }
