@@ -40,26 +40,45 @@ use events::events;
 use frames::{cipher, frames};
 use reading::reading;
 use run::{Report, blocks_apart, chain, chain_back, keys_for_a_block, keys_kept};
+use std::alloc::Global;
 use std::rt::Env;
+use std::time::CpuClock;
 use std::{env, io};
 use texts::{Work, derivation, over_texts};
 
-/// The batches of 64 KiB, and of 4,096 keys, of a row of the full table: 64 MiB, and a million
-/// keys.
-const BLOCK_BATCHES: u32 = 1024;
+/// How much is done for each row, and what a row says.
+#[derive(Clone, Copy)]
+struct Scale {
+    /// Batches of 64 KiB, and of 4,096 keys.
+    block_batches: u32,
+    key_batches: u32,
+    texts: u32,
+    rounds: u32,
+    events: u32,
+    report: Report,
+}
 
-const KEY_BATCHES: u32 = 256;
+/// 64 MiB, and a million keys.
+const FULL: Scale = Scale {
+    block_batches: 1024,
+    key_batches: 256,
+    texts: 1000,
+    rounds: 10_000,
+    events: 100_000,
+    report: Report::Times,
+};
 
-/// The texts and the rounds of a row of the full table.
-const TEXTS: u32 = 1000;
-
-const ROUNDS: u32 = 10_000;
-
-/// The events of the token's run.
-const EVENTS: u32 = 100_000;
+const SMALL: Scale = Scale {
+    block_batches: 1,
+    key_batches: 1,
+    texts: 1,
+    rounds: 100,
+    events: 100,
+    report: Report::Sums,
+};
 
 /// What is done to texts under each key length.
-const WORKS: [Work; 6] = [
+const WORKS: &[Work] = &[
     Work::Ecb(Direction::Encipher),
     Work::Ecb(Direction::Decipher),
     Work::Cbc(Direction::Encipher),
@@ -72,7 +91,7 @@ const WORKS: [Work; 6] = [
 /// hundred, so that what the caches of the processor hold is the same, and of each.
 const READINGS: u32 = 100_000;
 
-const AMONG: [(&str, u32, u32); 5] = [
+const AMONG: &[(&str, u32, u32)] = &[
     ("GetAttributeValue among 100", 100, 100),
     ("GetAttributeValue among 10,000", 10_000, 100),
     ("GetAttributeValue among 100,000", 100_000, 100),
@@ -80,31 +99,19 @@ const AMONG: [(&str, u32, u32); 5] = [
     ("GetAttributeValue of each of 100,000", 100_000, 100_000),
 ];
 
-/// The texts that go through a line, with how many there are of each: one of 64,000 bytes, and the longest that a
-/// frame of C_Encrypt has.
-const THROUGH: [(u32, u32, [&str; 3]); 2] = [
-    (
-        64_000,
-        200,
-        [
-            "ECB of 64,000 alone",
-            "a line, 64,000 by 4,096",
-            "a line, 64,000 by 16",
-        ],
-    ),
-    (
-        1_048_528,
-        20,
-        [
-            "ECB of 1,048,528 alone",
-            "a line, 1,048,528 by 4,096",
-            "a line, 1,048,528 by 16",
-        ],
-    ),
+/// The lengths of the texts that go through a line, the longest that a frame of C_Encrypt has among them, with how many
+/// there are of each, and the pieces that they come in; 0 for the cipher alone.
+const THROUGH: &[(&str, u32, u32, usize)] = &[
+    ("ECB of 64,000 alone", 64_000, 200, 0),
+    ("a line, 64,000 by 4,096", 64_000, 200, 4096),
+    ("a line, 64,000 by 16", 64_000, 200, 16),
+    ("ECB of 1,048,528 alone", 1_048_528, 20, 0),
+    ("a line, 1,048,528 by 4,096", 1_048_528, 20, 4096),
+    ("a line, 1,048,528 by 16", 1_048_528, 20, 16),
 ];
 
 /// The lengths of keys in bytes.
-const KEY_SIZES: [usize; 3] = [16, 24, 32];
+const KEY_SIZES: &[usize] = &[16, 24, 32];
 
 // Whether the argument is `small`: there is that one or none.
 fn is_small(rt: &(impl Env + Alloc)) -> io::Result<bool> {
@@ -117,50 +124,73 @@ fn is_small(rt: &(impl Env + Alloc)) -> io::Result<bool> {
     }
 }
 
-fn main(rt: HostRuntime) -> io::Result<()> {
-    let (block_batches, key_batches, texts, rounds, event_count, report) = if is_small(&rt)? {
-        println!(rt;
+// The rows of a key length.
+fn print_ciphers(
+    rt: &(impl CpuClock + Print),
+    alloc: Global,
+    size: usize,
+    scale: Scale,
+) -> io::Result<()> {
+    let report = scale.report;
+    blocks_apart(rt, alloc, size, scale.block_batches)?.print(rt, size, report)?;
+    chain(rt, size, scale.block_batches)?.print(rt, size, report)?;
+    chain_back(rt, size, scale.block_batches)?.print(rt, size, report)?;
+    keys_kept(rt, alloc, size, scale.key_batches)?.print(rt, size, report)?;
+    keys_for_a_block(rt, size, scale.key_batches)?.print(rt, size, report)?;
+    for work in WORKS {
+        over_texts(rt, alloc, *work, size, scale.texts)?.print(rt, size, report)?;
+    }
+    Ok(())
+}
+
+fn print_readings(rt: &(impl CpuClock + Print), alloc: Global, scale: Scale) -> io::Result<()> {
+    for (what, objects, asked) in AMONG {
+        let (objects, asked, count) = match scale.report {
+            Report::Sums => ((*objects).min(100), (*asked).min(100), 100),
+            Report::Times => (*objects, *asked, READINGS),
+        };
+        reading(rt, alloc, what, objects, asked, count)?.print(rt, 0, scale.report)?;
+    }
+    Ok(())
+}
+
+fn print_lines(rt: &(impl CpuClock + Print), alloc: Global, scale: Scale) -> io::Result<()> {
+    for (what, len, count, most) in THROUGH {
+        let count = match scale.report {
+            Report::Sums => 1,
+            Report::Times => *count,
+        };
+        let run = match *most {
+            0 => cipher(rt, alloc, what, *len, count)?,
+            most => frames(rt, alloc, what, *len, most, count)?,
+        };
+        run.print(rt, 16, scale.report)?;
+    }
+    Ok(())
+}
+
+fn print_head(rt: &impl Print, report: Report) -> io::Result<()> {
+    match report {
+        Report::Sums => println!(rt;
             "bits  work                                      count  exclusive or of the blocks"
-        )?;
-        (1, 1, 1, 100, 100, Report::Sums)
-    } else {
-        println!(rt; "bits  work                                      count   ns each      rate")?;
-        (
-            BLOCK_BATCHES,
-            KEY_BATCHES,
-            TEXTS,
-            ROUNDS,
-            EVENTS,
-            Report::Times,
-        )
-    };
-    for size in KEY_SIZES {
-        blocks_apart(&rt, rt.alloc(), size, block_batches)?.print(&rt, size, report)?;
-        chain(&rt, size, block_batches)?.print(&rt, size, report)?;
-        chain_back(&rt, size, block_batches)?.print(&rt, size, report)?;
-        keys_kept(&rt, rt.alloc(), size, key_batches)?.print(&rt, size, report)?;
-        keys_for_a_block(&rt, size, key_batches)?.print(&rt, size, report)?;
-        for work in WORKS {
-            over_texts(&rt, rt.alloc(), work, size, texts)?.print(&rt, size, report)?;
+        ),
+        Report::Times => {
+            println!(rt;
+                "bits  work                                      count   ns each      rate"
+            )
         }
     }
-    over_texts(&rt, rt.alloc(), Work::Hmac, 32, texts)?.print(&rt, 32, report)?;
-    derivation(&rt, rounds)?.print(&rt, 8, report)?;
-    for (what, objects, asked) in AMONG {
-        let (objects, asked, count) = match report {
-            Report::Sums => (objects.min(100), asked.min(100), 100),
-            Report::Times => (objects, asked, READINGS),
-        };
-        reading(&rt, rt.alloc(), what, objects, asked, count)?.print(&rt, 0, report)?;
+}
+
+fn main(rt: HostRuntime) -> io::Result<()> {
+    let scale = if is_small(&rt)? { SMALL } else { FULL };
+    print_head(&rt, scale.report)?;
+    for size in KEY_SIZES {
+        print_ciphers(&rt, rt.alloc(), *size, scale)?;
     }
-    for (len, count, [alone, by_pages, by_blocks]) in THROUGH {
-        let count = match report {
-            Report::Sums => 1,
-            Report::Times => count,
-        };
-        cipher(&rt, rt.alloc(), alone, len, count)?.print(&rt, 16, report)?;
-        frames(&rt, rt.alloc(), by_pages, len, 4096, count)?.print(&rt, 16, report)?;
-        frames(&rt, rt.alloc(), by_blocks, len, 16, count)?.print(&rt, 16, report)?;
-    }
-    events(&rt, rt.alloc(), event_count)?.print(&rt, 0, report)
+    over_texts(&rt, rt.alloc(), Work::Hmac, 32, scale.texts)?.print(&rt, 32, scale.report)?;
+    derivation(&rt, scale.rounds)?.print(&rt, 8, scale.report)?;
+    print_readings(&rt, rt.alloc(), scale)?;
+    print_lines(&rt, rt.alloc(), scale)?;
+    events(&rt, rt.alloc(), scale.events)?.print(&rt, 0, scale.report)
 }

@@ -22,6 +22,3 @@ mod words;
 pub use fault::LineFault;
 pub use serve::serve_one;
 pub use words::Words;
-
-#[cfg(test)]
-mod tests;

@@ -1,0 +1,5 @@
+//! Tests of `line`: frames in, frames out, over readers and writers that give and take little, and fail.
+#![tactic(auto)]
+
+#[cfg(test)]
+mod tests;
