@@ -74,8 +74,8 @@ fn add(alloc: Global, stream: &mut Vec<u8>, call: &Call) -> io::Result<()> {
     Ok(())
 }
 
-// A session with an AES key of 16 bytes.
-fn beginning(alloc: Global, stream: &mut Vec<u8>) -> io::Result<()> {
+// The template of an AES key of 16 bytes.
+fn template(alloc: Global) -> io::Result<Template> {
     let mut template = Template::new(alloc);
     let class = ObjectClass::SecretKey.number().to_be_bytes();
     let key_type = KeyType::Aes.number().to_be_bytes();
@@ -91,18 +91,18 @@ fn beginning(alloc: Global, stream: &mut Vec<u8>) -> io::Result<()> {
             value: Bytes::from_slice(alloc, value)?,
         })?;
     }
-    add(alloc, stream, &Call::OpenSession { slot: 0, flags: 6 })?;
-    add(
-        alloc,
-        stream,
-        &Call::CreateObject {
-            session: SESSION,
-            template,
-        },
-    )
+    Ok(template)
 }
 
-fn encryption(alloc: Global, stream: &mut Vec<u8>, text: &[u8]) -> io::Result<()> {
+fn add_key(alloc: Global, stream: &mut Vec<u8>) -> io::Result<()> {
+    let create = Call::CreateObject {
+        session: SESSION,
+        template: template(alloc)?,
+    };
+    add(alloc, stream, &create)
+}
+
+fn add_init(alloc: Global, stream: &mut Vec<u8>) -> io::Result<()> {
     let init = Call::EncryptInit {
         session: SESSION,
         mechanism: Some(Mechanism {
@@ -111,13 +111,29 @@ fn encryption(alloc: Global, stream: &mut Vec<u8>, text: &[u8]) -> io::Result<()
         }),
         key: OBJECT,
     };
-    add(alloc, stream, &init)?;
+    add(alloc, stream, &init)
+}
+
+fn add_encrypt(alloc: Global, stream: &mut Vec<u8>, text: &[u8]) -> io::Result<()> {
     let encrypt = Call::Encrypt {
         session: SESSION,
         data: Bytes::from_slice(alloc, text)?,
         room: Some(text.len() as u64),
     };
     add(alloc, stream, &encrypt)
+}
+
+// A session with an AES key, and so many texts, each by C_EncryptInit and C_Encrypt.
+fn stream_of(alloc: Global, text_len: u32, count: u32) -> io::Result<Vec<u8>> {
+    let text = vec![in alloc; 0x5a_u8; text_len as usize]?;
+    let mut stream = Vec::new(alloc);
+    add(alloc, &mut stream, &Call::OpenSession { slot: 0, flags: 6 })?;
+    add_key(alloc, &mut stream)?;
+    for _ in 0..count {
+        add_init(alloc, &mut stream)?;
+        add_encrypt(alloc, &mut stream, &text)?;
+    }
+    Ok(stream)
 }
 
 /// So many texts, each by C_EncryptInit and C_Encrypt, read in pieces of no more than `most` bytes.
@@ -129,12 +145,7 @@ pub(crate) fn frames(
     most: usize,
     count: u32,
 ) -> io::Result<Run> {
-    let text = vec![in alloc; 0x5a_u8; text_len as usize]?;
-    let mut stream = Vec::new(alloc);
-    beginning(alloc, &mut stream)?;
-    for _ in 0..count {
-        encryption(alloc, &mut stream, &text)?;
-    }
+    let stream = stream_of(alloc, text_len, count)?;
     let Ok(mut token) = Token::new(alloc, ListKeep::new(alloc, Record::new())) else {
         return Err(failed());
     };

@@ -1,5 +1,6 @@
 mod block_cipher;
 mod codes_by_cipher;
 mod codes_by_hash;
+mod given;
 mod key_wrap;
 mod modes;

@@ -20,8 +20,8 @@
 //! let key: [u8; 32] = pbkdf2(b"password", b"salt", 10_000);
 //! ```
 //!
-//! A clause speaks of the state of an `Hmac<Sha256>` by `HoldsMessage256 h key message` of
-//! `specs/Stepwise.antt`, and so for the other three: it has taken this message under this key.
+//! A clause speaks of the state of an `Hmac<D>` by `HoldsMessage D.holds D.hash D.BLOCK_SIZE h key message`
+//! of `specs/Stepwise.antt`: it has taken this message under this key. `HoldsMessage256` is that of SHA-256.
 //! Nothing is said of secrecy, of time, or of what stays in memory.
 #![tactic(auto)]
 

@@ -1,19 +1,9 @@
-use aes_block::{Key, xor_blocks};
-use std::alloc::Global;
+use crate::tests::given::key_of;
+use aes_block::xor_blocks;
 use std::test::Fail;
 use vectors::VECTORS;
 
 mod vectors;
-
-// The key of these words.
-fn key_of(alloc: Global, words: &[u64]) -> Result<Key, Fail> {
-    let mut bytes = Vec::new(alloc);
-    for word in words {
-        bytes.extend_from_slice(&word.to_be_bytes())?;
-    }
-    let key = Key::new(&bytes).ok_or("no key of this length")?;
-    Ok(key)
-}
 
 #[test]
 fn enciphers_and_deciphers_the_standards_examples(rt: HostRuntime) -> Result<(), Fail> {

@@ -1,24 +1,10 @@
+use crate::tests::given::{bytes_of, key_of};
 use aes_block::Key;
 use aes_kw::{KwFault, unwrap, wrap};
-use std::alloc::Global;
 use std::test::Fail;
 use vectors::RFC_3394;
 
 mod vectors;
-
-// The bytes of these words.
-fn bytes_of(alloc: Global, words: &[u64]) -> Result<Vec<u8>, Fail> {
-    let mut bytes = Vec::new(alloc);
-    for word in words {
-        bytes.extend_from_slice(&word.to_be_bytes())?;
-    }
-    Ok(bytes)
-}
-
-fn key_of(alloc: Global, words: &[u64]) -> Result<Key, Fail> {
-    let key = Key::new(&bytes_of(alloc, words)?).ok_or("no key of this length")?;
-    Ok(key)
-}
 
 #[test]
 fn wraps_and_unwraps_the_examples_of_rfc_3394(rt: HostRuntime) -> Result<(), Fail> {

@@ -1,24 +1,11 @@
+use crate::tests::given::{TEXT, bytes_of, key_of};
 use aes_block::Key;
 use aes_modes::{CounterBits, Direction, ModeFault, cbc, cbc_pad, ctr, ecb};
 use std::alloc::Global;
 use std::test::Fail;
-use vectors::{COUNTER, IV, KEY_128, Mode, PLAIN, SP_800_38A};
+use vectors::{COUNTER, IV, KEY_128, Mode, SP_800_38A};
 
 mod vectors;
-
-// The bytes of these words.
-fn bytes_of(alloc: Global, words: &[u64]) -> Result<Vec<u8>, Fail> {
-    let mut bytes = Vec::new(alloc);
-    for word in words {
-        bytes.extend_from_slice(&word.to_be_bytes())?;
-    }
-    Ok(bytes)
-}
-
-fn key_of(alloc: Global, words: &[u64]) -> Result<Key, Fail> {
-    let key = Key::new(&bytes_of(alloc, words)?).ok_or("no key of this length")?;
-    Ok(key)
-}
 
 // A text under a mode of the table, with the table's parameters.
 fn turned(
@@ -39,7 +26,7 @@ fn turned(
 
 #[test]
 fn enciphers_and_deciphers_the_standards_examples(rt: HostRuntime) -> Result<(), Fail> {
-    let plain = bytes_of(rt.alloc(), PLAIN)?;
+    let plain = bytes_of(rt.alloc(), TEXT)?;
     for vector in &SP_800_38A {
         let source = vector.source;
         let key = key_of(rt.alloc(), vector.key)?;
@@ -124,7 +111,7 @@ fn the_counter_ends(rt: HostRuntime) -> Result<(), Fail> {
 fn pads_and_takes_the_padding_off(rt: HostRuntime) -> Result<(), Fail> {
     let key = key_of(rt.alloc(), KEY_128)?;
     let iv = IV.to_be_bytes();
-    let plain = bytes_of(rt.alloc(), PLAIN)?;
+    let plain = bytes_of(rt.alloc(), TEXT)?;
     for (len, last_block) in [
         (0, 0xc84af0b613435d5d9182801a9bd9320b_u128),
         (15, 0x9be1e579d107a136c031b645a88da750),

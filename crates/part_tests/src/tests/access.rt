@@ -45,73 +45,65 @@ fn sessions_write_token_objects_in_three_states(rt: HostRuntime) {
     }
 }
 
+/// The attributes that are true, and for the five states in order whether the object is seen, and written.
+type Access = (&'static [AttrType], [bool; 5], [bool; 5]);
+
+const ACCESS: &[Access] = &[
+    (&[], [true; 5], [true; 5]),
+    (
+        &[AttrType::Token],
+        [true; 5],
+        [false, false, true, true, true],
+    ),
+    (
+        &[AttrType::Private],
+        [false, true, false, true, false],
+        [false, true, false, true, false],
+    ),
+    (
+        &[AttrType::Private, AttrType::Token],
+        [false, true, false, true, false],
+        [false, false, false, true, false],
+    ),
+];
+
 #[test]
 fn private_objects_are_seen_by_the_user_and_token_objects_written_in_rw_sessions(
     rt: HostRuntime,
 ) -> Result<(), Fail> {
-    let alloc = rt.alloc();
-    // For the five states in order: seen, written.
-    let cases: [(&[AttrType], [bool; 5], [bool; 5]); 4] = [
-        (&[], [true; 5], [true; 5]),
-        (
-            &[AttrType::Token],
-            [true; 5],
-            [false, false, true, true, true],
-        ),
-        (
-            &[AttrType::Private],
-            [false, true, false, true, false],
-            [false, true, false, true, false],
-        ),
-        (
-            &[AttrType::Private, AttrType::Token],
-            [false, true, false, true, false],
-            [false, false, false, true, false],
-        ),
-    ];
-    for (is_true, seen, written) in cases {
-        let object = key(alloc, is_true)?.ok_or("no key")?;
-        for (i, state) in STATES.into_iter().enumerate() {
-            assert_eq!(rt;
-                Some(&visible(state, &object)),
-                seen.get(i),
-                "{is_true:?} {state:?}"
-            );
-            assert_eq!(rt;
-                Some(&writable(state, &object)),
-                written.get(i),
-                "{is_true:?} {state:?}"
-            );
-        }
+    for (is_true, seen, written) in ACCESS {
+        let object = key(rt.alloc(), is_true)?.ok_or("no key")?;
+        let is_seen = STATES.map(|state| visible(state, &object));
+        assert_eq!(rt; is_seen, *seen, "seen, with {is_true:?}");
+        let is_written = STATES.map(|state| writable(state, &object));
+        assert_eq!(rt; is_written, *written, "written, with {is_true:?}");
     }
     Ok(())
 }
 
+/// The attributes that are true, and whether the value is kept back.
+const MASKED: &[(&[AttrType], bool)] = &[
+    (&[], true),
+    (&[AttrType::Extractable], false),
+    (&[AttrType::Sensitive], true),
+    (&[AttrType::Sensitive, AttrType::Extractable], true),
+];
+
+/// Whether the object keeps its value back or not, as it should, and nothing else.
+fn keeps_back(object: &Object, is_masked: bool) -> bool {
+    masked(object) == is_masked
+        && reveals(object, AttrType::Value) != is_masked
+        && reveals_number(object, 0x11) != is_masked
+        && reveals(object, AttrType::ValueLen)
+        && reveals_number(object, 0x161)
+        && reveals_number(object, 0x9999_9999)
+}
+
 #[test]
 fn sensitive_and_unextractable_keys_keep_their_value_back(rt: HostRuntime) -> Result<(), Fail> {
-    let alloc = rt.alloc();
-    let cases: [(&[AttrType], bool); 4] = [
-        (&[], true),
-        (&[AttrType::Extractable], false),
-        (&[AttrType::Sensitive], true),
-        (&[AttrType::Sensitive, AttrType::Extractable], true),
-    ];
-    for (is_true, is_masked) in cases {
-        let object = key(alloc, is_true)?.ok_or("no key")?;
-        assert_eq!(rt; masked(&object), is_masked, "{is_true:?}");
-        assert_eq!(rt;
-            reveals(&object, AttrType::Value),
-            !is_masked,
-            "{is_true:?}"
-        );
-        assert!(rt; reveals(&object, AttrType::ValueLen), "{is_true:?}");
-        for number in [0x11, 0x161, 0x9999_9999] {
-            assert_eq!(rt;
-                reveals_number(&object, number),
-                number != 0x11 || !is_masked,
-                "{is_true:?} {number:#x}"
-            );
-        }
+    for (is_true, is_masked) in MASKED {
+        let object = key(rt.alloc(), is_true)?.ok_or("no key")?;
+        assert!(rt; keeps_back(&object, *is_masked), "{is_true:?}");
     }
     Ok(())
 }

@@ -1,55 +1,69 @@
 use handles::*;
+use std::process::Abort;
 use std::test::Fail;
 
-#[test]
-fn a_retired_number_never_returns(rt: HostRuntime) -> Result<(), Fail> {
-    let mut handles = Handles::new(rt.alloc());
+/// The handle that an object is given.
+fn given(handles: &mut Handles, id: u64, private: bool) -> Result<u64, Fail> {
     handles.reserve(1)?;
-    assert!(rt; handles.has_numbers());
-    assert_eq!(rt; handles.next_number(), 1);
-    let first = handles.give(70, false);
-    assert_eq!(rt; first, 1);
-    assert_eq!(rt; handles.object_of(first), Some(70));
-    assert_eq!(rt; handles.number_of(70), Some(first));
+    if !handles.has_numbers() {
+        return Err("all numbers are used up".into());
+    }
+    Ok(handles.give(id, private))
+}
 
+/// A number that no object is given.
+fn taken(handles: &mut Handles) -> Result<u64, Fail> {
+    if !handles.has_numbers() {
+        return Err("all numbers are used up".into());
+    }
+    Ok(handles.take_number())
+}
+
+/// Sees that the objects have these handles, by which they are found.
+fn expect_numbers(rt: &impl Abort, handles: &Handles, rows: &[(u64, Option<u64>)]) {
+    for (id, number) in rows {
+        assert_eq!(rt; handles.number_of(*id), *number, "object {id}");
+        if let Some(number) = number {
+            assert_eq!(rt; handles.object_of(*number), Some(*id));
+        }
+    }
+}
+
+fn give_again(rt: &impl Abort, handles: &mut Handles) -> Result<(), Fail> {
+    let first = given(handles, 70, false)?;
+    expect_numbers(rt, handles, &[(70, Some(1))]);
     handles.retire(70);
+    let numbers = [first, taken(handles)?, given(handles, 70, false)?];
+    assert_eq!(rt; numbers, [1, 2, 3]);
     assert_eq!(rt; handles.object_of(first), None);
-    assert_eq!(rt; handles.take_number(), 2);
-
-    handles.reserve(1)?;
-    let again = handles.give(70, false);
-    assert_eq!(rt; again, 3);
-    assert_eq!(rt; handles.object_of(first), None);
-    assert_eq!(rt; handles.object_of(again), Some(70));
+    expect_numbers(rt, handles, &[(70, Some(3))]);
     Ok(())
 }
 
 #[test]
-fn a_logout_retires_the_handles_of_private_objects(rt: HostRuntime) -> Result<(), Fail> {
+fn a_retired_number_never_returns(rt: HostRuntime) -> Result<(), Fail> {
     let mut handles = Handles::new(rt.alloc());
-    for (id, private) in [(10, true), (11, false), (12, true), (13, false)] {
-        handles.reserve(1)?;
-        assert!(rt; handles.has_numbers());
-        handles.give(id, private);
+    assert_eq!(rt; handles.next_number(), 1);
+    give_again(&rt, &mut handles)
+}
+
+#[test]
+fn a_logout_retires_the_handles_of_private_objects(rt: HostRuntime) -> Result<(), Fail> {
+    const OBJECTS: &[(u64, bool)] = &[(10, true), (11, false), (12, true), (13, false)];
+    const LEFT: &[(u64, Option<u64>)] = &[(10, None), (11, Some(2)), (12, None), (13, Some(4))];
+    let mut handles = Handles::new(rt.alloc());
+    for (id, private) in OBJECTS {
+        given(&mut handles, *id, *private)?;
     }
     handles.retire_private();
-    for (id, want) in [(10, None), (11, Some(2)), (12, None), (13, Some(4))] {
-        assert_eq!(rt; handles.number_of(id), want, "object {id}");
-    }
+    expect_numbers(&rt, &handles, LEFT);
     Ok(())
 }
 
 #[test]
 fn an_object_is_found_whatever_the_order_of_ids(rt: HostRuntime) -> Result<(), Fail> {
-    let mut handles = Handles::new(rt.alloc());
-    let ids = [40, 10, 50, 20, 30, 60, 5];
-    for id in ids {
-        handles.reserve(1)?;
-        assert!(rt; handles.has_numbers());
-        handles.give(id, false);
-    }
-    handles.retire(20);
-    let numbers = [
+    const IDS: &[u64] = &[40, 10, 50, 20, 30, 60, 5];
+    const NUMBERS: &[(u64, Option<u64>)] = &[
         (5, Some(7)),
         (10, Some(2)),
         (20, None),
@@ -59,15 +73,14 @@ fn an_object_is_found_whatever_the_order_of_ids(rt: HostRuntime) -> Result<(), F
         (60, Some(6)),
         (70, None),
     ];
-    for (id, number) in numbers {
-        assert_eq!(rt; handles.number_of(id), number, "object {id}");
-        if let Some(number) = number {
-            assert_eq!(rt; handles.object_of(number), Some(id));
-        }
+    let mut handles = Handles::new(rt.alloc());
+    for id in IDS {
+        given(&mut handles, *id, false)?;
     }
-    handles.reserve(1)?;
-    assert!(rt; handles.has_numbers());
-    assert_eq!(rt; handles.give(30, false), 5);
+    handles.retire(20);
+    expect_numbers(&rt, &handles, NUMBERS);
+    let again = given(&mut handles, 30, false)?;
+    assert_eq!(rt; again, 5);
     assert_eq!(rt; handles.object_of(4), None);
     Ok(())
 }

@@ -157,18 +157,24 @@ fn has_rows<K: Keep>(alloc: Global, keep: &mut K, rows: &[(u64, u8)]) -> Result<
     Ok(rows_of(alloc, keep)?.as_slice() == rows)
 }
 
-#[test]
-fn a_keeper_in_memory_is_a_plain_list_under_300_steps(rt: HostRuntime) -> Result<(), Fail> {
-    let alloc = rt.alloc();
-    let mut keep = ListKeep::new(alloc, Record::new());
+/// How many rows the steps leave, each of which the keeper takes as a plain list does.
+fn rows_after_steps<K: Keep>(rt: &impl Abort, alloc: Global, keep: &mut K) -> Result<usize, Fail> {
     let mut rows = Vec::new(alloc);
     for number in 0..300 {
         let step = STEPS[number % 12];
-        take(alloc, &mut keep, &mut rows, step, (number % 256) as u8)?;
-        assert!(rt; has_rows(alloc, &mut keep, &rows)?, "step {number}");
+        take(alloc, keep, &mut rows, step, (number % 256) as u8)?;
+        let is_same = has_rows(alloc, keep, &rows)?;
+        assert!(rt; is_same, "step {number}");
     }
-    assert_eq!(rt; (rows.len(), keep.failures()), (50, 0));
-    assert_eq!(rt; insert(alloc, &mut keep, 0)?, 126);
+    Ok(rows.len())
+}
+
+#[test]
+fn a_keeper_in_memory_is_a_plain_list_under_300_steps(rt: HostRuntime) -> Result<(), Fail> {
+    let mut keep = ListKeep::new(rt.alloc(), Record::new());
+    let count = rows_after_steps(&rt, rt.alloc(), &mut keep)?;
+    let id = insert(rt.alloc(), &mut keep, 0)?;
+    assert_eq!(rt; (count, keep.failures(), id), (50, 0, 126));
     Ok(())
 }
 
@@ -180,23 +186,29 @@ fn expect_ids<K: Keep>(
     ids: &[u8],
 ) -> Result<(), Fail> {
     for id in ids {
-        assert_eq!(rt; insert(alloc, keep, *id)?, *id as u64);
+        let got = insert(alloc, keep, *id)?;
+        assert_eq!(rt; got, *id as u64);
     }
     Ok(())
 }
 
 #[test]
 fn an_id_is_never_used_again(rt: HostRuntime) -> Result<(), Fail> {
-    let alloc = rt.alloc();
-    let mut keep = ListKeep::new(alloc, Record::new());
-    expect_ids(&rt, alloc, &mut keep, &[1, 2])?;
-    keep.remove(2)?;
-    expect_ids(&rt, alloc, &mut keep, &[3])?;
-    keep.reset(Record::new())?;
-    assert!(rt; has_rows(alloc, &mut keep, &[])?);
-    expect_ids(&rt, alloc, &mut keep, &[4])?;
-    assert!(rt; has_rows(alloc, &mut keep, &[(4, 4)])?);
+    let mut keep = ListKeep::new(rt.alloc(), Record::new());
+    use_ids(&rt, rt.alloc(), &mut keep)?;
+    let is_one = has_rows(rt.alloc(), &mut keep, &[(4, 4)])?;
+    assert!(rt; is_one);
     Ok(())
+}
+
+fn use_ids<K: Keep>(rt: &impl Abort, alloc: Global, keep: &mut K) -> Result<(), Fail> {
+    expect_ids(rt, alloc, keep, &[1, 2])?;
+    keep.remove(2)?;
+    expect_ids(rt, alloc, keep, &[3])?;
+    keep.reset(Record::new())?;
+    let is_empty = has_rows(alloc, keep, &[])?;
+    assert!(rt; is_empty);
+    expect_ids(rt, alloc, keep, &[4])
 }
 
 /// Whether reading, replacing and removing fail by the device.
@@ -208,14 +220,20 @@ fn is_refused<K: Keep>(alloc: Global, keep: &mut K, id: u64) -> Result<bool, Fai
 
 #[test]
 fn an_id_that_is_not_there_is_a_counted_failure(rt: HostRuntime) -> Result<(), Fail> {
-    let alloc = rt.alloc();
-    let mut keep = ListKeep::new(alloc, Record::new());
-    insert(alloc, &mut keep, 1)?;
-    for (round, id) in [0, 2, GREATEST_ID, u64::MAX].into_iter().enumerate() {
-        assert!(rt; is_refused(alloc, &mut keep, id)?, "id {id}");
-        assert_eq!(rt; keep.failures(), 3 * (round as u64 + 1), "{id}");
+    let mut keep = ListKeep::new(rt.alloc(), Record::new());
+    insert(rt.alloc(), &mut keep, 1)?;
+    expect_failures(&rt, rt.alloc(), &mut keep)?;
+    let is_there = has_rows(rt.alloc(), &mut keep, &[(1, 1)])?;
+    assert!(rt; is_there);
+    Ok(())
+}
+
+fn expect_failures<K: Keep>(rt: &impl Abort, alloc: Global, keep: &mut K) -> Result<(), Fail> {
+    const IDS: &[(u64, u64)] = &[(0, 3), (2, 6), (GREATEST_ID, 9), (u64::MAX, 12)];
+    for (id, failures) in IDS {
+        let is_refused = is_refused(alloc, keep, *id)?;
+        assert!(rt; is_refused && keep.failures() == *failures, "id {id}");
     }
-    assert!(rt; has_rows(alloc, &mut keep, &[(1, 1)])?);
     Ok(())
 }
 
@@ -246,22 +264,32 @@ fn charge_and_read_byte<K: Keep>(
     }
 }
 
+/// Who is checked, which object is read, what comes of it, and the tries of the SO's PIN.
+const CHARGES: &[(UserType, u64, Result<Option<u8>, KeepFault>, u8)] = &[
+    (UserType::So, 1, Ok(Some(7)), 9),
+    (UserType::So, GREATEST_ID, Err(KeepFault::Device), 10),
+    (UserType::So, 1, Ok(None), 10),
+    (UserType::User, 1, Ok(None), 10),
+];
+
+fn expect_charges<K: Keep>(rt: &impl Abort, alloc: Global, keep: &mut K) -> Result<(), Fail> {
+    for (who, id, wanted, tries) in CHARGES {
+        let got = charge_and_read_byte(alloc, keep, *who, *id)?;
+        let record = record_with_tries(alloc, *tries)?;
+        assert!(rt;
+            got == *wanted && keep.get_record() == record,
+            "{who:?} and {id}"
+        );
+    }
+    Ok(())
+}
+
 #[test]
 fn a_check_is_charged_before_an_object_is_read(rt: HostRuntime) -> Result<(), Fail> {
-    let alloc = rt.alloc();
-    let mut keep = ListKeep::new(alloc, record_with_tries(alloc, 8)?);
-    let id = insert(alloc, &mut keep, 7)?;
-    // Who is checked, which object is read, what comes of it, and the tries of the SO's PIN.
-    let rows = [
-        (UserType::So, id, Ok(Some(7)), 9),
-        (UserType::So, GREATEST_ID, Err(KeepFault::Device), 10),
-        (UserType::So, id, Ok(None), 10),
-        (UserType::User, id, Ok(None), 10),
-    ];
-    for (who, id, wanted, tries) in rows {
-        assert_eq!(rt; charge_and_read_byte(alloc, &mut keep, who, id)?, wanted);
-        assert_eq!(rt; keep.get_record(), record_with_tries(alloc, tries)?);
-    }
+    let record = record_with_tries(rt.alloc(), 8)?;
+    let mut keep = ListKeep::new(rt.alloc(), record);
+    insert(rt.alloc(), &mut keep, 7)?;
+    expect_charges(&rt, rt.alloc(), &mut keep)?;
     assert_eq!(rt; keep.failures(), 1);
     Ok(())
 }

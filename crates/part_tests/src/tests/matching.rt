@@ -43,27 +43,35 @@ fn template(alloc: Global, given: &[(u64, &[u8])]) -> Result<Template, AllocErro
     Ok(entries)
 }
 
+/// What is searched for, and whether a key is found that is unextractable, and one that isn't.
+type Case = (&'static [(u64, &'static [u8])], bool, bool);
+
+const CASES: &[Case] = &[
+    (&[], true, true),
+    (&[(0x3, b"k1")], true, true),
+    (&[(0x3, b"k")], false, false),
+    (&[(0x3, b"k1"), (0x3, b"k2")], false, false),
+    (&[(0x11, b"v")], false, true),
+    (&[(0x11, b"w")], false, false),
+    (&[(0x161, &[0, 0, 0, 0, 0, 0, 0, 1])], true, true),
+    (&[(0x10, b"")], false, false),
+    (&[(0x9999_9999, b"")], false, false),
+];
+
+fn is_found(alloc: Global, template: &Template, extractable: bool) -> Result<bool, Fail> {
+    let key = key(alloc, extractable)?.ok_or("no key")?;
+    Ok(matches(template, &key))
+}
+
 #[test]
 fn a_search_never_finds_a_key_by_a_value_that_is_kept_back(rt: HostRuntime) -> Result<(), Fail> {
-    let alloc = rt.alloc();
-    // Found among keys that are unextractable, and among those that are not.
-    let cases: [(&[(u64, &[u8])], bool, bool); 9] = [
-        (&[], true, true),
-        (&[(0x3, b"k1")], true, true),
-        (&[(0x3, b"k")], false, false),
-        (&[(0x3, b"k1"), (0x3, b"k2")], false, false),
-        (&[(0x11, b"v")], false, true),
-        (&[(0x11, b"w")], false, false),
-        (&[(0x161, &[0, 0, 0, 0, 0, 0, 0, 1])], true, true),
-        (&[(0x10, b"")], false, false),
-        (&[(0x9999_9999, b"")], false, false),
-    ];
-    for (given, kept_back, shown) in cases {
-        let template = template(alloc, given)?;
-        let unextractable = key(alloc, false)?.ok_or("no key")?;
-        let extractable = key(alloc, true)?.ok_or("no key")?;
-        assert_eq!(rt; matches(&template, &unextractable), kept_back, "{given:?}");
-        assert_eq!(rt; matches(&template, &extractable), shown, "{given:?}");
+    for (given, kept_back, shown) in CASES {
+        let template = template(rt.alloc(), given)?;
+        let found = [
+            is_found(rt.alloc(), &template, false)?,
+            is_found(rt.alloc(), &template, true)?,
+        ];
+        assert_eq!(rt; found, [*kept_back, *shown], "{given:?}");
     }
     Ok(())
 }

@@ -119,18 +119,28 @@ fn verify(alloc: Global) -> Result<Call, Fail> {
     })
 }
 
-/// Whether the call has a frame of so many bytes, and is read from it.
-fn is_read_again(alloc: Global, call: &Call, len: usize) -> Result<bool, Fail> {
-    let frame = write_call(alloc, call)?;
+/// Whether this is the frame of the call.
+fn is_frame_of(alloc: Global, frame: &[u8], call: &Call) -> Result<bool, Fail> {
     let again = read_call(alloc, frame.get(4..).unwrap_or(&[]))?;
-    Ok(frame.len() == len && again == *call)
+    Ok(again == *call)
+}
+
+/// Whether the call has a frame of so many bytes, and is read from it.
+fn is_call_read_again(alloc: Global, call: &Call, len: usize) -> Result<bool, Fail> {
+    let frame = write_call(alloc, call)?;
+    Ok(frame.len() == len && is_frame_of(alloc, &frame, call)?)
+}
+
+fn is_call_at_read_again(alloc: Global, place: usize) -> Result<bool, Fail> {
+    let (call, len) = call_of(alloc, place)?;
+    is_call_read_again(alloc, &call, len)
 }
 
 #[test]
 fn a_call_that_is_written_is_read(rt: HostRuntime) -> Result<(), Fail> {
     for place in 0..CALL_COUNT {
-        let (call, len) = call_of(rt.alloc(), place)?;
-        assert!(rt; is_read_again(rt.alloc(), &call, len)?, "call {place}");
+        let is_read = is_call_at_read_again(rt.alloc(), place)?;
+        assert!(rt; is_read, "call {place}");
     }
     Ok(())
 }
@@ -221,6 +231,17 @@ fn reply_of(alloc: Global, place: usize) -> Result<(Reply, Function, usize), Fai
     })
 }
 
+/// Whether this is the frame of the reply to a call of the function.
+fn is_frame_to(
+    alloc: Global,
+    frame: &[u8],
+    function: Function,
+    reply: &Reply,
+) -> Result<bool, Fail> {
+    let again = read_reply(alloc, function.number(), frame.get(4..).unwrap_or(&[]))?;
+    Ok(again == *reply)
+}
+
 /// Whether the reply has a frame of so many bytes, and is read from it.
 fn is_reply_read_again(
     alloc: Global,
@@ -229,15 +250,18 @@ fn is_reply_read_again(
     len: usize,
 ) -> Result<bool, Fail> {
     let frame = write_reply(alloc, reply)?;
-    let again = read_reply(alloc, function.number(), frame.get(4..).unwrap_or(&[]))?;
-    Ok(frame.len() == len && again == *reply)
+    Ok(frame.len() == len && is_frame_to(alloc, &frame, function, reply)?)
+}
+
+fn is_reply_at_read_again(alloc: Global, place: usize) -> Result<bool, Fail> {
+    let (reply, function, len) = reply_of(alloc, place)?;
+    is_reply_read_again(alloc, &reply, function, len)
 }
 
 #[test]
 fn a_reply_that_is_written_is_read(rt: HostRuntime) -> Result<(), Fail> {
     for place in 0..REPLY_COUNT {
-        let (reply, function, len) = reply_of(rt.alloc(), place)?;
-        let is_read = is_reply_read_again(rt.alloc(), &reply, function, len)?;
+        let is_read = is_reply_at_read_again(rt.alloc(), place)?;
         assert!(rt; is_read, "reply {place}");
     }
     Ok(())
@@ -254,22 +278,37 @@ fn refusal_of_random(alloc: Global, len: usize) -> Result<Option<WireFault>, Fai
     Ok(refusal_of(alloc, &Reply::Random(Bytes::from_vec(random))))
 }
 
-#[test]
-fn what_has_no_bytes_is_malformed_or_too_long(rt: HostRuntime) -> Result<(), Fail> {
-    let template = template(rt.alloc(), 33)?;
+/// Why a C_CreateObject with so many attributes has no frame.
+fn refusal_of_template(alloc: Global, count: u64) -> Result<Option<WireFault>, Fail> {
+    let template = template(alloc, count)?;
     let call = Call::CreateObject {
         session: 1,
         template,
     };
-    let refused = write_call(rt.alloc(), &call).err();
+    Ok(write_call(alloc, &call).err())
+}
+
+#[test]
+fn a_list_that_is_too_long_is_malformed(rt: HostRuntime) -> Result<(), Fail> {
+    let refused = refusal_of_template(rt.alloc(), 33)?;
     assert_eq!(rt; refused, Some(WireFault::Malformed));
+    Ok(())
+}
+
+#[test]
+fn a_code_that_no_function_answers_with_values_is_malformed(rt: HostRuntime) {
     let reply = Reply::AttributeValues {
         code: Rv::PinIncorrect,
         values: Items::new(rt.alloc()),
     };
     assert_eq!(rt; refusal_of(rt.alloc(), &reply), Some(WireFault::Malformed));
-    // The greatest C_GenerateRandom that a payload could carry, and a byte more.
-    assert_eq!(rt; refusal_of_random(rt.alloc(), 1_048_576 - 12)?, None);
+}
+
+// The greatest C_GenerateRandom that a payload could carry, and a byte more.
+#[test]
+fn a_payload_above_its_limit_is_too_long(rt: HostRuntime) -> Result<(), Fail> {
+    let refused = refusal_of_random(rt.alloc(), 1_048_576 - 12)?;
+    assert_eq!(rt; refused, None);
     let refused = refusal_of_random(rt.alloc(), 1_048_576 - 11)?;
     assert_eq!(rt; refused, Some(WireFault::TooLong));
     Ok(())

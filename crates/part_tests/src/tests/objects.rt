@@ -1,6 +1,7 @@
 use attrs::*;
 use ck_types::{AttrType, Bytes, Entry, Items, KeyType, ObjectClass};
 use std::alloc::{AllocError, Global};
+use std::process::Abort;
 use std::test::Fail;
 
 /// A value of each default: no key bytes, a unique identifier of 32 bytes.
@@ -78,10 +79,9 @@ fn lengths(alloc: Global, object: &Object) -> Result<(usize, usize, usize), Fail
 
 #[test]
 fn an_aes_key_has_309_bytes_and_a_data_object_128(rt: HostRuntime) -> Result<(), Fail> {
-    let key = aes_key(rt.alloc())?;
-    assert_eq!(rt; lengths(rt.alloc(), &key)?, (26, 309, 309));
-    let data = data_object(rt.alloc())?;
-    assert_eq!(rt; lengths(rt.alloc(), &data)?, (10, 128, 128));
+    let key = lengths(rt.alloc(), &aes_key(rt.alloc())?)?;
+    let data = lengths(rt.alloc(), &data_object(rt.alloc())?)?;
+    assert_eq!(rt; (key, data), ((26, 309, 309), (10, 128, 128)));
     Ok(())
 }
 
@@ -136,11 +136,16 @@ fn what_is_stored_is_read_again(rt: HostRuntime) -> Result<(), Fail> {
     let entries = key_entries(rt.alloc(), &GENERIC, b"value", &LEN_5)?;
     let key = Object::from_entries(entries).ok_or("a key")?;
     let stored = encode(rt.alloc(), &key.clone()?)?;
-    assert!(rt; is_read_again(rt.alloc(), &key, &stored)?);
-    for len in 0..stored.len() {
-        assert!(rt; is_cut(rt.alloc(), &stored, len), "{len} bytes");
-    }
+    let is_read = is_read_again(rt.alloc(), &key, &stored)?;
+    assert!(rt; is_read);
+    expect_cut(&rt, rt.alloc(), &stored);
     Ok(())
+}
+
+fn expect_cut(rt: &impl Abort, alloc: Global, stored: &[u8]) {
+    for len in 0..stored.len() {
+        assert!(rt; is_cut(alloc, stored, len), "{len} bytes");
+    }
 }
 
 /// A key's type, its value, the length that it says, and whether there is such a key.

@@ -120,13 +120,17 @@ fn answers_by_each_row_where_all_from_it_on_hold(rt: HostRuntime) {
 }
 
 #[test]
-fn answers_nothing_past_a_table_and_for_the_number_of_no_call(rt: HostRuntime) {
+fn answers_nothing_past_a_table(rt: HostRuntime) {
     for (function, codes) in &CODES {
         assert_eq!(rt; answer(*function, codes.len(), 16), None, "call {function}");
     }
+}
+
+#[test]
+fn answers_nothing_for_the_number_of_no_call(rt: HostRuntime) {
     for function in [0, 42, 99, 65535] {
-        assert_eq!(rt; answer(function, 0, 16), None, "call {function}");
-        assert_eq!(rt; rows(function).len(), 0, "call {function}");
+        let is_none = answer(function, 0, 16).is_none() && rows(function).is_empty();
+        assert!(rt; is_none, "call {function}");
     }
 }
 

@@ -130,27 +130,33 @@ const FLAGS: &[(u8, u8, bool, u64)] = &[
     (10, 10, false, 0x55040d),
 ];
 
+/// The flags after so many wrong PINs, where the user's PIN is then set to this one, if there is one.
+fn flags_after(both: Record, so: u8, user: u8, set: Option<Verifier>) -> u64 {
+    let charged = with_charges(with_charges(both, UserType::So, so), UserType::User, user);
+    let record = match set {
+        Some(verifier) => with_user_pin(charged, verifier, 0),
+        None => charged,
+    };
+    token_flags(&record)
+}
+
 #[test]
 fn a_token_shows_its_pins_by_its_flags(rt: HostRuntime) -> Result<(), Fail> {
     let both = record_of_both(rt.alloc())?;
     let pin = verifier_of(&both, UserType::User)?;
     for (so, user, is_set, flags) in FLAGS {
-        let charged = with_charges(with_charges(both, UserType::So, *so), UserType::User, *user);
-        let record = if *is_set {
-            with_user_pin(charged, pin, 0)
-        } else {
-            charged
-        };
-        assert_eq!(rt; token_flags(&record), *flags, "{so} and {user} wrong PINs");
+        let got = flags_after(both, *so, *user, is_set.then_some(pin));
+        assert_eq!(rt; got, *flags, "{so} and {user} wrong PINs");
     }
     Ok(())
 }
 
 #[test]
 fn a_token_without_pins_shows_that(rt: HostRuntime) -> Result<(), Fail> {
-    let so = verifier_of(&record_of_both(rt.alloc())?, UserType::So)?;
-    assert_eq!(rt; token_flags(&Record::new()), 0x5);
-    assert_eq!(rt; token_flags(&Record::initialized(label(), so, 0)), 0x405);
+    let both = record_of_both(rt.alloc())?;
+    let so = verifier_of(&both, UserType::So)?;
+    let initialized = token_flags(&Record::initialized(label(), so, 0));
+    assert_eq!(rt; [token_flags(&Record::new()), initialized], [0x5, 0x405]);
     Ok(())
 }
 
@@ -164,29 +170,32 @@ fn tries_after(both: Record, begun: u8, others: u8) -> u8 {
     .tries(UserType::User)
 }
 
+/// Whether the user's PIN is locked by so many checks.
+fn is_locked_by(both: Record, count: u8) -> bool {
+    with_charges(both, UserType::User, count).is_locked(UserType::User)
+}
+
+/// Whether the tenth check of the user's PIN leaves its charge where it ends wrong, and none of the SO's.
+fn is_charged_once(both: Record) -> bool {
+    let tenth = with_charges(both, UserType::User, 10);
+    let tries = [tenth.tries(UserType::User), tenth.tries(UserType::So)];
+    tries == [10, 0] && end_check(tenth, UserType::User, false, 0) == tenth
+}
+
 #[test]
 fn checks_that_overlap_are_charged_until_one_ends_right(rt: HostRuntime) -> Result<(), Fail> {
-    let user = UserType::User;
     let both = record_of_both(rt.alloc())?;
-    let tenth = with_charges(both, user, 10);
-    assert_eq!(rt;
-        (
-            with_charges(both, user, 9).is_locked(user),
-            tenth.is_locked(user)
-        ),
-        (false, true)
-    );
-    assert_eq!(rt; (tenth.tries(user), tenth.tries(UserType::So)), (10, 0));
-    assert_eq!(rt; end_check(tenth, user, false, 0), tenth);
-    assert_eq!(rt; (tries_after(both, 10, 0), tries_after(both, 3, 2)), (0, 2));
+    assert!(rt; !is_locked_by(both, 9) && is_locked_by(both, 10));
+    assert!(rt; is_charged_once(both));
+    assert_eq!(rt; [tries_after(both, 10, 0), tries_after(both, 3, 2)], [0, 2]);
     Ok(())
 }
 
 #[test]
 fn a_new_pin_keeps_the_checks_under_way(rt: HostRuntime) -> Result<(), Fail> {
     let both = record_of_both(rt.alloc())?;
-    let charged = with_charges(both, UserType::User, 3);
-    let new = with_user_pin(charged, verifier_of(&both, UserType::User)?, 1);
+    let pin = verifier_of(&both, UserType::User)?;
+    let new = with_user_pin(with_charges(both, UserType::User, 3), pin, 1);
     assert_eq!(rt; new.tries(UserType::User), 1);
     Ok(())
 }
@@ -194,26 +203,39 @@ fn a_new_pin_keeps_the_checks_under_way(rt: HostRuntime) -> Result<(), Fail> {
 #[test]
 fn a_verifier_is_the_key_that_pbkdf2_makes_of_its_pin(rt: HostRuntime) -> Result<(), Fail> {
     let so = Verifier::made(SO_PIN, SO_SALT);
-    assert_eq!(rt;
-        (*so.salt(), so.rounds(), *so.key()),
-        (SO_SALT, 20_000, SO_KEY)
-    );
-    let old = record_of_both(rt.alloc())?;
-    let user = verifier_of(&old, UserType::User)?;
+    let is_made = *so.salt() == SO_SALT && so.rounds() == 20_000 && *so.key() == SO_KEY;
+    assert!(rt; is_made);
+    let user = verifier_of(&record_of_both(rt.alloc())?, UserType::User)?;
     assert_eq!(rt; user.rounds(), 10_000);
-    assert!(rt; user.accepts(USER_PIN));
-    assert!(rt; !user.accepts(SO_PIN));
-    let new = with_user_pin(old, so, 0);
-    assert_eq!(rt; verifier_of(&new, UserType::User)?, so);
+    assert!(rt; user.accepts(USER_PIN) && !user.accepts(SO_PIN));
+    Ok(())
+}
+
+#[test]
+fn a_new_pin_has_its_verifier(rt: HostRuntime) -> Result<(), Fail> {
+    let so = Verifier::made(SO_PIN, SO_SALT);
+    let new = with_user_pin(record_of_both(rt.alloc())?, so, 0);
+    let user = verifier_of(&new, UserType::User)?;
+    assert_eq!(rt; user, so);
     Ok(())
 }
 
 #[test]
 fn a_new_record_is_stored_in_38_bytes(rt: HostRuntime) -> Result<(), Fail> {
     let new = encode(rt.alloc(), &Record::default())?;
-    assert_eq!(rt; new.len(), 38);
-    assert_eq!(rt; decode(&new)?, Record::new());
+    let read = decode(&new)?;
+    assert!(rt; new.len() == 38 && read == Record::new());
     Ok(())
+}
+
+/// Whether these are the bytes of a record with both PINs.
+fn is_stored_as(
+    alloc: Global,
+    stored: &[u8],
+    so_tries: u8,
+    user_tries: u8,
+) -> Result<bool, AllocError> {
+    Ok(stored == bytes_of_both(alloc, so_tries, user_tries)?.as_slice())
 }
 
 #[test]
@@ -222,10 +244,10 @@ fn a_record_with_both_pins_is_stored_in_142_bytes(rt: HostRuntime) -> Result<(),
     let charged = with_charges(charged, UserType::User, 9);
     let stored = encode(rt.alloc(), &charged)?;
     assert_eq!(rt; stored.len(), 142);
-    assert!(rt; stored.as_slice() == bytes_of_both(rt.alloc(), 3, 9)?.as_slice());
+    let is_stored = is_stored_as(rt.alloc(), &stored, 3, 9)?;
+    assert!(rt; is_stored);
     let read = decode(&stored)?;
-    assert_eq!(rt; read, charged);
-    assert!(rt; read.label().as_slice() == LABEL.as_slice());
+    assert!(rt; read == charged && read.label().as_slice() == LABEL.as_slice());
     Ok(())
 }
 

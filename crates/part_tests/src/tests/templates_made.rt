@@ -310,22 +310,27 @@ fn made(
     }
 }
 
+fn code_of(alloc: Global, case: &Case) -> Rv {
+    match made(alloc, case.way, case.state, case.given) {
+        Ok(_) => Rv::Ok,
+        Err(MakeFault::Refused(code)) => code,
+        Err(MakeFault::Memory) => Rv::HostMemory,
+    }
+}
+
+/// The code of an unwrapping that is told before the value is known.
+fn early_code_of(alloc: Global, case: &Case, len: usize) -> Result<Rv, AllocError> {
+    let template = template(alloc, case.given)?;
+    Ok(unwrap_fault(case.state, &template, len).unwrap_or(Rv::Ok))
+}
+
 fn expect_codes(rt: &impl Abort, alloc: Global, cases: &[Case]) -> Result<(), Fail> {
     for case in cases {
-        let code = match made(alloc, case.way, case.state, case.given) {
-            Ok(_) => Rv::Ok,
-            Err(MakeFault::Refused(code)) => code,
-            Err(MakeFault::Memory) => Rv::HostMemory,
-        };
+        let code = code_of(alloc, case);
         assert_eq!(rt; code, case.code, "{:?} {:?}", case.way, case.given);
         if let Way::Unwrap(len) = case.way {
-            let early = unwrap_fault(case.state, &template(alloc, case.given)?, len);
-            assert_eq!(rt;
-                early.unwrap_or(Rv::Ok),
-                case.code,
-                "{:?} early",
-                case.given
-            );
+            let early = early_code_of(alloc, case, len)?;
+            assert_eq!(rt; early, case.code, "{:?} early", case.given);
         }
     }
     Ok(())
@@ -452,15 +457,17 @@ fn told_early(alloc: Global, given: &[Given]) -> Result<(bool, bool), Fail> {
 #[test]
 fn an_unwrapped_key_is_known_before_its_value(rt: HostRuntime) -> Result<(), Fail> {
     for (given, wanted) in UNWRAPPED_KEYS {
-        let key = made(rt.alloc(), Way::Unwrap(16), SessionState::RwUser, given)?;
-        let flags = (key.flag(AttrType::Token), key.flag(AttrType::Private));
-        assert_eq!(rt;
-            (told_early(rt.alloc(), given)?, flags),
-            (*wanted, *wanted),
-            "{given:?}"
-        );
+        let early = told_early(rt.alloc(), given)?;
+        let made = flags_made(rt.alloc(), given)?;
+        assert!(rt; early == *wanted && made == *wanted, "{given:?}");
     }
     Ok(())
+}
+
+/// Whether the unwrapped key is a token object, and private.
+fn flags_made(alloc: Global, given: &[Given]) -> Result<(bool, bool), MakeFault> {
+    let key = made(alloc, Way::Unwrap(16), SessionState::RwUser, given)?;
+    Ok((key.flag(AttrType::Token), key.flag(AttrType::Private)))
 }
 
 /// A template, and the length of the stored form of what it makes.
@@ -474,7 +481,8 @@ const SIZES: &[(&[Given], usize)] = &[
 fn the_first_keys_and_data_objects_have_their_sizes(rt: HostRuntime) -> Result<(), Fail> {
     for (given, size) in SIZES {
         let object = made(rt.alloc(), Way::Create, SessionState::RwUser, given)?;
-        assert_eq!(rt; encode(rt.alloc(), &object)?.len(), *size, "{given:?}");
+        let stored = encode(rt.alloc(), &object)?;
+        assert_eq!(rt; stored.len(), *size, "{given:?}");
     }
     Ok(())
 }
@@ -489,8 +497,8 @@ fn a_change_keeps_what_it_does_not_give(rt: HostRuntime) -> Result<(), Fail> {
     let key = original(rt.alloc(), OPEN)?;
     let given = template(rt.alloc(), &[(LABEL, b"new"), (SENSITIVE, TRUE)])?;
     let after = changed(rt.alloc(), SessionState::RwUser, &key, &given)?;
-    assert!(rt; after.get(AttrType::Label) == Some(b"new".as_slice()));
+    let is_labelled = after.get(AttrType::Label) == Some(b"new".as_slice());
+    assert!(rt; is_labelled && is_same_key(&key, &after));
     assert_eq!(rt; flags_of(&after), [true, true, false, false, false, true]);
-    assert!(rt; is_same_key(&key, &after));
     Ok(())
 }

@@ -72,15 +72,17 @@ impl Bench {
     ) -> Result<(), Fail> {
         let (app, step, told) = row;
         let wanted = reply_of(self.alloc, told)?;
-        let mut got = self.told(app, step)?;
-        if got.is_none() && wanted.is_some() {
-            got = self.told(app, Step::Finish)?;
-        }
-        assert!(rt;
-            got == wanted,
-            "row {place:?}, {app} makes {step:?}: wanted {wanted:?}, got {got:?}"
-        );
+        let got = self.told_at_last(app, step, wanted.is_some())?;
+        expect_told(rt, place, (app, step), &wanted, &got);
         Ok(())
+    }
+
+    /// What the application is told, at once or, if it is to be told something, of the question's result.
+    fn told_at_last(&mut self, app: u64, step: Step, is_told: bool) -> Result<Option<Reply>, Fail> {
+        match self.told(app, step)? {
+            None if is_told => self.told(app, Step::Finish),
+            told => Ok(told),
+        }
     }
 
     /// What the application is told at once.
@@ -102,11 +104,15 @@ impl Bench {
 
     fn call(&mut self, app: u64, call: Call) -> Result<Option<Reply>, Fail> {
         let random = random_for(self.alloc, &call)?;
-        self.out.reserve(1)?;
-        match self.token.call(self.alloc, app, call, &random) {
+        let out = self.token.call(self.alloc, app, call, &random);
+        self.take_out(app, out)
+    }
+
+    fn take_out(&mut self, app: u64, out: Out) -> Result<Option<Reply>, Fail> {
+        match out {
             Out::Reply(reply) => Ok(Some(reply)),
             Out::Ask(job) => {
-                self.out.push_reserved((app, job));
+                self.out.push((app, job))?;
                 Ok(None)
             }
         }
@@ -118,6 +124,19 @@ impl Bench {
         let done = job.run(self.alloc);
         Some(self.token.finish(self.alloc, app, done))
     }
+}
+
+fn expect_told(
+    rt: &impl Abort,
+    place: impl Debug + Drop,
+    (app, step): (u64, Step),
+    wanted: &Option<Reply>,
+    got: &Option<Reply>,
+) {
+    assert!(rt;
+        got == wanted,
+        "row {place:?}, {app} makes {step:?}: wanted {wanted:?}, got {got:?}"
+    );
 }
 
 fn take_job(out: &mut Vec<(u64, Job)>, asker: u64) -> Option<Job> {
@@ -150,14 +169,20 @@ pub(super) fn play(rt: &impl Abort, alloc: Global, rows: &[Row]) -> Result<(), F
 /// Sees that a new token that takes all rows as one list of events gives the replies that they say, and
 /// that no question is left.
 pub(super) fn run(rt: &impl Abort, alloc: Global, rows: &[Row]) -> Result<(), Fail> {
-    let events = events_of(alloc, rows)?;
-    let Ok(mut token) = Token::new(alloc, ListKeep::new(alloc, Record::new())) else {
-        return Err("the keeper refused".into());
-    };
-    let ran = token.run(alloc, events, Vec::new(alloc));
-    assert_eq!(rt; ran.out.len(), 0, "jobs that are left");
-    assert_eq!(rt; ran.left.len(), 0, "events that are left");
+    let ran = ran(alloc, rows)?;
+    assert!(rt;
+        ran.out.is_empty() && ran.left.is_empty(),
+        "jobs or events are left"
+    );
     expect_replies(rt, alloc, &ran.replies, rows)
+}
+
+fn ran(alloc: Global, rows: &[Row]) -> Result<Ran, Fail> {
+    let events = events_of(alloc, rows)?;
+    match Token::new(alloc, ListKeep::new(alloc, Record::new())) {
+        Ok(mut token) => Ok(token.run(alloc, events, Vec::new(alloc))),
+        Err(_) => Err("the keeper refused".into()),
+    }
 }
 
 fn expect_replies(
@@ -166,21 +191,29 @@ fn expect_replies(
     replies: &[(u64, Reply)],
     rows: &[Row],
 ) -> Result<(), Fail> {
-    let mut count = 0;
+    let mut rest = replies;
     for (number, row) in rows.iter().enumerate() {
         let (app, step, told) = *row;
         if let Some(reply) = reply_of(alloc, told)? {
-            let got = replies.get(count);
-            let wanted = (app, reply);
-            assert!(rt;
-                got == Some(&wanted),
-                "row {number}, {app} makes {step:?}: wanted {wanted:?}, got {got:?}"
-            );
-            count += 1;
+            expect_reply(rt, number, step, &(app, reply), rest.first());
+            rest = rest.get(1..).unwrap_or(&[]);
         }
     }
-    assert_eq!(rt; replies.len(), count, "replies");
+    assert!(rt; rest.is_empty(), "replies that no row tells");
     Ok(())
+}
+
+fn expect_reply(
+    rt: &impl Abort,
+    number: usize,
+    step: Step,
+    wanted: &(u64, Reply),
+    got: Option<&(u64, Reply)>,
+) {
+    assert!(rt;
+        got == Some(wanted),
+        "row {number}, {step:?}: wanted {wanted:?}, got {got:?}"
+    );
 }
 
 fn event_of(alloc: Global, app: u64, step: Step) -> Result<Event, Fail>
@@ -189,12 +222,15 @@ fn event_of(alloc: Global, app: u64, step: Step) -> Result<Event, Fail>
     match step {
         Step::Finish => Ok(Event::Finish { app }),
         Step::Goes => Ok(Event::Gone { app }),
-        _ => {
-            let call = call_of(alloc, step)?;
-            let words = random_for(alloc, &call)?;
-            Ok(Event::Call { app, call, words })
-        }
+        _ => calling(alloc, app, call_of(alloc, step)?),
     }
+}
+
+fn calling(alloc: Global, app: u64, call: Call) -> Result<Event, Fail>
+    ensures { IfOk result HasRandom }
+{
+    let words = random_for(alloc, &call)?;
+    Ok(Event::Call { app, call, words })
 }
 
 fn events_of(alloc: Global, rows: &[Row]) -> Result<Vec<Event>, Fail>

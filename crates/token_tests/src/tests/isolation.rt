@@ -135,16 +135,27 @@ fn ciphertext(rt: &impl Abort, bench: &mut Bench) -> Result<Option<Reply>, Fail>
     bench.told(A, Step::Finish)
 }
 
+/// Sees that both tell A the same of each call.
+fn expect_same(rt: &impl Abort, one: &mut Bench, other: &mut Bench) -> Result<(), Fail> {
+    for step in ASKED {
+        let is_same = one.told(A, *step)? == other.told(A, *step)?;
+        assert!(rt; is_same, "{step:?}");
+    }
+    Ok(())
+}
+
+/// Whether both encipher a text alike.
+fn encipher_alike(rt: &impl Abort, one: &mut Bench, other: &mut Bench) -> Result<bool, Fail> {
+    Ok(ciphertext(rt, one)? == ciphertext(rt, other)?)
+}
+
 #[test]
 fn what_an_application_cannot_see_is_in_none_of_its_replies(rt: HostRuntime) -> Result<(), Fail> {
     let mut one = with_key(&rt, rt.alloc(), TOKEN_KEY)?;
     let mut other = with_key_beside_others(&rt, rt.alloc(), OTHER_KEY)?;
-    for step in ASKED {
-        let told = one.told(A, *step)?;
-        assert_eq!(rt; other.told(A, *step)?, told, "{step:?}");
-    }
+    expect_same(&rt, &mut one, &mut other)?;
     // The keys do differ, which a result that is asked for shows.
-    let told = ciphertext(&rt, &mut one)?;
-    assert_ne!(rt; ciphertext(&rt, &mut other)?, told);
+    let alike = encipher_alike(&rt, &mut one, &mut other)?;
+    assert!(rt; !alike);
     Ok(())
 }

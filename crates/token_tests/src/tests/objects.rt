@@ -5,6 +5,7 @@ use super::bench::{Bench, play};
 use super::given::*;
 use super::steps::{Given, Row, Step, Told};
 use ck_types::{AttrType, Rv};
+use std::process::Abort;
 use std::test::*;
 
 /// A value of 17 bytes, which no AES key has.
@@ -216,10 +217,15 @@ fn an_object_forbids_what_it_says(rt: HostRuntime) -> Result<(), Fail> {
 #[test]
 fn an_application_has_at_most_256_session_objects(rt: HostRuntime) -> Result<(), Fail> {
     let mut bench = Bench::new(rt.alloc())?;
-    let create = Step::CreateObject(1, SESSION_DATA);
-    bench.play(&rt, &[(A, OPEN_READ_ONLY, Told::Session(1))])?;
-    bench.fill(&rt, (A, create), 1, 256)?;
-    bench.play(&rt, &[(A, create, OBJECT_LIMIT), (A, create, OBJECT_LIMIT)])
+    fill_with_objects(&rt, &mut bench)
+}
+
+fn fill_with_objects(rt: &impl Abort, bench: &mut Bench) -> Result<(), Fail> {
+    const CREATE: Step = Step::CreateObject(1, SESSION_DATA);
+    const AFTER: &[Row] = &[(A, CREATE, OBJECT_LIMIT), (A, CREATE, OBJECT_LIMIT)];
+    bench.play(rt, &[(A, OPEN_READ_ONLY, Told::Session(1))])?;
+    bench.fill(rt, (A, CREATE), 1, 256)?;
+    bench.play(rt, AFTER)
 }
 
 #[test]

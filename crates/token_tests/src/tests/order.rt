@@ -5,7 +5,7 @@ mod cases;
 use super::bench::Bench;
 use super::given::*;
 use super::steps::{Step, Told, call_of};
-use cases::{BEFORE, CASES, ENCRYPTS, LEFT_OUT, SECONDS, WRITES};
+use cases::{BEFORE, CASES, Case, ENCRYPTS, LEFT_OUT, SECONDS, WRITES};
 use ck_calls::Function;
 use ck_types::Rv;
 use precede::{Row as Fault, rows};
@@ -46,46 +46,64 @@ fn told_of(fault: Fault) -> Result<Told, Fail> {
 /// A bench on which the fault can hold.
 fn bench_for(rt: &impl Abort, alloc: Global, fault: Fault) -> Result<Bench, Fail> {
     let mut bench = Bench::new(alloc)?;
+    prepare(rt, &mut bench, fault)?;
+    Ok(bench)
+}
+
+fn prepare(rt: &impl Abort, bench: &mut Bench, fault: Fault) -> Result<(), Fail> {
+    const OBJECT: Step = Step::CreateObject(WRITES, SESSION_DATA);
     bench.play(rt, BEFORE)?;
     match fault {
-        Fault::SessionLimit => bench.fill(rt, (A, OPEN), 4, 64)?,
-        Fault::ObjectLimit => bench.fill(
-            rt,
-            (A, Step::CreateObject(WRITES, SESSION_DATA)),
-            6,
-            261,
-        )?,
-        _ => {}
+        Fault::SessionLimit => bench.fill(rt, (A, OPEN), 4, 64),
+        Fault::ObjectLimit => bench.fill(rt, (A, OBJECT), 6, 261),
+        _ => Ok(()),
     }
-    Ok(bench)
+}
+
+/// Sees that the second fault is told where it holds alone, and the first where both do.
+fn expect_order(rt: &impl Abort, bench: &mut Bench, case: Case) -> Result<(), Fail> {
+    let (first, second, alone, both) = case;
+    bench.expect(rt, second, (A, alone, told_of(second)?))?;
+    bench.expect(rt, (first, second), (A, both, told_of(first)?))
 }
 
 #[test]
 fn of_two_faults_the_first_is_told(rt: HostRuntime) -> Result<(), Fail> {
-    for (first, second, alone, both) in CASES {
-        let mut bench = bench_for(&rt, rt.alloc(), *second)?;
-        bench.expect(&rt, second, (A, *alone, told_of(*second)?))?;
-        bench.expect(&rt, (*first, *second), (A, *both, told_of(*first)?))?;
+    for case in CASES {
+        let mut bench = bench_for(&rt, rt.alloc(), case.1)?;
+        expect_order(&rt, &mut bench, *case)?;
     }
     Ok(())
 }
 
+/// Sees that each call with its second fault is told that.
+fn expect_seconds(rt: &impl Abort, bench: &mut Bench) -> Result<(), Fail> {
+    for (fault, step) in SECONDS {
+        bench.expect(rt, fault, (A, *step, told_of(*fault)?))?;
+    }
+    Ok(())
+}
+
+/// Sees that each of them fails while a question is pending.
+fn expect_busy(rt: &impl Abort, bench: &mut Bench) -> Result<(), Fail> {
+    const ASKS: Step = Step::Encrypt(ENCRYPTS, TEXT, Some(16));
+    bench.expect(rt, "the question", (A, ASKS, Told::Nothing))?;
+    for (fault, step) in SECONDS {
+        bench.expect(rt, (Fault::Busy, fault), (A, *step, FAILED))?;
+    }
+    bench.expect(rt, "its result", (A, Step::Finish, CIPHERTEXT))
+}
+
 #[test]
-fn a_question_that_is_out_comes_before_every_fault(rt: HostRuntime) -> Result<(), Fail> {
+fn a_pending_question_comes_before_every_fault(rt: HostRuntime) -> Result<(), Fail> {
     let mut bench = bench_for(&rt, rt.alloc(), Fault::Busy)?;
-    for (fault, step) in SECONDS {
-        bench.expect(&rt, fault, (A, *step, told_of(*fault)?))?;
-    }
-    let asks = Step::Encrypt(ENCRYPTS, TEXT, Some(16));
-    bench.expect(&rt, asks, (A, asks, Told::Nothing))?;
-    for (fault, step) in SECONDS {
-        bench.expect(&rt, (Fault::Busy, fault), (A, *step, FAILED))?;
-    }
-    bench.expect(&rt, asks, (A, Step::Finish, CIPHERTEXT))
+    expect_seconds(&rt, &mut bench)?;
+    expect_busy(&rt, &mut bench)
 }
 
 fn function_of(alloc: Global, step: Step) -> Result<Function, Fail> {
-    Ok(Function::of(&call_of(alloc, step)?))
+    let call = call_of(alloc, step)?;
+    Ok(Function::of(&call))
 }
 
 /// Whether one of the cases has these faults of the function, or they are left out.

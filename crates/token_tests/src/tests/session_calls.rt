@@ -5,6 +5,7 @@ use super::given::*;
 use super::steps::{Row, Step, Told};
 use ck_calls::SessionInfo;
 use ck_types::{Rv, SessionState};
+use std::process::Abort;
 use std::test::*;
 
 #[test]
@@ -72,13 +73,17 @@ fn what_a_session_may_not_do_has_its_code(rt: HostRuntime) -> Result<(), Fail> {
 #[test]
 fn an_application_has_at_most_64_sessions(rt: HostRuntime) -> Result<(), Fail> {
     let mut bench = Bench::new(rt.alloc())?;
-    bench.fill(&rt, (A, OPEN), 1, 64)?;
+    fill_with_sessions(&rt, &mut bench)
+}
+
+fn fill_with_sessions(rt: &impl Abort, bench: &mut Bench) -> Result<(), Fail> {
+    bench.fill(rt, (A, OPEN), 1, 64)?;
     const ROWS: &[Row] = &[
         (A, OPEN, SESSION_LIMIT),
         (A, OPEN, SESSION_LIMIT),
         (B, OPEN, Told::Session(1)),
     ];
-    bench.play(&rt, ROWS)
+    bench.play(rt, ROWS)
 }
 
 #[test]

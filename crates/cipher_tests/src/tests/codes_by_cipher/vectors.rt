@@ -20,18 +20,6 @@ const KEY_256: &[u64] = &[
     0x2d9810a30914dff4,
 ];
 
-/// The message, of which each answer has the first bytes.
-pub(crate) const MESSAGE: &[u64] = &[
-    0x6bc1bee22e409f96,
-    0xe93d7e117393172a,
-    0xae2d8a571e03ac9c,
-    0x9eb76fac45af8e51,
-    0x30c81c46a35ce411,
-    0xe5fbc1191a0a52ef,
-    0xf69f2445df4f9b17,
-    0xad2b417be66c3710,
-];
-
 /// The table.
 pub(crate) static SP_800_38B: [Vector; 12] = [
     Vector {

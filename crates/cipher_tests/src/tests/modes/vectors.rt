@@ -30,18 +30,6 @@ pub(crate) const KEY_256: &[u64] = &[
     0x2d9810a30914dff4,
 ];
 
-/// The plain text.
-pub(crate) const PLAIN: &[u64] = &[
-    0x6bc1bee22e409f96,
-    0xe93d7e117393172a,
-    0xae2d8a571e03ac9c,
-    0x9eb76fac45af8e51,
-    0x30c81c46a35ce411,
-    0xe5fbc1191a0a52ef,
-    0xf69f2445df4f9b17,
-    0xad2b417be66c3710,
-];
-
 /// The initialization vector of CBC.
 pub(crate) const IV: u128 = 0x000102030405060708090a0b0c0d0e0f;
 
