@@ -1,35 +1,63 @@
 -- What a keeper's call makes of what it holds and of what a crash may leave, and what it counts.
--- `holds` and `may_leave` are relations: a keeper that is shut, or whose disk has lied, may hold anything.
-use Rattle.std.specs.Prelude.{◌≡◌, ◌⊎◌, ℕ, ◌+◌, ◌-◌, ◌<◌, ◌≤◌, ◌^◌, Result, IsErrOf}
+use Rattle.std.specs.Prelude.{◌≡◌, ◌⊎◌, ℕ, ◌+◌, ◌-◌, ◌<◌, ◌≤◌, ◌^◌, Option, Some, Result, IsErrOf}
 use Rattle.keep.specs.declared.keep.KeepFault.{KeepFault}
 use Rattle.keep.specs.declared.keep.KeepFault.TheVariants.{Device, Damaged}
 use Rattle.keep.specs.Contents.{Contents}
 
-module _ {K : Type 0} (holds may_leave : K → Contents → Type 0) (old new : K) where
+-- What is said of a keeper. What it holds and what a crash leaves are relations: a keeper that is shut, or whose disk has lied,
+-- may hold anything.
+pub record Terms (K : Type 0) : Type 1 where
+  -- it holds these contents
+  pub holds : K → Contents → Type 0
+  -- a crash at this moment may leave contents, or `None`: what is then left is no token's store
+  pub may_leave : K → Option Contents → Type 0
+  -- it refuses by `Device` only an id that isn't there, and an insert past the greatest id
+  pub is_steady : K → Type 0
+  -- 0 as long as the disk has returned what was written
+  pub doubt : K → ℕ
+  -- how often the device has failed
+  pub failures : K → ℕ
+  -- how many writes were tried
+  pub tried : K → ℕ
+
+module _ {K : Type 0} (terms : Terms K) (old new : K) where
   -- what it held it holds, and a crash leaves no more than it could leave before
   pub record Stays : Type 0 where
-    pub held : (c : Contents) → holds old c → holds new c
-    pub crash : (c : Contents) → may_leave new c → may_leave old c
+    pub held : (c : Contents) → terms.holds old c → terms.holds new c
+    pub crash : (c : Contents) (left : Option Contents) → terms.holds old c → terms.may_leave new left → terms.may_leave old left
 
   -- the change is made, and a crash leaves it alone
   pub record Changes (step : Contents → Contents) : Type 0 where
-    pub held : (c : Contents) → holds old c → holds new (step c)
-    pub crash : (c d : Contents) → holds old c → may_leave new d → d ≡ step c
+    pub held : (c : Contents) → terms.holds old c → terms.holds new (step c)
+    pub crash : (c : Contents) (left : Option Contents) → terms.holds old c → terms.may_leave new left → left ≡ Some (step c)
 
   -- the change isn't made, and a crash leaves what it could leave before, or the whole change
   pub record Fails (step : Contents → Contents) : Type 0 where
-    pub held : (c : Contents) → holds old c → holds new c
-    pub crash : (c d : Contents) → holds old c → may_leave new d → may_leave old d ⊎ (d ≡ step c)
+    pub held : (c : Contents) → terms.holds old c → terms.holds new c
+    pub crash : (c : Contents) (left : Option Contents) → terms.holds old c → terms.may_leave new left → terms.may_leave old left ⊎ (left ≡ Some (step c))
 
--- no lie of the disk, no failure and no write is forgotten, and no more than so many writes were tried
-pub record Counts (doubt_before doubt_now failures_before failures_now tried_before tried_now writes : ℕ) : Type 0 where
-  pub doubt : doubt_before ≤ doubt_now
-  pub failures : failures_before ≤ failures_now
-  pub remembered : tried_before ≤ tried_now
-  pub tried : tried_now ≤ tried_before + writes
+  -- no lie of the disk and no failure is forgotten, a keeper that is steady stays so, and at least and at most so many writes
+  -- were tried
+  pub record Counted (least most : ℕ) : Type 0 where
+    pub steady : terms.is_steady old → terms.is_steady new
+    pub doubt : terms.doubt old ≤ terms.doubt new
+    pub failures : terms.failures old ≤ terms.failures new
+    pub tried : terms.tried old + least ≤ terms.tried new
+    pub bounded : terms.tried new ≤ terms.tried old + most
 
-abbrev pub Counted : {K : Type 0} → (K → ℕ) → (K → ℕ) → (K → ℕ) → K → K → ℕ → Type 0
-Counted doubt failures tried old new writes = Counts (doubt old) (doubt new) (failures old) (failures new) (tried old) (tried new) writes
+-- something fulfils it
+abbrev pub LeavesSome : {A : Type 0} → (A → Type 0) → Type 0
+LeavesSome {A} may_leave = ¬ ((left : A) → ¬ may_leave left)
+
+-- a keeper as it is made: what it holds is known, a crash leaves just that, and nothing is counted
+pub record Begins {K : Type 0} (terms : Terms K) (k : K) (c : Contents) : Type 0 where
+  pub held : terms.holds k c
+  pub only : (d : Contents) → terms.holds k d → d ≡ c
+  pub left : terms.may_leave k (Some c)
+  pub alone : (left : Option Contents) → terms.may_leave k left → left ≡ Some c
+  pub sure : terms.doubt k ≡ 0
+  pub failures : terms.failures k ≡ 0
+  pub tried : terms.tried k ≡ 0
 
 -- a counter of 64 bits has risen; at its greatest value it stays
 abbrev pub Rises : ℕ → ℕ → Type 0

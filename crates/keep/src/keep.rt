@@ -1,9 +1,9 @@
 //! What a keeper is.
 
-ghost use Rattle.std.specs.Prelude.{◌≡◌, ◌+◌, ◌≤◌, ℕ, Some, IfOk, OnOk, OnErr, IsSome};
-ghost use Rattle.keep.specs.declared.keep.KeepFault.TheVariants.{Memory};
+ghost use Rattle.std.specs.Prelude.{◌≡◌, ◌+◌, ◌≤◌, Some, None, IfOk, OnOk, OnErr, IsErrOf, IsSome};
+ghost use Rattle.keep.specs.declared.keep.KeepFault.TheVariants.{Memory, Device};
 ghost use Rattle.keep.specs.Contents.{Contents, IsSound, IsTokenObject, after_reset, greatest_id, ids_of, object_at, with_object, with_record, with_replacement, without_object};
-ghost use Rattle.keep.specs.Keeping.{Changes, Counted, Fails, HasCause, Rises, Stays};
+ghost use Rattle.keep.specs.Keeping.{Changes, Counted, Fails, HasCause, LeavesSome, Stays, Terms};
 
 use attrs::Object;
 use pin_record::Record;
@@ -49,90 +49,86 @@ impl<T: Drop> From<AllocFailed<T>> for KeepFault {
 /// `Memory` may be answered by each call with a Result. `Device` comes only where `failures` rose in that
 /// call.
 pub trait Keep: Drop {
-    /// What it holds. A keeper that is shut, or whose disk has lied, may hold anything.
-    ghost holds: { Self → Contents → Type 0 };
-
-    /// What a crash at this moment may leave.
-    ghost may_leave: { Self → Contents → Type 0 };
-
-    /// 0 as long as the disk has returned what was written.
-    ghost doubt: { Self → ℕ };
-
-    /// How often the device has failed.
-    ghost failures_of: { Self → ℕ };
-
-    /// How many writes were tried.
-    ghost tried: { Self → ℕ };
+    /// What is said of it: what it holds, what a crash leaves, and what is counted.
+    ghost terms: { Terms Self };
 
     /// How often the device has failed. At its greatest value the count stays.
     fn failures(&self) -> u64
-        ensures { result ≡ failures_of self.now };
+        ensures { result ≡ terms.failures self.now };
 
     /// The record. It is at hand, so nothing is read and no memory is taken.
     fn get_record(&self) -> Record
-        ensures { (c : Contents) → holds self.now c → result ≡ c.token_record };
+        ensures { (c : Contents) → terms.holds self.now c → result ≡ c.token_record };
 
     /// The ids of the objects, in the order in which these were made.
     fn ids(&mut self, alloc: Global) -> Result<Vec<u64>, KeepFault>
-        ensures ids { doubt self.new ≡ 0 → (c : Contents) → holds self.old c → IfOk result (λ ids. ids.items ≡ ids_of c) }
-        ensures sound { doubt self.new ≡ 0 → (c : Contents) → holds self.old c → OnOk result (IsSound c) }
-        ensures same { Stays holds may_leave self.old self.new }
-        ensures counts { Counted doubt failures_of tried self.old self.new 0 }
-        ensures cause { HasCause (failures_of self.old) (failures_of self.new) result };
+        ensures ids { terms.doubt self.new ≡ 0 → (c : Contents) → terms.holds self.old c → IfOk result (λ ids. ids.items ≡ ids_of c) }
+        ensures sound { terms.doubt self.new ≡ 0 → (c : Contents) → terms.holds self.old c → OnOk result (IsSound c) }
+        ensures same { Stays terms self.old self.new }
+        ensures steady { terms.is_steady self.old → IsErrOf result Device → ⊥ }
+        ensures counts { Counted terms self.old self.new 0 0 }
+        ensures cause { HasCause (terms.failures self.old) (terms.failures self.new) result };
 
     /// A copy of the object with an id. `Device` where there is none, or where what is stored is no
     /// token object.
     fn object(&mut self, alloc: Global, id: u64) -> Result<Object, KeepFault>
-        ensures object { doubt self.new ≡ 0 → (c : Contents) → holds self.old c → IfOk result (λ object. object_at c id ≡ Some object) }
+        ensures object { terms.doubt self.new ≡ 0 → (c : Contents) → terms.holds self.old c → IfOk result (λ object. object_at c id ≡ Some object) }
         ensures token { IfOk result IsTokenObject }
-        ensures same { Stays holds may_leave self.old self.new }
-        ensures counts { Counted doubt failures_of tried self.old self.new 0 }
-        ensures cause { HasCause (failures_of self.old) (failures_of self.new) result };
+        ensures same { Stays terms self.old self.new }
+        ensures steady { terms.is_steady self.old → IsErrOf result Device → (c : Contents) → terms.holds self.old c → object_at c id ≡ None }
+        ensures counts { Counted terms self.old self.new 0 0 }
+        ensures cause { HasCause (terms.failures self.old) (terms.failures self.new) result };
 
     /// Puts another record in the place of the one held.
     fn set_record(&mut self, record: Record) -> Result<(), KeepFault>
-        ensures ok { OnOk result (Changes holds may_leave self.old self.new (with_record «record»)) }
-        ensures err { OnErr result (Fails holds may_leave self.old self.new (with_record «record»)) }
-        ensures tried { Rises (tried self.old) (tried self.new) }
-        ensures counts { Counted doubt failures_of tried self.old self.new 1 }
-        ensures cause { HasCause (failures_of self.old) (failures_of self.new) result };
+        ensures ok { OnOk result (Changes terms self.old self.new (with_record «record»)) }
+        ensures err { OnErr result (Fails terms self.old self.new (with_record «record»)) }
+        ensures steady { terms.is_steady self.old → IsErrOf result Device → ⊥ }
+        ensures counts { Counted terms self.old self.new 1 1 }
+        ensures cause { HasCause (terms.failures self.old) (terms.failures self.new) result };
 
     /// Adds an object at the end and answers its id, which is the last that was given and one.
     /// `Device` where that is above `GREATEST_ID`.
     fn insert(&mut self, object: &Object) -> Result<u64, KeepFault>
         requires { IsTokenObject object.now }
-        ensures id { doubt self.new ≡ 0 → (c : Contents) → holds self.old c → IfOk result (λ id. id ≡ c.last_id + 1) }
+        ensures id { terms.doubt self.new ≡ 0 → (c : Contents) → terms.holds self.old c → IfOk result (λ id. id ≡ c.last_id + 1) }
         ensures limit { IfOk result (λ id. id ≤ greatest_id) }
-        ensures ok { OnOk result (Changes holds may_leave self.old self.new (with_object object.now)) }
-        ensures err { OnErr result (Fails holds may_leave self.old self.new (with_object object.now)) }
-        ensures tried { Rises (tried self.old) (tried self.new) }
-        ensures counts { Counted doubt failures_of tried self.old self.new 1 }
-        ensures cause { HasCause (failures_of self.old) (failures_of self.new) result };
+        ensures ok { OnOk result (Changes terms self.old self.new (with_object object.now)) }
+        ensures err { OnErr result (Fails terms self.old self.new (with_object object.now)) }
+        ensures steady { terms.is_steady self.old → IsErrOf result Device → (c : Contents) → terms.holds self.old c → greatest_id ≤ c.last_id }
+        ensures counts { Counted terms self.old self.new 1 1 }
+        ensures cause { HasCause (terms.failures self.old) (terms.failures self.new) result };
 
     /// Puts another object in the place of the one with an id. `Device` where there is none.
     fn replace(&mut self, id: u64, object: &Object) -> Result<(), KeepFault>
         requires { IsTokenObject object.now }
-        ensures there { doubt self.new ≡ 0 → (c : Contents) → holds self.old c → OnOk result (IsSome (object_at c id)) }
-        ensures ok { OnOk result (Changes holds may_leave self.old self.new (with_replacement id object.now)) }
-        ensures err { OnErr result (Fails holds may_leave self.old self.new (with_replacement id object.now)) }
-        ensures tried { Rises (tried self.old) (tried self.new) }
-        ensures counts { Counted doubt failures_of tried self.old self.new 1 }
-        ensures cause { HasCause (failures_of self.old) (failures_of self.new) result };
+        ensures there { terms.doubt self.new ≡ 0 → (c : Contents) → terms.holds self.old c → OnOk result (IsSome (object_at c id)) }
+        ensures ok { OnOk result (Changes terms self.old self.new (with_replacement id object.now)) }
+        ensures err { OnErr result (Fails terms self.old self.new (with_replacement id object.now)) }
+        ensures steady { terms.is_steady self.old → IsErrOf result Device → (c : Contents) → terms.holds self.old c → object_at c id ≡ None }
+        ensures counts { Counted terms self.old self.new 1 1 }
+        ensures cause { HasCause (terms.failures self.old) (terms.failures self.new) result };
 
     /// Takes the object with an id away. `Device` where there is none.
     fn remove(&mut self, id: u64) -> Result<(), KeepFault>
-        ensures there { doubt self.new ≡ 0 → (c : Contents) → holds self.old c → OnOk result (IsSome (object_at c id)) }
-        ensures ok { OnOk result (Changes holds may_leave self.old self.new (without_object id)) }
-        ensures err { OnErr result (Fails holds may_leave self.old self.new (without_object id)) }
-        ensures tried { Rises (tried self.old) (tried self.new) }
-        ensures counts { Counted doubt failures_of tried self.old self.new 1 }
-        ensures cause { HasCause (failures_of self.old) (failures_of self.new) result };
+        ensures there { terms.doubt self.new ≡ 0 → (c : Contents) → terms.holds self.old c → OnOk result (IsSome (object_at c id)) }
+        ensures ok { OnOk result (Changes terms self.old self.new (without_object id)) }
+        ensures err { OnErr result (Fails terms self.old self.new (without_object id)) }
+        ensures steady { terms.is_steady self.old → IsErrOf result Device → (c : Contents) → terms.holds self.old c → object_at c id ≡ None }
+        ensures counts { Counted terms self.old self.new 1 1 }
+        ensures cause { HasCause (terms.failures self.old) (terms.failures self.new) result };
 
     /// Takes all objects away and puts another record in the place of the one held, as one change.
     fn reset(&mut self, record: Record) -> Result<(), KeepFault>
-        ensures ok { OnOk result (Changes holds may_leave self.old self.new (after_reset «record»)) }
-        ensures err { OnErr result (Fails holds may_leave self.old self.new (after_reset «record»)) }
-        ensures tried { Rises (tried self.old) (tried self.new) }
-        ensures counts { Counted doubt failures_of tried self.old self.new 1 }
-        ensures cause { HasCause (failures_of self.old) (failures_of self.new) result };
+        ensures ok { OnOk result (Changes terms self.old self.new (after_reset «record»)) }
+        ensures err { OnErr result (Fails terms self.old self.new (after_reset «record»)) }
+        ensures steady { terms.is_steady self.old → IsErrOf result Device → ⊥ }
+        ensures counts { Counted terms self.old self.new 1 1 }
+        ensures cause { HasCause (terms.failures self.old) (terms.failures self.new) result };
+
+    // As long as there is no doubt, a crash leaves something.
+    ghost survives: { (k : Self) → terms.doubt k ≡ 0 → LeavesSome (terms.may_leave k) };
+
+    // Of a steady keeper there is no doubt.
+    ghost sure: { (k : Self) → terms.is_steady k → terms.doubt k ≡ 0 };
 }

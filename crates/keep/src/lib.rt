@@ -7,13 +7,14 @@
 //!   call.
 //! - `ListKeep` is a keeper in memory, by an ordered map from ids to objects.
 //!
-//! Contracts see a keeper by relations and counts, the ghost members of `Keep`: which contents it holds,
-//! which a crash at this moment may leave, how many writes were tried, how often the device failed, and a
-//! doubt that is 0 as long as the store has returned what was written. A keeper that is shut, or whose
-//! disk has lied, may hold anything, so nothing follows of it. Contents are the list of objects under
-//! their ids, the record, and the greatest id that was ever given (`specs/Contents.antt`). After an
-//! acknowledged change a crash leaves the change alone; after a fault it leaves what it could leave
-//! before, or the whole change (`specs/Keeping.antt`).
+//! Contracts see a keeper by its `terms`: which contents it holds, what a crash at this moment may leave
+//! (contents, or what is no token's store), how many writes were tried, how often the device failed,
+//! whether it is steady, and a doubt that is 0 as long as the store has returned what was written. A keeper
+//! that is shut, or whose disk has lied, may hold anything, so nothing follows of it. Contents are the list
+//! of objects under their ids, the record, and the greatest id that was ever given (`specs/Contents.antt`).
+//! After an acknowledged change a crash leaves the change alone; after a fault it leaves what it could
+//! leave before, or the whole change (`specs/Keeping.antt`). As long as there is no doubt a crash leaves
+//! something, and of a steady keeper there is no doubt.
 //!
 //! `laws` proves what is found under an id after a change, and that an id which has lost its object never
 //! has one again.
@@ -33,6 +34,8 @@ mod keep;
 pub mod laws;
 mod list_keep;
 mod memory_contents;
+mod write_count;
 
 pub use keep::{GREATEST_ID, Keep, KeepFault};
 pub use list_keep::ListKeep;
+pub use write_count::WriteCount;

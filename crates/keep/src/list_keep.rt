@@ -1,12 +1,14 @@
 //! A keeper in memory.
 
-ghost use Rattle.std.specs.Prelude.{◌≡◌, ◌+◌, ◌≤◌};
+ghost use Rattle.std.specs.Prelude.{◌≡◌, ◌+◌, ◌≤◌, Some};
 ghost use Rattle.keep.specs.declared.keep.KeepFault.TheVariants.{Device};
-ghost use Rattle.keep.specs.Keeping.{Rises};
+ghost use Rattle.keep.specs.Contents.{new_contents};
+ghost use Rattle.keep.specs.Keeping.{Begins, Rises};
 ghost use Rattle.keep.specs.ListState.{new_list};
 
 use crate::keep::{Keep, KeepFault};
 use crate::memory_contents::MemoryContents;
+use crate::write_count::WriteCount;
 use attrs::Object;
 use pin_record::Record;
 use std::alloc::Global;
@@ -17,7 +19,7 @@ use std::marker::Model;
 pub struct ListKeep {
     contents: MemoryContents,
     failures: u64,
-    tried: u64,
+    tried: WriteCount,
 }
 
 impl Model for ListKeep {
@@ -25,18 +27,20 @@ impl Model for ListKeep {
 
     ghost Value = { ListState };
 
-    ghost view = { λ k. record { contents = k.contents; failures = k.failures; tried = k.tried } };
+    ghost view = { λ k. record { contents = k.contents; failures = k.failures; tried = k.tried.count } };
 }
 
 impl ListKeep {
     /// A keeper of no objects and this record. Nothing is allocated.
     pub fn new(alloc: Global, record: Record) -> Self
-        ensures { result ≡ new_list «record» }
+        ensures new { result ≡ new_list «record» }
+        ensures begins { Begins ⟦<ListKeep as Keep>⟧.terms result (new_contents «record») }
+        ensures steady { (⟦<ListKeep as Keep>⟧.terms).is_steady result }
     {
         ListKeep {
             contents: MemoryContents::new(alloc, record),
             failures: 0,
-            tried: 0,
+            tried: WriteCount::new(),
         }
     }
 }
@@ -45,7 +49,6 @@ impl ListKeep {
 fn counted(count: u64) -> u64
     ensures rises { Rises count result }
     ensures more { count ≤ result }
-    ensures one { result ≤ count + 1 }
 {
     count.saturating_add(1)
 }
@@ -61,15 +64,20 @@ fn device_failure(failures: &mut u64) -> KeepFault
 }
 
 impl Keep for ListKeep {
-    ghost holds = { λ k c. c ≡ k.contents };
+    ghost use Rattle.std.specs.Prelude.{refl};
 
-    ghost may_leave = { λ k c. c ≡ k.contents };
+    ghost terms = { record {
+      holds = λ k c. c ≡ k.contents;
+      may_leave = λ k left. left ≡ Some k.contents;
+      is_steady = λ _. Unit {0};
+      doubt = λ _. 0;
+      failures = λ k. k.failures;
+      tried = λ k. k.tried;
+    } };
 
-    ghost doubt = { λ _. 0 };
+    ghost survives = { λ k _ none. none (Some k.contents) refl };
 
-    ghost failures_of = { λ k. k.failures };
-
-    ghost tried = { λ k. k.tried };
+    ghost sure = { λ _ _. refl };
 
     fn failures(&self) -> u64 {
         self.failures
@@ -91,13 +99,13 @@ impl Keep for ListKeep {
     }
 
     fn set_record(&mut self, record: Record) -> Result<(), KeepFault> {
-        self.tried = counted(self.tried);
+        self.tried.add();
         self.contents.set_record(record);
         Ok(())
     }
 
     fn insert(&mut self, object: &Object) -> Result<u64, KeepFault> {
-        self.tried = counted(self.tried);
+        self.tried.add();
         if self.contents.is_full() {
             return Err(device_failure(&mut self.failures));
         }
@@ -105,7 +113,7 @@ impl Keep for ListKeep {
     }
 
     fn replace(&mut self, id: u64, object: &Object) -> Result<(), KeepFault> {
-        self.tried = counted(self.tried);
+        self.tried.add();
         if self.contents.object(id).is_none() {
             return Err(device_failure(&mut self.failures));
         }
@@ -113,7 +121,7 @@ impl Keep for ListKeep {
     }
 
     fn remove(&mut self, id: u64) -> Result<(), KeepFault> {
-        self.tried = counted(self.tried);
+        self.tried.add();
         if self.contents.remove(id) {
             Ok(())
         } else {
@@ -122,7 +130,7 @@ impl Keep for ListKeep {
     }
 
     fn reset(&mut self, record: Record) -> Result<(), KeepFault> {
-        self.tried = counted(self.tried);
+        self.tried.add();
         self.contents.reset(record);
         Ok(())
     }

@@ -1,9 +1,9 @@
 -- At the end of a line its application goes.
-use Rattle.std.proofs.Common.{◌≡◌, ℕ, List, [], refl, sym, ◌∙◌, ap, subst, inl, inr}
+use Rattle.std.proofs.Common.{◌≡◌, ℕ, List, [], Option, refl, sym, ◌∙◌, ap, subst, inl, inr}
 use Rattle.std.proofs.lemmas.Bool.{cases_eq, eq-eqb, ne_eqb}
 use Rattle.rand_chacha.specs.ChaCha.{ChaCha}
 use Rattle.ck_calls.specs.declared.reply.Reply.{Reply}
-use Rattle.keep.specs.Contents.{Contents}
+use Rattle.keep.specs.Keeping.{Terms}
 use Rattle.token_model.specs.declared.event.Event.TheVariants.{Gone}
 use Rattle.token_model.specs.Worlds.{World, goes, after}
 use Rattle.token.specs.Applications.{HasJobs}
@@ -20,22 +20,22 @@ gone-idle w app i b = elim (cases_eq b app) [
   | inr d ↦ rw (ne_eqb b app d) (i b)
 ]
 
-module _ {K : Type 0} (holds may_leave : K → Contents → Type 0) (doubt : K → ℕ) where
+module _ {K : Type 0} (terms : Terms K) where
   -- whichever world a token shows, its questions are those of the desks
-  same-question : (t : TokenState K) (v w : World) → Shows holds t v → Shows holds t w → (b : ℕ) → (w.views b).question ≡ (v.views b).question
+  same-question : (t : TokenState K) (v w : World) → Shows terms t v → Shows terms t w → (b : ℕ) → (w.views b).question ≡ (v.views b).question
   same-question t v w s z b = ap (λ u. u.question) (z.depicts.views b) ∙ sym (ap (λ u. u.question) (s.depicts.views b))
 
-  module _ (app : ℕ) (old mid new : TokenState K) (words words' : ChaCha) (ms : List Message) (said : List Reply) (p : Leads holds may_leave doubt app old mid words words' ms said)
-      (went : (w : World) → Shows holds mid w → Shows holds new (goes w (Gone app))) (same : new.store ≡ mid.store) (none : (w : World) → Shows holds old w → HasJobs w []) where
-    leaves-same : (l : Lasting) → MayLeave may_leave new l → MayLeave may_leave mid l
-    leaves-same l may = (may.0, subst (λ (s : StoreState K). may_leave s.keep may.0) same may.1, may.2)
+  module _ (app : ℕ) (old mid new : TokenState K) (words words' : ChaCha) (ms : List Message) (said : List Reply) (p : Leads terms app old mid words words' ms said)
+      (went : (w : World) → Shows terms mid w → Shows terms new (goes w (Gone app))) (same : new.store ≡ mid.store) (none : (w : World) → Shows terms old w → HasJobs w []) where
+    leaves-same : (l : Option Lasting) → MayLeave terms new l → MayLeave terms mid l
+    leaves-same l may = (may.0, subst (λ (s : StoreState K). terms.may_leave s.keep may.0) same may.1, may.2)
 
-    gone : LeadsAway holds may_leave doubt app old new words words' ms said
+    gone : LeadsAway terms app old new words words' ms said
     gone = record {
       one_each = p.one_each;
       words = p.words;
       run = λ sure w s.
-          let line = p.run (ap (λ (t : StoreState K). doubt t.keep) (sym same) ∙ sure) w s (none w s) in
+          let line = p.run (ap (λ (t : StoreState K). terms.doubt t.keep) (sym same) ∙ sure) w s (none w s) in
           record {
             told = line.told;
             moved = record {
@@ -51,12 +51,12 @@ module _ {K : Type 0} (holds may_leave : K → Contents → Type 0) (doubt : K �
           };
     }
 
-    pub leads-away : (of : ℕ) → app ≡ of → LeadsAway holds may_leave doubt of old new words words' ms said
-    leads-away of is = subst (λ (a : ℕ). LeadsAway holds may_leave doubt a old new words words' ms said) is gone
+    pub leads-away : (of : ℕ) → app ≡ of → LeadsAway terms of old new words words' ms said
+    leads-away of is = subst (λ (a : ℕ). LeadsAway terms a old new words words' ms said) is gone
 
-    pub idle-after : doubt new.store.keep ≡ 0 → (v : World) → Shows holds old v → (w : World) → Shows holds new w → HasJobs w []
+    pub idle-after : terms.doubt new.store.keep ≡ 0 → (v : World) → Shows terms old v → (w : World) → Shows terms new w → HasJobs w []
     idle-after sure v s w z =
-        let line = p.run (ap (λ (t : StoreState K). doubt t.keep) (sym same) ∙ sure) v s (none v s) in
+        let line = p.run (ap (λ (t : StoreState K). terms.doubt t.keep) (sym same) ∙ sure) v s (none v s) in
         let u : World = after v line.moved.moves in
         let none-out = gone-idle u app (idle u line.moved.idle) in
         no_jobs w (λ b. same-question new (goes u (Gone app)) w (went u line.moved.shows) z b ∙ none-out b)

@@ -5,7 +5,7 @@ use Rattle.rand_chacha.specs.ChaCha.{ChaCha}
 use Rattle.ck_calls.specs.declared.call.Call.{Call as CallType}
 use Rattle.ck_calls.specs.declared.reply.Reply.{Reply}
 use Rattle.ck_calls.specs.Need.{random_bytes}
-use Rattle.keep.specs.Contents.{Contents}
+use Rattle.keep.specs.Keeping.{Terms}
 use Rattle.wire.specs.declared.fault.WireFault.{WireFault}
 use Rattle.token_model.specs.Worlds.{World, after}
 use Rattle.token.specs.Applications.{HasJobs}
@@ -39,54 +39,54 @@ answers-append (Err fault ∷ ms) ns t u e = ap (λ rs. refusal_of fault ∷ rs)
 
 -- ---- a token
 
-module _ {K : Type 0} (holds may_leave : K → Contents → Type 0) (doubt : K → ℕ) (app : ℕ) where
-  pub leads-none : (t : TokenState K) (words : ChaCha) → Leads holds may_leave doubt app t t words words [] []
+module _ {K : Type 0} (terms : Terms K) (app : ℕ) where
+  pub leads-none : (t : TokenState K) (words : ChaCha) → Leads terms app t t words words [] []
   leads-none t words = record {
     one_each = refl;
     words = refl;
     remembers = omega arith;
-    run = λ sure w s h. record { told = []; moved = moved-none (Shows holds t) (MayLeave may_leave t) w s h; each = refl; answered = refl };
+    run = λ sure w s h. record { told = []; moved = moved-none (Shows terms t) (MayLeave terms t) w s h; each = refl; answered = refl };
   }
 
   -- what is no call
-  pub leads-refusal : (t : TokenState K) (words : ChaCha) (m : Message) (fault : WireFault) → m ≡ Err fault → Leads holds may_leave doubt app t t words words (m ∷ []) (refusal_of fault ∷ [])
-  leads-refusal t words m fault is = subst (λ n. Leads holds may_leave doubt app t t words words (n ∷ []) (refusal_of fault ∷ [])) (sym is) (record {
+  pub leads-refusal : (t : TokenState K) (words : ChaCha) (m : Message) (fault : WireFault) → m ≡ Err fault → Leads terms app t t words words (m ∷ []) (refusal_of fault ∷ [])
+  leads-refusal t words m fault is = subst (λ n. Leads terms app t t words words (n ∷ []) (refusal_of fault ∷ [])) (sym is) (record {
     one_each = refl;
     words = refl;
     remembers = omega arith;
-    run = λ sure w s h. record { told = []; moved = moved-none (Shows holds t) (MayLeave may_leave t) w s h; each = refl; answered = refl };
+    run = λ sure w s h. record { told = []; moved = moved-none (Shows terms t) (MayLeave terms t) w s h; each = refl; answered = refl };
   })
 
   -- a call
-  pub leads-call : (old new : TokenState K) (words words' : ChaCha) (m : Message) (call : CallType) (random : List ℕ) (reply : Reply) → m ≡ Ok call → (random, words') ≡ taken (random_bytes call) words → doubt old.store.keep ≤ doubt new.store.keep
-      → (doubt new.store.keep ≡ 0 → (w : World) → Shows holds old w → HasJobs w [] → Moved (Shows holds new) (MayLeave may_leave old) (MayLeave may_leave new) w ((app, Calls call random) ∷ (app, Finishes) ∷ []) ((app, reply) ∷ []))
-      → Leads holds may_leave doubt app old new words words' (m ∷ []) (reply ∷ [])
-  leads-call old new words words' m call random reply is took rises run = subst (λ n. Leads holds may_leave doubt app old new words words' (n ∷ []) (reply ∷ [])) (sym is) (record {
+  pub leads-call : (old new : TokenState K) (words words' : ChaCha) (m : Message) (call : CallType) (random : List ℕ) (reply : Reply) → m ≡ Ok call → (random, words') ≡ taken (random_bytes call) words → terms.doubt old.store.keep ≤ terms.doubt new.store.keep
+      → (terms.doubt new.store.keep ≡ 0 → (w : World) → Shows terms old w → HasJobs w [] → Moved (Shows terms new) (MayLeave terms old) (MayLeave terms new) w ((app, Calls call random) ∷ (app, Finishes) ∷ []) ((app, reply) ∷ []))
+      → Leads terms app old new words words' (m ∷ []) (reply ∷ [])
+  leads-call old new words words' m call random reply is took rises run = subst (λ n. Leads terms app old new words words' (n ∷ []) (reply ∷ [])) (sym is) (record {
     one_each = refl;
     words = ap (λ x. x.1) took;
     remembers = rises;
     run = λ sure w s h. record {
       told = (app, reply) ∷ [];
-      moved = subst (λ bytes. Moved (Shows holds new) (MayLeave may_leave old) (MayLeave may_leave new) w ((app, Calls call bytes) ∷ (app, Finishes) ∷ []) ((app, reply) ∷ [])) (ap (λ x. x.0) took) (run sure w s h);
+      moved = subst (λ bytes. Moved (Shows terms new) (MayLeave terms old) (MayLeave terms new) w ((app, Calls call bytes) ∷ (app, Finishes) ∷ []) ((app, reply) ∷ [])) (ap (λ x. x.0) took) (run sure w s h);
       each = refl;
       answered = refl;
     };
   })
 
   -- one after the other
-  pub leads-then : (a b c : TokenState K) (u v x : ChaCha) (ms ns : List Message) (rs qs : List Reply) → Leads holds may_leave doubt app a b u v ms rs → Leads holds may_leave doubt app b c v x ns qs → Leads holds may_leave doubt app a c u x (ms ++ ns) (rs ++ qs)
+  pub leads-then : (a b c : TokenState K) (u v x : ChaCha) (ms ns : List Message) (rs qs : List Reply) → Leads terms app a b u v ms rs → Leads terms app b c v x ns qs → Leads terms app a c u x (ms ++ ns) (rs ++ qs)
   leads-then a b c u v x ms ns rs qs p q = record {
     one_each = omega (arith, p.one_each, q.one_each, length-append rs qs, length-append ms ns);
     words = q.words ∙ ap (λ y. words_after y ns) p.words ∙ sym (words-append u ms ns);
     remembers = omega (arith, p.remembers, q.remembers);
     run = λ sure w s h.
-        let honest : doubt b.store.keep ≡ 0 = omega (arith, sure, q.remembers) in
+        let honest : terms.doubt b.store.keep ≡ 0 = omega (arith, sure, q.remembers) in
         let first = p.run honest w s h in
         let second = q.run sure (after w first.moved.moves) first.moved.shows first.moved.idle in
         record {
           told = first.told ++ second.told;
-          moved = subst (λ done. Moved (Shows holds c) (MayLeave may_leave a) (MayLeave may_leave c) w done (first.told ++ second.told)) (ap (λ y. acts app u ms ++ acts app y ns) p.words ∙ sym (acts-append app u ms ns))
-              (moved-then (Shows holds b) (Shows holds c) (MayLeave may_leave a) (MayLeave may_leave b) (MayLeave may_leave c) w (acts app u ms) (acts app v ns) first.told second.told first.moved second.moved);
+          moved = subst (λ done. Moved (Shows terms c) (MayLeave terms a) (MayLeave terms c) w done (first.told ++ second.told)) (ap (λ y. acts app u ms ++ acts app y ns) p.words ∙ sym (acts-append app u ms ns))
+              (moved-then (Shows terms b) (Shows terms c) (MayLeave terms a) (MayLeave terms b) (MayLeave terms c) w (acts app u ms) (acts app v ns) first.told second.told first.moved second.moved);
           each = omega (arith, first.each, second.each, length-append first.told second.told, calls-append ms ns);
           answered = ap (λ y. y ++ qs) first.answered ∙ ap (λ y. answers ms first.told ++ y) second.answered ∙ sym (answers-append ms ns first.told second.told first.each);
         };

@@ -11,7 +11,7 @@ use Rattle.token_model.specs.declared.event.Event.TheVariants.{Call, Finish}
 use Rattle.token_store.specs.declared.out.Out.TheVariants.{Reply as OutReply}
 use Rattle.token_model.specs.Views.{Question}
 use Rattle.token_model.specs.Answering.{Said, Replies, Asks}
-use Rattle.token_model.specs.Worlds.{World, value_of, Move, Goes, Refuses, event_of, reveal_to_call, reveal_to_task, answer_at, result_at, change_for, set_apart, called, says_called, told, refused, finished, happens, reply_to, after, replies}
+use Rattle.token_model.specs.Worlds.{World, value_of, Move, Goes, Refuses, event_of, reveal_to_call, reveal_to_task, answer_at, result_at, change_for, set_apart, called, says_called, told, refused, finish_refused, finished, happens, reply_to, after, replies}
 use Rattle.token.specs.Applications.{move_of, moved, HasJobs}
 use Rattle.token.specs.Runs.{Lasting, LeavesBy, LeftBy, LeftAfter, call_change}
 use Rattle.line.specs.Lines.{Act, Calls, Finishes, act_of, Moved}
@@ -51,24 +51,24 @@ acts-append [] ns = refl
 acts-append (m ∷ ms) ns = ap (λ as'. act_of (event_of m) ∷ as') (acts-append ms ns)
 
 -- what could be left before may be known to be less
-left-more : (p q : Lasting → Type 0) (w : World) (m : Move) (x : Lasting) → (p x → q x) → LeftBy p w m x → LeftBy q w m x
+left-more : (p q : Option Lasting → Type 0) (w : World) (m : Move) (x : Option Lasting) → (p x → q x) → LeftBy p w m x → LeftBy q w m x
 left-more p q w (Goes event) x f (inl l) = inl (f l.0, l.1)
 left-more p q w (Goes event) x f (inr l) = inr l
 left-more p q w (Refuses event fault) x f (inl l) = inl (f l)
 left-more p q w (Refuses event fault) x f (inr l) = inr l
 
-left-after-more : (p q : Lasting → Type 0) (w : World) (ms : List Move) (x : Lasting) → (p x → q x) → LeftAfter p w ms x → LeftAfter q w ms x
+left-after-more : (p q : Option Lasting → Type 0) (w : World) (ms : List Move) (x : Option Lasting) → (p x → q x) → LeftAfter p w ms x → LeftAfter q w ms x
 left-after-more p q w [] x f l = f l
 left-after-more p q w (m ∷ ms) x f l = left-after-more (LeftBy p w m) (LeftBy q w m) (happens w m) ms x (left-more p q w m x f) l
 
-left-append : (p : Lasting → Type 0) (w : World) (ms ns : List Move) (x : Lasting) → LeftAfter (LeftAfter p w ms) (after w ms) ns x → LeftAfter p w (ms ++ ns) x
+left-append : (p : Option Lasting → Type 0) (w : World) (ms ns : List Move) (x : Option Lasting) → LeftAfter (LeftAfter p w ms) (after w ms) ns x → LeftAfter p w (ms ++ ns) x
 left-append p w [] ns x l = l
 left-append p w (m ∷ ms) ns x l = left-append (LeftBy p w m) (happens w m) ms ns x l
 
-pub moved-none : (showing : World → Type 0) (prior : Lasting → Type 0) (w : World) → showing w → HasJobs w [] → Moved showing prior prior w [] []
+pub moved-none : (showing : World → Type 0) (prior : Option Lasting → Type 0) (w : World) → showing w → HasJobs w [] → Moved showing prior prior w [] []
 moved-none showing prior w s h = record { moves = []; took = refl; tells = refl; shows = s; idle = h; leaves = λ l may. may }
 
-pub moved-then : (showing showing' : World → Type 0) (prior mid left : Lasting → Type 0) (w : World) (done done' : List (ℕ × Act)) (told told' : List (ℕ × Reply))
+pub moved-then : (showing showing' : World → Type 0) (prior mid left : Option Lasting → Type 0) (w : World) (done done' : List (ℕ × Act)) (told told' : List (ℕ × Reply))
     → (p : Moved showing prior mid w done told) → Moved showing' mid left (after w p.moves) done' told' → Moved showing' prior left w (done ++ done') (told ++ told')
 moved-then showing showing' prior mid left w done done' told told' p q = record {
   moves = p.moves ++ q.moves;
@@ -90,8 +90,8 @@ over-finished w app q others b = elim (cases_eq b app) [
   | inr d ↦ rw (ne_eqb b app d) (seen-question (change_for b w app (result_at w app q)) (w.views b) ∙ others b d)
 ]
 
-over-refused : (w : World) (app : ℕ) → Others w app → Idle (refused w (Finish app))
-over-refused w app others b = elim (cases_eq b app) [
+over-refused : (w : World) (app : ℕ) (q : Question) → Others w app → Idle (finish_refused w app (Some q))
+over-refused w app q others b = elim (cases_eq b app) [
   | inl e ↦ rw (eq-eqb b app e) refl
   | inr d ↦ rw (ne_eqb b app d) (others b d)
 ]
@@ -101,7 +101,7 @@ passed w app none i b = rw none (i b)
 
 -- ---- a call
 
-module _ (w : World) (i : Idle w) (app : ℕ) (call : CallType) (random : Vec ℕ) (showing : World → Type 0) (prior left : Lasting → Type 0) where
+module _ (w : World) (i : Idle w) (app : ℕ) (call : CallType) (random : Vec ℕ) (showing : World → Type 0) (prior left : Option Lasting → Type 0) where
   abbrev answered : World
   answered = called w app call random.items None
 
@@ -117,10 +117,10 @@ module _ (w : World) (i : Idle w) (app : ℕ) (call : CallType) (random : Vec �
 
   -- that is answered
   pub moved-reply : (r : Reply) → Replies r ≡ says_called w app call random.items (set_apart r) → showing (called w app call random.items (set_apart r))
-      → ((l : Lasting) → left l → LeavesBy prior (call_change w app call random.items) answered (set_apart r) l) → Moved showing prior left w Done ((app, r) ∷ [])
+      → ((l : Option Lasting) → left l → LeavesBy prior (call_change w app call random.items) answered (set_apart r) l) → Moved showing prior left w Done ((app, r) ∷ [])
   moved-reply r says sh l = both (set_apart r) says sh l where
     both : (o : Option Fault) → Replies r ≡ says_called w app call random.items o → showing (called w app call random.items o)
-        → ((l : Lasting) → left l → LeavesBy prior (call_change w app call random.items) answered o l) → Moved showing prior left w Done ((app, r) ∷ [])
+        → ((l : Option Lasting) → left l → LeavesBy prior (call_change w app call random.items) answered o l) → Moved showing prior left w Done ((app, r) ∷ [])
     both None is s l =
         let none : (answered.views app).question ≡ None = own (Replies r) is in
         record {
@@ -143,15 +143,15 @@ module _ (w : World) (i : Idle w) (app : ℕ) (call : CallType) (random : Vec �
         }
 
   -- that asks, and whose question is finished
-  pub moved-ask : (mid : Lasting → Type 0) (r : Reply) (q : Question) → Asks q ≡ (answer_at w app call random.items).says → ((answered.views app).question ≡ Some q → reply_to answered (move_of (Finish app) (OutReply r)) ≡ (app, r) ∷ [])
+  pub moved-ask : (mid : Option Lasting → Type 0) (r : Reply) (q : Question) → Asks q ≡ (answer_at w app call random.items).says → ((answered.views app).question ≡ Some q → reply_to answered (move_of (Finish app) (OutReply r)) ≡ (app, r) ∷ [])
       → ((answered.views app).question ≡ Some q → showing (happens answered (move_of (Finish app) (OutReply r))))
-      → ((l : Lasting) → mid l → LeavesBy prior (call_change w app call random.items) answered None l) → ((answered.views app).question ≡ Some q → (l : Lasting) → left l → LeftBy mid answered (move_of (Finish app) (OutReply r)) l)
+      → ((l : Option Lasting) → mid l → LeavesBy prior (call_change w app call random.items) answered None l) → ((answered.views app).question ≡ Some q → (l : Option Lasting) → left l → LeftBy mid answered (move_of (Finish app) (OutReply r)) l)
       → Moved showing prior left w Done ((app, r) ∷ [])
   moved-ask mid r q says tells sh l k =
       let out : (answered.views app).question ≡ Some q = own (Asks q) says in
       both (set_apart r) out (tells out) (sh out) (k out) where
         both : (o : Option Fault) → (answered.views app).question ≡ Some q → reply_to answered (moved (Finish app) o) ≡ (app, r) ∷ [] → showing (happens answered (moved (Finish app) o))
-            → ((l : Lasting) → left l → LeftBy mid answered (moved (Finish app) o) l) → Moved showing prior left w Done ((app, r) ∷ [])
+            → ((l : Option Lasting) → left l → LeftBy mid answered (moved (Finish app) o) l) → Moved showing prior left w Done ((app, r) ∷ [])
         both None out t s k = record {
           moves = Goes (Call app call random) ∷ Goes (Finish app) ∷ [];
           took = refl;
@@ -165,6 +165,6 @@ module _ (w : World) (i : Idle w) (app : ℕ) (call : CallType) (random : Vec �
           took = refl;
           tells = ap (λ x. told app x ++ (reply_to answered (Refuses (Finish app) fault) ++ [])) (sym says) ∙ append-nil (reply_to answered (Refuses (Finish app) fault)) ∙ t;
           shows = s;
-          idle = no_jobs (refused answered (Finish app)) (over-refused answered app others);
+          idle = no_jobs (refused answered (Finish app)) (subst (λ o. Idle (finish_refused answered app o)) (sym out) (over-refused answered app q others));
           leaves = λ x may. left-more mid (LeftBy prior w (Goes (Call app call random))) answered (Refuses (Finish app) fault) x (l x) (k x may);
         }

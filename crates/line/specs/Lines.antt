@@ -1,14 +1,14 @@
 -- What a line does with the messages that it reads, and what it answers. The frames and their payloads are this
 -- project's; a call is one of the functions of PKCS #11 v3.1, 5, and a message that is none is answered by a code of
 -- 5.1: CKR_FUNCTION_NOT_SUPPORTED for a function that isn't known, and CKR_ARGUMENTS_BAD for any other.
-use Rattle.std.specs.Prelude.{◌≡◌, ℕ, ◌+◌, ◌≤◌, List, [], ◌∷◌, ◌++◌, map, length, Result, Ok, Err}
+use Rattle.std.specs.Prelude.{◌≡◌, ℕ, ◌+◌, ◌≤◌, List, [], ◌∷◌, ◌++◌, map, length, Option, Result, Ok, Err}
 use Rattle.rand_chacha.specs.ChaCha.{ChaCha}
 use Rattle.ck_types.specs.declared.rv.Rv.TheVariants.{ArgumentsBad, FunctionNotSupported}
 use Rattle.ck_calls.specs.declared.call.Call.{Call as CallType}
 use Rattle.ck_calls.specs.declared.reply.Reply.{Reply}
 use Rattle.ck_calls.specs.declared.reply.Reply.TheVariants.{Code}
 use Rattle.ck_calls.specs.Need.{random_bytes}
-use Rattle.keep.specs.Contents.{Contents}
+use Rattle.keep.specs.Keeping.{Terms}
 use Rattle.wire.specs.declared.fault.WireFault.{WireFault}
 use Rattle.wire.specs.declared.fault.WireFault.TheVariants as faults
 use Rattle.wire.specs.Messages.{call_in}
@@ -84,17 +84,17 @@ answers (Err fault ∷ ms) told = refusal_of fault ∷ answers ms told
 -- From w these acts took place, each as it goes or refused by a fault set apart, and this was told. The token shows the
 -- world after them, no question is pending, and a crash leaves the changes that were acknowledged, and perhaps one that
 -- was tried since, whole. What each application is told and sees of it follows from the moves by the token's laws.
-pub record Moved (showing : World → Type 0) (prior left : Lasting → Type 0) (w : World) (done : List (ℕ × Act)) (told : List (ℕ × Reply)) : Type 0 where
+pub record Moved (showing : World → Type 0) (prior left : Option Lasting → Type 0) (w : World) (done : List (ℕ × Act)) (told : List (ℕ × Reply)) : Type 0 where
   pub moves : List Move
   pub took : map (λ m. act_of (event_of m)) moves ≡ done
   pub tells : replies w moves ≡ told
   pub shows : showing (after w moves)
   pub idle : HasJobs (after w moves) []
-  pub leaves : (l : Lasting) → left l → LeftAfter prior w moves l
+  pub leaves : (l : Option Lasting) → left l → LeftAfter prior w moves l
 
 -- The run of a line over messages: its calls were made in order by the one application, each told one reply, and the
 -- messages were answered so.
-pub record IsLine (showing : World → Type 0) (prior left : Lasting → Type 0) (app : ℕ) (w : World) (words : ChaCha) (ms : List Message) (said : List Reply) : Type 0 where
+pub record IsLine (showing : World → Type 0) (prior left : Option Lasting → Type 0) (app : ℕ) (w : World) (words : ChaCha) (ms : List Message) (said : List Reply) : Type 0 where
   pub told : List (ℕ × Reply)
   pub moved : Moved showing prior left w (acts app words ms) told
   pub each : length told ≡ calls_in ms
@@ -102,17 +102,17 @@ pub record IsLine (showing : World → Type 0) (prior left : Lasting → Type 0)
 
 -- ---- two states of a token
 
-module _ {K : Type 0} (holds may_leave : K → Contents → Type 0) (doubt : K → ℕ) where
+module _ {K : Type 0} (terms : Terms K) where
   -- What a token and the words of an application became while these messages were answered so. No lie of the disk is
   -- forgotten; while there was none, this is a line's run from each world that the token showed.
   pub record Leads (app : ℕ) (old new : TokenState K) (words_old words_new : ChaCha) (ms : List Message) (said : List Reply) : Type 0 where
     pub one_each : length said ≡ length ms
     pub words : words_new ≡ words_after words_old ms
-    pub remembers : doubt old.store.keep ≤ doubt new.store.keep
-    pub run : doubt new.store.keep ≡ 0 → (w : World) → Shows holds old w → HasJobs w [] → IsLine (Shows holds new) (MayLeave may_leave old) (MayLeave may_leave new) app w words_old ms said
+    pub remembers : terms.doubt old.store.keep ≤ terms.doubt new.store.keep
+    pub run : terms.doubt new.store.keep ≡ 0 → (w : World) → Shows terms old w → HasJobs w [] → IsLine (Shows terms new) (MayLeave terms old) (MayLeave terms new) app w words_old ms said
 
   -- and then the application went
   pub record LeadsAway (app : ℕ) (old new : TokenState K) (words_old words_new : ChaCha) (ms : List Message) (said : List Reply) : Type 0 where
     pub one_each : length said ≡ length ms
     pub words : words_new ≡ words_after words_old ms
-    pub run : doubt new.store.keep ≡ 0 → (w : World) → Shows holds old w → IsLine (λ v. Shows holds new (goes v (Gone app))) (MayLeave may_leave old) (MayLeave may_leave new) app w words_old ms said
+    pub run : terms.doubt new.store.keep ≡ 0 → (w : World) → Shows terms old w → IsLine (λ v. Shows terms new (goes v (Gone app))) (MayLeave terms old) (MayLeave terms new) app w words_old ms said

@@ -85,8 +85,8 @@ fn answer_call<K: Keep>(
     random: Vec<u8>,
 ) -> Reply
     requires { length random.items ≡ random_bytes call }
-    ensures moved { K.doubt token.new.store.keep ≡ 0 → (w : World) → Shows K.holds token.old w → HasJobs w [] → Moved (Shows K.holds token.new) (MayLeave K.may_leave token.old) (MayLeave K.may_leave token.new) w ((app, Calls call random.items) ∷ (app, Finishes) ∷ []) ((app, result) ∷ []) }
-    ensures doubt { K.doubt token.old.store.keep ≤ K.doubt token.new.store.keep }
+    ensures moved { K.terms.doubt token.new.store.keep ≡ 0 → (w : World) → Shows K.terms token.old w → HasJobs w [] → Moved (Shows K.terms token.new) (MayLeave K.terms token.old) (MayLeave K.terms token.new) w ((app, Calls call random.items) ∷ (app, Finishes) ∷ []) ((app, result) ∷ []) }
+    ensures doubt { K.terms.doubt token.old.store.keep ≤ K.terms.doubt token.new.store.keep }
 {
     match token.call(alloc, app, call, &random) {
         Out::Reply(reply) => reply,
@@ -102,7 +102,7 @@ fn answer<K: Keep>(
     words: &mut Words,
     payload: &[u8],
 ) -> Result<Reply, LineFault>
-    ensures ok { IfOk result (λ reply. Leads K.holds K.may_leave K.doubt app token.old token.new words.old words.new (call_in payload.now ∷ []) (reply ∷ [])) }
+    ensures ok { IfOk result (λ reply. Leads K.terms app token.old token.new words.old words.new (call_in payload.now ∷ []) (reply ∷ [])) }
     ensures err { IfErr result (λ fault. (fault ≡ Memory) × (token.new ≡ token.old) × (words.new ≡ words.old)) }
 {
     match read_call(alloc, payload) {
@@ -128,7 +128,7 @@ fn answer_all<W: Write, K: Keep>(
     count: &mut u64,
 ) -> Result<(), LineFault>
     requires { frames.old.failed ≡ false }
-    ensures { Answers (Leads K.holds K.may_leave K.doubt app token.old token.new words.old words.new) frames.old frames.new count.old count.new (W.contents writer.old) (W.contents writer.new) result }
+    ensures { Answers (Leads K.terms app token.old token.new words.old words.new) frames.old frames.new count.old count.new (W.contents writer.old) (W.contents writer.new) result }
 {
     let _counted = *count;
     loop {
@@ -154,7 +154,7 @@ fn serve_frames<R: Read, W: Write, K: Keep>(
     app: u64,
     words: &mut Words,
 ) -> Result<u64, LineFault>
-    ensures { Serves (Leads K.holds K.may_leave K.doubt app token.old token.new words.old words.new) (R.remaining reader.old) (R.remaining reader.new) (W.contents writer.old) (W.contents writer.new) result }
+    ensures { Serves (Leads K.terms app token.old token.new words.old words.new) (R.remaining reader.old) (R.remaining reader.new) (W.contents writer.old) (W.contents writer.new) result }
 {
     let mut frames = FrameReader::new(alloc);
     let mut piece = [0u8; PIECE_LEN];
@@ -217,15 +217,15 @@ pub fn serve_one<R: Read, W: Write, K: Keep>(
     words: &mut Words,
 ) -> Result<u64, LineFault>
     // No question is pending.
-    requires { (w : World) → Shows K.holds token.old w → HasJobs w [] }
+    requires { (w : World) → Shows K.terms token.old w → HasJobs w [] }
     // The bytes written are the frames of the replies to the messages of the bytes read. While the store is
     // honest, these are a run of the token from each world that it showed, and it shows the world after
     // that, without the application.
-    ensures serves { Serves (LeadsAway K.holds K.may_leave K.doubt words.old.stream token.old token.new words.old words.new) (R.remaining reader.old) (R.remaining reader.new) (W.contents writer.old) (W.contents writer.new) result }
+    ensures serves { Serves (LeadsAway K.terms words.old.stream token.old token.new words.old words.new) (R.remaining reader.old) (R.remaining reader.new) (W.contents writer.old) (W.contents writer.new) result }
     // No question is pending.
-    ensures idle { K.doubt token.new.store.keep ≡ 0 → (v : World) → Shows K.holds token.old v → (w : World) → Shows K.holds token.new w → HasJobs w [] }
+    ensures idle { K.terms.doubt token.new.store.keep ≡ 0 → (v : World) → Shows K.terms token.old v → (w : World) → Shows K.terms token.new w → HasJobs w [] }
     // No lie of the disk is forgotten.
-    ensures doubt { K.doubt token.old.store.keep ≤ K.doubt token.new.store.keep }
+    ensures doubt { K.terms.doubt token.old.store.keep ≤ K.terms.doubt token.new.store.keep }
 {
     let app = words.app();
     let ended = serve_frames(alloc, reader, writer, token, app, words);

@@ -110,7 +110,7 @@ fn joined(alloc: Global, parts: &[&[u8]]) -> Result<Vec<u8>, Fail> {
 
 /// A token that nobody has called.
 fn token_over<K: Keep>(alloc: Global, keep: K) -> Result<Token<K>, Fail>
-    ensures { IfOk result (λ t. (w : World) → Shows K.holds t w → HasJobs w []) }
+    ensures { IfOk result (λ t. (w : World) → Shows K.terms t w → HasJobs w []) }
 {
     match Token::new(alloc, keep) {
         Ok(token) => Ok(token),

@@ -26,7 +26,7 @@ pub fn serve<K: Keep>(
     mechanism: Option<Mechanism>,
     key: u64,
 ) -> Result<Reply, Refusal>
-    ensures { IsDone K.holds K.may_leave K.doubt K.failures_of K.tried 0 (λ v. encrypt_init v session mechanism key) store.old store.new desk.old result desk.new }
+    ensures { IsDone K.terms 0 (λ v. encrypt_init v session mechanism key) store.old store.new desk.old result desk.new }
 {
     let _ = desk.state(session).ok_or(Row::NoSession)?;
     let Some(mechanism) = mechanism else {

@@ -27,7 +27,7 @@ pub(crate) fn add_object<K: Keep>(
 ) -> Result<Reply, Refusal>
     requires below { desk.old.handles.next_number < 2 ^ 63 }
     requires state { is_user state ≡ is_user_in desk.old.sessions.login }
-    ensures { IsDone K.holds K.may_leave K.doubt K.failures_of K.tried 1 (λ v. adds_where v session state object) store.old store.new desk.old result desk.new }
+    ensures { IsDone K.terms 1 (λ v. adds_where v session state object) store.old store.new desk.old result desk.new }
 {
     let is_token = object.flag(AttrType::Token);
     if is_token && !is_read_write(state) {
@@ -54,7 +54,7 @@ fn add_token_object<K: Keep>(
     requires below { desk.old.handles.next_number < 2 ^ 63 }
     requires token { IsTokenObject object.now }
     requires seen { sees desk.old.sessions.login object.now ≡ true }
-    ensures { IsDone K.holds K.may_leave K.doubt K.failures_of K.tried 1 (λ v. adds_token_object v object.now) store.old store.new desk.old result desk.new }
+    ensures { IsDone K.terms 1 (λ v. adds_token_object v object.now) store.old store.new desk.old result desk.new }
 {
     desk.reserve_handle()?;
     let id = store.insert(object)?;

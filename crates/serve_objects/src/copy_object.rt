@@ -26,7 +26,7 @@ pub fn serve<K: Keep>(
 ) -> Result<Reply, Refusal>
     requires below { desk.old.handles.next_number < 2 ^ 63 }
     requires random { 16 ≤ length random.now }
-    ensures { IsDone K.holds K.may_leave K.doubt K.failures_of K.tried 1 (λ v. copy_object v session handle template.now random.now) store.old store.new desk.old result desk.new }
+    ensures { IsDone K.terms 1 (λ v. copy_object v session handle template.now random.now) store.old store.new desk.old result desk.new }
 {
     let state = desk.state(session).ok_or(Row::NoSession)?;
     let found = find(alloc, desk, store, handle)?.ok_or(Row::NoObject)?;

@@ -29,7 +29,7 @@ pub fn serve<K: Keep>(
     session: u64,
     handle: u64,
 ) -> Result<Reply, Refusal>
-    ensures { IsDone K.holds K.may_leave K.doubt K.failures_of K.tried 1 (λ v. destroy_object v session handle) store.old store.new desk.old result desk.new }
+    ensures { IsDone K.terms 1 (λ v. destroy_object v session handle) store.old store.new desk.old result desk.new }
 {
     let read_write = desk.is_read_write(session).ok_or(Row::NoSession)?;
     let found = find(alloc, desk, store, handle)?.ok_or(Row::NoObject)?;
@@ -50,9 +50,9 @@ fn destroy<K: Keep>(
     id: Option<u64>,
 ) -> Result<Reply, Refusal>
     requires { IsTable desk.old.handles.next_number desk.old.handles.entries }
-    ensures serves { (object : List Entry) → K.doubt store.new.keep ≡ 0 → (c : Contents) → Has K.holds store.old c → Fits c desk.old.handles.entries → IsAt c desk.old handle object id → Does K.holds K.may_leave (destroyed (view_of c desk.old) handle (place_of (view_of c desk.old).tokens handle)) c store.old store.new desk.old result desk.new }
-    ensures counts { Counted K.doubt K.failures_of K.tried store.old.keep store.new.keep 1 }
-    ensures cause { IsErrOf result Device → Rises (K.failures_of store.old.keep) (K.failures_of store.new.keep) }
+    ensures serves { (object : List Entry) → K.terms.doubt store.new.keep ≡ 0 → (c : Contents) → Has K.terms store.old c → Fits c desk.old.handles.entries → IsAt c desk.old handle object id → Does K.terms (destroyed (view_of c desk.old) handle (place_of (view_of c desk.old).tokens handle)) c store.old store.new desk.old result desk.new }
+    ensures counts { Counted K.terms store.old.keep store.new.keep 0 1 }
+    ensures cause { IsErrOf result Device → Rises (K.terms.failures store.old.keep) (K.terms.failures store.new.keep) }
 {
     match id {
         Some(id) => {

@@ -23,7 +23,7 @@ pub fn serve<K: Keep>(
     handle: u64,
     query: &Query,
 ) -> Result<Reply, Refusal>
-    ensures { IsDone K.holds K.may_leave K.doubt K.failures_of K.tried 0 (λ v. get_attribute_value v session handle query.now) store.old store.new desk.now result desk.now }
+    ensures { IsDone K.terms 0 (λ v. get_attribute_value v session handle query.now) store.old store.new desk.now result desk.now }
 {
     let _ = desk.state(session).ok_or(Row::NoSession)?;
     let found = find(alloc, desk, store, handle)?.ok_or(Row::NoObject)?;

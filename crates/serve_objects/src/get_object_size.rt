@@ -21,7 +21,7 @@ pub fn serve<K: Keep>(
     session: u64,
     handle: u64,
 ) -> Result<Reply, Refusal>
-    ensures { IsDone K.holds K.may_leave K.doubt K.failures_of K.tried 0 (λ v. get_object_size v session handle) store.old store.new desk.now result desk.now }
+    ensures { IsDone K.terms 0 (λ v. get_object_size v session handle) store.old store.new desk.now result desk.now }
 {
     let _ = desk.state(session).ok_or(Row::NoSession)?;
     let found = find(alloc, desk, store, handle)?.ok_or(Row::NoObject)?;

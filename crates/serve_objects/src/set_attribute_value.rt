@@ -34,7 +34,7 @@ pub fn serve<K: Keep>(
     handle: u64,
     template: &Template,
 ) -> Result<Reply, Refusal>
-    ensures { IsDone K.holds K.may_leave K.doubt K.failures_of K.tried 1 (λ v. set_attribute_value v session handle template.now) store.old store.new desk.old result desk.new }
+    ensures { IsDone K.terms 1 (λ v. set_attribute_value v session handle template.now) store.old store.new desk.old result desk.new }
 {
     let state = desk.state(session).ok_or(Row::NoSession)?;
     let found = find(alloc, desk, store, handle)?.ok_or(Row::NoObject)?;
@@ -59,9 +59,9 @@ fn put<K: Keep>(
 ) -> Result<Reply, Refusal>
     requires table { IsTable desk.old.handles.next_number desk.old.handles.entries }
     requires token { IfSome id (λ i. IsTokenObject object) }
-    ensures serves { (old : List Entry) → is_public object ≡ is_public old → K.doubt store.new.keep ≡ 0 → (c : Contents) → Has K.holds store.old c → Fits c desk.old.handles.entries → IsAt c desk.old handle old id → Does K.holds K.may_leave (puts (view_of c desk.old) handle object (place_of (view_of c desk.old).tokens handle)) c store.old store.new desk.old result desk.new }
-    ensures counts { Counted K.doubt K.failures_of K.tried store.old.keep store.new.keep 1 }
-    ensures cause { IsErrOf result Device → Rises (K.failures_of store.old.keep) (K.failures_of store.new.keep) }
+    ensures serves { (old : List Entry) → is_public object ≡ is_public old → K.terms.doubt store.new.keep ≡ 0 → (c : Contents) → Has K.terms store.old c → Fits c desk.old.handles.entries → IsAt c desk.old handle old id → Does K.terms (puts (view_of c desk.old) handle object (place_of (view_of c desk.old).tokens handle)) c store.old store.new desk.old result desk.new }
+    ensures counts { Counted K.terms store.old.keep store.new.keep 0 1 }
+    ensures cause { IsErrOf result Device → Rises (K.terms.failures store.old.keep) (K.terms.failures store.new.keep) }
 {
     match id {
         Some(id) => {

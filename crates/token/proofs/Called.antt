@@ -1,10 +1,12 @@
 -- A call at one desk is the world's next step.
 use Rattle.std.proofs.lemmas.Bool.{cases_eq}
 use Rattle.std.proofs.Common.{◌≡◌, ◌≢◌, ◌⊎◌, ℕ, List, Option, Some, None, Result, Ok, Err, refl, sym, ◌∙◌, ap, inl, inr}
+use Rattle.std.specs.Option.{option_map}
 use Rattle.ck_types.specs.declared.rv.Rv.TheVariants.{DeviceError}
 use Rattle.ck_calls.specs.declared.call.Call.{Call}
 use Rattle.ck_calls.specs.declared.reply.Reply.TheVariants.{Code}
 use Rattle.keep.specs.Contents.{Contents}
+use Rattle.keep.specs.Keeping.{Terms}
 use Rattle.token_model.specs.declared.fault.Fault.{Fault}
 use Rattle.token_model.specs.declared.fault.Fault.TheVariants.{Memory, Device}
 use Rattle.desk.specs.Desks.{DeskState, SameDesk}
@@ -33,12 +35,12 @@ refused-apart : (fault : Fault) → (f : Fault) × (apart (said_of (told_as (Err
 refused-apart Memory = (Memory, refl, refl)
 refused-apart Device = (Device, refl, refl)
 
-module _ {K : Type 0} (holds may_leave : K → Contents → Type 0) (old new : StoreState K) (ds ds' : List (ℕ × DeskState)) (cs : List Check) (app : ℕ) (call : Call) (random : List ℕ) (w : World) (s : Shows holds (record { store = old; desks = ds; checks = cs }) w) (others : (b : ℕ) → b ≢ app → SameDesk (desk_at ds b) (desk_at ds' b)) where
+module _ {K : Type 0} (terms : Terms K) (old new : StoreState K) (ds ds' : List (ℕ × DeskState)) (cs : List Check) (app : ℕ) (call : Call) (random : List ℕ) (w : World) (s : Shows terms (record { store = old; desks = ds; checks = cs }) w) (others : (b : ℕ) → b ≢ app → SameDesk (desk_at ds b) (desk_at ds' b)) where
   abbrev given : Answer
   given = answer (view_of s.contents (desk_at ds app)) call random reveals_nothing
 
   abbrev pub IsServed : Result Out Fault → Type 0
-  IsServed r = Serves holds may_leave said_of given s.contents old new (desk_at ds app) (desk_at ds app) r (desk_at ds' app)
+  IsServed r = Serves terms said_of given s.contents old new (desk_at ds app) (desk_at ds app) r (desk_at ds' app)
 
   given-is : answer_at w app call random ≡ given
   given-is = ap (λ v. answer v call random reveals_nothing) (s.depicts.views app)
@@ -52,7 +54,7 @@ module _ {K : Type 0} (holds may_leave : K → Contents → Type 0) (old new : S
     | inr differ ↦ others b differ
   ]
 
-  pub shows-called : (r : Result Out Fault) → IsServed r → Shows holds (record { store = new; desks = ds'; checks = cs }) (called w app call random (apart (said_of (told_as r))))
+  pub shows-called : (r : Result Out Fault) → IsServed r → Shows terms (record { store = new; desks = ds'; checks = cs }) (called w app call random (apart (said_of (told_as r))))
   shows-called (Ok out) m = record {
     contents = m.contents;
     has = m.has;
@@ -76,16 +78,16 @@ module _ {K : Type 0} (holds may_leave : K → Contents → Type 0) (old new : S
       let change : Change = in_list (sees (desk_at ds app).sessions.login) (objects_of s.contents) given.change in
       rw (change-is, s.depicts.token_record, s.depicts.objects, objects-changed change s.contents d is, record-changed change s.contents d is) refl
 
-  pub leaves-called : (r : Result Out Fault) → IsServed r → (l : Lasting) → MayLeave may_leave (record { store = new; desks = ds'; checks = cs }) l
-      → LeavesBy (MayLeave may_leave (record { store = old; desks = ds; checks = cs })) (call_change w app call random) (called w app call random None) (apart (said_of (told_as r))) l
+  pub leaves-called : (r : Result Out Fault) → IsServed r → (l : Option Lasting) → MayLeave terms (record { store = new; desks = ds'; checks = cs }) l
+      → LeavesBy (MayLeave terms (record { store = old; desks = ds; checks = cs })) (call_change w app call random) (called w app call random None) (apart (said_of (told_as r))) l
   leaves-called (Ok out) m l may =
       rw (went (view_of s.contents (desk_at ds app)) call random out m.gives.says) (elim (m.leaves may.0 may.1) [
         | inl before ↦ inl ((may.0, before.0, may.2), change-is ∙ before.1)
-        | inr is ↦ inr (may.2 ∙ ap lasting_in is ∙ lasts m.contents m.gives.changes)
+        | inr is ↦ inr (may.2 ∙ ap (option_map lasting_in) is ∙ ap Some (lasts m.contents m.gives.changes))
       ])
   leaves-called (Err fault) m l may = let f = refused-apart fault in rw f.1 (elim (m.leaves may.0 may.1) [
     | inl before ↦ inl (may.0, before, may.2)
-    | inr is ↦ inr (may.2 ∙ lasts may.0 is)
+    | inr is ↦ inr (may.2 ∙ ap (option_map lasting_in) is.1 ∙ ap Some (lasts is.0 is.2))
   ])
 
   -- the device is to blame only where it failed

@@ -6,6 +6,7 @@ use Rattle.ck_calls.specs.declared.call.Call.{Call}
 use Rattle.ck_calls.specs.declared.reply.Reply.{Reply}
 use Rattle.ck_calls.specs.Functions.{function_of}
 use Rattle.keep.specs.Contents.{Contents}
+use Rattle.keep.specs.Keeping.{Terms}
 use Rattle.precede.specs.declared.row.Row.TheVariants.{Busy}
 use Rattle.mech.specs.declared.job.Job.{Job}
 use Rattle.desk.specs.Desks.{DeskState, is_busy}
@@ -41,8 +42,8 @@ unfolding answer
 busy-is c d x random r busy = rw (closed-is c d, busy) refl
 
 -- the same answer, written otherwise
-pub serves-is : {K : Type 0} (holds may_leave : K → Contents → Type 0) (a b : Answer) (c : Contents) (old new : StoreState K) (before desk : DeskState) (r : Result Out Fault) → a ≡ b → Serves holds may_leave said_of b c old new before before r desk → Serves holds may_leave said_of a c old new before before r desk
-serves-is holds may_leave a b c old new before desk r is serves = subst (λ x. Serves holds may_leave said_of x c old new before before r desk) (sym is) serves
+pub serves-is : {K : Type 0} (terms : Terms K) (a b : Answer) (c : Contents) (old new : StoreState K) (before desk : DeskState) (r : Result Out Fault) → a ≡ b → Serves terms said_of b c old new before before r desk → Serves terms said_of a c old new before before r desk
+serves-is terms a b c old new before desk r is serves = subst (λ x. Serves terms said_of x c old new before before r desk) (sym is) serves
 
 -- a reply is no other application's job
 pub reply_for : (app : ℕ) (r : Result Reply Refusal) (out : Result Out Fault) → out ≡ settled OutReply r → IfOk out (IsFor app)
@@ -52,17 +53,17 @@ reply_for app (Err (refusals.Code code)) out is = rw is tt
 reply_for app (Err refusals.Memory) out is = rw is tt
 reply_for app (Err refusals.Device) out is = rw is tt
 
-module _ {K : Type 0} (holds may_leave : K → Contents → Type 0) (doubt : K → ℕ) (call x : Call) (random : List ℕ) (is : call ≡ x) where
+module _ {K : Type 0} (terms : Terms K) (call x : Call) (random : List ℕ) (is : call ≡ x) where
   -- a call at the desk and the store
-  pub call-done : (old new : StoreState K) (before desk : DeskState) (r : Result Reply Refusal) (out : Result Out Fault) → out ≡ settled OutReply r → Done holds may_leave doubt (λ v. answer_to v x random reveals_nothing) old new before r desk
-      → Served holds may_leave doubt said_of (λ v. answer_to v call random reveals_nothing) old new before before out desk
-  call-done old new before desk r out told done = rw (is, told) (λ sure c h fits. serves-done holds may_leave (answer_to (view_of c before) x random reveals_nothing) c old new before desk r fits (done sure c h fits))
+  pub call-done : (old new : StoreState K) (before desk : DeskState) (r : Result Reply Refusal) (out : Result Out Fault) → out ≡ settled OutReply r → Done terms (λ v. answer_to v x random reveals_nothing) old new before r desk
+      → Served terms said_of (λ v. answer_to v call random reveals_nothing) old new before before out desk
+  call-done old new before desk r out told done = rw (is, told) (λ sure c h fits. serves-done terms (answer_to (view_of c before) x random reveals_nothing) c old new before desk r fits (done sure c h fits))
 
   -- and at the desk alone
   pub call-at-desk : {T : Type 0} (tell : T → Said) (as_out : T → Out) (store : StoreState K) (before desk : DeskState) (r : Result T Refusal) (out : Result Out Fault) → ((t : T) → said_of (as_out t) ≡ tell t) → may_change_objects (function_of x) ≡ false → out ≡ settled as_out r
-      → AtDesk tell (λ v. answer_to v x random reveals_nothing) before r desk → Served holds may_leave doubt said_of (λ v. answer_to v call random reveals_nothing) store store before before out desk
+      → AtDesk tell (λ v. answer_to v x random reveals_nothing) before r desk → Served terms said_of (λ v. answer_to v call random reveals_nothing) store store before before out desk
   call-at-desk tell as_out store before desk r out same quiet told does = rw (is, told) (λ sure c h fits.
-      serves-at-desk holds may_leave tell as_out (answer_to (view_of c before) x random reveals_nothing) c store before desk r same (((proper-answer_to x random).fair (view_of c before) reveals_nothing).still (ap not quiet)) h fits (does.serves c fits))
+      serves-at-desk terms tell as_out (answer_to (view_of c before) x random reveals_nothing) c store before desk r same (((proper-answer_to x random).fair (view_of c before) reveals_nothing).still (ap not quiet)) h fits (does.serves c fits))
 
 -- where no store is asked, no keeper is to blame
 pub not-device : {T P : Type 0} (as_out : T → Out) (r : Result T Refusal) (out : Result Out Fault) → out ≡ settled as_out r → (r ≡ Err refusals.Device → ⊥) → out ≡ Err faults.Device → P

@@ -11,7 +11,7 @@ use Rattle.ck_calls.specs.declared.call.Call.{Call}
 use Rattle.ck_calls.specs.declared.reply.Reply.{Reply}
 use Rattle.token_model.specs.declared.fault.Fault.{Fault}
 use Rattle.mech.specs.declared.job.Job.{Job}
-use Rattle.keep.specs.Contents.{Contents}
+use Rattle.keep.specs.Keeping.{Terms}
 use Rattle.desk.specs.Desks.{DeskState}
 use Rattle.token_model.specs.declared.check.Check.{Check}
 use Rattle.token_store.specs.Stores.{StoreState}
@@ -121,9 +121,9 @@ seen-question (Remove place) v = refl
 seen-question (Records r) v = refl
 seen-question (Resets r) v = refl
 
-module _ (w : World) (out : List (ℕ × Job)) (h : HasJobs w out) (app : ℕ) (shows : World → Type 0) (prior left : Lasting → Type 0) where
+module _ (w : World) (out : List (ℕ × Job)) (h : HasJobs w out) (app : ℕ) (shows : World → Type 0) (prior left : Option Lasting → Type 0) where
   abbrev pub Left : Move → Type 0
-  Left m = (l : Lasting) → left l → LeftBy prior w m l
+  Left m = (l : Option Lasting) → left l → LeftBy prior w m l
 
   -- ---- a call
   module _ (call : Call) (random : Vec ℕ) where
@@ -135,16 +135,16 @@ module _ (w : World) (out : List (ℕ × Job)) (h : HasJobs w out) (app : ℕ) (
 
     -- that is answered
     pub step_reply : (r : Reply) → Replies r ≡ says_called w app call random.items (set_apart r) → shows (called w app call random.items (set_apart r))
-        → ((l : Lasting) → left l → LeavesBy prior (call_change w app call random.items) (called w app call random.items None) (set_apart r) l) → IsStep shows prior left w (EventCall app call random) ((app, r) ∷ []) out
+        → ((l : Option Lasting) → left l → LeavesBy prior (call_change w app call random.items) (called w app call random.items None) (set_apart r) l) → IsStep shows prior left w (EventCall app call random) ((app, r) ∷ []) out
     step_reply r says sh l = both (set_apart r) says sh l where
       both : (o : Option Fault) → Replies r ≡ says_called w app call random.items o → shows (called w app call random.items o)
-          → ((l : Lasting) → left l → LeavesBy prior (call_change w app call random.items) (called w app call random.items None) o l) → IsStep shows prior left w (EventCall app call random) ((app, r) ∷ []) out
+          → ((l : Option Lasting) → left l → LeavesBy prior (call_change w app call random.items) (called w app call random.items None) o l) → IsStep shows prior left w (EventCall app call random) ((app, r) ∷ []) out
       both None is s l = record { move = Goes (EventCall app call random); takes = refl; tells = ap (told app) (sym is); shows = s; jobs = reply_jobs r is; leaves = l }
       both (Some fault) is s l = record { move = Refuses (EventCall app call random) fault; takes = refl; tells = ap (told app) (sym is); shows = s; jobs = h; leaves = l }
 
     -- that asks
     pub step_ask : (job : Job) → job.app ≡ app → Asks (question_of job) ≡ (answer_at w app call random.items).says → shows (called w app call random.items None)
-        → ((l : Lasting) → left l → LeavesBy prior (call_change w app call random.items) (called w app call random.items None) None l) → IsStep shows prior left w (EventCall app call random) [] (out ++ (app, job) ∷ [])
+        → ((l : Option Lasting) → left l → LeavesBy prior (call_change w app call random.items) (called w app call random.items None) None l) → IsStep shows prior left w (EventCall app call random) [] (out ++ (app, job) ∷ [])
     step_ask job asker says sh l = record {
       move = Goes (EventCall app call random);
       takes = refl;
@@ -169,8 +169,8 @@ module _ (w : World) (out : List (ℕ × Job)) (h : HasJobs w out) (app : ℕ) (
       | inr d ↦ rw is (rw (ne_eqb b app d) (ap (map asked_by) (others b d) ∙ h b ∙ ap (asked b) (sym (seen-question (change_for b w app (result_at w app q)) (w.views b)))))
     ]
     finish_jobs q (Some fault) is = λ b. elim (cases_eq b app) [
-      | inl e ↦ rw (eq-eqb b app e) (rw e (ap (map asked_by) none))
-      | inr d ↦ rw (ne_eqb b app d) (ap (map asked_by) (others b d) ∙ h b)
+      | inl e ↦ rw is (rw (eq-eqb b app e) (rw e (ap (map asked_by) none)))
+      | inr d ↦ rw is (rw (ne_eqb b app d) (ap (map asked_by) (others b d) ∙ h b))
     ]
 
     pub step_finish : (job : Job) (r : Reply) → IsOpen w app job → reply_to w (move_of (Finish app) (OutReply r)) ≡ (app, r) ∷ [] → shows (happens w (move_of (Finish app) (OutReply r))) → Left (move_of (Finish app) (OutReply r)) → IsStep shows prior left w (Finish app) ((app, r) ∷ []) rest
@@ -180,7 +180,7 @@ module _ (w : World) (out : List (ℕ × Job)) (h : HasJobs w out) (app : ℕ) (
       both (Some fault) t s l = record { move = Refuses (Finish app) fault; takes = refl; tells = t; shows = s; jobs = finish_jobs (question_of job) (Some fault) is.question; leaves = l }
 
     -- ---- the application goes
-    pub step_gone : shows (goes w (Gone app)) → ((l : Lasting) → left l → prior l) → IsStep shows prior left w (Gone app) [] rest
+    pub step_gone : shows (goes w (Gone app)) → ((l : Option Lasting) → left l → prior l) → IsStep shows prior left w (Gone app) [] rest
     step_gone sh l = record {
       move = Goes (Gone app);
       takes = refl;
@@ -194,7 +194,7 @@ module _ (w : World) (out : List (ℕ × Job)) (h : HasJobs w out) (app : ℕ) (
     }
 
   -- ---- no question is pending
-  pub step_pass : (w.views app).question ≡ None → shows w → ((l : Lasting) → left l → prior l) → IsStep shows prior left w (Finish app) [] out
+  pub step_pass : (w.views app).question ≡ None → shows w → ((l : Option Lasting) → left l → prior l) → IsStep shows prior left w (Finish app) [] out
   step_pass none sh l = record {
     move = Goes (Finish app);
     takes = refl;
@@ -230,7 +230,7 @@ answer-other (Some j) app job (inr (inl number)) = rw (ne_eqb job.question j.que
 answer-other (Some j) app job (inr (inr f)) = rw (ne_eqb (function_number job.function) (function_number j.function) f) (ap (λ b. job.app == app && b) (and-false (job.question == j.question)) ∙ and-false (job.app == app))
 
 -- as the token tells it by its desks
-module _ {K : Type 0} (holds : K → Contents → Type 0) (store : StoreState K) (ds : List (ℕ × DeskState)) (cs : List Check) (app : ℕ) (job : Job) (w : World) (s : Shows holds (record { store = store; desks = ds; checks = cs }) w) where
+module _ {K : Type 0} (terms : Terms K) (store : StoreState K) (ds : List (ℕ × DeskState)) (cs : List Check) (app : ℕ) (job : Job) (w : World) (s : Shows terms (record { store = store; desks = ds; checks = cs }) w) where
   pub told-open : IsOpen w app job → is_answer (desk_at ds app).question app job ≡ true
   told-open is = answer-open (desk_at ds app).question app job (ap (λ v. v.question) (sym (s.depicts.views app)) ∙ is.question) is.asker
 

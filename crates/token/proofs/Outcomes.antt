@@ -7,6 +7,7 @@ use Rattle.ck_calls.specs.declared.function.Function.TheVariants as function
 use Rattle.ck_calls.specs.declared.reply.Reply.{Reply}
 use Rattle.ck_calls.specs.declared.reply.Reply.TheVariants.{Code}
 use Rattle.keep.specs.Contents.{Contents}
+use Rattle.keep.specs.Keeping.{Terms}
 use Rattle.mech.specs.declared.job.Job.{Job}
 use Rattle.mech.specs.declared.outcome.Outcome.{Outcome}
 use Rattle.mech.specs.declared.work.Work.{Work}
@@ -66,10 +67,10 @@ module _ (job : Job) (c : Contents) (old new : DeskState) where
   abbrev result : Answer
   result = answer_result (view_of c old) (value_of (question_of job).task) reveals_nothing
 
-  pub serves-finished : {K : Type 0} (holds may_leave : K → Contents → Type 0) (store : StoreState K) (r : Result Reply Fault) → Has holds store c → Finishes result c old r new → Serves holds may_leave Replies result c store store old (over old) r new
-  serves-finished holds may_leave store (Ok reply) h gives = gave-quiet holds may_leave result old.sessions.login c store store (Replies reply) new h (λ d may. may) (still-result (view_of c old) (value_of (question_of job).task) reveals_nothing) gives
-  serves-finished holds may_leave store (Err Memory) h same = record { has = h; same = same; leaves = λ d may. inl may }
-  serves-finished holds may_leave store (Err Device) h none = absurd none
+  pub serves-finished : {K : Type 0} (terms : Terms K) (store : StoreState K) (r : Result Reply Fault) → Has terms store c → Finishes result c old r new → Serves terms Replies result c store store old (over old) r new
+  serves-finished terms store (Ok reply) h gives = gave-quiet terms result old.sessions.login c store store (Replies reply) new h (λ d may. may) (still-result (view_of c old) (value_of (question_of job).task) reveals_nothing) gives
+  serves-finished terms store (Err Memory) h same = record { has = h; same = same; leaves = λ d may. inl may }
+  serves-finished terms store (Err Device) h none = absurd none
 
   pub not-device : (r : Result Reply Fault) → Finishes result c old r new → r ≡ Err Device → ⊥
   not-device (Ok reply) gives is = let k : Ok reply ≡ Err Device = is in cc

@@ -7,6 +7,7 @@ use Rattle.ck_types.specs.declared.rv.Rv.TheVariants.{DeviceError}
 use Rattle.ck_calls.specs.declared.reply.Reply.{Reply}
 use Rattle.ck_calls.specs.declared.reply.Reply.TheVariants.{Code}
 use Rattle.keep.specs.Contents.{Contents}
+use Rattle.keep.specs.Keeping.{Terms}
 use Rattle.token_model.specs.declared.fault.Fault.{Fault}
 use Rattle.token_model.specs.declared.fault.Fault.TheVariants.{Memory, Device}
 use Rattle.mech.specs.declared.job.Job.{Job}
@@ -33,7 +34,7 @@ use Rattle.token.proofs.Steps.{state, fits-given, depicts-given, depicts-put, fi
 reveals-nothing : (w : World) (app : ℕ) (t : Task) → reveal_to_task w app t ≡ reveals_nothing
 reveals-nothing w app (Encrypts operation input) = refl
 
-module _ {K : Type 0} (holds may_leave : K → Contents → Type 0) (old new : StoreState K) (ds ds' : List (ℕ × DeskState)) (cs : List Check) (app : ℕ) (job : Job) (w : World) (s : Shows holds (record { store = old; desks = ds; checks = cs }) w) (open_is : IsOpen w app job) (others : (b : ℕ) → b ≢ app → SameDesk (desk_at ds b) (desk_at ds' b)) where
+module _ {K : Type 0} (terms : Terms K) (old new : StoreState K) (ds ds' : List (ℕ × DeskState)) (cs : List Check) (app : ℕ) (job : Job) (w : World) (s : Shows terms (record { store = old; desks = ds; checks = cs }) w) (open_is : IsOpen w app job) (others : (b : ℕ) → b ≢ app → SameDesk (desk_at ds b) (desk_at ds' b)) where
   abbrev outcome : Outcome
   outcome = value_of (question_of job).task
 
@@ -41,7 +42,7 @@ module _ {K : Type 0} (holds may_leave : K → Contents → Type 0) (old new : S
   given = answer_result (view_of s.contents (desk_at ds app)) outcome reveals_nothing
 
   abbrev pub IsServed : Result Reply Fault → Type 0
-  IsServed r = Serves holds may_leave Replies given s.contents old new (desk_at ds app) (over (desk_at ds app)) r (desk_at ds' app)
+  IsServed r = Serves terms Replies given s.contents old new (desk_at ds app) (over (desk_at ds app)) r (desk_at ds' app)
 
   given-is : result_at w app (question_of job) ≡ given
   given-is = ap (λ v. answer_result v outcome (reveal_to_task w app (question_of job).task)) (s.depicts.views app) ∙ ap (answer_result (view_of s.contents (desk_at ds app)) outcome) (reveals-nothing w app (question_of job).task)
@@ -59,7 +60,7 @@ module _ {K : Type 0} (holds may_leave : K → Contents → Type 0) (old new : S
   fault-apart Memory = (Memory, refl, refl)
   fault-apart Device = (Device, refl, refl)
 
-  pub shows-finished : (r : Result Reply Fault) → IsServed r → Shows holds (record { store = new; desks = ds'; checks = without_checks app cs }) (happens w (move_of (Finish app) (OutReply (told_result r))))
+  pub shows-finished : (r : Result Reply Fault) → IsServed r → Shows terms (record { store = new; desks = ds'; checks = without_checks app cs }) (happens w (move_of (Finish app) (OutReply (told_result r))))
   shows-finished (Ok reply) m =
       let d = depicts-given given s.contents m.contents ds ds' app s.fits others (Replies reply) m.gives cs w s.depicts in
       rw (went reply m.gives.says, finishes) (record {
@@ -68,7 +69,7 @@ module _ {K : Type 0} (holds may_leave : K → Contents → Type 0) (old new : S
         fits = fits-given given s.contents m.contents ds ds' app s.fits others (Replies reply) m.gives;
         depicts = record { token_record = d.token_record; objects = d.objects; checks = ap (without_checks app) d.checks; views = d.views };
       })
-  shows-finished (Err fault) m = let f = fault-apart fault in rw f.1 (record {
+  shows-finished (Err fault) m = let f = fault-apart fault in rw (f.1, open_is.question) (record {
     contents = s.contents;
     has = m.has;
     fits = fits-put s.contents ds ds' app (rw m.same (s.fits app)) others s.fits;
@@ -77,7 +78,7 @@ module _ {K : Type 0} (holds may_leave : K → Contents → Type 0) (old new : S
 
   pub tells-finished : (r : Result Reply Fault) → IsServed r → reply_to w (move_of (Finish app) (OutReply (told_result r))) ≡ (app, told_result r) ∷ []
   tells-finished (Ok reply) m = rw (went reply m.gives.says) (ap (finish_tells w app) open_is.question ∙ ap (λ (a : Answer). told app a.says) given-is ∙ ap (told app) (sym m.gives.says))
-  tells-finished (Err fault) m = let f = fault-apart fault in rw f.1 (ap (λ r. (app, r) ∷ []) f.2)
+  tells-finished (Err fault) m = let f = fault-apart fault in rw (f.1, open_is.question) (ap (λ r. (app, r) ∷ []) f.2)
 
   lasts : (d : Contents) → Changes (in_list (sees (desk_at ds app).sessions.login) (objects_of s.contents) given.change) s.contents d → lasting_in d ≡ lasting_of (goes w (Finish app))
   lasts d is =
@@ -85,16 +86,16 @@ module _ {K : Type 0} (holds may_leave : K → Contents → Type 0) (old new : S
       let c : list_change w app given ≡ change = rw (s.depicts.views app, s.depicts.objects) refl in
       rw (finishes, c, s.depicts.token_record, s.depicts.objects, objects-changed change s.contents d is, record-changed change s.contents d is) refl
 
-  pub leaves-finished : (r : Result Reply Fault) → IsServed r → (l : Lasting) → MayLeave may_leave (record { store = new; desks = ds'; checks = without_checks app cs }) l
-      → LeftBy (MayLeave may_leave (record { store = old; desks = ds; checks = cs })) w (move_of (Finish app) (OutReply (told_result r))) l
+  pub leaves-finished : (r : Result Reply Fault) → IsServed r → (l : Option Lasting) → MayLeave terms (record { store = new; desks = ds'; checks = without_checks app cs }) l
+      → LeftBy (MayLeave terms (record { store = old; desks = ds; checks = cs })) w (move_of (Finish app) (OutReply (told_result r))) l
   leaves-finished (Ok reply) m l may =
       rw (went reply m.gives.says) (elim (m.leaves may.0 may.1) [
         | inl before ↦ inl ((may.0, before.0, may.2), change-is ∙ before.1)
-        | inr is ↦ inr (may.2 ∙ ap lasting_in is ∙ lasts m.contents m.gives.changes)
+        | inr is ↦ inr (may.2 ∙ ap (option_map lasting_in) is ∙ ap Some (lasts m.contents m.gives.changes))
       ])
   leaves-finished (Err fault) m l may = let f = fault-apart fault in rw f.1 (elim (m.leaves may.0 may.1) [
     | inl before ↦ inl (may.0, before, may.2)
-    | inr is ↦ inr (may.2 ∙ lasts may.0 is)
+    | inr is ↦ inr (may.2 ∙ ap (option_map lasting_in) is.1 ∙ ap Some (lasts is.0 is.2))
   ])
 
   pub blames-device : (r : Result Reply Fault) → IsServed r → told_result r ≡ Code DeviceError → r ≡ Err Device
@@ -102,14 +103,14 @@ module _ {K : Type 0} (holds may_leave : K → Contents → Type 0) (old new : S
   blames-device (Err Memory) m is = cc
   blames-device (Err Device) m is = refl
 
-module _ {K : Type 0} (holds may_leave : K → Contents → Type 0) where
+module _ {K : Type 0} (terms : Terms K) where
   -- the desk has the question that is open
-  pub desk-question : (old : StoreState K) (ds : List (ℕ × DeskState)) (cs : List Check) (app : ℕ) (job : Job) (w : World) (s : Shows holds (record { store = old; desks = ds; checks = cs }) w) → IsOpen w app job → option_map question_of (desk_at ds app).question ≡ Some (question_of job)
+  pub desk-question : (old : StoreState K) (ds : List (ℕ × DeskState)) (cs : List Check) (app : ℕ) (job : Job) (w : World) (s : Shows terms (record { store = old; desks = ds; checks = cs }) w) → IsOpen w app job → option_map question_of (desk_at ds app).question ≡ Some (question_of job)
   desk-question old ds cs app job w s is = ap (λ v. v.question) (sym (s.depicts.views app)) ∙ is.question
 
   -- the application goes
   pub shows-gone : (old : StoreState K) (ds ds' : List (ℕ × DeskState)) (cs : List Check) (app : ℕ) (w : World) → desk_at ds' app ≡ empty_desk → ((b : ℕ) → b ≢ app → desk_at ds' b ≡ desk_at ds b)
-      → Shows holds (record { store = old; desks = ds; checks = cs }) w → Shows holds (record { store = old; desks = ds'; checks = without_checks app cs }) (goes w (Gone app))
+      → Shows terms (record { store = old; desks = ds; checks = cs }) w → Shows terms (record { store = old; desks = ds'; checks = without_checks app cs }) (goes w (Gone app))
   shows-gone old ds ds' cs app w own others s = record {
     contents = s.contents;
     has = s.has;
@@ -118,8 +119,8 @@ module _ {K : Type 0} (holds may_leave : K → Contents → Type 0) where
   }
 
   -- nobody has come yet
-  pub shows-opening : (store : StoreState K) (c : Contents) → Has holds store c → Shows holds (record { store = store; desks = []; checks = [] }) (opening c)
+  pub shows-opening : (store : StoreState K) (c : Contents) → Has terms store c → Shows terms (record { store = store; desks = []; checks = [] }) (opening c)
   shows-opening store c h = record { contents = c; has = h; fits = λ b. fits-empty c; depicts = depicts-opening c }
 
-  pub no-jobs : (store : StoreState K) (cs : List Check) (w : World) → Shows holds (record { store = store; desks = []; checks = cs }) w → HasJobs w []
+  pub no-jobs : (store : StoreState K) (cs : List Check) (w : World) → Shows terms (record { store = store; desks = []; checks = cs }) w → HasJobs w []
   no-jobs store cs w s app = ap (λ v. map (λ q. (app, q)) (option_to_list v.question)) (sym (s.depicts.views app))

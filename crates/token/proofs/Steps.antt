@@ -7,6 +7,7 @@ use Rattle.ck_types.specs.declared.entry.Entry.{Entry}
 use Rattle.ck_types.specs.declared.user_type.UserType.{UserType}
 use Rattle.ck_calls.specs.declared.call.Call.{Call}
 use Rattle.keep.specs.Contents.{Contents, Kept}
+use Rattle.keep.specs.Keeping.{Terms}
 use Rattle.token_model.specs.declared.fault.Fault.{Fault}
 use Rattle.desk.specs.Desks.{DeskState, SameDesk, empty_desk}
 use Rattle.token_model.specs.declared.check.Check.{Check}
@@ -124,7 +125,7 @@ depicts-gone c ds ds' cs app w own others s =
     depicts-put c ds ds' cs app empty_desk (left (w.views app)) w (rw own refl) (view_of-left c (desk_at ds app) ∙ ap left (sym (s.views app))) (λ b differ. rw (others b differ) refl) s
 
 -- ---- a call at a desk that is the same but for the memory at hand
-pub served-same : {K : Type 0} (holds may_leave : K → Contents → Type 0) (call : Call) (random : List ℕ) (c : Contents) (old new : StoreState K) (d mid : DeskState) (r : Result Out Fault) (desk : DeskState) → SameDesk d mid
-    → Serves holds may_leave said_of (answer (view_of c mid) call random reveals_nothing) c old new mid mid r desk → Serves holds may_leave said_of (answer (view_of c d) call random reveals_nothing) c old new d d r desk
-served-same holds may_leave call random c old new d mid (Ok out) desk same s = rw same at s
-served-same holds may_leave call random c old new d mid (Err fault) desk same s = record { has = s.has; same = rw same at s.same; leaves = rw same at s.leaves }
+pub served-same : {K : Type 0} (terms : Terms K) (call : Call) (random : List ℕ) (c : Contents) (old new : StoreState K) (d mid : DeskState) (r : Result Out Fault) (desk : DeskState) → SameDesk d mid
+    → Serves terms said_of (answer (view_of c mid) call random reveals_nothing) c old new mid mid r desk → Serves terms said_of (answer (view_of c d) call random reveals_nothing) c old new d d r desk
+served-same terms call random c old new d mid (Ok out) desk same s = rw same at s
+served-same terms call random c old new d mid (Err fault) desk same s = record { has = s.has; same = rw same at s.same; leaves = rw same at s.leaves }

@@ -4,6 +4,7 @@ use Rattle.std.specs.Ordering.{nat_cmp}
 use Rattle.std.specs.BTreeMap.{is_at}
 use Rattle.std.specs.Map.{lookup}
 use Rattle.keep.specs.Contents.{Contents}
+use Rattle.keep.specs.Keeping.{Terms}
 use Rattle.token_model.specs.declared.fault.Fault.{Fault}
 use Rattle.token_model.specs.declared.fault.Fault.TheVariants.{Memory, Device}
 use Rattle.mech.specs.declared.job.Job.{Job}
@@ -128,8 +129,8 @@ pub record TokenState (K : Type 0) : Type 0 where
   pub checks : List Check
 
 -- the token shows the world: its keeper holds contents that do, with the desks
-pub record Shows {K : Type 0} (holds : K → Contents → Type 0) (t : TokenState K) (w : World) : Type 0 where
+pub record Shows {K : Type 0} (terms : Terms K) (t : TokenState K) (w : World) : Type 0 where
   pub contents : Contents
-  pub has : Has holds t.store contents
+  pub has : Has terms t.store contents
   pub fits : AllFit contents t.desks
   pub depicts : Depicts (record { kept = contents; desks = t.desks; checks = t.checks }) w

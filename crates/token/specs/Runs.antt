@@ -1,9 +1,11 @@
 -- One event, and a run of events, over a token whose states are known by what they show and by what a crash may leave.
 use Rattle.std.specs.Prelude.{◌≡◌, ◌⊎◌, ℕ, List, [], ◌++◌, ◌∷◌, map, Option, Some, None}
+use Rattle.std.specs.Option.{option_map}
 use Rattle.ck_types.specs.declared.entry.Entry.{Entry}
 use Rattle.ck_calls.specs.declared.call.Call.{Call as CallType}
 use Rattle.ck_calls.specs.declared.reply.Reply.{Reply}
 use Rattle.keep.specs.Contents.{Contents}
+use Rattle.keep.specs.Keeping.{Terms}
 use Rattle.token_model.specs.declared.fault.Fault.{Fault}
 use Rattle.mech.specs.declared.job.Job.{Job}
 use Rattle.token_model.specs.declared.event.Event.{Event}
@@ -29,16 +31,16 @@ lasting_of w = record { token_record = w.token_record; objects = w.objects }
 abbrev pub lasting_in : Contents → Lasting
 lasting_in c = record { token_record = record_sight c.token_record; objects = objects_of c }
 
--- what a crash at this moment may leave
-abbrev pub MayLeave : {K : Type 0} → (K → Contents → Type 0) → TokenState K → Lasting → Type 0
-MayLeave may_leave t l = (d : Contents) × may_leave t.store.keep d × (l ≡ lasting_in d)
+-- what a crash at this moment may leave, or `None`, where what is left is no token's store
+abbrev pub MayLeave : {K : Type 0} → Terms K → TokenState K → Option Lasting → Type 0
+MayLeave terms t l = (left : Option Contents) × terms.may_leave t.store.keep left × (l ≡ option_map lasting_in left)
 
 -- What a crash may leave after a change by which the world would be the next, by what it could leave before: the change
 -- alone, or, where nothing changes, what it could leave before; after a refusal what it could leave before, or the
 -- change, whole.
-abbrev pub LeavesBy : (Lasting → Type 0) → Change → World → Option Fault → Lasting → Type 0
-LeavesBy prior change next None l = (prior l × (change ≡ Stays)) ⊎ (l ≡ lasting_of next)
-LeavesBy prior change next (Some fault) l = prior l ⊎ (l ≡ lasting_of next)
+abbrev pub LeavesBy : (Option Lasting → Type 0) → Change → World → Option Fault → Option Lasting → Type 0
+LeavesBy prior change next None l = (prior l × (change ≡ Stays)) ⊎ (l ≡ Some (lasting_of next))
+LeavesBy prior change next (Some fault) l = prior l ⊎ (l ≡ Some (lasting_of next))
 
 -- the change of what lasts that a call makes, and that a result makes
 abbrev pub call_change : World → ℕ → CallType → List ℕ → Change
@@ -55,12 +57,12 @@ change_of w (Finish app) = result_change w app (w.views app).question
 change_of w (Gone app) = Stays
 
 -- what a crash may leave after an event
-abbrev pub LeftBy : (Lasting → Type 0) → World → Move → Lasting → Type 0
+abbrev pub LeftBy : (Option Lasting → Type 0) → World → Move → Option Lasting → Type 0
 LeftBy prior w (Goes event) l = LeavesBy prior (change_of w event) (goes w event) None l
 LeftBy prior w (Refuses event fault) l = LeavesBy prior (change_of w event) (goes w event) (Some fault) l
 
 -- and after a list of events
-abbrev pub LeftAfter : (Lasting → Type 0) → World → List Move → Lasting → Type 0
+abbrev pub LeftAfter : (Option Lasting → Type 0) → World → List Move → Option Lasting → Type 0
 LeftAfter prior w [] l = prior l
 LeftAfter prior w (m ∷ ms) l = LeftAfter (LeftBy prior w m) (happens w m) ms l
 
@@ -68,16 +70,16 @@ LeftAfter prior w (m ∷ ms) l = LeftAfter (LeftBy prior w m) (happens w m) ms l
 
 -- The token shows the world after the event, at which this was told, the pending jobs are the world's, and a
 -- crash may leave no more than that.
-pub record IsStep (showing : World → Type 0) (prior left : Lasting → Type 0) (w : World) (event : Event) (said : List (ℕ × Reply)) (out : List (ℕ × Job)) : Type 0 where
+pub record IsStep (showing : World → Type 0) (prior left : Option Lasting → Type 0) (w : World) (event : Event) (said : List (ℕ × Reply)) (out : List (ℕ × Job)) : Type 0 where
   pub move : Move
   pub takes : event_of move ≡ event
   pub tells : reply_to w move ≡ said
   pub shows : showing (happens w move)
   pub jobs : HasJobs (happens w move) out
-  pub leaves : (l : Lasting) → left l → LeftBy prior w move l
+  pub leaves : (l : Option Lasting) → left l → LeftBy prior w move l
 
 -- the first event is taken, and what it told stands last
-pub record Advances (sure : Type 0) (showed shows : World → Type 0) (prior left : Lasting → Type 0) (events : List Event) (jobs : List (ℕ × Job)) (said : List (ℕ × Reply)) (rest : List Event) (out : List (ℕ × Job)) (all : List (ℕ × Reply)) : Type 0 where
+pub record Advances (sure : Type 0) (showed shows : World → Type 0) (prior left : Option Lasting → Type 0) (events : List Event) (jobs : List (ℕ × Job)) (said : List (ℕ × Reply)) (rest : List Event) (out : List (ℕ × Job)) (all : List (ℕ × Reply)) : Type 0 where
   pub event : Event
   pub first : events ≡ event ∷ rest
   pub more : List (ℕ × Reply)
@@ -85,13 +87,13 @@ pub record Advances (sure : Type 0) (showed shows : World → Type 0) (prior lef
   pub step : sure → (w : World) → showed w → HasJobs w jobs → IsStep shows prior left w event more out
 
 -- From w the events took place up to those left, with these replies, and the token shows the world after them.
-pub record IsRun (showing : World → Type 0) (prior left : Lasting → Type 0) (w : World) (events : List Event) (said : List (ℕ × Reply)) (rest : List Event) (out : List (ℕ × Job)) : Type 0 where
+pub record IsRun (showing : World → Type 0) (prior left : Option Lasting → Type 0) (w : World) (events : List Event) (said : List (ℕ × Reply)) (rest : List Event) (out : List (ℕ × Job)) : Type 0 where
   pub moves : List Move
   pub took : map event_of moves ++ rest ≡ events
   pub replied : said ≡ replies w moves
   pub shows : showing (after w moves)
   pub jobs : HasJobs (after w moves) out
   -- a crash leaves the changes that were acknowledged, and perhaps one that was tried since, whole
-  pub leaves : (l : Lasting) → left l → LeftAfter prior w moves l
+  pub leaves : (l : Option Lasting) → left l → LeftAfter prior w moves l
   -- each application that met no refusal set apart was told what its trace tells, and sees that
   pub private : (app : ℕ) → NotSetApart app said → IsTold app w moves

@@ -48,7 +48,7 @@ pub(crate) fn serve<K: Keep>(
     random: &[u8],
 ) -> Result<Out, Fault>
     requires { length random.now ≡ random_bytes call }
-    ensures { IsServed K.holds K.may_leave K.doubt K.failures_of K.tried (IsFor app) (λ v. answer v call random.now reveals_nothing) store.old store.new desk.old result desk.new }
+    ensures { IsServed K.terms (IsFor app) (λ v. answer v call random.now reveals_nothing) store.old store.new desk.old result desk.new }
 {
     if desk.is_busy() {
         return code(Row::Busy.code(Rv::Ok));
@@ -68,10 +68,10 @@ fn dispatch<K: Keep>(
 ) -> Result<Out, Fault>
     requires random { length random.now ≡ random_bytes call }
     requires free { is_busy desk.old ≡ false }
-    ensures serves { Served K.holds K.may_leave K.doubt said_of (λ v. answer_to v call random.now reveals_nothing) store.old store.new desk.old desk.old result desk.new }
+    ensures serves { Served K.terms said_of (λ v. answer_to v call random.now reveals_nothing) store.old store.new desk.old desk.old result desk.new }
     ensures asker { IfOk result (IsFor app) }
-    ensures counts { Counted K.doubt K.failures_of K.tried store.old.keep store.new.keep 1 }
-    ensures cause { IsErrOf result Device → Rises (K.failures_of store.old.keep) (K.failures_of store.new.keep) }
+    ensures counts { Counted K.terms store.old.keep store.new.keep 0 1 }
+    ensures cause { IsErrOf result Device → Rises (K.terms.failures store.old.keep) (K.terms.failures store.new.keep) }
 {
     match call {
         // Slot and token management (PKCS #11 v3.1, 5.5).

@@ -1,6 +1,6 @@
 //! The token: one event at a time.
 
-ghost use Rattle.std.specs.Prelude.{◌≡◌, ◌≢◌, ◌∷◌, [], ℕ, ◌<◌, ◌≤◌, ◌==◌, All, IfErr, IfOk, IsErrOf, IsSome, None, OnErr, OnOk, Some, length, option_to_list, reverse, vec_capacity, vec_len};
+ghost use Rattle.std.specs.Prelude.{◌≡◌, ◌≢◌, ◌∷◌, [], ℕ, ◌<◌, ◌≤◌, ◌==◌, All, IfErr, IfOk, IsErrOf, IsSome, None, OnErr, OnOk, Option, Some, length, option_to_list, reverse, vec_capacity, vec_len};
 ghost use Rattle.std.specs.Option.{option_map};
 ghost use Rattle.std.specs.List.{position};
 ghost use Rattle.std.specs.BTreeMap.{get};
@@ -58,11 +58,11 @@ impl<K: Keep> Token<K> {
     /// keeper that refuses comes back beside its fault, as it was.
     pub fn new(alloc: Global, keep: K) -> Result<Token<K>, (KeepFault, K)>
         // It shows what the keeper holds, and no application.
-        ensures shows { (c : Contents) → K.holds keep c → IfOk result (λ t. K.doubt t.store.keep ≡ 0 → Shows K.holds t (opening c)) }
+        ensures shows { (c : Contents) → K.terms.holds keep c → IfOk result (λ t. K.terms.doubt t.store.keep ≡ 0 → Shows K.terms t (opening c)) }
         // No question is pending.
-        ensures jobs { IfOk result (λ t. (w : World) → Shows K.holds t w → HasJobs w []) }
-        ensures leaves { IfOk result (λ t. (d : Contents) → K.may_leave t.store.keep d → K.may_leave keep d) }
-        ensures back { IfErr result (λ e. Stays K.holds K.may_leave keep e.1) }
+        ensures jobs { IfOk result (λ t. (w : World) → Shows K.terms t w → HasJobs w []) }
+        ensures leaves { (c : Contents) → K.terms.holds keep c → IfOk result (λ t. (left : Option Contents) → K.terms.may_leave t.store.keep left → K.terms.may_leave keep left) }
+        ensures back { IfErr result (λ e. Stays K.terms keep e.1) }
     {
         let store = Store::adopt(alloc, keep)?;
         Ok(Token {
@@ -85,17 +85,17 @@ impl<K: Keep> Token<K> {
     pub fn call(&mut self, alloc: Global, app: u64, call: Call, random: &[u8]) -> Out
         requires { length random.now ≡ random_bytes call }
         // The token shows the world after the call.
-        ensures world { K.doubt self.new.store.keep ≡ 0 → (w : World) → Shows K.holds self.old w → Shows K.holds self.new (called w app call random.now (apart (said_of result))) }
+        ensures world { K.terms.doubt self.new.store.keep ≡ 0 → (w : World) → Shows K.terms self.old w → Shows K.terms self.new (called w app call random.now (apart (said_of result))) }
         // What is said is the answer to what the application sees, or a refusal set apart.
-        ensures says { K.doubt self.new.store.keep ≡ 0 → (w : World) → Shows K.holds self.old w → said_of result ≡ says_called w app call random.now (apart (said_of result)) }
+        ensures says { K.terms.doubt self.new.store.keep ≡ 0 → (w : World) → Shows K.terms self.old w → said_of result ≡ says_called w app call random.now (apart (said_of result)) }
         // A job is the application's.
         ensures asker { IsFor app result }
         // A crash leaves the change of the call alone, or after a refusal what it could leave before, or the change.
-        ensures leaves { K.doubt self.new.store.keep ≡ 0 → (w : World) → Shows K.holds self.old w → (l : Lasting) → MayLeave K.may_leave self.new l → LeavesBy (MayLeave K.may_leave self.old) (call_change w app call random.now) (called w app call random.now None) (apart (said_of result)) l }
+        ensures leaves { K.terms.doubt self.new.store.keep ≡ 0 → (w : World) → Shows K.terms self.old w → (l : Option Lasting) → MayLeave K.terms self.new l → LeavesBy (MayLeave K.terms self.old) (call_change w app call random.now) (called w app call random.now None) (apart (said_of result)) l }
         // At most one write is tried.
-        ensures counts { Counted K.doubt K.failures_of K.tried self.old.store.keep self.new.store.keep 1 }
+        ensures counts { Counted K.terms self.old.store.keep self.new.store.keep 0 1 }
         // CKR_DEVICE_ERROR comes only where a failure of the keeper was counted.
-        ensures cause { K.doubt self.new.store.keep ≡ 0 → (w : World) → Shows K.holds self.old w → result ≡ OutReply (Code DeviceError) → Rises (K.failures_of self.old.store.keep) (K.failures_of self.new.store.keep) }
+        ensures cause { K.terms.doubt self.new.store.keep ≡ 0 → (w : World) → Shows K.terms self.old w → result ≡ OutReply (Code DeviceError) → Rises (K.terms.failures self.old.store.keep) (K.terms.failures self.new.store.keep) }
     {
         told_as(serve_app(alloc, app, &mut self.desks, &mut self.store, call, random))
     }
@@ -105,16 +105,16 @@ impl<K: Keep> Token<K> {
     /// refused, in the job too, the reply is `CKR_HOST_MEMORY`; the question is over.
     pub fn finish(&mut self, _alloc: Global, app: u64, done: Done) -> Reply
         // The token shows the world after the result.
-        ensures world { K.doubt self.new.store.keep ≡ 0 → (w : World) → Shows K.holds self.old w → IsOpen w app done.job.value → Shows K.holds self.new (happens w (move_of (Finish app) (OutReply result))) }
+        ensures world { K.terms.doubt self.new.store.keep ≡ 0 → (w : World) → Shows K.terms self.old w → IsOpen w app done.job.value → Shows K.terms self.new (happens w (move_of (Finish app) (OutReply result))) }
         // What is told is the answer to the result of the question, or a refusal set apart.
-        ensures told { K.doubt self.new.store.keep ≡ 0 → (w : World) → Shows K.holds self.old w → IsOpen w app done.job.value → reply_to w (move_of (Finish app) (OutReply result)) ≡ (app, result) ∷ [] }
-        ensures other { (w : World) → Shows K.holds self.old w → IsOther (w.views app).question app done.job.value → (result ≡ Code FunctionFailed) × (self.new ≡ self.old) }
+        ensures told { K.terms.doubt self.new.store.keep ≡ 0 → (w : World) → Shows K.terms self.old w → IsOpen w app done.job.value → reply_to w (move_of (Finish app) (OutReply result)) ≡ (app, result) ∷ [] }
+        ensures other { (w : World) → Shows K.terms self.old w → IsOther (w.views app).question app done.job.value → (result ≡ Code FunctionFailed) × (self.new ≡ self.old) }
         // A crash leaves the change of the result alone, or after a refusal what it could leave before, or the change.
-        ensures leaves { K.doubt self.new.store.keep ≡ 0 → (w : World) → Shows K.holds self.old w → IsOpen w app done.job.value → (l : Lasting) → MayLeave K.may_leave self.new l → LeftBy (MayLeave K.may_leave self.old) w (move_of (Finish app) (OutReply result)) l }
+        ensures leaves { K.terms.doubt self.new.store.keep ≡ 0 → (w : World) → Shows K.terms self.old w → IsOpen w app done.job.value → (l : Option Lasting) → MayLeave K.terms self.new l → LeftBy (MayLeave K.terms self.old) w (move_of (Finish app) (OutReply result)) l }
         // At most one write is tried.
-        ensures counts { Counted K.doubt K.failures_of K.tried self.old.store.keep self.new.store.keep 1 }
+        ensures counts { Counted K.terms self.old.store.keep self.new.store.keep 0 1 }
         // CKR_DEVICE_ERROR comes only where a failure of the keeper was counted.
-        ensures cause { K.doubt self.new.store.keep ≡ 0 → (w : World) → Shows K.holds self.old w → IsOpen w app done.job.value → result ≡ Code DeviceError → Rises (K.failures_of self.old.store.keep) (K.failures_of self.new.store.keep) }
+        ensures cause { K.terms.doubt self.new.store.keep ≡ 0 → (w : World) → Shows K.terms self.old w → IsOpen w app done.job.value → result ≡ Code DeviceError → Rises (K.terms.failures self.old.store.keep) (K.terms.failures self.new.store.keep) }
     {
         if !is_open(&self.desks, app, &done) {
             return Reply::Code(Rv::FunctionFailed);
@@ -126,7 +126,7 @@ impl<K: Keep> Token<K> {
 
     /// The application goes, with all that it has. This takes no memory.
     pub fn gone(&mut self, app: u64)
-        ensures world { (w : World) → Shows K.holds self.old w → Shows K.holds self.new (goes w (Gone app)) }
+        ensures world { (w : World) → Shows K.terms self.old w → Shows K.terms self.new (goes w (Gone app)) }
         // Neither the keeper nor what a crash may leave changes.
         ensures keep { self.new.store ≡ self.old.store }
     {
@@ -143,8 +143,8 @@ impl<K: Keep> Token<K> {
     ) -> Option<(u64, Reply)>
         requires room { vec_len out.old < vec_capacity out.old }
         requires random { HasRandom event }
-        ensures step { K.doubt self.new.store.keep ≡ 0 → (w : World) → Shows K.holds self.old w → HasJobs w out.old.items → IsStep (Shows K.holds self.new) (MayLeave K.may_leave self.old) (MayLeave K.may_leave self.new) w event (option_to_list result) out.new.items }
-        ensures counts { Counted K.doubt K.failures_of K.tried self.old.store.keep self.new.store.keep 1 }
+        ensures step { K.terms.doubt self.new.store.keep ≡ 0 → (w : World) → Shows K.terms self.old w → HasJobs w out.old.items → IsStep (Shows K.terms self.new) (MayLeave K.terms self.old) (MayLeave K.terms self.new) w event (option_to_list result) out.new.items }
+        ensures counts { Counted K.terms self.old.store.keep self.new.store.keep 0 1 }
     {
         match event {
             Event::Call { app, call, words } => match self.call(alloc, app, call, &words) {
@@ -179,11 +179,11 @@ impl<K: Keep> Token<K> {
     ) -> Result<(), AllocError>
         requires some { 0 < vec_len events.old }
         requires random { All HasRandom events.old.items }
-        ensures ok { OnOk result (Advances (K.doubt self.new.store.keep ≡ 0) (Shows K.holds self.old) (Shows K.holds self.new) (MayLeave K.may_leave self.old) (MayLeave K.may_leave self.new) (reverse events.old.items) out.old.items replies.old.items (reverse events.new.items) out.new.items replies.new.items) }
+        ensures ok { OnOk result (Advances (K.terms.doubt self.new.store.keep ≡ 0) (Shows K.terms self.old) (Shows K.terms self.new) (MayLeave K.terms self.old) (MayLeave K.terms self.new) (reverse events.old.items) out.old.items replies.old.items (reverse events.new.items) out.new.items replies.new.items) }
         ensures err { OnErr result ((events.new.items ≡ events.old.items) × (out.new.items ≡ out.old.items) × (replies.new.items ≡ replies.old.items) × (self.new ≡ self.old)) }
         ensures shorter { OnOk result (vec_len events.new < vec_len events.old) }
         ensures random { All HasRandom events.new.items }
-        ensures doubt { K.doubt self.old.store.keep ≤ K.doubt self.new.store.keep }
+        ensures doubt { K.terms.doubt self.old.store.keep ≤ K.terms.doubt self.new.store.keep }
     {
         replies.reserve(1)?;
         out.reserve(1)?;
@@ -200,11 +200,11 @@ impl<K: Keep> Token<K> {
     /// job of each pending question, once, and nothing else.
     pub fn run(&mut self, alloc: Global, mut events: Vec<Event>, mut out: Vec<(u64, Job)>) -> Ran
         requires random { All HasRandom events.items }
-        requires jobs { (w : World) → Shows K.holds self.old w → HasJobs w out.items }
-        ensures run { K.doubt self.new.store.keep ≡ 0 → (w : World) → Shows K.holds self.old w
-            → IsRun (Shows K.holds self.new) (MayLeave K.may_leave self.old) (MayLeave K.may_leave self.new) w events.items result.replies.items result.left.items result.out.items }
+        requires jobs { (w : World) → Shows K.terms self.old w → HasJobs w out.items }
+        ensures run { K.terms.doubt self.new.store.keep ≡ 0 → (w : World) → Shows K.terms self.old w
+            → IsRun (Shows K.terms self.new) (MayLeave K.terms self.old) (MayLeave K.terms self.new) w events.items result.replies.items result.left.items result.out.items }
         // No lie of the disk is forgotten.
-        ensures doubt { K.doubt self.old.store.keep ≤ K.doubt self.new.store.keep }
+        ensures doubt { K.terms.doubt self.old.store.keep ≤ K.terms.doubt self.new.store.keep }
     {
         let mut replies = Vec::new(alloc);
         events.reverse();
@@ -263,11 +263,11 @@ fn serve_app<K: Keep>(
     random: &[u8],
 ) -> Result<Out, Fault>
     requires { length random.now ≡ random_bytes call }
-    ensures serves { Served K.holds K.may_leave K.doubt said_of (λ v. answer v call random.now reveals_nothing) store.old store.new (desk_at desks.old.entries app) (desk_at desks.old.entries app) result (desk_at desks.new.entries app) }
+    ensures serves { Served K.terms said_of (λ v. answer v call random.now reveals_nothing) store.old store.new (desk_at desks.old.entries app) (desk_at desks.old.entries app) result (desk_at desks.new.entries app) }
     ensures others { (b : ℕ) → b ≢ app → SameDesk (desk_at desks.old.entries b) (desk_at desks.new.entries b) }
     ensures asker { IfOk result (IsFor app) }
-    ensures counts { Counted K.doubt K.failures_of K.tried store.old.keep store.new.keep 1 }
-    ensures cause { IsErrOf result Device → Rises (K.failures_of store.old.keep) (K.failures_of store.new.keep) }
+    ensures counts { Counted K.terms store.old.keep store.new.keep 0 1 }
+    ensures cause { IsErrOf result Device → Rises (K.terms.failures store.old.keep) (K.terms.failures store.new.keep) }
 {
     seat(alloc, desks, app)?;
     match desks.get_mut(&app) {

@@ -9,14 +9,16 @@ use Rattle.ck_calls.specs.declared.call.Call.{Call as CallType}
 use Rattle.ck_calls.specs.declared.function.Function.{Function}
 use Rattle.ck_calls.specs.Functions.{function_of}
 use Rattle.guard.specs.Access.{is_public}
+use Rattle.token_model.specs.declared.event.Event.{Event}
 use Rattle.token_model.specs.declared.event.Event.TheVariants.{Call, Finish, Gone}
+use Rattle.token_model.specs.declared.fault.Fault.{Fault}
 use Rattle.lists.specs.Places.{seen_place}
 use Rattle.token_model.specs.Views.{sees, is_user_in, Question, Task, Encrypts, View, mask}
 use Rattle.token_model.specs.Changes.{Change, Stays, Insert, Replace, Remove, Records, Resets, is_still, as_seen, replaced_at, removed_at}
 use Rattle.token_model.specs.Answering.{Answer}
 use Rattle.token_model.specs.Answers.{answer, answer_result, is_pin_function, may_change_objects}
-use Rattle.token_model.specs.Worlds.{World, answer_at, result_at, value_of, reveal_to_call, reveal_to_task, Move, Goes, Refuses, event_of, list_change, happens, after, finished, finish_tells, told, reply_to, replies}
-use Rattle.token_model.specs.Traces.{trace, replies_told, view_told, replies_to, NotSetApart, app_of, private_at, is_private, is_quiet_call, is_private_result, is_pin_event, is_pin_question, IsQuiet, AllQuiet, own_moves}
+use Rattle.token_model.specs.Worlds.{World, answer_at, result_at, value_of, reveal_to_call, reveal_to_task, Move, Goes, Refuses, event_of, list_change, refused, happens, after, finished, finish_tells, finish_refusal, finish_refused, told, reply_to, replies}
+use Rattle.token_model.specs.Traces.{trace, replies_told, view_told, replies_to, NotSetApart, app_of, private_at, is_private, is_quiet_call, is_private_result, is_pin_event, is_pin_question, IsQuiet, IsQuietMove, AllQuiet, own_moves}
 use Rattle.token_model.proofs.Proper.{still-answer, still-result}
 use Rattle.token_model.proofs.Told.{told-trace, seen-trace, replies_to-append, told-other}
 
@@ -74,6 +76,16 @@ and-right : (b c : Bool) → (b && c) ≡ true → c ≡ true
 and-right true c is = is
 and-right false c is = absurd cc
 
+quiet-refused : (app other : ℕ) (w : World) (q : Option Question) → app ≢ other → (finish_refused w other q).views app ≡ w.views app
+quiet-refused app other w None differ = refl
+quiet-refused app other w (Some q) differ = rw (ne_eqb app other differ) refl
+
+-- what is refused to another application
+refused-views : (app : ℕ) (w : World) (event : Event) → app_of event ≢ app → (refused w event).views app ≡ w.views app
+refused-views app w (Call other call random) ne = refl
+refused-views app w (Finish other) ne = quiet-refused app other w (w.views other).question (λ e. ne (sym e))
+refused-views app w (Gone other) ne = rw (ne_eqb app other (λ e. ne (sym e))) refl
+
 pub quiet-views : (app : ℕ) (w : World) (m : Move) → IsQuiet app w (event_of m) → (happens w m).views app ≡ w.views app
 quiet-views app w (Goes (Call other call random)) q =
     let a = answer_at w other call random.items in
@@ -83,21 +95,32 @@ quiet-views app w (Goes (Call other call random)) q =
     ]
 quiet-views app w (Goes (Finish other)) q = quiet-finish app other w (w.views other).question (λ e. q.other (sym e))
 quiet-views app w (Goes (Gone other)) q = rw (ne_eqb app other (λ e. q.other (sym e))) refl
-quiet-views app w (Refuses (Call other call random) fault) q = refl
-quiet-views app w (Refuses (Finish other) fault) q = rw (ne_eqb app other (λ e. q.other (sym e))) refl
-quiet-views app w (Refuses (Gone other) fault) q = refl
+quiet-views app w (Refuses event fault) q = refused-views app w event q.other
+
+move-other : (app : ℕ) (w : World) (m : Move) → IsQuietMove app w m → app_of (event_of m) ≢ app
+move-other app w (Goes event) q = q.other
+move-other app w (Refuses event fault) (inl q) = q.other
+move-other app w (Refuses event fault) (inr q) = q.0
+
+move-views : (app : ℕ) (w : World) (m : Move) → IsQuietMove app w m → (happens w m).views app ≡ w.views app
+move-views app w (Goes event) q = quiet-views app w (Goes event) q
+move-views app w (Refuses event fault) q = refused-views app w event (move-other app w (Refuses event fault) q)
 
 -- nothing is told to the application at an event of another
 other-finish : (app other : ℕ) (w : World) (q : Option Question) → app ≢ other → replies_to app (finish_tells w other q) ≡ []
 other-finish app other w None differ = refl
 other-finish app other w (Some q) differ = told-other app other (result_at w other q).says differ
 
+other-refusal : (app other : ℕ) (fault : Fault) (q : Option Question) → app ≢ other → replies_to app (finish_refusal other fault q) ≡ []
+other-refusal app other fault None differ = refl
+other-refusal app other fault (Some q) differ = rw (ne_eqb app other differ) refl
+
 other-replies : (app : ℕ) (w : World) (m : Move) → app_of (event_of m) ≢ app → replies_to app (reply_to w m) ≡ []
 other-replies app w (Goes (Call other call random)) ne = told-other app other (answer_at w other call random.items).says (λ e. ne (sym e))
 other-replies app w (Goes (Finish other)) ne = other-finish app other w (w.views other).question (λ e. ne (sym e))
 other-replies app w (Goes (Gone other)) ne = refl
 other-replies app w (Refuses (Call other call random) fault) ne = rw (ne_eqb app other (λ e. ne (sym e))) refl
-other-replies app w (Refuses (Finish other) fault) ne = rw (ne_eqb app other (λ e. ne (sym e))) refl
+other-replies app w (Refuses (Finish other) fault) ne = other-refusal app other fault (w.views other).question (λ e. ne (sym e))
 other-replies app w (Refuses (Gone other) fault) ne = refl
 
 -- ---- an own event that belongs to no call of a PIN depends on the own view alone
@@ -120,20 +143,24 @@ own-reply app v w (Goes (Call other call random)) is plain same = rw is (rw same
 own-reply app v w (Goes (Finish other)) is plain same = rw is (own-finish_tells app v w (v.views app).question same ∙ ap (λ (u : View). finish_tells w app u.question) same)
 own-reply app v w (Goes (Gone other)) is plain same = refl
 own-reply app v w (Refuses (Call other call random) fault) is plain same = refl
-own-reply app v w (Refuses (Finish other) fault) is plain same = refl
+own-reply app v w (Refuses (Finish other) fault) is plain same = rw is (ap (λ (u : View). finish_refusal app fault u.question) same)
 own-reply app v w (Refuses (Gone other) fault) is plain same = refl
 
 own-finish : (app : ℕ) (v w : World) (q : Option Question) → v.views app ≡ w.views app → (finished v app q).views app ≡ (finished w app q).views app
 own-finish app v w None same = same
 own-finish app v w (Some q) same = rw (eq-eqb app app refl) (ap (λ (a : Answer). a.view) (same-result app v w q same))
 
+own-refused : (app : ℕ) (v w : World) (q : Option Question) → v.views app ≡ w.views app → (finish_refused v app q).views app ≡ (finish_refused w app q).views app
+own-refused app v w None same = same
+own-refused app v w (Some q) same = rw (eq-eqb app app refl) (rw same refl)
+
 own-views : (app : ℕ) (v w : World) (m : Move) → app_of (event_of m) ≡ app → is_pin_event v (event_of m) ≡ false → v.views app ≡ w.views app → (happens v m).views app ≡ (happens w m).views app
 own-views app v w (Goes (Call other call random)) is plain same = rw (eq-eqb app other (sym is)) (rw is (rw same refl))
 own-views app v w (Goes (Finish other)) is plain same = rw is (own-finish app v w (v.views app).question same ∙ ap (λ (u : View). (finished w app u.question).views app) same)
 own-views app v w (Goes (Gone other)) is plain same = rw (eq-eqb app other (sym is)) (rw is (rw same refl))
 own-views app v w (Refuses (Call other call random) fault) is plain same = same
-own-views app v w (Refuses (Finish other) fault) is plain same = rw (eq-eqb app other (sym is)) (rw is (rw same refl))
-own-views app v w (Refuses (Gone other) fault) is plain same = same
+own-views app v w (Refuses (Finish other) fault) is plain same = rw is (own-refused app v w (v.views app).question same ∙ ap (λ (u : View). (finish_refused w app u.question).views app) same)
+own-views app v w (Refuses (Gone other) fault) is plain same = rw (eq-eqb app other (sym is)) (rw is (rw same refl))
 
 alone-replies : (app : ℕ) (v w : World) (ms : List Move) → v.views app ≡ w.views app → AllQuiet app v ms → replies_to app (replies v ms) ≡ replies_to app (replies w (own_moves app ms))
 alone-replies app v w [] same quiet = refl
@@ -142,16 +169,16 @@ alone-replies app v w (m ∷ ms) same quiet = elim quiet.0 [
       ∙ ap (λ rs. replies_to app rs ++ replies_to app (replies (happens v m) ms)) (own-reply app v w m is.0 is.1 same)
       ∙ ap (λ rs. replies_to app (reply_to w m) ++ rs) (alone-replies app (happens v m) (happens w m) ms (own-views app v w m is.0 is.1 same) quiet.1)
       ∙ sym (replies_to-append app (reply_to w m) (replies (happens w m) (own_moves app ms))))
-  | inr q ↦ rw (ne_eqb app (app_of (event_of m)) (λ e. q.other (sym e))) (replies_to-append app (reply_to v m) (replies (happens v m) ms)
-      ∙ ap (λ rs. rs ++ replies_to app (replies (happens v m) ms)) (other-replies app v m q.other)
-      ∙ alone-replies app (happens v m) w ms (quiet-views app v m q ∙ same) quiet.1)
+  | inr q ↦ rw (ne_eqb app (app_of (event_of m)) (λ e. move-other app v m q (sym e))) (replies_to-append app (reply_to v m) (replies (happens v m) ms)
+      ∙ ap (λ rs. rs ++ replies_to app (replies (happens v m) ms)) (other-replies app v m (move-other app v m q))
+      ∙ alone-replies app (happens v m) w ms (move-views app v m q ∙ same) quiet.1)
 ]
 
 alone-views : (app : ℕ) (v w : World) (ms : List Move) → v.views app ≡ w.views app → AllQuiet app v ms → (after v ms).views app ≡ (after w (own_moves app ms)).views app
 alone-views app v w [] same quiet = same
 alone-views app v w (m ∷ ms) same quiet = elim quiet.0 [
   | inl is ↦ rw (eq-eqb app (app_of (event_of m)) (sym is.0)) (alone-views app (happens v m) (happens w m) ms (own-views app v w m is.0 is.1 same) quiet.1)
-  | inr q ↦ rw (ne_eqb app (app_of (event_of m)) (λ e. q.other (sym e))) (alone-views app (happens v m) w ms (quiet-views app v m q ∙ same) quiet.1)
+  | inr q ↦ rw (ne_eqb app (app_of (event_of m)) (λ e. move-other app v m q (sym e))) (alone-views app (happens v m) w ms (move-views app v m q ∙ same) quiet.1)
 ]
 
 pub quiet-replies : (app : ℕ) (w : World) (ms : List Move) → AllQuiet app w ms → replies_to app (replies w ms) ≡ replies_to app (replies w (own_moves app ms))

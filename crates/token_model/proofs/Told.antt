@@ -14,7 +14,7 @@ use Rattle.token_model.specs.Views.{Question, View, mask}
 use Rattle.token_model.specs.Changes.{Change, Stays, Insert, Replace, Remove, Records, Resets, seen}
 use Rattle.token_model.specs.Answering.{Said, Replies, Asks, mask_said, Answer, Reveal, mask_reveal, shown}
 use Rattle.token_model.specs.Answers.{answer, answer_result}
-use Rattle.token_model.specs.Worlds.{World, answer_at, result_at, value_of, reveal_to_call, reveal_to_task, Move, Goes, Refuses, refusal, change_for, happens, after, told, finish_tells, finished, reply_to, replies}
+use Rattle.token_model.specs.Worlds.{World, answer_at, result_at, value_of, reveal_to_call, reveal_to_task, Move, Goes, Refuses, refusal, change_for, happens, after, told, finish_tells, finish_refusal, finish_refused, finished, reply_to, replies}
 use Rattle.token_model.specs.Traces.{Moment, saw, got, saw_result, moments, trace, said, replies_told, view_told, replies_to, NotSetApart, IsTold}
 use Rattle.token_model.proofs.Masks.{seen-mask, left-mask}
 use Rattle.token_model.proofs.Proper.{shown-answer, shown-result}
@@ -99,6 +99,22 @@ module _ (app other : ℕ) (w : World) (ms : List Moment) where
   finish-seen_other differ None = refl
   finish-seen_other differ (Some q) = rw (ne_eqb app other differ) (sym (view_told-saw (w.views app) (change_for app w other (result_at w other q)) ms))
 
+-- and a refused one
+module _ (app other : ℕ) (w : World) (fault : Fault) (ms : List Moment) where
+  refused-told : (q : Option Question) → AllByRecursion IsPlainReply (replies_to app (finish_refusal other fault q)) → replies_to app (finish_refusal other fault q) ++ replies_told (mask ((finish_refused w other q).views app)) ms ≡ replies_told (mask (w.views app)) ms
+  refused-told None none = refl
+  refused-told (Some q) none = elim (cases_eq app other) [
+    | inl is ↦ absurd (not-refused app other fault none is)
+    | inr differ ↦ rw (ne_eqb app other differ) refl
+  ]
+
+  refused-seen : (q : Option Question) → AllByRecursion IsPlainReply (replies_to app (finish_refusal other fault q)) → view_told (mask ((finish_refused w other q).views app)) ms ≡ view_told (mask (w.views app)) ms
+  refused-seen None none = refl
+  refused-seen (Some q) none = elim (cases_eq app other) [
+    | inl is ↦ absurd (not-refused app other fault none is)
+    | inr differ ↦ rw (ne_eqb app other differ) refl
+  ]
+
 -- one event, as it comes to the application
 step_told : (app : ℕ) (w : World) (m : Move) (ms : List Moment) → NotSetApart app (reply_to w m) → replies_to app (reply_to w m) ++ replies_told (mask ((happens w m).views app)) ms ≡ replies_told (mask (w.views app)) (moments app w m ++ ms)
 step_told app w (Goes (Call other call random)) ms none = elim (cases_eq app other) [
@@ -117,11 +133,11 @@ step_told app w (Refuses (Call other call random) fault) ms none = elim (cases_e
   | inl is ↦ absurd (not-refused app other fault none is)
   | inr differ ↦ rw (ne_eqb app other differ) refl
 ]
-step_told app w (Refuses (Finish other) fault) ms none = elim (cases_eq app other) [
-  | inl is ↦ absurd (not-refused app other fault none is)
+step_told app w (Refuses (Finish other) fault) ms none = refused-told app other w fault ms (w.views other).question none
+step_told app w (Refuses (Gone other) fault) ms none = elim (cases_eq app other) [
+  | inl is ↦ rw (eq-eqb app other is) (rw is (ap (λ u. replies_told u ms) (sym (left-mask (w.views other)))))
   | inr differ ↦ rw (ne_eqb app other differ) refl
 ]
-step_told app w (Refuses (Gone other) fault) ms none = refl
 
 step_seen : (app : ℕ) (w : World) (m : Move) (ms : List Moment) → NotSetApart app (reply_to w m) → view_told (mask ((happens w m).views app)) ms ≡ view_told (mask (w.views app)) (moments app w m ++ ms)
 step_seen app w (Goes (Call other call random)) ms none = elim (cases_eq app other) [
@@ -137,11 +153,11 @@ step_seen app w (Goes (Gone other)) ms none = elim (cases_eq app other) [
   | inr differ ↦ rw (ne_eqb app other differ) refl
 ]
 step_seen app w (Refuses (Call other call random) fault) ms none = refl
-step_seen app w (Refuses (Finish other) fault) ms none = elim (cases_eq app other) [
-  | inl is ↦ absurd (not-refused app other fault none is)
+step_seen app w (Refuses (Finish other) fault) ms none = refused-seen app other w fault ms (w.views other).question none
+step_seen app w (Refuses (Gone other) fault) ms none = elim (cases_eq app other) [
+  | inl is ↦ rw (eq-eqb app other is) (rw is (ap (λ u. view_told u ms) (sym (left-mask (w.views other)))))
   | inr differ ↦ rw (ne_eqb app other differ) refl
 ]
-step_seen app w (Refuses (Gone other) fault) ms none = refl
 
 -- a whole run
 front-plain : (app : ℕ) (w : World) (m : Move) (ms : List Move) → NotSetApart app (replies w (m ∷ ms)) → NotSetApart app (reply_to w m) × NotSetApart app (replies (happens w m) ms)

@@ -51,7 +51,9 @@ moments app w (Goes (Call other call random)) =
 moments app w (Goes (Finish other)) =
     if app == other then got w other (w.views other).question else saw_result app w other (w.views other).question
 moments app w (Goes (Gone other)) = if app == other then Leaves ∷ [] else []
-moments app w (Refuses event fault) = []
+moments app w (Refuses (Gone other) fault) = if app == other then Leaves ∷ [] else []
+moments app w (Refuses (Call other call random) fault) = []
+moments app w (Refuses (Finish other) fault) = []
 
 -- all of a run that comes to the application
 abbrev pub trace : ℕ → World → List Move → List Moment
@@ -151,10 +153,16 @@ is_pin_event w (Call app call random) = is_pin_function (function_of call)
 is_pin_event w (Finish app) = is_pin_question (w.views app).question
 is_pin_event w (Gone app) = false
 
+-- An event of another application of which this one sees nothing, as it goes or is refused: a quiet one, or one that is
+-- refused and belongs to no call of a PIN.
+abbrev pub IsQuietMove : ℕ → World → Move → Type 0
+IsQuietMove app w (Goes event) = IsQuiet app w event
+IsQuietMove app w (Refuses event fault) = IsQuiet app w event ⊎ ((app_of event ≢ app) × (is_pin_event w event ≡ false))
+
 -- every event of a run is the application's own and belongs to no call of a PIN, or it is quiet
 abbrev pub AllQuiet : ℕ → World → List Move → Type 0
 AllQuiet app w [] = Unit {0}
-AllQuiet app w (m ∷ ms) = ((app_of (event_of m) ≡ app) × (is_pin_event w (event_of m) ≡ false) ⊎ IsQuiet app w (event_of m)) × AllQuiet app (happens w m) ms
+AllQuiet app w (m ∷ ms) = ((app_of (event_of m) ≡ app) × (is_pin_event w (event_of m) ≡ false) ⊎ IsQuietMove app w m) × AllQuiet app (happens w m) ms
 
 -- the application's own events
 abbrev pub own_moves : ℕ → List Move → List Move

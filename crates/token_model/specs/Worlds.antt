@@ -131,11 +131,16 @@ goes w (Call app call random) = called w app call random.items None
 goes w (Finish app) = finished w app (w.views app).question
 goes w (Gone app) = unchecked (with_view w app (left (w.views app))) app
 
--- what a refusal leaves: the question is over, and nothing else
+-- what a refused result leaves: the question is over, and nothing else
+abbrev pub finish_refused : World → ℕ → Option Question → World
+finish_refused w app None = w
+finish_refused w app (Some q) = unchecked (with_view w app (answered (w.views app))) app
+
+-- what a refusal leaves; nothing keeps an application from going
 abbrev pub refused : World → Event → World
 refused w (Call app call random) = w
-refused w (Finish app) = unchecked (with_view w app (answered (w.views app))) app
-refused w (Gone app) = w
+refused w (Finish app) = finish_refused w app (w.views app).question
+refused w (Gone app) = goes w (Gone app)
 
 -- the world after an event
 abbrev pub happens : World → Move → World
@@ -158,13 +163,17 @@ abbrev pub finish_tells : World → ℕ → Option Question → List (ℕ × Rep
 finish_tells w app None = []
 finish_tells w app (Some q) = told app (result_at w app q).says
 
+abbrev pub finish_refusal : ℕ → Fault → Option Question → List (ℕ × Reply)
+finish_refusal app fault None = []
+finish_refusal app fault (Some q) = (app, refusal fault) ∷ []
+
 -- the reply to an event, and to whom
 abbrev pub reply_to : World → Move → List (ℕ × Reply)
 reply_to w (Goes (Call app call random)) = told app (answer_at w app call random.items).says
 reply_to w (Goes (Finish app)) = finish_tells w app (w.views app).question
 reply_to w (Goes (Gone app)) = []
 reply_to w (Refuses (Call app call random) fault) = (app, refusal fault) ∷ []
-reply_to w (Refuses (Finish app) fault) = (app, refusal fault) ∷ []
+reply_to w (Refuses (Finish app) fault) = finish_refusal app fault (w.views app).question
 reply_to w (Refuses (Gone app) fault) = []
 
 -- ---- runs

@@ -7,7 +7,7 @@ use Rattle.ck_calls.specs.declared.reply.Reply.TheVariants.{Code}
 use Rattle.ck_types.specs.declared.rv.Rv.TheVariants as rv
 use Rattle.precede.specs.Row.{code_of}
 use Rattle.keep.specs.Contents.{Contents}
-use Rattle.keep.specs.Keeping.{Counted, Rises}
+use Rattle.keep.specs.Keeping.{Counted, Rises, Terms}
 use Rattle.keep.specs.declared.keep.KeepFault.{KeepFault}
 use Rattle.keep.specs.declared.keep.KeepFault.TheVariants as keep_faults
 use Rattle.desk.specs.Desks.{DeskState, SameDesk}
@@ -39,8 +39,8 @@ pub fault-of : (r : Result Reply Refusal) (fault : KeepFault) → IsErrAnd r (λ
 fault-of (Ok reply) fault is = absurd is
 fault-of (Err e) fault is = subst (λ x. IsFault (Err x)) (sym is) (fault-is fault)
 
-module _ {K : Type 0} (holds may_leave : K → Contents → Type 0) where
-  pub does-refused : (a : Answer) (c : Contents) (old new : StoreState K) (before desk : DeskState) (r : Result Reply Refusal) → IsFault r → Refused holds may_leave a before.sessions.login c old new before desk → Does holds may_leave a c old new before r desk
+module _ {K : Type 0} (terms : Terms K) where
+  pub does-refused : (a : Answer) (c : Contents) (old new : StoreState K) (before desk : DeskState) (r : Result Reply Refusal) → IsFault r → Refused terms a before.sessions.login c old new before desk → Does terms a c old new before r desk
   does-refused a c old new before desk (Err refusals.Memory) is refused = refused
   does-refused a c old new before desk (Err refusals.Device) is refused = refused
   does-refused a c old new before desk (Err (refusals.Row row)) is refused = absurd is
@@ -48,10 +48,10 @@ module _ {K : Type 0} (holds may_leave : K → Contents → Type 0) where
   does-refused a c old new before desk (Ok reply) is refused = absurd is
 
   -- the same answer, written otherwise
-  pub does-is : (a b : Answer) (c : Contents) (old new : StoreState K) (before desk : DeskState) (r : Result Reply Refusal) → a ≡ b → Does holds may_leave b c old new before r desk → Does holds may_leave a c old new before r desk
-  does-is a b c old new before desk r is does = subst (λ x. Does holds may_leave x c old new before r desk) (sym is) does
+  pub does-is : (a b : Answer) (c : Contents) (old new : StoreState K) (before desk : DeskState) (r : Result Reply Refusal) → a ≡ b → Does terms b c old new before r desk → Does terms a c old new before r desk
+  does-is a b c old new before desk r is does = subst (λ x. Does terms x c old new before r desk) (sym is) does
 
-  refused-after : (a : Answer) (c : Contents) (old mid new : StoreState K) (before desk : DeskState) → LeavesAsBefore may_leave old mid → Refused holds may_leave a before.sessions.login c mid new before desk → Refused holds may_leave a before.sessions.login c old new before desk
+  refused-after : (a : Answer) (c : Contents) (old mid new : StoreState K) (before desk : DeskState) → LeavesAsBefore terms old mid → Refused terms a before.sessions.login c mid new before desk → Refused terms a before.sessions.login c old new before desk
   refused-after a c old mid new before desk first refused = record {
     has = refused.has;
     same = refused.same;
@@ -62,7 +62,7 @@ module _ {K : Type 0} (holds may_leave : K → Contents → Type 0) where
   }
 
   -- what a read leaves before it
-  pub does-after : (a : Answer) (c : Contents) (old mid new : StoreState K) (before desk : DeskState) (r : Result Reply Refusal) → LeavesAsBefore may_leave old mid → Does holds may_leave a c mid new before r desk → Does holds may_leave a c old new before r desk
+  pub does-after : (a : Answer) (c : Contents) (old mid new : StoreState K) (before desk : DeskState) (r : Result Reply Refusal) → LeavesAsBefore terms old mid → Does terms a c mid new before r desk → Does terms a c old new before r desk
   does-after a c old mid new before desk (Ok reply) first gave = record {
     contents = gave.contents;
     has = gave.has;
@@ -80,19 +80,19 @@ module _ {K : Type 0} (holds may_leave : K → Contents → Type 0) where
   -- ---- what is told
 
   -- a refusal at a desk that has not changed
-  told-code : (a : Answer) (c : Contents) (old new : StoreState K) (before desk : DeskState) (code : Reply) → Fits c before.handles.entries → a ≡ record { says = Replies code; view = view_of c before; change = Stays } → Has holds new c → LeavesAsBefore may_leave old new → desk ≡ before → Gave holds may_leave a before.sessions.login c old new (Replies code) desk
-  told-code a c old new before desk code fits is h leaves same = rw same (gave-reply holds may_leave a c old new before code h leaves fits is)
+  told-code : (a : Answer) (c : Contents) (old new : StoreState K) (before desk : DeskState) (code : Reply) → Fits c before.handles.entries → a ≡ record { says = Replies code; view = view_of c before; change = Stays } → Has terms new c → LeavesAsBefore terms old new → desk ≡ before → Gave terms a before.sessions.login c old new (Replies code) desk
+  told-code a c old new before desk code fits is h leaves same = rw same (gave-reply terms a c old new before code h leaves fits is)
 
-  pub serves-done : (a : Answer) (c : Contents) (old new : StoreState K) (before desk : DeskState) (r : Result Reply Refusal) → Fits c before.handles.entries → Does holds may_leave a c old new before r desk → Serves holds may_leave said_of a c old new before before (settled OutReply r) desk
+  pub serves-done : (a : Answer) (c : Contents) (old new : StoreState K) (before desk : DeskState) (r : Result Reply Refusal) → Fits c before.handles.entries → Does terms a c old new before r desk → Serves terms said_of a c old new before before (settled OutReply r) desk
   serves-done a c old new before desk (Ok reply) fits does = does
   serves-done a c old new before desk (Err (refusals.Row row)) fits does = told-code a c old new before desk (Code (code_of rv.Ok row)) fits does.0 does.1.has does.1.leaves does.1.desk
   serves-done a c old new before desk (Err (refusals.Code code)) fits does = told-code a c old new before desk (Code code) fits does.0 does.1.has does.1.leaves does.1.desk
   serves-done a c old new before desk (Err refusals.Memory) fits does = does
   serves-done a c old new before desk (Err refusals.Device) fits does = does
 
-  pub serves-at-desk : {T : Type 0} (tell : T → Said) (as_out : T → Out) (a : Answer) (c : Contents) (store : StoreState K) (before desk : DeskState) (r : Result T Refusal) → ((t : T) → said_of (as_out t) ≡ tell t) → a.change ≡ Stays → Has holds store c → Fits c before.handles.entries
-      → DoesAtDesk tell a c before r desk → Serves holds may_leave said_of a c store store before before (settled as_out r) desk
-  serves-at-desk tell as_out a c store before desk (Ok t) same still h fits does = rw (same t) (gave-quiet holds may_leave a before.sessions.login c store store (tell t) desk h (λ d may. may) still does)
+  pub serves-at-desk : {T : Type 0} (tell : T → Said) (as_out : T → Out) (a : Answer) (c : Contents) (store : StoreState K) (before desk : DeskState) (r : Result T Refusal) → ((t : T) → said_of (as_out t) ≡ tell t) → a.change ≡ Stays → Has terms store c → Fits c before.handles.entries
+      → DoesAtDesk tell a c before r desk → Serves terms said_of a c store store before before (settled as_out r) desk
+  serves-at-desk tell as_out a c store before desk (Ok t) same still h fits does = rw (same t) (gave-quiet terms a before.sessions.login c store store (tell t) desk h (λ d may. may) still does)
   serves-at-desk tell as_out a c store before desk (Err (refusals.Row row)) same still h fits does = told-code a c store store before desk (Code (code_of rv.Ok row)) fits does.0 h (λ d may. may) does.1
   serves-at-desk tell as_out a c store before desk (Err (refusals.Code code)) same still h fits does = told-code a c store store before desk (Code code) fits does.0 h (λ d may. may) does.1
   serves-at-desk tell as_out a c store before desk (Err refusals.Memory) same still h fits does = record { has = h; same = does; leaves = λ d may. inl may }

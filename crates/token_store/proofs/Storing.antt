@@ -5,7 +5,7 @@ use Rattle.std.specs.List.{list_any, AllByRecursion}
 use Rattle.ck_types.specs.declared.entry.Entry.{Entry}
 use Rattle.lists.specs.Bisection.{IsPlaceOf, KeysRise}
 use Rattle.keep.specs.Contents.{Contents, Kept, IdsRise, IsTokenObject, ids_of, object_at, with_object, with_replacement, without_object}
-use Rattle.keep.specs.Keeping.{Stays}
+use Rattle.keep.specs.Keeping.{Stays, Terms}
 use Rattle.keep.specs.ContentsLaws.{IsSound-with_object, IsSound-with_replacement, IsSound-without_object}
 use Rattle.keep.specs.IdLaws.{ids_of-with_object, ids_of-with_replacement, ids_of-without_object, is_some-object_at}
 use Rattle.token_store.specs.Stores.{StoreState, Has}
@@ -15,25 +15,25 @@ on_err (Ok x) p = tt
 on_err (Err e) p = p
 
 -- what is read leaves the contents
-pub has-still : {K : Type 0} (holds may_leave : K → Contents → Type 0) (old new : StoreState K) (c : Contents) → Stays holds may_leave old.keep new.keep → new.ids ≡ old.ids → Has holds old c → Has holds new c
-has-still holds may_leave old new c same ids h = record { held = same.held c h.held; ids = ids ∙ h.ids; sound = h.sound }
+pub has-still : {K : Type 0} (terms : Terms K) (old new : StoreState K) (c : Contents) → Stays terms old.keep new.keep → new.ids ≡ old.ids → Has terms old c → Has terms new c
+has-still terms old new c same ids h = record { held = same.held c h.held; ids = ids ∙ h.ids; sound = h.sound }
 
-module _ {K : Type 0} (holds : K → Contents → Type 0) (old new : StoreState K) (c : Contents) where
-  pub has-inserted : (o : List Entry) (id : ℕ) → IsTokenObject o → Has holds old c → id ≡ c.last_id + 1 → holds new.keep (with_object o c) → new.ids ≡ old.ids ++ id ∷ [] → Has holds new (with_object o c)
+module _ {K : Type 0} (terms : Terms K) (old new : StoreState K) (c : Contents) where
+  pub has-inserted : (o : List Entry) (id : ℕ) → IsTokenObject o → Has terms old c → id ≡ c.last_id + 1 → terms.holds new.keep (with_object o c) → new.ids ≡ old.ids ++ id ∷ [] → Has terms new (with_object o c)
   has-inserted o id token h is held ids = record {
     held = held;
     ids = ids ∙ ap (λ (xs : List ℕ). xs ++ id ∷ []) h.ids ∙ ap (λ (n : ℕ). ids_of c ++ n ∷ []) is ∙ sym (ids_of-with_object o c);
     sound = IsSound-with_object o c token h.sound;
   }
 
-  pub has-replaced : (o : List Entry) (id : ℕ) → IsTokenObject o → Has holds old c → holds new.keep (with_replacement id o c) → new.ids ≡ old.ids → Has holds new (with_replacement id o c)
+  pub has-replaced : (o : List Entry) (id : ℕ) → IsTokenObject o → Has terms old c → terms.holds new.keep (with_replacement id o c) → new.ids ≡ old.ids → Has terms new (with_replacement id o c)
   has-replaced o id token h held ids = record {
     held = held;
     ids = ids ∙ h.ids ∙ sym (ids_of-with_replacement id o c);
     sound = IsSound-with_replacement id o c token h.sound;
   }
 
-  pub has-removed : (id : ℕ) → Has holds old c → holds new.keep (without_object id c) → new.ids ≡ filter (λ i. not (i == id)) old.ids → Has holds new (without_object id c)
+  pub has-removed : (id : ℕ) → Has terms old c → terms.holds new.keep (without_object id c) → new.ids ≡ filter (λ i. not (i == id)) old.ids → Has terms new (without_object id c)
   has-removed id h held ids = record {
     held = held;
     ids = ids ∙ ap (filter (λ i. not (i == id))) h.ids ∙ sym (ids_of-without_object id c);
@@ -50,8 +50,8 @@ ids-rise : (low last : ℕ) (es : List Kept) → IdsRise low es last → KeysRis
 ids-rise low last [] ids = tt
 ids-rise low last (e ∷ es) ids = (below-all e.0 e.0 last es (omega arith) ids.2, ids-rise e.0 last es ids.2)
 
-pub has-rising : {K : Type 0} (holds : K → Contents → Type 0) (s : StoreState K) (c : Contents) → Has holds s c → KeysRise (λ i. i) s.ids
-has-rising holds s c h = subst (KeysRise (λ i. i)) (sym h.ids) (ids-rise 0 c.last_id c.objects h.sound.ids)
+pub has-rising : {K : Type 0} (terms : Terms K) (s : StoreState K) (c : Contents) → Has terms s c → KeysRise (λ i. i) s.ids
+has-rising terms s c h = subst (KeysRise (λ i. i)) (sym h.ids) (ids-rise 0 c.last_id c.objects h.sound.ids)
 
 any-found : (t : ℕ → Bool) (xs : List ℕ) → list_any t xs ≡ is_some (find t xs)
 any-found t [] = refl
@@ -64,8 +64,8 @@ pub placed-any : (ids : List ℕ) (id : ℕ) (r : Result ℕ ℕ) → IsPlaceOf 
 placed-any ids id (Ok at) place = sym (any-found (λ i. i == id) ids ∙ ap is_some (place.1 0))
 placed-any ids id (Err at) place = sym (any-found (λ i. i == id) ids ∙ ap is_some place.1)
 
-pub not_there : {K : Type 0} (holds : K → Contents → Type 0) (s : StoreState K) (c : Contents) (id : ℕ) → Has holds s c → list_any (λ i. i == id) s.ids ≡ false → None ≡ object_at c id
-not_there holds s c id h is = none (object_at c id) (is_some-object_at c id ∙ sym (ap (list_any (λ i. i == id)) h.ids) ∙ is) where
+pub not_there : {K : Type 0} (terms : Terms K) (s : StoreState K) (c : Contents) (id : ℕ) → Has terms s c → list_any (λ i. i == id) s.ids ≡ false → None ≡ object_at c id
+not_there terms s c id h is = none (object_at c id) (is_some-object_at c id ∙ sym (ap (list_any (λ i. i == id)) h.ids) ∙ is) where
   none : (o : Option (List Entry)) → is_some o ≡ false → None ≡ o
   none None e = refl
   none (Some o) e = let k : true ≡ false = e in cc

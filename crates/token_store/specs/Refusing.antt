@@ -4,7 +4,7 @@ use Rattle.ck_types.specs.declared.rv.Rv.TheVariants as rv
 use Rattle.ck_calls.specs.declared.reply.Reply.{Reply}
 use Rattle.ck_calls.specs.declared.reply.Reply.TheVariants.{Code}
 use Rattle.keep.specs.Contents.{Contents}
-use Rattle.keep.specs.Keeping.{Counted, Rises}
+use Rattle.keep.specs.Keeping.{Counted, Rises, Terms}
 use Rattle.keep.specs.declared.keep.KeepFault.{KeepFault}
 use Rattle.keep.specs.declared.keep.KeepFault.TheVariants as keep_faults
 use Rattle.templates.specs.declared.fault.MakeFault.{MakeFault}
@@ -51,28 +51,28 @@ pub record AtDesk {T : Type 0} (tell : T → Said) (f : View → Answer) (old : 
 -- ---- at the desk and the store
 
 -- nothing has changed
-pub record Stands {K : Type 0} (holds may_leave : K → Contents → Type 0) (c : Contents) (old new : StoreState K) (before now : DeskState) : Type 0 where
-  pub has : Has holds new c
-  pub leaves : LeavesAsBefore may_leave old new
+pub record Stands {K : Type 0} (terms : Terms K) (c : Contents) (old new : StoreState K) (before now : DeskState) : Type 0 where
+  pub has : Has terms new c
+  pub leaves : LeavesAsBefore terms old new
   pub desk : now ≡ before
 
-abbrev pub Does : {K : Type 0} → (K → Contents → Type 0) → (K → Contents → Type 0) → Answer → Contents → StoreState K → StoreState K → DeskState → Result Reply Refusal → DeskState → Type 0
-Does holds may_leave a c old new before (Ok reply) desk = Gave holds may_leave a before.sessions.login c old new (Replies reply) desk
-Does holds may_leave a c old new before (Err (refusals.Row row)) desk = (a ≡ refuses_by (view_of c before) row) × Stands holds may_leave c old new before desk
-Does holds may_leave a c old new before (Err (refusals.Code code)) desk = (a ≡ refuses (view_of c before) code) × Stands holds may_leave c old new before desk
-Does holds may_leave a c old new before (Err refusals.Memory) desk = Refused holds may_leave a before.sessions.login c old new before desk
-Does holds may_leave a c old new before (Err refusals.Device) desk = Refused holds may_leave a before.sessions.login c old new before desk
+abbrev pub Does : {K : Type 0} → Terms K → Answer → Contents → StoreState K → StoreState K → DeskState → Result Reply Refusal → DeskState → Type 0
+Does terms a c old new before (Ok reply) desk = Gave terms a before.sessions.login c old new (Replies reply) desk
+Does terms a c old new before (Err (refusals.Row row)) desk = (a ≡ refuses_by (view_of c before) row) × Stands terms c old new before desk
+Does terms a c old new before (Err (refusals.Code code)) desk = (a ≡ refuses (view_of c before) code) × Stands terms c old new before desk
+Does terms a c old new before (Err refusals.Memory) desk = Refused terms a before.sessions.login c old new before desk
+Does terms a c old new before (Err refusals.Device) desk = Refused terms a before.sessions.login c old new before desk
 
-abbrev pub Done : {K : Type 0} → (K → Contents → Type 0) → (K → Contents → Type 0) → (K → ℕ) → (View → Answer) → StoreState K → StoreState K → DeskState → Result Reply Refusal → DeskState → Type 0
-Done holds may_leave doubt f old new before result desk =
-    doubt new.keep ≡ 0 → (c : Contents) → Has holds old c → Fits c before.handles.entries → Does holds may_leave (f (view_of c before)) c old new before result desk
+abbrev pub Done : {K : Type 0} → Terms K → (View → Answer) → StoreState K → StoreState K → DeskState → Result Reply Refusal → DeskState → Type 0
+Done terms f old new before result desk =
+    terms.doubt new.keep ≡ 0 → (c : Contents) → Has terms old c → Fits c before.handles.entries → Does terms (f (view_of c before)) c old new before result desk
 
 -- What a call does, in one clause: its answer is given or refused while the store is honest, it tries no more than so
 -- many writes, and the device is to blame only where a failure of the keeper was counted.
-pub record IsDone {K : Type 0} (holds may_leave : K → Contents → Type 0) (doubt failures tried : K → ℕ) (writes : ℕ) (f : View → Answer) (old new : StoreState K) (before : DeskState) (result : Result Reply Refusal) (desk : DeskState) : Type 0 where
-  pub serves : Done holds may_leave doubt f old new before result desk
-  pub counts : Counted doubt failures tried old.keep new.keep writes
-  pub cause : IsErrOf result refusals.Device → Rises (failures old.keep) (failures new.keep)
+pub record IsDone {K : Type 0} (terms : Terms K) (writes : ℕ) (f : View → Answer) (old new : StoreState K) (before : DeskState) (result : Result Reply Refusal) (desk : DeskState) : Type 0 where
+  pub serves : Done terms f old new before result desk
+  pub counts : Counted terms old.keep new.keep 0 writes
+  pub cause : IsErrOf result refusals.Device → Rises (terms.failures old.keep) (terms.failures new.keep)
 
 -- ---- as it is told
 
@@ -87,8 +87,8 @@ settled as_out (Ok out) = Ok (as_out out)
 settled as_out (Err refusal) = refused_as refusal
 
 -- and in one clause
-pub record IsServed {K : Type 0} (holds may_leave : K → Contents → Type 0) (doubt failures tried : K → ℕ) (kind : Out → Type 0) (f : View → Answer) (old new : StoreState K) (before : DeskState) (result : Result Out Fault) (desk : DeskState) : Type 0 where
-  pub serves : Served holds may_leave doubt said_of f old new before before result desk
+pub record IsServed {K : Type 0} (terms : Terms K) (kind : Out → Type 0) (f : View → Answer) (old new : StoreState K) (before : DeskState) (result : Result Out Fault) (desk : DeskState) : Type 0 where
+  pub serves : Served terms said_of f old new before before result desk
   pub says : IfOk result kind
-  pub counts : Counted doubt failures tried old.keep new.keep 1
-  pub cause : IsErrOf result faults.Device → Rises (failures old.keep) (failures new.keep)
+  pub counts : Counted terms old.keep new.keep 0 1
+  pub cause : IsErrOf result faults.Device → Rises (terms.failures old.keep) (terms.failures new.keep)

@@ -56,13 +56,13 @@ pub fn find<K: Keep>(
     store: &mut Store<K>,
     handle: u64,
 ) -> Result<Option<Found>, KeepFault>
-    ensures found { K.doubt store.new.keep ≡ 0 → (c : Contents) → Has K.holds store.old c → Fits c desk.now.handles.entries → IfOk result (IsFound c desk.now handle) }
+    ensures found { K.terms.doubt store.new.keep ≡ 0 → (c : Contents) → Has K.terms store.old c → Fits c desk.now.handles.entries → IfOk result (IsFound c desk.now handle) }
     ensures table { IsTable desk.now.handles.next_number desk.now.handles.entries }
     ensures token { IfOk result (λ found. IfSome found (λ f. IfSome f.id (λ id. IsTokenObject f.object))) }
-    ensures same { Stays K.holds K.may_leave store.old.keep store.new.keep }
+    ensures same { Stays K.terms store.old.keep store.new.keep }
     ensures ids { store.new.ids ≡ store.old.ids }
-    ensures counts { Counted K.doubt K.failures_of K.tried store.old.keep store.new.keep 0 }
-    ensures cause { HasCause (K.failures_of store.old.keep) (K.failures_of store.new.keep) result }
+    ensures counts { Counted K.terms store.old.keep store.new.keep 0 0 }
+    ensures cause { HasCause (K.terms.failures store.old.keep) (K.terms.failures store.new.keep) result }
 {
     match desk.id_of(handle) {
         Some(id) => match store.object(alloc, id)? {

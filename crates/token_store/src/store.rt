@@ -1,6 +1,6 @@
 //! The keeper, with the ids of its objects in the order of their creation.
 
-ghost use Rattle.std.specs.Prelude.{◌≡◌, ◌==◌, ◌+◌, not, filter, IfOk, IfErr, OnOk, OnErr, IfSome};
+ghost use Rattle.std.specs.Prelude.{◌≡◌, ◌==◌, ◌+◌, not, filter, Option, IfOk, IfErr, OnOk, OnErr, IfSome};
 ghost use Rattle.std.specs.List.{list_any};
 ghost use Rattle.keep.specs.Contents.{Contents, IsTokenObject, object_at, with_object, with_replacement, without_object};
 ghost use Rattle.keep.specs.Keeping.{Stays, HasCause, Counted};
@@ -30,9 +30,9 @@ impl<K: Keep> Model for Store<K> {
 impl<K: Keep> Store<K> {
     /// Reads the ids of a keeper. One that refuses comes back beside its fault.
     pub fn adopt(alloc: Global, mut keep: K) -> Result<Store<K>, (KeepFault, K)>
-        ensures has { (c : Contents) → K.holds keep c → IfOk result (λ s. K.doubt s.keep ≡ 0 → Has K.holds s c) }
-        ensures leaves { IfOk result (λ s. (d : Contents) → K.may_leave s.keep d → K.may_leave keep d) }
-        ensures back { IfErr result (λ e. Stays K.holds K.may_leave keep e.1) }
+        ensures has { (c : Contents) → K.terms.holds keep c → IfOk result (λ s. K.terms.doubt s.keep ≡ 0 → Has K.terms s c) }
+        ensures leaves { (c : Contents) → K.terms.holds keep c → IfOk result (λ s. (left : Option Contents) → K.terms.may_leave s.keep left → K.terms.may_leave keep left) }
+        ensures back { IfErr result (λ e. Stays K.terms keep e.1) }
     {
         match keep.ids(alloc) {
             Ok(ids) => Ok(Store { keep, ids }),
@@ -56,12 +56,12 @@ impl<K: Keep> Store<K> {
 
     /// A copy of the object under an id.
     pub fn object(&mut self, alloc: Global, id: u64) -> Result<Option<Object>, KeepFault>
-        ensures object { K.doubt self.new.keep ≡ 0 → (c : Contents) → Has K.holds self.old c → IfOk result (λ found. found ≡ object_at c id) }
+        ensures object { K.terms.doubt self.new.keep ≡ 0 → (c : Contents) → Has K.terms self.old c → IfOk result (λ found. found ≡ object_at c id) }
         ensures token { IfOk result (λ found. IfSome found IsTokenObject) }
-        ensures same { Stays K.holds K.may_leave self.old.keep self.new.keep }
+        ensures same { Stays K.terms self.old.keep self.new.keep }
         ensures ids { self.new.ids ≡ self.old.ids }
-        ensures counts { Counted K.doubt K.failures_of K.tried self.old.keep self.new.keep 0 }
-        ensures cause { HasCause (K.failures_of self.old.keep) (K.failures_of self.new.keep) result }
+        ensures counts { Counted K.terms self.old.keep self.new.keep 0 0 }
+        ensures cause { HasCause (K.terms.failures self.old.keep) (K.terms.failures self.new.keep) result }
     {
         if !self.has_id(id) {
             return Ok(None);
@@ -72,13 +72,13 @@ impl<K: Keep> Store<K> {
     /// Adds a token object at the end. There is room for its id before it is written.
     pub fn insert(&mut self, object: &Object) -> Result<u64, KeepFault>
         requires { IsTokenObject object.now }
-        ensures id { K.doubt self.new.keep ≡ 0 → (c : Contents) → Has K.holds self.old c → IfOk result (λ id. id ≡ c.last_id + 1) }
-        ensures has { K.doubt self.new.keep ≡ 0 → (c : Contents) → Has K.holds self.old c → OnOk result (Has K.holds self.new (with_object object.now c)) }
-        ensures leaves { (c : Contents) → Has K.holds self.old c → OnOk result (LeavesAlone K.may_leave self.new (with_object object.now c)) }
-        ensures same { (c : Contents) → Has K.holds self.old c → OnErr result (Has K.holds self.new c) }
-        ensures leaves_or { (c : Contents) → Has K.holds self.old c → OnErr result (LeavesOr K.may_leave self.old self.new (with_object object.now c)) }
-        ensures counts { Counted K.doubt K.failures_of K.tried self.old.keep self.new.keep 1 }
-        ensures cause { HasCause (K.failures_of self.old.keep) (K.failures_of self.new.keep) result }
+        ensures id { K.terms.doubt self.new.keep ≡ 0 → (c : Contents) → Has K.terms self.old c → IfOk result (λ id. id ≡ c.last_id + 1) }
+        ensures has { K.terms.doubt self.new.keep ≡ 0 → (c : Contents) → Has K.terms self.old c → OnOk result (Has K.terms self.new (with_object object.now c)) }
+        ensures leaves { (c : Contents) → Has K.terms self.old c → OnOk result (LeavesAlone K.terms self.new (with_object object.now c)) }
+        ensures same { (c : Contents) → Has K.terms self.old c → OnErr result (Has K.terms self.new c) }
+        ensures leaves_or { (c : Contents) → Has K.terms self.old c → OnErr result (LeavesOr K.terms self.old self.new (with_object object.now c)) }
+        ensures counts { Counted K.terms self.old.keep self.new.keep 0 1 }
+        ensures cause { HasCause (K.terms.failures self.old.keep) (K.terms.failures self.new.keep) result }
     {
         self.ids.reserve(1)?;
         let id = self.keep.insert(object)?;
@@ -89,12 +89,12 @@ impl<K: Keep> Store<K> {
     /// Puts another token object in the place of the one under an id.
     pub fn replace(&mut self, id: u64, object: &Object) -> Result<(), KeepFault>
         requires { IsTokenObject object.now }
-        ensures has { (c : Contents) → Has K.holds self.old c → OnOk result (Has K.holds self.new (with_replacement id object.now c)) }
-        ensures leaves { (c : Contents) → Has K.holds self.old c → OnOk result (LeavesAlone K.may_leave self.new (with_replacement id object.now c)) }
-        ensures same { (c : Contents) → Has K.holds self.old c → OnErr result (Has K.holds self.new c) }
-        ensures leaves_or { (c : Contents) → Has K.holds self.old c → OnErr result (LeavesOr K.may_leave self.old self.new (with_replacement id object.now c)) }
-        ensures counts { Counted K.doubt K.failures_of K.tried self.old.keep self.new.keep 1 }
-        ensures cause { HasCause (K.failures_of self.old.keep) (K.failures_of self.new.keep) result }
+        ensures has { (c : Contents) → Has K.terms self.old c → OnOk result (Has K.terms self.new (with_replacement id object.now c)) }
+        ensures leaves { (c : Contents) → Has K.terms self.old c → OnOk result (LeavesAlone K.terms self.new (with_replacement id object.now c)) }
+        ensures same { (c : Contents) → Has K.terms self.old c → OnErr result (Has K.terms self.new c) }
+        ensures leaves_or { (c : Contents) → Has K.terms self.old c → OnErr result (LeavesOr K.terms self.old self.new (with_replacement id object.now c)) }
+        ensures counts { Counted K.terms self.old.keep self.new.keep 0 1 }
+        ensures cause { HasCause (K.terms.failures self.old.keep) (K.terms.failures self.new.keep) result }
     {
         self.keep.replace(id, object)?;
         Ok(())
@@ -102,12 +102,12 @@ impl<K: Keep> Store<K> {
 
     /// Removes the object under an id.
     pub fn remove(&mut self, id: u64) -> Result<(), KeepFault>
-        ensures has { (c : Contents) → Has K.holds self.old c → OnOk result (Has K.holds self.new (without_object id c)) }
-        ensures leaves { (c : Contents) → Has K.holds self.old c → OnOk result (LeavesAlone K.may_leave self.new (without_object id c)) }
-        ensures same { (c : Contents) → Has K.holds self.old c → OnErr result (Has K.holds self.new c) }
-        ensures leaves_or { (c : Contents) → Has K.holds self.old c → OnErr result (LeavesOr K.may_leave self.old self.new (without_object id c)) }
-        ensures counts { Counted K.doubt K.failures_of K.tried self.old.keep self.new.keep 1 }
-        ensures cause { HasCause (K.failures_of self.old.keep) (K.failures_of self.new.keep) result }
+        ensures has { (c : Contents) → Has K.terms self.old c → OnOk result (Has K.terms self.new (without_object id c)) }
+        ensures leaves { (c : Contents) → Has K.terms self.old c → OnOk result (LeavesAlone K.terms self.new (without_object id c)) }
+        ensures same { (c : Contents) → Has K.terms self.old c → OnErr result (Has K.terms self.new c) }
+        ensures leaves_or { (c : Contents) → Has K.terms self.old c → OnErr result (LeavesOr K.terms self.old self.new (without_object id c)) }
+        ensures counts { Counted K.terms self.old.keep self.new.keep 0 1 }
+        ensures cause { HasCause (K.terms.failures self.old.keep) (K.terms.failures self.new.keep) result }
     {
         self.keep.remove(id)?;
         remove_id(&mut self.ids, id);

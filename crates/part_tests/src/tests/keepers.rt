@@ -1,7 +1,7 @@
-ghost use Rattle.std.specs.Prelude.{◌≡◌, ◌≤◌, ◌+◌, ◌⊎◌, Some, IfNone, IfOk, IfSome, OnErr, OnSome};
+ghost use Rattle.std.specs.Prelude.{◌≡◌, ◌≤◌, ◌+◌, ◌⊎◌, Option, Some, IfNone, IfOk, IfSome, OnErr, OnSome};
 ghost use Rattle.pin_record.specs.Records.{charged};
 ghost use Rattle.keep.specs.Contents.{Contents, object_at, with_record};
-ghost use Rattle.keep.specs.Keeping.{HasCause};
+ghost use Rattle.keep.specs.Keeping.{HasCause, LeavesSome};
 
 use attrs::{Form, Object, attributes};
 use ck_types::{AttrType, Bytes, Entry, Items, ObjectClass, UserType};
@@ -18,14 +18,15 @@ fn charge_and_read<K: Keep>(
     who: UserType,
     id: u64,
 ) -> Result<Option<Object>, KeepFault>
-    ensures charged { (c : Contents) → K.holds keep.old c → IfOk result (λ found. OnSome found (K.holds keep.new (with_record (charged c.token_record who) c))) }
-    ensures refused { (c : Contents) → K.holds keep.old c → IfOk result (λ found. IfNone found (K.holds keep.new c)) }
-    ensures object { K.doubt keep.new ≡ 0 → (c : Contents) → K.holds keep.old c → IfOk result (λ found. IfSome found (λ object. object_at c id ≡ Some object)) }
-    ensures either { (c : Contents) → K.holds keep.old c → OnErr result (K.holds keep.new c ⊎ K.holds keep.new (with_record (charged c.token_record who) c)) }
-    ensures crash { (c d : Contents) → K.holds keep.old c → K.may_leave keep.new d → IfOk result (λ found. OnSome found (d ≡ with_record (charged c.token_record who) c)) }
-    ensures tried { K.tried keep.new ≤ K.tried keep.old + 1 }
-    ensures doubt { K.doubt keep.old ≤ K.doubt keep.new }
-    ensures cause { HasCause (K.failures_of keep.old) (K.failures_of keep.new) result }
+    ensures charged { (c : Contents) → K.terms.holds keep.old c → IfOk result (λ found. OnSome found (K.terms.holds keep.new (with_record (charged c.token_record who) c))) }
+    ensures refused { (c : Contents) → K.terms.holds keep.old c → IfOk result (λ found. IfNone found (K.terms.holds keep.new c)) }
+    ensures object { K.terms.doubt keep.new ≡ 0 → (c : Contents) → K.terms.holds keep.old c → IfOk result (λ found. IfSome found (λ object. object_at c id ≡ Some object)) }
+    ensures either { (c : Contents) → K.terms.holds keep.old c → OnErr result (K.terms.holds keep.new c ⊎ K.terms.holds keep.new (with_record (charged c.token_record who) c)) }
+    ensures crash { (c : Contents) (left : Option Contents) → K.terms.holds keep.old c → K.terms.may_leave keep.new left → IfOk result (λ found. OnSome found (left ≡ Some (with_record (charged c.token_record who) c))) }
+    ensures tried { K.terms.tried keep.new ≤ K.terms.tried keep.old + 1 }
+    ensures doubt { K.terms.doubt keep.old ≤ K.terms.doubt keep.new }
+    ensures some { K.terms.doubt keep.new ≡ 0 → LeavesSome (K.terms.may_leave keep.new) }
+    ensures cause { HasCause (K.terms.failures keep.old) (K.terms.failures keep.new) result }
 {
     let record = keep.get_record();
     if record.verifier(who).is_none() || record.is_locked(who) {

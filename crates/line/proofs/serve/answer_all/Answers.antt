@@ -8,7 +8,7 @@ use Rattle.line.proofs.serve.answer_all.Goals as goal
 pub loop-payload-init : goal.loop-payload-init
 loop-payload-init g c = record {
   so_far = answered-none _ c.args.frames.now.bytes c.args.count.now (g.W.Write.contents c.args.writer.now) (omega arith)
-      (leads-none g.K.Keep.holds g.K.Keep.may_leave g.K.Keep.doubt c.args.app c.args.token.now c.args.words.now);
+      (leads-none g.K.Keep.terms c.args.app c.args.token.now c.args.words.now);
   well = c.requires;
 }
 
@@ -17,8 +17,8 @@ loop-payload-preserved g c =
     let n = rw c.in-Ok-Some.field-0-is at c.in-Ok-Some.ensures in
     let so = c.loop-payload.invariant.so_far in
     record {
-      so_far = answered-more (Leads g.K.Keep.holds g.K.Keep.may_leave g.K.Keep.doubt c.args.app c.args.token.now c.loop-payload.token c.args.words.now c.loop-payload.words) _ _ c.loop-payload.frames.bytes c.next.new.self.bytes c.in-Ok-Some.payload.items _ c.loop-payload.count _ _ so n.2 n.3 c.in_ok-reply-in-Ok-Some.reply
-          (leads-then g.K.Keep.holds g.K.Keep.may_leave g.K.Keep.doubt c.args.app _ _ _ _ _ _ (messages so.payloads) _ so.said _ so.led (rw c.deref.ensures.value at c.in_ok-reply-in-Ok-Some.ensures.ok))
+      so_far = answered-more (Leads g.K.Keep.terms c.args.app c.args.token.now c.loop-payload.token c.args.words.now c.loop-payload.words) _ _ c.loop-payload.frames.bytes c.next.new.self.bytes c.in-Ok-Some.payload.items _ c.loop-payload.count _ _ so n.2 n.3 c.in_ok-reply-in-Ok-Some.reply
+          (leads-then g.K.Keep.terms c.args.app _ _ _ _ _ _ (messages so.payloads) _ so.said _ so.led (rw c.deref.ensures.value at c.in_ok-reply-in-Ok-Some.ensures.ok))
           _ _ c.in_ok-send-in-Ok-Some.ensures.0 c.in_ok-send-in-Ok-Some.ensures.1 c.saturating_add.ensures;
       well = n.1;
     }
@@ -28,6 +28,6 @@ returns-in_err-send-in-Ok-Some g c =
     let n = rw c.in-Ok-Some.field-0-is at c.in-Ok-Some.ensures in
     let p = err_from_is_err_and c.from_residual-in_err-send-in-Ok-Some.result c.from_residual-in_err-send-in-Ok-Some.ensures.1 in
     let so = c.loop-payload.invariant.so_far in
-    answers-cut (Leads g.K.Keep.holds g.K.Keep.may_leave g.K.Keep.doubt c.args.app c.args.token.now c.loop-payload.token c.args.words.now c.loop-payload.words) _ _ c.loop-payload.frames.bytes c.next.new.self.bytes c.in-Ok-Some.payload.items _ c.loop-payload.count _ _ so n.2 n.3 c.in_ok-reply-in-Ok-Some.reply
-    (leads-then g.K.Keep.holds g.K.Keep.may_leave g.K.Keep.doubt c.args.app _ _ _ _ _ _ (messages so.payloads) _ so.said _ so.led (rw c.deref.ensures.value at c.in_ok-reply-in-Ok-Some.ensures.ok))
+    answers-cut (Leads g.K.Keep.terms c.args.app c.args.token.now c.loop-payload.token c.args.words.now c.loop-payload.words) _ _ c.loop-payload.frames.bytes c.next.new.self.bytes c.in-Ok-Some.payload.items _ c.loop-payload.count _ _ so n.2 n.3 c.in_ok-reply-in-Ok-Some.reply
+    (leads-then g.K.Keep.terms c.args.app _ _ _ _ _ _ (messages so.payloads) _ so.said _ so.led (rw c.deref.ensures.value at c.in_ok-reply-in-Ok-Some.ensures.ok))
     c.args.frames.now c.next.new.self _ _ c.in_err-send-in-Ok-Some.field-0.0 _ refl refl c.in_err-send-in-Ok-Some.ensures (rw (← p.2) p.1)

@@ -5,7 +5,7 @@ use Rattle.line.proofs.serve.answer_all.Given as goal
 
 abbrev pub invariant-loop-payload : goal.invariant-loop-payload
 invariant-loop-payload g l = record {
-  so_far : Answered (Leads g.K.Keep.holds g.K.Keep.may_leave g.K.Keep.doubt l.app l.fn.token l.token l.fn.words l.words) l.fn.frames.bytes l.frames.bytes l.fn.count l.count (g.W.Write.contents l.fn.writer) (g.W.Write.contents l.writer);
+  so_far : Answered (Leads g.K.Keep.terms l.app l.fn.token l.token l.fn.words l.words) l.fn.frames.bytes l.frames.bytes l.fn.count l.count (g.W.Write.contents l.fn.writer) (g.W.Write.contents l.writer);
   well : l.frames.failed ≡ false;
 }
 

@@ -12,7 +12,7 @@ returns-in-Reply-clause-moved g c = λ sure w s h.
 
 pub returns-clause-moved : goal.returns-clause-moved
 returns-clause-moved g c = λ sure w s h.
-    let honest : g.K.Keep.doubt c.call.new.self.store.keep ≡ 0 = omega (arith, c.finish.ensures.counts.doubt, sure) in
+    let honest : g.K.Keep.terms.doubt c.call.new.self.store.keep ≡ 0 = omega (arith, c.finish.ensures.counts.doubt, sure) in
     let v : World = called w c.args.app c.args.call c.args.random.items None in
     let shown = rw c.deref.ensures.value at (c.in-Ask.ensures.world honest w s) in
     let opened : (v.views c.args.app).question ≡ Some (question_of c.in-Ask.job) → IsOpen v c.args.app c.run.result.job.value =

@@ -23,9 +23,9 @@ returns-in_default g c = record {
   serves = λ sure k h fits.
       let d = c.args.desk.now in
       let s = seated _ _ c.state.result _ c.state.ensures c.in_ok-ok_or.ensures.ok_part in
-      rw c.set_encryption.ensures (gave-is _ _ _ (ends (view_of k d) c.args.session NoMechanism) _ k _ _ _ _
+      rw c.set_encryption.ensures (gave-is _ _ (ends (view_of k d) c.args.session NoMechanism) _ k _ _ _ _
       (nothing-is (view_of k d) c.args.session s.0 s.1 c.args.mechanism c.args.key c.in_default.is)
-      (gave-quiet _ _ _ _ k _ _ _ _ h (λ d may. may) refl (gives-with k d c.args.session None (Code rv.Ok) fits)));
+      (gave-quiet _ _ _ k _ _ _ _ h (λ d may. may) refl (gives-with k d c.args.session None (Code rv.Ok) fits)));
   counts = search rules;
   cause = search rules;
 }
@@ -44,9 +44,9 @@ returns g c = record {
       let secret : is_secret_key (class_of o) ≡ true = sym c.is_secret_key.ensures ∙ c.if-not-is_secret_key.false in
       let aes : is_aes (key_type_of o) ≡ true = sym c.is_aes.ensures ∙ c.if-not-is_aes.false in
       let permitted : flag o attr.Encrypt ≡ true = sym c.flag.ensures ∙ c.if-not-flag.false in
-      rw c.set_encryption-2.ensures (gave-is _ _ _ (begins v c.args.session AesEcb [] o) _ k _ _ _ _
+      rw c.set_encryption-2.ensures (gave-is _ _ (begins v c.args.session AesEcb [] o) _ k _ _ _ _
       (begins-is v c.args.session s.0 s.1 c.args.mechanism c.args.key c.in-Some.mechanism o c.in-Some.is idle built empty found.0 secret aes permitted)
-      (gave-quiet _ _ _ _ k _ _ _ _ (has-still _ _ _ _ k c.find.ensures.same c.find.ensures.ids h) c.find.ensures.same.crash refl
+      (gave-quiet _ _ _ k _ _ _ _ (has-still _ _ _ k c.find.ensures.same c.find.ensures.ids h) (λ left may. c.find.ensures.same.crash k left h.held may) refl
       (rw c.key_of-key.ensures (gives-with k d c.args.session (Some (started AesEcb [] (Some c.key_of-key.result))) (Code rv.Ok) fits))));
   counts = search rules;
   cause = search rules;

@@ -11,7 +11,7 @@ returns g c = record {
       let d = c.args.desk.now in
       let s = seated _ _ c.state.result _ c.state.ensures c.in_ok-state.ensures.ok_part in
       let made = made-object _ _ c.in_ok-object.object c.in_ok-object.ensures in
-      does-is _ _ _ _ k _ _ d c.add_object.new.desk c.add_object.result
+      does-is _ _ _ k _ _ d c.add_object.new.desk c.add_object.result
       (create-is (view_of k d) c.args.session c.args.template.now s.0 s.1 c.args.random.now c.in_ok-object.object (rw s.2 made.0) made.1)
       (rw s.2 (c.add_object.ensures.serves sure k h fits));
   counts = search rules;

@@ -1,11 +1,9 @@
-use Rattle.std.proofs.Common.{refl, sym, subst, inl, inr}
+use Rattle.std.proofs.Common.{refl, subst, inl, inr}
 use Rattle.keep.specs.Contents.{without_object}
 use Rattle.token_store.specs.Found.{IsAt}
-use Rattle.token_model.specs.Views.{sees}
-use Rattle.token_model.specs.Changes.{in_list}
 use Rattle.token_model.specs.Answering.{Answer, place_of}
 use Rattle.token_model.specs.Answers.DestroyObject.{destroyed}
-use Rattle.token_store.specs.Shown.{Changes, objects_of, view_of}
+use Rattle.token_store.specs.Shown.{view_of}
 use Rattle.token_store.proofs.Gaves.{gave-change, gave-quiet}
 use Rattle.token_store.proofs.Refusals.{does-refused, fault-of}
 use Rattle.serve_objects.proofs.Destroying.{gives-kept, gives-own, stays-own}
@@ -14,14 +12,14 @@ use Rattle.serve_objects.proofs.destroy_object.destroy.Goals as goal
 pub returns-in_ok-remove-in-Some-clause-serves : goal.returns-in_ok-remove-in-Some-clause-serves
 returns-in_ok-remove-in-Some-clause-serves g c = λ o sure k h fits at.
     let there = subst (λ i. IsAt k c.args.desk.now c.args.handle o i) c.in-Some.is at in
-    rw c.retire.ensures (gave-change _ _ _ _ k _ _ _ _ (without_object c.in-Some.id k)
+    rw c.retire.ensures (gave-change _ _ _ k _ _ _ _ (without_object c.in-Some.id k)
     (c.in_ok-remove-in-Some.ensures.has k h) (c.in_ok-remove-in-Some.ensures.leaves k h)
     (gives-kept k c.args.desk.now _ c.args.handle c.requires o c.in-Some.id there h.sound fits))
 
 pub returns-in-None-clause-serves : goal.returns-in-None-clause-serves
 returns-in-None-clause-serves g c = λ o sure k h fits at.
     let none = subst (λ i. IsAt k c.args.desk.now c.args.handle o i) c.in-None.is at in
-    rw c.remove_own.ensures (gave-quiet _ _ _ _ k _ _ _ _ h (λ d may. may)
+    rw c.remove_own.ensures (gave-quiet _ _ _ k _ _ _ _ h (λ d may. may)
     (stays-own k c.args.desk.now _ c.args.handle c.requires o none)
     (gives-own k c.args.desk.now _ c.args.handle c.requires o none fits))
 
@@ -32,11 +30,11 @@ returns-in_err-remove-in-Some-clause-serves g c = λ o sure k h fits at.
     let gone = gives-kept k d _ c.args.handle c.requires o c.in-Some.id there h.sound fits in
     let v = view_of k d in
     let a : Answer = destroyed v c.args.handle (place_of v.tokens c.args.handle) in
-    does-refused _ _ a k _ _ d d c.from_residual.result (fault-of c.from_residual.result _ c.from_residual.ensures.1) (record {
+    does-refused _ a k _ _ d d c.from_residual.result (fault-of c.from_residual.result _ c.from_residual.ensures.1) (record {
       has = c.in_err-remove-in-Some.ensures.same k h;
       same = refl;
       leaves = λ x may. elim (c.in_err-remove-in-Some.ensures.leaves_or k h x may) [
         | inl before ↦ inl before
-        | inr is ↦ inr (subst (λ y. Changes (in_list (sees d.sessions.login) (objects_of k) a.change) k y) (sym is) gone.changes)
+        | inr is ↦ inr (_, is, gone.changes)
       ];
     })

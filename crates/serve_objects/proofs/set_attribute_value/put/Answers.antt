@@ -1,11 +1,9 @@
-use Rattle.std.proofs.Common.{refl, sym, subst, inl, inr}
+use Rattle.std.proofs.Common.{refl, subst, inl, inr}
 use Rattle.keep.specs.Contents.{with_replacement}
 use Rattle.token_store.specs.Found.{IsAt}
-use Rattle.token_model.specs.Views.{sees}
-use Rattle.token_model.specs.Changes.{in_list}
 use Rattle.token_model.specs.Answering.{Answer, place_of}
 use Rattle.token_model.specs.Answers.SetAttributeValue.{puts}
-use Rattle.token_store.specs.Shown.{Changes, objects_of, view_of}
+use Rattle.token_store.specs.Shown.{view_of}
 use Rattle.token_store.proofs.Gaves.{gave-change, gave-quiet}
 use Rattle.token_store.proofs.Refusals.{does-refused, fault-of}
 use Rattle.serve_objects.proofs.Setting.{gives-put, gives-put_own, stays-own}
@@ -15,7 +13,7 @@ pub returns-in_ok-replace-in-Some-clause-serves : goal.returns-in_ok-replace-in-
 returns-in_ok-replace-in-Some-clause-serves g c = λ old public sure k h fits at.
     let d = c.args.desk.now in
     let there = subst (λ i. IsAt k d c.args.handle old i) c.in-Some.is at in
-    gave-change _ _ _ _ k _ _ _ _ (with_replacement c.in-Some.id c.args.object k)
+    gave-change _ _ _ k _ _ _ _ (with_replacement c.in-Some.id c.args.object k)
     (c.in_ok-replace-in-Some.ensures.has k h) (c.in_ok-replace-in-Some.ensures.leaves k h)
     (gives-put k d _ c.args.handle c.requires.table old c.args.object c.in-Some.id public there h.sound fits)
 
@@ -23,7 +21,7 @@ pub returns-in-None-clause-serves : goal.returns-in-None-clause-serves
 returns-in-None-clause-serves g c = λ old public sure k h fits at.
     let d = c.args.desk.now in
     let none = subst (λ i. IsAt k d c.args.handle old i) c.in-None.is at in
-    rw c.replace_own.ensures (gave-quiet _ _ _ _ k _ _ _ _ h (λ d may. may)
+    rw c.replace_own.ensures (gave-quiet _ _ _ k _ _ _ _ h (λ d may. may)
     (stays-own k d _ c.args.handle c.requires.table old c.args.object none)
     (gives-put_own k d _ c.args.handle c.requires.table old c.args.object none fits))
 
@@ -34,11 +32,11 @@ returns-in_err-replace-in-Some-clause-serves g c = λ old public sure k h fits a
     let put = gives-put k d _ c.args.handle c.requires.table old c.args.object c.in-Some.id public there h.sound fits in
     let v = view_of k d in
     let a : Answer = puts v c.args.handle c.args.object (place_of v.tokens c.args.handle) in
-    does-refused _ _ a k _ _ d d c.from_residual.result (fault-of c.from_residual.result _ c.from_residual.ensures.1) (record {
+    does-refused _ a k _ _ d d c.from_residual.result (fault-of c.from_residual.result _ c.from_residual.ensures.1) (record {
       has = c.in_err-replace-in-Some.ensures.same k h;
       same = refl;
       leaves = λ x may. elim (c.in_err-replace-in-Some.ensures.leaves_or k h x may) [
         | inl before ↦ inl before
-        | inr is ↦ inr (subst (λ y. Changes (in_list (sees d.sessions.login) (objects_of k) a.change) k y) (sym is) put.changes)
+        | inr is ↦ inr (_, is, put.changes)
       ];
     })

@@ -14,9 +14,9 @@ pub returns : goal.returns
 returns g c = record {
   serves = λ sure k h fits.
       let d = c.args.desk.now in
-      let clean : g.K.Keep.doubt c.find.new.store.keep ≡ 0 = omega (arith, c.put.ensures.counts.doubt, sure) in
+      let clean : g.K.Keep.terms.doubt c.find.new.store.keep ≡ 0 = omega (arith, c.put.ensures.counts.doubt, sure) in
       let found = subst (λ x. IsFound k d c.args.handle x) c.in_ok-found.ensures.ok_part (c.in_ok-find.ensures.found clean k h fits) in
-      let held = has-still _ _ _ _ k c.find.ensures.same c.find.ensures.ids h in
+      let held = has-still _ _ _ k c.find.ensures.same c.find.ensures.ids h in
       let s = seated _ _ c.state.result _ c.state.ensures c.in_ok-state.ensures.ok_part in
       let o = c.in_ok-found.found.object in
       let test : (c.flag.result && not (is_rw c.in_ok-state.state)) ≡ false = elim c.else-flag.branch [
@@ -25,9 +25,9 @@ returns g c = record {
       ] in
       let writable = ap (λ b. b && not (is_rw c.in_ok-state.state)) (sym c.flag.ensures) ∙ test in
       let made = made-object _ _ c.in_ok-object.object c.in_ok-object.ensures.made in
-      does-is _ _ _ _ k _ _ d c.put.new.desk c.put.result
+      does-is _ _ _ k _ _ d c.put.new.desk c.put.result
       (set-is (view_of k d) c.args.session c.args.template.now s.0 s.1 c.args.handle o found.0 (rw s.2 writable) (ap not (sym c.flag-2.ensures ∙ c.if-not-flag.false)) c.in_ok-object.object (rw s.2 made.0) made.1)
-      (does-after _ _ _ k _ c.find.new.store _ d c.put.new.desk c.put.result c.find.ensures.same.crash (c.put.ensures.serves o (ap not c.in_ok-object.ensures.placed.private) sure k held fits found.1));
+      (does-after _ _ k _ c.find.new.store _ d c.put.new.desk c.put.result (λ left may. c.find.ensures.same.crash k left h.held may) (c.put.ensures.serves o (ap not c.in_ok-object.ensures.placed.private) sure k held fits found.1));
   counts = search rules;
   cause = search rules;
 }

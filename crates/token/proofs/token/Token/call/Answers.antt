@@ -5,19 +5,19 @@ use Rattle.token.proofs.token.Token.call.Goals as goal
 pub returns-clause-world : goal.returns-clause-world
 returns-clause-world g c = λ sure w s.
     let t = rw (← c.self.view_is) at s in
-    rw c.told_as.ensures (shows-called _ _ _ _ _ _ _ c.args.app c.args.call c.args.random.now w t c.serve_app.ensures.others c.serve_app.result (c.serve_app.ensures.serves sure t.contents t.has (t.fits c.args.app)))
+    rw c.told_as.ensures (shows-called _ _ _ _ _ _ c.args.app c.args.call c.args.random.now w t c.serve_app.ensures.others c.serve_app.result (c.serve_app.ensures.serves sure t.contents t.has (t.fits c.args.app)))
 
 pub returns-clause-says : goal.returns-clause-says
 returns-clause-says g c = λ sure w s.
     let t = rw (← c.self.view_is) at s in
-    rw c.told_as.ensures (says-called _ _ _ _ _ _ _ c.args.app c.args.call c.args.random.now w t c.serve_app.ensures.others c.serve_app.result (c.serve_app.ensures.serves sure t.contents t.has (t.fits c.args.app)))
+    rw c.told_as.ensures (says-called _ _ _ _ _ _ c.args.app c.args.call c.args.random.now w t c.serve_app.ensures.others c.serve_app.result (c.serve_app.ensures.serves sure t.contents t.has (t.fits c.args.app)))
 
 pub returns-clause-leaves : goal.returns-clause-leaves
 returns-clause-leaves g c = λ sure w s.
     let t = rw (← c.self.view_is) at s in
-    rw (c.told_as.ensures, ← c.self.view_is) (leaves-called _ _ _ _ _ _ _ c.args.app c.args.call c.args.random.now w t c.serve_app.ensures.others c.serve_app.result (c.serve_app.ensures.serves sure t.contents t.has (t.fits c.args.app)))
+    rw (c.told_as.ensures, ← c.self.view_is) (leaves-called _ _ _ _ _ _ c.args.app c.args.call c.args.random.now w t c.serve_app.ensures.others c.serve_app.result (c.serve_app.ensures.serves sure t.contents t.has (t.fits c.args.app)))
 
 pub returns-clause-cause : goal.returns-clause-cause
 returns-clause-cause g c = λ sure w s is.
     let t = rw (← c.self.view_is) at s in
-    rw (← c.self.view_is) (c.serve_app.ensures.cause (rw (blames-device _ _ _ _ _ _ _ c.args.app c.args.call c.args.random.now w t c.serve_app.ensures.others c.serve_app.result (c.serve_app.ensures.serves sure t.contents t.has (t.fits c.args.app)) (sym c.told_as.ensures ∙ is)) refl))
+    rw (← c.self.view_is) (c.serve_app.ensures.cause (rw (blames-device _ _ _ _ _ _ c.args.app c.args.call c.args.random.now w t c.serve_app.ensures.others c.serve_app.result (c.serve_app.ensures.serves sure t.contents t.has (t.fits c.args.app)) (sym c.told_as.ensures ∙ is)) refl))

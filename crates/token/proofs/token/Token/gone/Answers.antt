@@ -2,4 +2,4 @@ use Rattle.token.proofs.Resulted.{shows-gone}
 use Rattle.token.proofs.token.Token.gone.Goals as goal
 
 pub returns-clause-world : goal.returns-clause-world
-returns-clause-world g c = λ w s. rw c.retain_others.ensures (shows-gone _ g.K.Keep.may_leave _ _ c.leave.new.desks.entries _ c.args.app w c.leave.ensures.own c.leave.ensures.others (rw (← c.self.view_is) at s))
+returns-clause-world g c = λ w s. rw c.retain_others.ensures (shows-gone g.K.Keep.terms _ _ c.leave.new.desks.entries _ c.args.app w c.leave.ensures.own c.leave.ensures.others (rw (← c.self.view_is) at s))

@@ -13,7 +13,7 @@ pub events-preserved : goal.events-preserved
 events-preserved g c = (
   omega (arith, c.events.invariant.0, c.in-Ok.ensures.doubt),
   λ sure w s.
-      let before : g.K.Keep.doubt c.events.self.store.keep ≡ 0 = omega (arith, c.in-Ok.ensures.doubt, sure) in
+      let before : g.K.Keep.terms.doubt c.events.self.store.keep ≡ 0 = omega (arith, c.in-Ok.ensures.doubt, sure) in
       one_more _ _ _ _ _ _ w c.args.events.items _ _ c.events.replies.items _ c.events.out.items _ sure (c.events.invariant.1 before w s) c.in-Ok.ensures.ok,
   c.in-Ok.ensures.random,
 )

@@ -8,8 +8,8 @@ use Rattle.token.proofs.token.Token.run.Given as goal
 
 abbrev pub invariant-events : goal.invariant-events
 invariant-events g l =
-    (g.K.Keep.doubt l.fn.self.store.keep ≤ g.K.Keep.doubt l.self.store.keep)
-    × (g.K.Keep.doubt l.self.store.keep ≡ 0 → (w : World) → Shows g.K.Keep.holds l.fn.self w → IsRun (Shows g.K.Keep.holds l.self) (MayLeave g.K.Keep.may_leave l.fn.self) (MayLeave g.K.Keep.may_leave l.self) w l.fn.events.items l.replies.items (reverse l.events.items) l.out.items)
+    (g.K.Keep.terms.doubt l.fn.self.store.keep ≤ g.K.Keep.terms.doubt l.self.store.keep)
+    × (g.K.Keep.terms.doubt l.self.store.keep ≡ 0 → (w : World) → Shows g.K.Keep.terms l.fn.self w → IsRun (Shows g.K.Keep.terms l.self) (MayLeave g.K.Keep.terms l.fn.self) (MayLeave g.K.Keep.terms l.self) w l.fn.events.items l.replies.items (reverse l.events.items) l.out.items)
     × All HasRandom l.events.items
 
 abbrev pub decreases-events : goal.decreases-events
