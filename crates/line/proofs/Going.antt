@@ -9,7 +9,7 @@ use Rattle.token_model.specs.Worlds.{World, goes, after}
 use Rattle.token.specs.Applications.{HasJobs}
 use Rattle.token_store.specs.Stores.{StoreState}
 use Rattle.token.specs.Applications.{TokenState, Shows}
-use Rattle.token.specs.Runs.{Lasting, MayLeave}
+use Rattle.token.specs.Runs.{Lasting, MayLeave, AccountsFor}
 use Rattle.line.specs.Lines.{Message, Leads, LeadsAway}
 use Rattle.line.proofs.Moving.{Idle, idle, no_jobs}
 
@@ -34,6 +34,7 @@ module _ {K : Type 0} (terms : Terms K) where
     gone = record {
       one_each = p.one_each;
       words = p.words;
+      accounts = subst (λ (s : StoreState K). AccountsFor (terms.failures old.store.keep) (terms.failures s.keep) said) (sym same) p.accounts;
       run = λ sure w s.
           let line = p.run (ap (λ (t : StoreState K). terms.doubt t.keep) (sym same) ∙ sure) w s (none w s) in
           record {

@@ -1,5 +1,5 @@
 -- What a token becomes by one message, and by more.
-use Rattle.std.proofs.Common.{◌≡◌, ℕ, ◌+◌, ◌≤◌, List, [], ◌∷◌, ◌++◌, length, Ok, Err, refl, sym, ◌∙◌, ap, subst, append_assoc, arith}
+use Rattle.std.proofs.Common.{◌≡◌, ℕ, ◌+◌, ◌≤◌, List, [], ◌∷◌, ◌++◌, length, None, Ok, Err, refl, sym, ◌∙◌, ap, subst, append_assoc, arith}
 use Rattle.std.proofs.lemmas.List.{length-append}
 use Rattle.rand_chacha.specs.ChaCha.{ChaCha}
 use Rattle.ck_calls.specs.declared.call.Call.{Call as CallType}
@@ -7,10 +7,12 @@ use Rattle.ck_calls.specs.declared.reply.Reply.{Reply}
 use Rattle.ck_calls.specs.Need.{random_bytes}
 use Rattle.keep.specs.Keeping.{Terms}
 use Rattle.wire.specs.declared.fault.WireFault.{WireFault}
-use Rattle.token_model.specs.Worlds.{World, after}
+use Rattle.wire.specs.declared.fault.WireFault.TheVariants as faults
+use Rattle.token_model.specs.Worlds.{World, after, set_apart}
 use Rattle.token.specs.Applications.{HasJobs}
 use Rattle.token.specs.Applications.{TokenState, Shows}
-use Rattle.token.specs.Runs.{MayLeave}
+use Rattle.token.specs.Runs.{MayLeave, AccountsFor}
+use Rattle.token.proofs.Accounts.{accounts-none, accounts-more, accounts-plain}
 use Rattle.line.specs.Words.{taken}
 use Rattle.line.specs.Lines.{Message, Calls, Finishes, acts_of, words_past, acts, words_after, refusal_of, calls_in, answers, Moved, Leads}
 use Rattle.line.proofs.Moving.{moved-none, moved-then}
@@ -39,12 +41,20 @@ answers-append (Err fault ∷ ms) ns t u e = ap (λ rs. refusal_of fault ∷ rs)
 
 -- ---- a token
 
+plain-refusal : (fault : WireFault) → set_apart (refusal_of fault) ≡ None
+plain-refusal faults.UnknownFunction = refl
+plain-refusal faults.Malformed = refl
+plain-refusal faults.TooLong = refl
+plain-refusal faults.Memory = refl
+
 module _ {K : Type 0} (terms : Terms K) (app : ℕ) where
   pub leads-none : (t : TokenState K) (words : ChaCha) → Leads terms app t t words words [] []
   leads-none t words = record {
     one_each = refl;
     words = refl;
     remembers = omega arith;
+    failures = omega arith;
+    accounts = accounts-none _ _ (omega arith);
     run = λ sure w s h. record { told = []; moved = moved-none (Shows terms t) (MayLeave terms t) w s h; each = refl; answered = refl };
   }
 
@@ -54,17 +64,22 @@ module _ {K : Type 0} (terms : Terms K) (app : ℕ) where
     one_each = refl;
     words = refl;
     remembers = omega arith;
+    failures = omega arith;
+    accounts = accounts-plain _ (refusal_of fault) (plain-refusal fault);
     run = λ sure w s h. record { told = []; moved = moved-none (Shows terms t) (MayLeave terms t) w s h; each = refl; answered = refl };
   })
 
   -- a call
   pub leads-call : (old new : TokenState K) (words words' : ChaCha) (m : Message) (call : CallType) (random : List ℕ) (reply : Reply) → m ≡ Ok call → (random, words') ≡ taken (random_bytes call) words → terms.doubt old.store.keep ≤ terms.doubt new.store.keep
+      → terms.failures old.store.keep ≤ terms.failures new.store.keep → AccountsFor (terms.failures old.store.keep) (terms.failures new.store.keep) (reply ∷ [])
       → (terms.doubt new.store.keep ≡ 0 → (w : World) → Shows terms old w → HasJobs w [] → Moved (Shows terms new) (MayLeave terms old) (MayLeave terms new) w ((app, Calls call random) ∷ (app, Finishes) ∷ []) ((app, reply) ∷ []))
       → Leads terms app old new words words' (m ∷ []) (reply ∷ [])
-  leads-call old new words words' m call random reply is took rises run = subst (λ n. Leads terms app old new words words' (n ∷ []) (reply ∷ [])) (sym is) (record {
+  leads-call old new words words' m call random reply is took rises failed accounts run = subst (λ n. Leads terms app old new words words' (n ∷ []) (reply ∷ [])) (sym is) (record {
     one_each = refl;
     words = ap (λ x. x.1) took;
     remembers = rises;
+    failures = failed;
+    accounts = accounts;
     run = λ sure w s h. record {
       told = (app, reply) ∷ [];
       moved = subst (λ bytes. Moved (Shows terms new) (MayLeave terms old) (MayLeave terms new) w ((app, Calls call bytes) ∷ (app, Finishes) ∷ []) ((app, reply) ∷ [])) (ap (λ x. x.0) took) (run sure w s h);
@@ -79,6 +94,8 @@ module _ {K : Type 0} (terms : Terms K) (app : ℕ) where
     one_each = omega (arith, p.one_each, q.one_each, length-append rs qs, length-append ms ns);
     words = q.words ∙ ap (λ y. words_after y ns) p.words ∙ sym (words-append u ms ns);
     remembers = omega (arith, p.remembers, q.remembers);
+    failures = omega (arith, p.failures, q.failures);
+    accounts = accounts-more _ _ _ rs qs p.accounts q.accounts q.failures;
     run = λ sure w s h.
         let honest : terms.doubt b.store.keep ≡ 0 = omega (arith, sure, q.remembers) in
         let first = p.run honest w s h in

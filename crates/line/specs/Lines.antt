@@ -17,7 +17,7 @@ use Rattle.token_model.specs.declared.event.Event.TheVariants.{Call, Finish, Gon
 use Rattle.token_model.specs.Worlds.{World, Move, event_of, goes, after, replies}
 use Rattle.token.specs.Applications.{HasJobs}
 use Rattle.token.specs.Applications.{TokenState, Shows}
-use Rattle.token.specs.Runs.{Lasting, MayLeave, LeftAfter}
+use Rattle.token.specs.Runs.{Lasting, MayLeave, LeftAfter, AccountsFor}
 use Rattle.line.specs.Words.{taken}
 
 -- a message is what a payload says: a call, or why it is none
@@ -104,15 +104,19 @@ pub record IsLine (showing : World → Type 0) (prior left : Option Lasting → 
 
 module _ {K : Type 0} (terms : Terms K) where
   -- What a token and the words of an application became while these messages were answered so. No lie of the disk is
-  -- forgotten; while there was none, this is a line's run from each world that the token showed.
+  -- forgotten, and for each CKR_DEVICE_ERROR a failure of the keeper was counted; while there was no lie, this is a line's
+  -- run from each world that the token showed.
   pub record Leads (app : ℕ) (old new : TokenState K) (words_old words_new : ChaCha) (ms : List Message) (said : List Reply) : Type 0 where
     pub one_each : length said ≡ length ms
     pub words : words_new ≡ words_after words_old ms
     pub remembers : terms.doubt old.store.keep ≤ terms.doubt new.store.keep
+    pub failures : terms.failures old.store.keep ≤ terms.failures new.store.keep
+    pub accounts : AccountsFor (terms.failures old.store.keep) (terms.failures new.store.keep) said
     pub run : terms.doubt new.store.keep ≡ 0 → (w : World) → Shows terms old w → HasJobs w [] → IsLine (Shows terms new) (MayLeave terms old) (MayLeave terms new) app w words_old ms said
 
   -- and then the application went
   pub record LeadsAway (app : ℕ) (old new : TokenState K) (words_old words_new : ChaCha) (ms : List Message) (said : List Reply) : Type 0 where
     pub one_each : length said ≡ length ms
     pub words : words_new ≡ words_after words_old ms
+    pub accounts : AccountsFor (terms.failures old.store.keep) (terms.failures new.store.keep) said
     pub run : terms.doubt new.store.keep ≡ 0 → (w : World) → Shows terms old w → IsLine (λ v. Shows terms new (goes v (Gone app))) (MayLeave terms old) (MayLeave terms new) app w words_old ms said

@@ -5,7 +5,7 @@ ghost use Rattle.ck_calls.specs.Need.{random_bytes};
 ghost use Rattle.token_model.specs.Worlds.{World};
 ghost use Rattle.token.specs.Applications.{HasJobs};
 ghost use Rattle.token.specs.Applications.{Shows};
-ghost use Rattle.token.specs.Runs.{MayLeave};
+ghost use Rattle.token.specs.Runs.{AccountsFor, MayLeave};
 ghost use Rattle.wire.specs.Messages.{call_in};
 ghost use Rattle.line.specs.declared.fault.LineFault.TheVariants.{Memory};
 ghost use Rattle.line.specs.Lines.{Calls, Finishes, Leads, LeadsAway, Moved};
@@ -87,6 +87,8 @@ fn answer_call<K: Keep>(
     requires { length random.items ≡ random_bytes call }
     ensures moved { K.terms.doubt token.new.store.keep ≡ 0 → (w : World) → Shows K.terms token.old w → HasJobs w [] → Moved (Shows K.terms token.new) (MayLeave K.terms token.old) (MayLeave K.terms token.new) w ((app, Calls call random.items) ∷ (app, Finishes) ∷ []) ((app, result) ∷ []) }
     ensures doubt { K.terms.doubt token.old.store.keep ≤ K.terms.doubt token.new.store.keep }
+    ensures failures { K.terms.failures token.old.store.keep ≤ K.terms.failures token.new.store.keep }
+    ensures accounts { AccountsFor (K.terms.failures token.old.store.keep) (K.terms.failures token.new.store.keep) (result ∷ []) }
 {
     match token.call(alloc, app, call, &random) {
         Out::Reply(reply) => reply,

@@ -1,7 +1,8 @@
 //! C_DestroyObject (PKCS #11 v3.1, 5.7).
 
-ghost use Rattle.std.specs.Prelude.{◌≡◌, List, IsErrOf};
+ghost use Rattle.std.specs.Prelude.{◌≡◌, List, IfErr, IsErrOf};
 ghost use Rattle.ck_types.specs.declared.entry.Entry.{Entry};
+ghost use Rattle.desk.specs.Desks.{SameDesk};
 ghost use Rattle.handles.specs.Handles.{IsTable};
 ghost use Rattle.keep.specs.Contents.{Contents};
 ghost use Rattle.keep.specs.Keeping.{Counted, Rises};
@@ -9,7 +10,7 @@ ghost use Rattle.token_model.specs.Answering.{place_of};
 ghost use Rattle.token_model.specs.Answers.DestroyObject.{destroy_object, destroyed};
 ghost use Rattle.token_store.specs.declared.refusal.Refusal.TheVariants.{Device};
 ghost use Rattle.token_store.specs.Found.{IsAt};
-ghost use Rattle.token_store.specs.Refusing.{Does, IsDone};
+ghost use Rattle.token_store.specs.Refusing.{Does, IsDone, IsPlain};
 ghost use Rattle.token_store.specs.Shown.{Fits, view_of};
 ghost use Rattle.token_store.specs.Stores.{Has};
 
@@ -53,6 +54,8 @@ fn destroy<K: Keep>(
     ensures serves { (object : List Entry) → K.terms.doubt store.new.keep ≡ 0 → (c : Contents) → Has K.terms store.old c → Fits c desk.old.handles.entries → IsAt c desk.old handle object id → Does K.terms (destroyed (view_of c desk.old) handle (place_of (view_of c desk.old).tokens handle)) c store.old store.new desk.old result desk.new }
     ensures counts { Counted K.terms store.old.keep store.new.keep 0 1 }
     ensures cause { IsErrOf result Device → Rises (K.terms.failures store.old.keep) (K.terms.failures store.new.keep) }
+    ensures plain { IsPlain result }
+    ensures stays { IfErr result (λ refusal. SameDesk desk.old desk.new) }
 {
     match id {
         Some(id) => {

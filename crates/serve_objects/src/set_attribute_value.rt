@@ -1,8 +1,9 @@
 //! C_SetAttributeValue (PKCS #11 v3.1, 5.7).
 
-ghost use Rattle.std.specs.Prelude.{◌≡◌, List, IfSome, IsErrOf};
+ghost use Rattle.std.specs.Prelude.{◌≡◌, List, IfSome, IfErr, IsErrOf};
 ghost use Rattle.ck_types.specs.declared.entry.Entry.{Entry};
 ghost use Rattle.guard.specs.Access.{is_public};
+ghost use Rattle.desk.specs.Desks.{SameDesk};
 ghost use Rattle.handles.specs.Handles.{IsTable};
 ghost use Rattle.keep.specs.Contents.{Contents, IsTokenObject};
 ghost use Rattle.keep.specs.Keeping.{Counted, Rises};
@@ -10,7 +11,7 @@ ghost use Rattle.token_model.specs.Answering.{place_of};
 ghost use Rattle.token_model.specs.Answers.SetAttributeValue.{puts, set_attribute_value};
 ghost use Rattle.token_store.specs.declared.refusal.Refusal.TheVariants.{Device};
 ghost use Rattle.token_store.specs.Found.{IsAt};
-ghost use Rattle.token_store.specs.Refusing.{Does, IsDone};
+ghost use Rattle.token_store.specs.Refusing.{Does, IsDone, IsPlain};
 ghost use Rattle.token_store.specs.Shown.{Fits, view_of};
 ghost use Rattle.token_store.specs.Stores.{Has};
 
@@ -62,6 +63,8 @@ fn put<K: Keep>(
     ensures serves { (old : List Entry) → is_public object ≡ is_public old → K.terms.doubt store.new.keep ≡ 0 → (c : Contents) → Has K.terms store.old c → Fits c desk.old.handles.entries → IsAt c desk.old handle old id → Does K.terms (puts (view_of c desk.old) handle object (place_of (view_of c desk.old).tokens handle)) c store.old store.new desk.old result desk.new }
     ensures counts { Counted K.terms store.old.keep store.new.keep 0 1 }
     ensures cause { IsErrOf result Device → Rises (K.terms.failures store.old.keep) (K.terms.failures store.new.keep) }
+    ensures plain { IsPlain result }
+    ensures stays { IfErr result (λ refusal. SameDesk desk.old desk.new) }
 {
     match id {
         Some(id) => {

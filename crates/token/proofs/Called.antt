@@ -1,6 +1,7 @@
 -- A call at one desk is the world's next step.
 use Rattle.std.proofs.lemmas.Bool.{cases_eq}
-use Rattle.std.proofs.Common.{◌≡◌, ◌≢◌, ◌⊎◌, ℕ, List, Option, Some, None, Result, Ok, Err, refl, sym, ◌∙◌, ap, inl, inr}
+use Rattle.std.proofs.Common.{◌≡◌, ◌≢◌, ◌⊎◌, ℕ, List, Option, Some, None, Result, Ok, Err, refl, sym, ◌∙◌, ap, inl, inr, subst}
+use Rattle.std.specs.Prelude.{IfErr, IfOk, IsSome}
 use Rattle.std.specs.Option.{option_map}
 use Rattle.ck_types.specs.declared.rv.Rv.TheVariants.{DeviceError}
 use Rattle.ck_calls.specs.declared.call.Call.{Call}
@@ -90,8 +91,15 @@ module _ {K : Type 0} (terms : Terms K) (old new : StoreState K) (ds ds' : List 
     | inr is ↦ inr (may.2 ∙ ap (option_map lasting_in) is.1 ∙ ap Some (lasts is.0 is.2))
   ])
 
-  -- the device is to blame only where it failed
-  pub blames-device : (r : Result Out Fault) → IsServed r → told_as r ≡ OutReply (Code DeviceError) → r ≡ Err Device
-  blames-device (Ok out) m is = let p : Some Device ≡ None = ap (λ o. apart (said_of o)) (sym is) ∙ went (view_of s.contents (desk_at ds app)) call random out m.gives.says in cc
-  blames-device (Err Memory) m is = cc
-  blames-device (Err Device) m is = refl
+-- ---- whatever is kept
+
+-- the device is to blame only where it failed
+pub blames-device : (r : Result Out Fault) → IfOk r (λ out. apart (said_of out) ≡ None) → told_as r ≡ OutReply (Code DeviceError) → r ≡ Err Device
+blames-device (Ok out) plain is = let p : Some Device ≡ None = ap (λ o. apart (said_of o)) (sym is) ∙ plain in cc
+blames-device (Err Memory) plain is = cc
+blames-device (Err Device) plain is = refl
+
+-- a refusal leaves the desk
+pub stays-called : (r : Result Out Fault) (before desk : DeskState) → IfOk r (λ out. apart (said_of out) ≡ None) → IfErr r (λ fault. SameDesk before desk) → IsSome (apart (said_of (told_as r))) → SameDesk before desk
+stays-called (Ok out) before desk plain stays some = absurd (subst IsSome plain some)
+stays-called (Err fault) before desk plain stays some = stays

@@ -1,9 +1,11 @@
 -- Which definition answers a call, and what is told of it.
-use Rattle.std.proofs.Common.{◌≡◌, ℕ, ◌^◌, true, false, not, List, Option, Some, None, Result, Ok, Err, refl, sym, ◌∙◌, ap, subst}
+use Rattle.std.proofs.Common.{◌≡◌, ℕ, ◌^◌, ◌≤◌, arith, true, false, not, List, Option, Some, None, Result, Ok, Err, refl, sym, ◌∙◌, ap, subst}
 use Rattle.std.specs.Prelude.{is_some, ◌||◌, nat_le, IfOk}
 use Rattle.std.specs.Option.{option_map}
 use Rattle.ck_calls.specs.declared.call.Call.{Call}
+use Rattle.ck_types.specs.declared.rv.Rv.{Rv}
 use Rattle.ck_calls.specs.declared.reply.Reply.{Reply}
+use Rattle.ck_calls.specs.declared.reply.Reply.TheVariants.{Code}
 use Rattle.ck_calls.specs.Functions.{function_of}
 use Rattle.keep.specs.Contents.{Contents}
 use Rattle.keep.specs.Keeping.{Terms}
@@ -13,16 +15,19 @@ use Rattle.desk.specs.Desks.{DeskState, is_busy}
 use Rattle.token_model.specs.declared.fault.Fault.{Fault}
 use Rattle.token_model.specs.declared.fault.Fault.TheVariants as faults
 use Rattle.token_model.specs.Views.{View}
-use Rattle.token_model.specs.Answering.{Said, Answer, Reveal, reveals_nothing, refuses_by, is_closed}
+use Rattle.token_model.specs.Answering.{Said, Replies, Answer, Reveal, reveals_nothing, refuses, refuses_by, is_closed}
 use Rattle.token_model.specs.Answers.{answer, answer_to, may_change_objects}
+use Rattle.token_model.specs.Worlds.{set_apart}
 use Rattle.token_model.proofs.Proper.{proper-answer_to}
 use Rattle.token_store.specs.declared.out.Out.{Out}
 use Rattle.token_store.specs.declared.out.Out.TheVariants.{Reply as OutReply}
 use Rattle.token_store.specs.declared.refusal.Refusal.{Refusal}
 use Rattle.token_store.specs.declared.refusal.Refusal.TheVariants as refusals
-use Rattle.token_store.specs.Refusing.{AtDesk, Done, refused_as, settled}
+use Rattle.token_store.specs.Refusing.{AtDesk, IsDone, IsServed, refused_as, settled}
 use Rattle.token_store.specs.Shown.{IsFor, question_of, said_of, view_of}
-use Rattle.token_store.specs.Stores.{StoreState, Serves, Served}
+use Rattle.token_store.specs.Stores.{StoreState, Serves}
+use Rattle.token_store.proofs.Gaves.{gave-reply}
+use Rattle.token_store.proofs.Plain.{plain-done, stays-settled, plain-at-desk, stays-at-desk}
 use Rattle.token_store.proofs.Refusals.{serves-done, serves-at-desk}
 
 closed-is : (c : Contents) (d : DeskState) → is_closed (view_of c d) ≡ is_busy d
@@ -45,30 +50,75 @@ busy-is c d x random r busy = rw (closed-is c d, busy) refl
 pub serves-is : {K : Type 0} (terms : Terms K) (a b : Answer) (c : Contents) (old new : StoreState K) (before desk : DeskState) (r : Result Out Fault) → a ≡ b → Serves terms said_of b c old new before before r desk → Serves terms said_of a c old new before before r desk
 serves-is terms a b c old new before desk r is serves = subst (λ x. Serves terms said_of x c old new before before r desk) (sym is) serves
 
--- a reply is no other application's job
-pub reply_for : (app : ℕ) (r : Result Reply Refusal) (out : Result Out Fault) → out ≡ settled OutReply r → IfOk out (IsFor app)
-reply_for app (Ok reply) out is = rw is tt
-reply_for app (Err (refusals.Row row)) out is = rw is tt
-reply_for app (Err (refusals.Code code)) out is = rw is tt
-reply_for app (Err refusals.Memory) out is = rw is tt
-reply_for app (Err refusals.Device) out is = rw is tt
+-- ---- what is told
 
-module _ {K : Type 0} (terms : Terms K) (call x : Call) (random : List ℕ) (is : call ≡ x) where
+-- a reply is no other application's job
+for-reply : (app : ℕ) (r : Result Reply Refusal) → IfOk (settled OutReply r) (IsFor app)
+for-reply app (Ok reply) = tt
+for-reply app (Err (refusals.Row row)) = tt
+for-reply app (Err (refusals.Code code)) = tt
+for-reply app (Err refusals.Memory) = tt
+for-reply app (Err refusals.Device) = tt
+
+for-out : (app : ℕ) (r : Result Out Refusal) → IfOk r (IsFor app) → IfOk (settled (λ out. out) r) (IsFor app)
+for-out app (Ok out) is = is
+for-out app (Err (refusals.Row row)) is = tt
+for-out app (Err (refusals.Code code)) is = tt
+for-out app (Err refusals.Memory) is = tt
+for-out app (Err refusals.Device) is = tt
+
+-- the device is blamed for a failed keeper alone
+blamed : {T : Type 0} (as_out : T → Out) (r : Result T Refusal) → settled as_out r ≡ Err faults.Device → r ≡ Err refusals.Device
+blamed as_out (Ok t) is = let k : Ok (as_out t) ≡ Err faults.Device = is in cc
+blamed as_out (Err (refusals.Row row)) is = let k : refused_as (refusals.Row row) ≡ Err faults.Device = is in cc
+blamed as_out (Err (refusals.Code code)) is = let k : refused_as (refusals.Code code) ≡ Err faults.Device = is in cc
+blamed as_out (Err refusals.Memory) is = let k : refused_as refusals.Memory ≡ Err faults.Device = is in cc
+blamed as_out (Err refusals.Device) is = refl
+
+module _ {K : Type 0} (terms : Terms K) (app : ℕ) (call x : Call) (random : List ℕ) (is : call ≡ x) where
+  abbrev answers : View → Answer
+  answers v = answer_to v x random reveals_nothing
+
+  abbrev pub IsCallServed : StoreState K → StoreState K → DeskState → Result Out Fault → DeskState → Type 0
+  IsCallServed old new before out desk = IsServed terms (IsFor app) (λ v. answer_to v call random reveals_nothing) old new before out desk
+
   -- a call at the desk and the store
-  pub call-done : (old new : StoreState K) (before desk : DeskState) (r : Result Reply Refusal) (out : Result Out Fault) → out ≡ settled OutReply r → Done terms (λ v. answer_to v x random reveals_nothing) old new before r desk
-      → Served terms said_of (λ v. answer_to v call random reveals_nothing) old new before before out desk
-  call-done old new before desk r out told done = rw (is, told) (λ sure c h fits. serves-done terms (answer_to (view_of c before) x random reveals_nothing) c old new before desk r fits (done sure c h fits))
+  pub call-done : (writes : ℕ) (old new : StoreState K) (before desk : DeskState) (r : Result Reply Refusal) (out : Result Out Fault) → writes ≤ 1 → out ≡ settled OutReply r → IsDone terms writes answers old new before r desk → IsCallServed old new before out desk
+  call-done writes old new before desk r out few told done = rw (is, told) (record {
+    serves = λ sure c h fits. serves-done terms (answers (view_of c before)) c old new before desk r fits (done.serves sure c h fits);
+    says = for-reply app r;
+    counts = record { steady = done.counts.steady; doubt = done.counts.doubt; failures = done.counts.failures; tried = done.counts.tried; bounded = (let k = done.counts.bounded in omega (arith, few, k)) };
+    cause = λ device. done.cause (blamed OutReply r device);
+    plain = plain-done r done.plain;
+    stays = stays-settled OutReply before desk r done.stays;
+  })
 
   -- and at the desk alone
-  pub call-at-desk : {T : Type 0} (tell : T → Said) (as_out : T → Out) (store : StoreState K) (before desk : DeskState) (r : Result T Refusal) (out : Result Out Fault) → ((t : T) → said_of (as_out t) ≡ tell t) → may_change_objects (function_of x) ≡ false → out ≡ settled as_out r
-      → AtDesk tell (λ v. answer_to v x random reveals_nothing) before r desk → Served terms said_of (λ v. answer_to v call random reveals_nothing) store store before before out desk
-  call-at-desk tell as_out store before desk r out same quiet told does = rw (is, told) (λ sure c h fits.
-      serves-at-desk terms tell as_out (answer_to (view_of c before) x random reveals_nothing) c store before desk r same (((proper-answer_to x random).fair (view_of c before) reveals_nothing).still (ap not quiet)) h fits (does.serves c fits))
+  at-desk : {T : Type 0} (tell : T → Said) (as_out : T → Out) (store : StoreState K) (before desk : DeskState) (r : Result T Refusal) (out : Result Out Fault) → ((t : T) → said_of (as_out t) ≡ tell t) → may_change_objects (function_of x) ≡ false → out ≡ settled as_out r → IfOk (settled as_out r) (IsFor app)
+      → AtDesk tell answers before r desk → IsCallServed store store before out desk
+  at-desk tell as_out store before desk r out same quiet told for does = rw (is, told) (record {
+    serves = λ sure c h fits. serves-at-desk terms tell as_out (answers (view_of c before)) c store before desk r same (((proper-answer_to x random).fair (view_of c before) reveals_nothing).still (ap not quiet)) h fits (does.serves c fits);
+    says = for;
+    counts = record { steady = λ s. s; doubt = omega arith; failures = omega arith; tried = omega arith; bounded = omega arith };
+    cause = λ device. absurd (does.cause (blamed as_out r device));
+    plain = plain-at-desk tell as_out answers before desk r same (λ v. ((proper-answer_to x random).fair v reveals_nothing).plain) does;
+    stays = stays-at-desk tell as_out answers before desk r does;
+  })
 
--- where no store is asked, no keeper is to blame
-pub not-device : {T P : Type 0} (as_out : T → Out) (r : Result T Refusal) (out : Result Out Fault) → out ≡ settled as_out r → (r ≡ Err refusals.Device → ⊥) → out ≡ Err faults.Device → P
-not-device as_out (Ok t) out is none blamed = let k : Ok (as_out t) ≡ Err faults.Device = sym is ∙ blamed in cc
-not-device as_out (Err (refusals.Row row)) out is none blamed = let k : refused_as (refusals.Row row) ≡ Err faults.Device = sym is ∙ blamed in cc
-not-device as_out (Err (refusals.Code code)) out is none blamed = let k : refused_as (refusals.Code code) ≡ Err faults.Device = sym is ∙ blamed in cc
-not-device as_out (Err refusals.Memory) out is none blamed = let k : refused_as refusals.Memory ≡ Err faults.Device = sym is ∙ blamed in cc
-not-device as_out (Err refusals.Device) out is none blamed = absurd (none refl)
+  pub call-at-desk : (store : StoreState K) (before desk : DeskState) (r : Result Reply Refusal) (out : Result Out Fault) → may_change_objects (function_of x) ≡ false → out ≡ settled OutReply r → AtDesk Replies answers before r desk → IsCallServed store store before out desk
+  call-at-desk store before desk r out quiet told does = at-desk Replies OutReply store before desk r out (λ t. refl) quiet told (for-reply app r) does
+
+  pub call-asking : (store : StoreState K) (before desk : DeskState) (r : Result Out Refusal) (out : Result Out Fault) → may_change_objects (function_of x) ≡ false → out ≡ settled (λ out. out) r → IfOk r (IsFor app) → AtDesk said_of answers before r desk → IsCallServed store store before out desk
+  call-asking store before desk r out quiet told for does = at-desk said_of (λ out. out) store before desk r out (λ t. refl) quiet told (for-out app r for) does
+
+-- a call that is answered a code, and does nothing
+pub call-refused : {K : Type 0} (terms : Terms K) (app : ℕ) (call : Call) (random : List ℕ) (code : Rv) (store : StoreState K) (desk : DeskState) (out : Result Out Fault) → ((v : View) → answer_to v call random reveals_nothing ≡ refuses v code) → set_apart (Code code) ≡ None → out ≡ Ok (OutReply (Code code))
+    → IsServed terms (IsFor app) (λ v. answer_to v call random reveals_nothing) store store desk out desk
+call-refused terms app call random code store desk out is plain told = rw told (record {
+  serves = λ sure c h fits. gave-reply terms (answer_to (view_of c desk) call random reveals_nothing) c store store desk (Code code) h (λ d may. may) fits (is (view_of c desk));
+  says = tt;
+  counts = record { steady = λ s. s; doubt = omega arith; failures = omega arith; tried = omega arith; bounded = omega arith };
+  cause = λ device. (let k : Ok (OutReply (Code code)) ≡ Err faults.Device = device in cc);
+  plain = plain;
+  stays = tt;
+})

@@ -23,7 +23,7 @@ use Rattle.token_model.specs.Changes.{Change, Stays, Insert, Replace, Remove, Re
 use Rattle.token_model.specs.Answering.{Replies, Asks}
 use Rattle.token_model.specs.Worlds.{World, Move, Goes, Refuses, value_of, reveal_to_call, reveal_to_task, answer_at, result_at, change_for, set_apart, called, says_called, goes, happens, told, reply_to}
 use Rattle.token_store.specs.Shown.{question_of}
-use Rattle.token.specs.Applications.{desk_at, asked_by, is_answer, IsOther, move_of, moved, jobs_of, HasJobs, IsOpen, TakesJob}
+use Rattle.token.specs.Applications.{desk_at, asked_by, is_answer, HasNumbers, IsOther, move_of, moved, jobs_of, HasJobs, IsOpen, TakesJob}
 use Rattle.token.specs.Runs.{Lasting, LeavesBy, LeftBy, IsStep, call_change}
 use Rattle.lists.proofs.ListLemmas.{map-push}
 use Rattle.token_model.proofs.Blind.{Leaves}
@@ -211,13 +211,14 @@ none-left app out (Some job) rest w h taken = ((open_is w app out rest job h tak
 
 -- ---- the test of a job
 
-pub answer-open : (o : Option Job) (app : ℕ) (job : Job) → option_map question_of o ≡ Some (question_of job) → job.app ≡ app → is_answer o app job ≡ true
-answer-open None app job is asker = let k : None ≡ Some (question_of job) = is in cc
-answer-open (Some j) app job is asker =
-    let q : question_of j ≡ question_of job = cc in
-    let n : job.question ≡ j.question = ap (λ q. q.number) (sym q) in
-    let f : function_number job.function ≡ function_number j.function = ap (λ q. function_number q.function) (sym q) in
-    rw (eq-eqb job.app app asker, eq-eqb job.question j.question n, eq-eqb (function_number job.function) (function_number j.function) f) refl
+pub answer-has : (o : Option Job) (app : ℕ) (job : Job) → HasNumbers (option_map question_of o) app job → is_answer o app job ≡ true
+answer-has None app job has = absurd has
+answer-has (Some j) app job has = rw (eq-eqb job.app app has.0, eq-eqb job.question j.question has.1, eq-eqb (function_number job.function) (function_number j.function) has.2) refl
+
+-- there is a question then
+pub asked-of : (o : Option Question) (app : ℕ) (job : Job) → HasNumbers o app job → (q : Question) × (o ≡ Some q)
+asked-of None app job has = absurd has
+asked-of (Some q) app job has = (q, refl)
 
 and-false : (b : Bool) → (b && false) ≡ false
 and-false true = refl
@@ -231,8 +232,8 @@ answer-other (Some j) app job (inr (inr f)) = rw (ne_eqb (function_number job.fu
 
 -- as the token tells it by its desks
 module _ {K : Type 0} (terms : Terms K) (store : StoreState K) (ds : List (ℕ × DeskState)) (cs : List Check) (app : ℕ) (job : Job) (w : World) (s : Shows terms (record { store = store; desks = ds; checks = cs }) w) where
-  pub told-open : IsOpen w app job → is_answer (desk_at ds app).question app job ≡ true
-  told-open is = answer-open (desk_at ds app).question app job (ap (λ v. v.question) (sym (s.depicts.views app)) ∙ is.question) is.asker
+  pub told-has : HasNumbers (w.views app).question app job → is_answer (desk_at ds app).question app job ≡ true
+  told-has has = answer-has (desk_at ds app).question app job (rw (ap (λ v. v.question) (s.depicts.views app)) at has)
 
   pub told-other : IsOther (w.views app).question app job → is_answer (desk_at ds app).question app job ≡ false
   told-other other = answer-other (desk_at ds app).question app job (rw (ap (λ v. v.question) (s.depicts.views app)) at other)

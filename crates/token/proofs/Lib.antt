@@ -3,5 +3,6 @@ pub mod Called
 pub mod Resulted
 pub mod Outcomes
 pub mod Jobs
+pub mod Accounts
 pub mod Runs
 pub mod Dispatching

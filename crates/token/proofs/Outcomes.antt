@@ -1,7 +1,8 @@
 -- The outcome of a question, at its desk.
 use Rattle.std.proofs.Common.{◌≡◌, ◌≢◌, ℕ, Option, Some, None, Result, Ok, Err, inl, refl, sym, ◌∙◌, subst, ap}
 use Rattle.std.specs.Option.{option_map}
-use Rattle.ck_types.specs.declared.rv.Rv.TheVariants.{FunctionFailed}
+use Rattle.std.specs.Prelude.{IsSome}
+use Rattle.ck_types.specs.declared.rv.Rv.TheVariants.{DeviceError, FunctionFailed, HostMemory}
 use Rattle.ck_calls.specs.declared.function.Function.{Function}
 use Rattle.ck_calls.specs.declared.function.Function.TheVariants as function
 use Rattle.ck_calls.specs.declared.reply.Reply.{Reply}
@@ -13,7 +14,7 @@ use Rattle.mech.specs.declared.outcome.Outcome.{Outcome}
 use Rattle.mech.specs.declared.work.Work.{Work}
 use Rattle.mech.specs.declared.work.Work.TheVariants.{EcbEncrypt}
 use Rattle.mech.specs.Works.{outcome_of}
-use Rattle.desk.specs.Desks.{DeskState, with_encryption as desk_with_encryption}
+use Rattle.desk.specs.Desks.{DeskState, SameDesk, with_encryption as desk_with_encryption}
 use Rattle.token_model.specs.declared.fault.Fault.{Fault}
 use Rattle.token_model.specs.declared.fault.Fault.TheVariants.{Memory, Device}
 use Rattle.token_model.specs.Views.{View, Question}
@@ -21,12 +22,13 @@ use Rattle.token_model.specs.Changes.{Stays}
 use Rattle.token_model.specs.Answering.{Said, Replies, Answer, Reveal, reveals_nothing, refuses, answered}
 use Rattle.token_model.specs.Answers.{answer_outcome, answer_question, answer_result}
 use Rattle.token_model.specs.Answers.Encrypt.{encrypted_reply, encrypted}
-use Rattle.token_model.specs.Worlds.{value_of}
-use Rattle.token_model.proofs.Proper.{still-result}
+use Rattle.token_model.specs.Worlds.{apart, set_apart, value_of}
+use Rattle.token_model.proofs.Proper.{plain-result, still-result}
 use Rattle.token_store.specs.Shown.{view_of, question_of, task_of, over, Fits, Gives}
 use Rattle.token_store.specs.Stores.{StoreState, Has, Serves}
 use Rattle.token_store.proofs.Gaves.{gave-quiet}
-use Rattle.token.specs.Applications.{Finishes}
+use Rattle.token_store.proofs.Plain.{some-fits}
+use Rattle.token.specs.Applications.{Finishes, FinishesAtDesk, told_result}
 use Rattle.serve_ciphers.proofs.Ciphering.{gives-with}
 
 -- an outcome that belongs to no call that asks
@@ -72,7 +74,21 @@ module _ (job : Job) (c : Contents) (old new : DeskState) where
   serves-finished terms store (Err Memory) h same = record { has = h; same = same; leaves = λ d may. inl may }
   serves-finished terms store (Err Device) h none = absurd none
 
-  pub not-device : (r : Result Reply Fault) → Finishes result c old r new → r ≡ Err Device → ⊥
-  not-device (Ok reply) gives is = let k : Ok reply ≡ Err Device = is in cc
-  not-device (Err Memory) same is = let k : Err Memory ≡ Err Device = is in cc
+  -- no keeper is to blame, and a refusal leaves the desk without its question
+  pub not-device : (r : Result Reply Fault) → Finishes result c old r new → told_result r ≡ Code DeviceError → ⊥
+  not-device (Ok reply) gives is = let p : Some Device ≡ None = ap set_apart (sym is) ∙ ap apart gives.says ∙ plain-result (view_of c old) (value_of (question_of job).task) reveals_nothing in cc
+  not-device (Err Memory) same is = let k : Code HostMemory ≡ Code DeviceError = is in cc
   not-device (Err Device) none is = none
+
+  pub stays-finished : (r : Result Reply Fault) → Finishes result c old r new → IsSome (set_apart (told_result r)) → SameDesk (over old) new
+  stays-finished (Ok reply) gives some = absurd (subst IsSome (ap apart gives.says ∙ plain-result (view_of c old) (value_of (question_of job).task) reveals_nothing) some)
+  stays-finished (Err Memory) same some = same
+  stays-finished (Err Device) none some = absurd none
+
+-- whatever is kept, since there are contents that fit
+module _ (job : Job) (old new : DeskState) (r : Result Reply Fault) (finishes : FinishesAtDesk job old r new) where
+  pub never-device : told_result r ≡ Code DeviceError → ⊥
+  never-device is = let c = some-fits old.handles.entries in not-device job c.0 old new r (finishes c.0 c.1) is
+
+  pub always-stays : IsSome (set_apart (told_result r)) → SameDesk (over old) new
+  always-stays some = let c = some-fits old.handles.entries in stays-finished job c.0 old new r (finishes c.0 c.1) some

@@ -3,9 +3,7 @@ use Rattle.std.proofs.Common.{◌≡◌, ◌≢◌, ◌⊎◌, ℕ, List, [], �
 use Rattle.std.proofs.lemmas.Bool.{cases_eq}
 use Rattle.std.specs.Prelude.{option_to_list, map}
 use Rattle.std.specs.Option.{option_map}
-use Rattle.ck_types.specs.declared.rv.Rv.TheVariants.{DeviceError}
 use Rattle.ck_calls.specs.declared.reply.Reply.{Reply}
-use Rattle.ck_calls.specs.declared.reply.Reply.TheVariants.{Code}
 use Rattle.keep.specs.Contents.{Contents}
 use Rattle.keep.specs.Keeping.{Terms}
 use Rattle.token_model.specs.declared.fault.Fault.{Fault}
@@ -16,16 +14,16 @@ use Rattle.desk.specs.Desks.{DeskState, SameDesk, empty_desk}
 use Rattle.token_model.specs.declared.check.Check.{Check}
 use Rattle.token_model.specs.declared.event.Event.TheVariants.{Finish, Gone}
 use Rattle.token_store.specs.declared.out.Out.TheVariants.{Reply as OutReply}
-use Rattle.token_model.specs.Views.{Task, Encrypts, sees}
+use Rattle.token_model.specs.Views.{Question, Task, Encrypts, sees}
 use Rattle.token_model.specs.Changes.{Change, Stays, in_list}
 use Rattle.token_model.specs.Answering.{Said, Replies, Answer, reveals_nothing, answered}
 use Rattle.token_model.specs.Answers.{answer_result}
-use Rattle.token_model.specs.Worlds.{World, Goes, Refuses, value_of, reveal_to_task, result_at, apart, refusal, set_apart, list_change, without_checks, stepped, unchecked, finished, finish_tells, goes, happens, told, reply_to}
+use Rattle.token_model.specs.Worlds.{World, Goes, Refuses, value_of, reveal_to_task, result_at, apart, refusal, set_apart, list_change, without_checks, stepped, unchecked, finished, finish_tells, finish_refusal, goes, happens, told, reply_to}
 use Rattle.token_store.specs.Shown.{objects_of, view_of, question_of, over, Changes}
-use Rattle.token.specs.Applications.{desk_at, told_result, moved, move_of, IsOpen, HasJobs, opening}
+use Rattle.token.specs.Applications.{desk_at, told_result, moved, move_of, IsOpen, HasNumbers, HasJobs, opening, answer_by, taken_by, says_by}
 use Rattle.token_store.specs.Stores.{StoreState, Has, Serves}
 use Rattle.token.specs.Applications.{TokenState, Shows}
-use Rattle.token.specs.Runs.{Lasting, lasting_of, lasting_in, MayLeave, LeftBy, result_change}
+use Rattle.token.specs.Runs.{Lasting, lasting_of, lasting_in, MayLeave, LeavesBy, LeftBy, IsTakenBy, result_change}
 use Rattle.token_model.proofs.Proper.{plain-result}
 use Rattle.token_store.proofs.Changing.{objects-changed, record-changed}
 use Rattle.token.proofs.Steps.{state, fits-given, depicts-given, depicts-put, fits-put, fits-empty, depicts-gone, depicts-opening}
@@ -34,79 +32,111 @@ use Rattle.token.proofs.Steps.{state, fits-given, depicts-given, depicts-put, fi
 reveals-nothing : (w : World) (app : ℕ) (t : Task) → reveal_to_task w app t ≡ reveals_nothing
 reveals-nothing w app (Encrypts operation input) = refl
 
-module _ {K : Type 0} (terms : Terms K) (old new : StoreState K) (ds ds' : List (ℕ × DeskState)) (cs : List Check) (app : ℕ) (job : Job) (w : World) (s : Shows terms (record { store = old; desks = ds; checks = cs }) w) (open_is : IsOpen w app job) (others : (b : ℕ) → b ≢ app → SameDesk (desk_at ds b) (desk_at ds' b)) where
+-- ---- a result with the numbers of the pending question, by its own value
+
+module _ {K : Type 0} (terms : Terms K) (old new : StoreState K) (ds ds' : List (ℕ × DeskState)) (cs : List Check) (app : ℕ) (job : Job) (w : World) (s : Shows terms (record { store = old; desks = ds; checks = cs }) w) (q : Question) (asked : (w.views app).question ≡ Some q) (others : (b : ℕ) → b ≢ app → SameDesk (desk_at ds b) (desk_at ds' b)) where
   abbrev outcome : Outcome
   outcome = value_of (question_of job).task
 
   abbrev given : Answer
   given = answer_result (view_of s.contents (desk_at ds app)) outcome reveals_nothing
 
-  abbrev pub IsServed : Result Reply Fault → Type 0
+  abbrev IsServed : Result Reply Fault → Type 0
   IsServed r = Serves terms Replies given s.contents old new (desk_at ds app) (over (desk_at ds app)) r (desk_at ds' app)
 
-  given-is : result_at w app (question_of job) ≡ given
+  abbrev before : TokenState K
+  before = record { store = old; desks = ds; checks = cs }
+
+  abbrev after : TokenState K
+  after = record { store = new; desks = ds'; checks = without_checks app cs }
+
+  given-is : answer_by w app job ≡ given
   given-is = ap (λ v. answer_result v outcome (reveal_to_task w app (question_of job).task)) (s.depicts.views app) ∙ ap (answer_result (view_of s.contents (desk_at ds app)) outcome) (reveals-nothing w app (question_of job).task)
 
-  change-is : result_change w app (w.views app).question ≡ in_list (sees (desk_at ds app).sessions.login) (objects_of s.contents) given.change
-  change-is = ap (result_change w app) open_is.question ∙ ap (list_change w app) given-is ∙ rw (s.depicts.views app, s.depicts.objects) refl
+  change-is : list_change w app (answer_by w app job) ≡ in_list (sees (desk_at ds app).sessions.login) (objects_of s.contents) given.change
+  change-is = ap (list_change w app) given-is ∙ rw (s.depicts.views app, s.depicts.objects) refl
 
   went : (reply : Reply) → Replies reply ≡ given.says → set_apart reply ≡ None
   went reply is = ap apart is ∙ plain-result (view_of s.contents (desk_at ds app)) outcome reveals_nothing
 
-  finishes : goes w (Finish app) ≡ unchecked (stepped w app given) app
-  finishes = ap (finished w app) open_is.question ∙ ap (λ a. unchecked (stepped w app a) app) given-is
+  takes : taken_by w app job None ≡ unchecked (stepped w app given) app
+  takes = ap (λ a. unchecked (stepped w app a) app) given-is
 
   fault-apart : (fault : Fault) → (f : Fault) × (set_apart (refusal fault) ≡ Some f) × (refusal f ≡ refusal fault)
   fault-apart Memory = (Memory, refl, refl)
   fault-apart Device = (Device, refl, refl)
 
-  pub shows-finished : (r : Result Reply Fault) → IsServed r → Shows terms (record { store = new; desks = ds'; checks = without_checks app cs }) (happens w (move_of (Finish app) (OutReply (told_result r))))
-  shows-finished (Ok reply) m =
-      let d = depicts-given given s.contents m.contents ds ds' app s.fits others (Replies reply) m.gives cs w s.depicts in
-      rw (went reply m.gives.says, finishes) (record {
-        contents = m.contents;
-        has = m.has;
-        fits = fits-given given s.contents m.contents ds ds' app s.fits others (Replies reply) m.gives;
-        depicts = record { token_record = d.token_record; objects = d.objects; checks = ap (without_checks app) d.checks; views = d.views };
-      })
-  shows-finished (Err fault) m = let f = fault-apart fault in rw (f.1, open_is.question) (record {
-    contents = s.contents;
-    has = m.has;
-    fits = fits-put s.contents ds ds' app (rw m.same (s.fits app)) others s.fits;
-    depicts = depicts-put s.contents ds ds' cs app (over (desk_at ds app)) (answered (w.views app)) w m.same (rw (s.depicts.views app) refl) others s.depicts;
-  })
-
-  pub tells-finished : (r : Result Reply Fault) → IsServed r → reply_to w (move_of (Finish app) (OutReply (told_result r))) ≡ (app, told_result r) ∷ []
-  tells-finished (Ok reply) m = rw (went reply m.gives.says) (ap (finish_tells w app) open_is.question ∙ ap (λ (a : Answer). told app a.says) given-is ∙ ap (told app) (sym m.gives.says))
-  tells-finished (Err fault) m = let f = fault-apart fault in rw (f.1, open_is.question) (ap (λ r. (app, r) ∷ []) f.2)
-
-  lasts : (d : Contents) → Changes (in_list (sees (desk_at ds app).sessions.login) (objects_of s.contents) given.change) s.contents d → lasting_in d ≡ lasting_of (goes w (Finish app))
+  lasts : (d : Contents) → Changes (in_list (sees (desk_at ds app).sessions.login) (objects_of s.contents) given.change) s.contents d → lasting_in d ≡ lasting_of (taken_by w app job None)
   lasts d is =
       let change : Change = in_list (sees (desk_at ds app).sessions.login) (objects_of s.contents) given.change in
       let c : list_change w app given ≡ change = rw (s.depicts.views app, s.depicts.objects) refl in
-      rw (finishes, c, s.depicts.token_record, s.depicts.objects, objects-changed change s.contents d is, record-changed change s.contents d is) refl
+      rw (takes, c, s.depicts.token_record, s.depicts.objects, objects-changed change s.contents d is, record-changed change s.contents d is) refl
 
-  pub leaves-finished : (r : Result Reply Fault) → IsServed r → (l : Option Lasting) → MayLeave terms (record { store = new; desks = ds'; checks = without_checks app cs }) l
-      → LeftBy (MayLeave terms (record { store = old; desks = ds; checks = cs })) w (move_of (Finish app) (OutReply (told_result r))) l
-  leaves-finished (Ok reply) m l may =
-      rw (went reply m.gives.says) (elim (m.leaves may.0 may.1) [
-        | inl before ↦ inl ((may.0, before.0, may.2), change-is ∙ before.1)
-        | inr is ↦ inr (may.2 ∙ ap (option_map lasting_in) is ∙ ap Some (lasts m.contents m.gives.changes))
-      ])
-  leaves-finished (Err fault) m l may = let f = fault-apart fault in rw f.1 (elim (m.leaves may.0 may.1) [
-    | inl before ↦ inl (may.0, before, may.2)
-    | inr is ↦ inr (may.2 ∙ ap (option_map lasting_in) is.1 ∙ ap Some (lasts is.0 is.2))
-  ])
+  pub taken : (r : Result Reply Fault) → IsServed r → IsTakenBy (Shows terms after) (MayLeave terms before) (MayLeave terms after) w app job (told_result r)
+  taken (Ok reply) m =
+      let d = depicts-given given s.contents m.contents ds ds' app s.fits others (Replies reply) m.gives cs w s.depicts in
+      let e = went reply m.gives.says in
+      record {
+        shows = rw (e, takes) (record {
+          contents = m.contents;
+          has = m.has;
+          fits = fits-given given s.contents m.contents ds ds' app s.fits others (Replies reply) m.gives;
+          depicts = record { token_record = d.token_record; objects = d.objects; checks = ap (without_checks app) d.checks; views = d.views };
+        });
+        says = rw e (m.gives.says ∙ ap (λ (a : Answer). a.says) (sym given-is));
+        leaves = λ l may. rw e (elim (m.leaves may.0 may.1) [
+          | inl before ↦ inl ((may.0, before.0, may.2), change-is ∙ before.1)
+          | inr is ↦ inr (may.2 ∙ ap (option_map lasting_in) is ∙ ap Some (lasts m.contents m.gives.changes))
+        ]);
+      }
+  taken (Err fault) m =
+      let f = fault-apart fault in
+      record {
+        shows = rw (f.1, asked) (record {
+          contents = s.contents;
+          has = m.has;
+          fits = fits-put s.contents ds ds' app (rw m.same (s.fits app)) others s.fits;
+          depicts = depicts-put s.contents ds ds' cs app (over (desk_at ds app)) (answered (w.views app)) w m.same (rw (s.depicts.views app) refl) others s.depicts;
+        });
+        says = rw f.1 (ap Replies (sym f.2));
+        leaves = λ l may. rw f.1 (elim (m.leaves may.0 may.1) [
+          | inl before ↦ inl (may.0, before, may.2)
+          | inr is ↦ inr (may.2 ∙ ap (option_map lasting_in) is.1 ∙ ap Some (lasts is.0 is.2))
+        ]);
+      }
 
-  pub blames-device : (r : Result Reply Fault) → IsServed r → told_result r ≡ Code DeviceError → r ≡ Err Device
-  blames-device (Ok reply) m is = let p : Some Device ≡ None = ap set_apart (sym is) ∙ went reply m.gives.says in cc
-  blames-device (Err Memory) m is = cc
-  blames-device (Err Device) m is = refl
+-- ---- and where the job is the pending question's
+
+module _ (w : World) (app : ℕ) (job : Job) (open_is : IsOpen w app job) where
+  pub open-numbers : HasNumbers (w.views app).question app job
+  open-numbers = rw open_is.question (open_is.asker, refl, refl)
+
+  happens-taken : (o : Option Fault) → happens w (moved (Finish app) o) ≡ taken_by w app job o
+  happens-taken None = ap (finished w app) open_is.question
+  happens-taken (Some fault) = refl
+
+  tells-taken : (o : Option Fault) → reply_to w (moved (Finish app) o) ≡ told app (says_by w app job o)
+  tells-taken None = ap (finish_tells w app) open_is.question
+  tells-taken (Some fault) = ap (finish_refusal app fault) open_is.question
+
+  left-taken : (prior : Option Lasting → Type 0) (l : Option Lasting) (o : Option Fault) → LeavesBy prior (list_change w app (answer_by w app job)) (taken_by w app job None) o l → LeftBy prior w (moved (Finish app) o) l
+  left-taken prior l None by = rw (happens-taken None, ap (result_change w app) open_is.question) by
+  left-taken prior l (Some fault) by = rw (happens-taken None) by
+
+  module _ (showing : World → Type 0) (prior left : Option Lasting → Type 0) (reply : Reply) (is : IsTakenBy showing prior left w app job reply) where
+    pub shows-open : showing (happens w (move_of (Finish app) (OutReply reply)))
+    shows-open = rw (happens-taken (set_apart reply)) is.shows
+
+    pub tells-open : reply_to w (move_of (Finish app) (OutReply reply)) ≡ (app, reply) ∷ []
+    tells-open = tells-taken (set_apart reply) ∙ ap (told app) (sym is.says)
+
+    pub leaves-open : (l : Option Lasting) → left l → LeftBy prior w (move_of (Finish app) (OutReply reply)) l
+    leaves-open l may = left-taken prior l (set_apart reply) (is.leaves l may)
 
 module _ {K : Type 0} (terms : Terms K) where
-  -- the desk has the question that is open
-  pub desk-question : (old : StoreState K) (ds : List (ℕ × DeskState)) (cs : List Check) (app : ℕ) (job : Job) (w : World) (s : Shows terms (record { store = old; desks = ds; checks = cs }) w) → IsOpen w app job → option_map question_of (desk_at ds app).question ≡ Some (question_of job)
-  desk-question old ds cs app job w s is = ap (λ v. v.question) (sym (s.depicts.views app)) ∙ is.question
+  -- the desk's question is the one that the world has
+  pub desk-question : (old : StoreState K) (ds : List (ℕ × DeskState)) (cs : List Check) (app : ℕ) (w : World) (s : Shows terms (record { store = old; desks = ds; checks = cs }) w) → (w.views app).question ≡ option_map question_of (desk_at ds app).question
+  desk-question old ds cs app w s = ap (λ v. v.question) (s.depicts.views app)
 
   -- the application goes
   pub shows-gone : (old : StoreState K) (ds ds' : List (ℕ × DeskState)) (cs : List Check) (app : ℕ) (w : World) → desk_at ds' app ≡ empty_desk → ((b : ℕ) → b ≢ app → desk_at ds' b ≡ desk_at ds b)

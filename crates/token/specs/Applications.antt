@@ -16,9 +16,9 @@ use Rattle.token_store.specs.declared.out.Out.{Out}
 use Rattle.token_store.specs.declared.out.Out.TheVariants.{Reply as OutReply}
 use Rattle.token_model.specs.declared.check.Check.{Check}
 use Rattle.token_model.specs.Views.{record_sight, Question, View, fresh}
-use Rattle.token_model.specs.Answering.{Replies, Answer, reveals_nothing}
+use Rattle.token_model.specs.Answering.{Said, Replies, Answer, reveals_nothing}
 use Rattle.token_model.specs.Answers.{answer_result}
-use Rattle.token_model.specs.Worlds.{World, Move, Goes, Refuses, value_of, refusal, apart}
+use Rattle.token_model.specs.Worlds.{World, Move, Goes, Refuses, value_of, reveal_to_task, refusal, apart, stepped, unchecked, finish_refused}
 use Rattle.token_store.specs.Shown.{objects_of, view_of, Fits, Gives, said_of, question_of, over}
 use Rattle.token_store.specs.Stores.{StoreState, Has}
 
@@ -68,6 +68,18 @@ abbrev pub FinishesAtDesk : Job → DeskState → Result Reply Fault → DeskSta
 FinishesAtDesk job old result new =
     (c : Contents) → Fits c old.handles.entries → Finishes (answer_result (view_of c old) (value_of (question_of job).task) reveals_nothing) c old result new
 
+-- the answer to the job's own value, and the world after it; or what a refusal leaves
+abbrev pub answer_by : World → ℕ → Job → Answer
+answer_by w app job = answer_result (w.views app) (value_of (question_of job).task) (reveal_to_task w app (question_of job).task)
+
+abbrev pub taken_by : World → ℕ → Job → Option Fault → World
+taken_by w app job None = unchecked (stepped w app (answer_by w app job)) app
+taken_by w app job (Some fault) = finish_refused w app (w.views app).question
+
+abbrev pub says_by : World → ℕ → Job → Option Fault → Said
+says_by w app job None = (answer_by w app job).says
+says_by w app job (Some fault) = Replies (refusal fault)
+
 -- ---- how an event took place
 
 abbrev pub moved : Event → Option Fault → Move
@@ -99,6 +111,11 @@ pub record IsOpen (w : World) (app : ℕ) (job : Job) : Type 0 where
 abbrev pub IsOther : Option Question → ℕ → Job → Type 0
 IsOther None app job = Unit {0}
 IsOther (Some q) app job = (job.app ≢ app) ⊎ (job.question ≢ q.number) ⊎ (function_number job.function ≢ function_number q.function)
+
+-- it has these numbers of the pending question: whose work it was they don't tell
+abbrev pub HasNumbers : Option Question → ℕ → Job → Type 0
+HasNumbers None app job = ⊥
+HasNumbers (Some q) app job = (job.app ≡ app) × (job.question ≡ q.number) × (function_number job.function ≡ function_number q.function)
 
 -- and the test of it, of a desk's question
 abbrev pub is_answer : Option Job → ℕ → Job → Bool

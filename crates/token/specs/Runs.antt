@@ -1,5 +1,5 @@
 -- One event, and a run of events, over a token whose states are known by what they show and by what a crash may leave.
-use Rattle.std.specs.Prelude.{◌≡◌, ◌⊎◌, ℕ, List, [], ◌++◌, ◌∷◌, map, Option, Some, None}
+use Rattle.std.specs.Prelude.{◌≡◌, ◌⊎◌, ℕ, ◌+◌, ◌-◌, ◌^◌, ◌≤◌, List, [], ◌++◌, ◌∷◌, map, Option, Some, None}
 use Rattle.std.specs.Option.{option_map}
 use Rattle.ck_types.specs.declared.entry.Entry.{Entry}
 use Rattle.ck_calls.specs.declared.call.Call.{Call as CallType}
@@ -7,16 +7,17 @@ use Rattle.ck_calls.specs.declared.reply.Reply.{Reply}
 use Rattle.keep.specs.Contents.{Contents}
 use Rattle.keep.specs.Keeping.{Terms}
 use Rattle.token_model.specs.declared.fault.Fault.{Fault}
+use Rattle.token_model.specs.declared.fault.Fault.TheVariants.{Memory, Device}
 use Rattle.mech.specs.declared.job.Job.{Job}
 use Rattle.token_model.specs.declared.event.Event.{Event}
 use Rattle.token_model.specs.declared.event.Event.TheVariants.{Call, Finish, Gone}
 use Rattle.token_model.specs.Views.{RecordSight, record_sight, Question}
 use Rattle.token_model.specs.Changes.{Change, Stays}
-use Rattle.token_model.specs.Worlds.{World, Move, Goes, Refuses, event_of, answer_at, result_at, list_change, called, goes, happens, reply_to, after, replies}
+use Rattle.token_model.specs.Answering.{Replies}
+use Rattle.token_model.specs.Worlds.{World, Move, Goes, Refuses, set_apart, event_of, answer_at, result_at, list_change, called, goes, happens, reply_to, after, replies}
 use Rattle.token_model.specs.Traces.{NotSetApart, IsTold}
 use Rattle.token_store.specs.Shown.{objects_of}
-use Rattle.token.specs.Applications.{HasJobs}
-use Rattle.token.specs.Applications.{TokenState}
+use Rattle.token.specs.Applications.{HasJobs, TokenState, answer_by, taken_by, says_by}
 
 -- ---- crashes
 
@@ -65,6 +66,31 @@ LeftBy prior w (Refuses event fault) l = LeavesBy prior (change_of w event) (goe
 abbrev pub LeftAfter : (Option Lasting → Type 0) → World → List Move → Option Lasting → Type 0
 LeftAfter prior w [] l = prior l
 LeftAfter prior w (m ∷ ms) l = LeftAfter (LeftBy prior w m) (happens w m) ms l
+
+-- ---- results
+
+-- What comes of a result by its job's own value: the token shows the world after it, this was said, and a crash leaves
+-- no more than its change; or it was refused.
+pub record IsTakenBy (showing : World → Type 0) (prior left : Option Lasting → Type 0) (w : World) (app : ℕ) (job : Job) (reply : Reply) : Type 0 where
+  pub shows : showing (taken_by w app job (set_apart reply))
+  pub says : Replies reply ≡ says_by w app job (set_apart reply)
+  pub leaves : (l : Option Lasting) → left l → LeavesBy prior (list_change w app (answer_by w app job)) (taken_by w app job None) (set_apart reply) l
+
+-- ---- whom replies blame
+
+abbrev pub blame_of : Option Fault → ℕ
+blame_of None = 0
+blame_of (Some Memory) = 0
+blame_of (Some Device) = 1
+
+-- how many of the replies are CKR_DEVICE_ERROR
+abbrev pub blames : List Reply → ℕ
+blames [] = 0
+blames (reply ∷ rs) = blame_of (set_apart reply) + blames rs
+
+-- For each there is a failure that the keeper counted since. A counter of 64 bits stays at its greatest value.
+abbrev pub AccountsFor : ℕ → ℕ → List Reply → Type 0
+AccountsFor before now said = (before + blames said ≤ now) ⊎ (2 ^ 64 - 1 ≤ now)
 
 -- ---- runs
 

@@ -1,19 +1,16 @@
 //! One call of an application, at its desk: the one place where a call finds the function that serves it.
 
-ghost use Rattle.std.specs.Prelude.{◌≡◌, ◌<◌, ◌^◌, false, length, IfOk, IsErrOf};
+ghost use Rattle.std.specs.Prelude.{◌≡◌, ◌<◌, ◌^◌, false, length};
 ghost use Rattle.std.specs.Prelude.{Ok};
 ghost use Rattle.ck_calls.specs.declared.reply.Reply.TheVariants.{Code};
 ghost use Rattle.token_store.specs.declared.out.Out.TheVariants.{Reply as OutReply};
 ghost use Rattle.ck_calls.specs.Need.{random_bytes};
 ghost use Rattle.desk.specs.Desks.{is_busy};
 ghost use Rattle.keep.specs.Contents.{Contents};
-ghost use Rattle.keep.specs.Keeping.{Counted, Rises};
-ghost use Rattle.token_model.specs.declared.fault.Fault.TheVariants.{Device};
 ghost use Rattle.token_model.specs.Answering.{Replies, reveals_nothing};
 ghost use Rattle.token_model.specs.Answers.{answer, answer_result, answer_to};
 ghost use Rattle.token_store.specs.Refusing.{IsServed};
-ghost use Rattle.token_store.specs.Shown.{Fits, Gives, IsFor, said_of, view_of};
-ghost use Rattle.token_store.specs.Stores.{Served};
+ghost use Rattle.token_store.specs.Shown.{Fits, Gives, IsFor, view_of};
 
 use ck_calls::{Call, Function, Reply};
 use ck_types::Rv;
@@ -57,7 +54,6 @@ pub(crate) fn serve<K: Keep>(
 }
 
 /// A call that is taken: an arm for each, and one for each section of the standard of those that aren't served yet.
-#[tactic(auto, using(crate::proofs::Dispatching::reply_for), unfolding(token_model::specs::Answers::answer_to))]
 fn dispatch<K: Keep>(
     alloc: Global,
     app: u64,
@@ -68,10 +64,7 @@ fn dispatch<K: Keep>(
 ) -> Result<Out, Fault>
     requires random { length random.now ≡ random_bytes call }
     requires free { is_busy desk.old ≡ false }
-    ensures serves { Served K.terms said_of (λ v. answer_to v call random.now reveals_nothing) store.old store.new desk.old desk.old result desk.new }
-    ensures asker { IfOk result (IsFor app) }
-    ensures counts { Counted K.terms store.old.keep store.new.keep 0 1 }
-    ensures cause { IsErrOf result Device → Rises (K.terms.failures store.old.keep) (K.terms.failures store.new.keep) }
+    ensures { IsServed K.terms (IsFor app) (λ v. answer_to v call random.now reveals_nothing) store.old store.new desk.old result desk.new }
 {
     match call {
         // Slot and token management (PKCS #11 v3.1, 5.5).

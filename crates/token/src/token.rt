@@ -1,7 +1,6 @@
 //! The token: one event at a time.
 
-ghost use Rattle.std.specs.Prelude.{◌≡◌, ◌≢◌, ◌∷◌, [], ℕ, ◌<◌, ◌≤◌, ◌==◌, All, IfErr, IfOk, IsErrOf, IsSome, None, OnErr, OnOk, Option, Some, length, option_to_list, reverse, vec_capacity, vec_len};
-ghost use Rattle.std.specs.Option.{option_map};
+ghost use Rattle.std.specs.Prelude.{◌≡◌, ◌≢◌, ◌∷◌, [], ℕ, ◌<◌, ◌≤◌, ◌==◌, All, IfErr, IfOk, IsErrOf, IsSome, None, OnErr, OnOk, Option, length, map, option_to_list, reverse, vec_capacity, vec_len};
 ghost use Rattle.std.specs.List.{position};
 ghost use Rattle.std.specs.BTreeMap.{get};
 ghost use Rattle.std.specs.Ordering.{nat_cmp};
@@ -17,12 +16,12 @@ ghost use Rattle.token_model.specs.Events.{HasRandom};
 ghost use Rattle.token_model.specs.declared.fault.Fault.TheVariants.{Device};
 ghost use Rattle.token_model.specs.Answering.{reveals_nothing};
 ghost use Rattle.token_model.specs.Answers.{answer};
-ghost use Rattle.token_model.specs.Worlds.{World, apart, called, goes, happens, refusal, reply_to, says_called, without_checks};
-ghost use Rattle.token_store.specs.Shown.{IsFor, question_of, said_of};
-ghost use Rattle.token.specs.Applications.{FinishesAtDesk, HasJobs, IsOpen, IsOther, TakesJob, desk_at, is_answer, move_of, opening, told_as, told_result};
+ghost use Rattle.token_model.specs.Worlds.{World, apart, called, goes, happens, refusal, reply_to, says_called, set_apart, without_checks};
+ghost use Rattle.token_store.specs.Shown.{IsFor, over, said_of};
+ghost use Rattle.token.specs.Applications.{FinishesAtDesk, HasJobs, HasNumbers, IsOpen, IsOther, TakesJob, desk_at, is_answer, move_of, opening, told_as, told_result};
 ghost use Rattle.token_store.specs.Stores.{Served};
 ghost use Rattle.token.specs.Applications.{Shows};
-ghost use Rattle.token.specs.Runs.{Advances, IsRun, IsStep, Lasting, LeavesBy, LeftBy, MayLeave, call_change};
+ghost use Rattle.token.specs.Runs.{AccountsFor, Advances, IsRun, IsStep, IsTakenBy, Lasting, LeavesBy, LeftBy, MayLeave, call_change};
 
 use crate::ran::Ran;
 use crate::serving::{serve, serve_outcome};
@@ -95,7 +94,10 @@ impl<K: Keep> Token<K> {
         // At most one write is tried.
         ensures counts { Counted K.terms self.old.store.keep self.new.store.keep 0 1 }
         // CKR_DEVICE_ERROR comes only where a failure of the keeper was counted.
-        ensures cause { K.terms.doubt self.new.store.keep ≡ 0 → (w : World) → Shows K.terms self.old w → result ≡ OutReply (Code DeviceError) → Rises (K.terms.failures self.old.store.keep) (K.terms.failures self.new.store.keep) }
+        ensures cause { result ≡ OutReply (Code DeviceError) → Rises (K.terms.failures self.old.store.keep) (K.terms.failures self.new.store.keep) }
+        // Of the other applications nothing changes, nor where it is refused of this one, but the memory at hand.
+        ensures others { (b : ℕ) → b ≢ app → SameDesk (desk_at self.old.desks b) (desk_at self.new.desks b) }
+        ensures stays { IsSome (apart (said_of result)) → SameDesk (desk_at self.old.desks app) (desk_at self.new.desks app) }
     {
         told_as(serve_app(alloc, app, &mut self.desks, &mut self.store, call, random))
     }
@@ -108,13 +110,18 @@ impl<K: Keep> Token<K> {
         ensures world { K.terms.doubt self.new.store.keep ≡ 0 → (w : World) → Shows K.terms self.old w → IsOpen w app done.job.value → Shows K.terms self.new (happens w (move_of (Finish app) (OutReply result))) }
         // What is told is the answer to the result of the question, or a refusal set apart.
         ensures told { K.terms.doubt self.new.store.keep ≡ 0 → (w : World) → Shows K.terms self.old w → IsOpen w app done.job.value → reply_to w (move_of (Finish app) (OutReply result)) ≡ (app, result) ∷ [] }
+        // A result that has the pending question's numbers is taken by its own value, whatever job it is of.
+        ensures taken { K.terms.doubt self.new.store.keep ≡ 0 → (w : World) → Shows K.terms self.old w → HasNumbers (w.views app).question app done.job.value → IsTakenBy (Shows K.terms self.new) (MayLeave K.terms self.old) (MayLeave K.terms self.new) w app done.job.value result }
         ensures other { (w : World) → Shows K.terms self.old w → IsOther (w.views app).question app done.job.value → (result ≡ Code FunctionFailed) × (self.new ≡ self.old) }
         // A crash leaves the change of the result alone, or after a refusal what it could leave before, or the change.
         ensures leaves { K.terms.doubt self.new.store.keep ≡ 0 → (w : World) → Shows K.terms self.old w → IsOpen w app done.job.value → (l : Option Lasting) → MayLeave K.terms self.new l → LeftBy (MayLeave K.terms self.old) w (move_of (Finish app) (OutReply result)) l }
         // At most one write is tried.
         ensures counts { Counted K.terms self.old.store.keep self.new.store.keep 0 1 }
         // CKR_DEVICE_ERROR comes only where a failure of the keeper was counted.
-        ensures cause { K.terms.doubt self.new.store.keep ≡ 0 → (w : World) → Shows K.terms self.old w → IsOpen w app done.job.value → result ≡ Code DeviceError → Rises (K.terms.failures self.old.store.keep) (K.terms.failures self.new.store.keep) }
+        ensures cause { result ≡ Code DeviceError → Rises (K.terms.failures self.old.store.keep) (K.terms.failures self.new.store.keep) }
+        // Of the other applications nothing changes, nor where it is refused of this one, but its question and the memory at hand.
+        ensures others { (b : ℕ) → b ≢ app → desk_at self.new.desks b ≡ desk_at self.old.desks b }
+        ensures stays { IsSome (set_apart result) → SameDesk (over (desk_at self.old.desks app)) (desk_at self.new.desks app) }
     {
         if !is_open(&self.desks, app, &done) {
             return Reply::Code(Rv::FunctionFailed);
@@ -145,6 +152,7 @@ impl<K: Keep> Token<K> {
         requires random { HasRandom event }
         ensures step { K.terms.doubt self.new.store.keep ≡ 0 → (w : World) → Shows K.terms self.old w → HasJobs w out.old.items → IsStep (Shows K.terms self.new) (MayLeave K.terms self.old) (MayLeave K.terms self.new) w event (option_to_list result) out.new.items }
         ensures counts { Counted K.terms self.old.store.keep self.new.store.keep 0 1 }
+        ensures accounts { AccountsFor (K.terms.failures self.old.store.keep) (K.terms.failures self.new.store.keep) (map (λ r. r.1) (option_to_list result)) }
     {
         match event {
             Event::Call { app, call, words } => match self.call(alloc, app, call, &words) {
@@ -184,6 +192,7 @@ impl<K: Keep> Token<K> {
         ensures shorter { OnOk result (vec_len events.new < vec_len events.old) }
         ensures random { All HasRandom events.new.items }
         ensures doubt { K.terms.doubt self.old.store.keep ≤ K.terms.doubt self.new.store.keep }
+        ensures accounts { (before : ℕ) → AccountsFor before (K.terms.failures self.old.store.keep) (map (λ r. r.1) replies.old.items) → AccountsFor before (K.terms.failures self.new.store.keep) (map (λ r. r.1) replies.new.items) }
     {
         replies.reserve(1)?;
         out.reserve(1)?;
@@ -205,6 +214,8 @@ impl<K: Keep> Token<K> {
             → IsRun (Shows K.terms self.new) (MayLeave K.terms self.old) (MayLeave K.terms self.new) w events.items result.replies.items result.left.items result.out.items }
         // No lie of the disk is forgotten.
         ensures doubt { K.terms.doubt self.old.store.keep ≤ K.terms.doubt self.new.store.keep }
+        // For each CKR_DEVICE_ERROR a failure of the keeper was counted.
+        ensures accounts { AccountsFor (K.terms.failures self.old.store.keep) (K.terms.failures self.new.store.keep) (map (λ r. r.1) result.replies.items) }
     {
         let mut replies = Vec::new(alloc);
         events.reverse();
@@ -268,6 +279,8 @@ fn serve_app<K: Keep>(
     ensures asker { IfOk result (IsFor app) }
     ensures counts { Counted K.terms store.old.keep store.new.keep 0 1 }
     ensures cause { IsErrOf result Device → Rises (K.terms.failures store.old.keep) (K.terms.failures store.new.keep) }
+    ensures plain { IfOk result (λ out. apart (said_of out) ≡ None) }
+    ensures stays { IfErr result (λ fault. SameDesk (desk_at desks.old.entries app) (desk_at desks.new.entries app)) }
 {
     seat(alloc, desks, app)?;
     match desks.get_mut(&app) {
@@ -309,7 +322,7 @@ fn is_open(desks: &BTreeMap<u64, Desk>, app: u64, done: &Done) -> bool
 
 /// The result of the application's pending question.
 fn finish_app(desks: &mut BTreeMap<u64, Desk>, app: u64, done: Done) -> Result<Reply, Fault>
-    ensures serves { option_map question_of (desk_at desks.old.entries app).question ≡ Some (question_of done.job.value) → FinishesAtDesk done.job.value (desk_at desks.old.entries app) result (desk_at desks.new.entries app) }
+    ensures serves { FinishesAtDesk done.job.value (desk_at desks.old.entries app) result (desk_at desks.new.entries app) }
     ensures others { (b : ℕ) → b ≢ app → desk_at desks.new.entries b ≡ desk_at desks.old.entries b }
 {
     match desks.get_mut(&app) {
@@ -320,7 +333,7 @@ fn finish_app(desks: &mut BTreeMap<u64, Desk>, app: u64, done: Done) -> Result<R
 
 /// The result of the pending question, at its desk.
 fn finish_at(desk: &mut Desk, done: Done) -> Result<Reply, Fault>
-    ensures { option_map question_of desk.old.question ≡ Some (question_of done.job.value) → FinishesAtDesk done.job.value desk.old result desk.new }
+    ensures { FinishesAtDesk done.job.value desk.old result desk.new }
 {
     match done.into_outcome() {
         Ok(outcome) => Ok(serve_outcome(desk, outcome)),

@@ -30,7 +30,7 @@ use Rattle.token_model.specs.Worlds.{set_apart}
 use Rattle.token_model.specs.Checked.{by_rows, checked, checked_by, object_row, reads, flag_at, writes, state_in}
 
 -- no row's code is a code set apart
-plain-row : (row : Row) → set_apart (Code (code_of Ok row)) ≡ None
+pub plain-row : (row : Row) → set_apart (Code (code_of Ok row)) ≡ None
 plain-row Busy = refl
 plain-row _ = refl
 

@@ -1,5 +1,5 @@
 -- What a call does whose refusals are an Err: nothing has changed then.
-use Rattle.std.specs.Prelude.{◌≡◌, ℕ, Result, Ok, Err, IsErrOf, IfOk}
+use Rattle.std.specs.Prelude.{◌≡◌, ℕ, None, Result, Ok, Err, IsErrOf, IfErr, IfOk}
 use Rattle.ck_types.specs.declared.rv.Rv.TheVariants as rv
 use Rattle.ck_calls.specs.declared.reply.Reply.{Reply}
 use Rattle.ck_calls.specs.declared.reply.Reply.TheVariants.{Code}
@@ -15,6 +15,7 @@ use Rattle.token_model.specs.declared.fault.Fault.{Fault}
 use Rattle.token_model.specs.declared.fault.Fault.TheVariants as faults
 use Rattle.token_model.specs.Views.{View}
 use Rattle.token_model.specs.Answering.{Said, Replies, Answer, refuses, refuses_by}
+use Rattle.token_model.specs.Worlds.{apart, set_apart}
 use Rattle.token_store.specs.declared.out.Out.{Out}
 use Rattle.token_store.specs.declared.out.Out.TheVariants.{Reply as OutReply}
 use Rattle.token_store.specs.declared.refusal.Refusal.{Refusal}
@@ -67,12 +68,23 @@ abbrev pub Done : {K : Type 0} → Terms K → (View → Answer) → StoreState 
 Done terms f old new before result desk =
     terms.doubt new.keep ≡ 0 → (c : Contents) → Has terms old c → Fits c before.handles.entries → Does terms (f (view_of c before)) c old new before result desk
 
+-- no reply is a refusal set apart, nor is the code of a refusal
+abbrev pub IsPlain : Result Reply Refusal → Type 0
+IsPlain (Ok reply) = set_apart reply ≡ None
+IsPlain (Err (refusals.Row row)) = Unit {0}
+IsPlain (Err (refusals.Code code)) = set_apart (Code code) ≡ None
+IsPlain (Err refusals.Memory) = Unit {0}
+IsPlain (Err refusals.Device) = Unit {0}
+
 -- What a call does, in one clause: its answer is given or refused while the store is honest, it tries no more than so
--- many writes, and the device is to blame only where a failure of the keeper was counted.
+-- many writes, and the device is to blame only where a failure of the keeper was counted. Whether or not the store is
+-- honest, a refusal leaves the desk, but for the memory that is at hand.
 pub record IsDone {K : Type 0} (terms : Terms K) (writes : ℕ) (f : View → Answer) (old new : StoreState K) (before : DeskState) (result : Result Reply Refusal) (desk : DeskState) : Type 0 where
   pub serves : Done terms f old new before result desk
   pub counts : Counted terms old.keep new.keep 0 writes
   pub cause : IsErrOf result refusals.Device → Rises (terms.failures old.keep) (terms.failures new.keep)
+  pub plain : IsPlain result
+  pub stays : IfErr result (λ refusal. SameDesk before desk)
 
 -- ---- as it is told
 
@@ -92,3 +104,5 @@ pub record IsServed {K : Type 0} (terms : Terms K) (kind : Out → Type 0) (f : 
   pub says : IfOk result kind
   pub counts : Counted terms old.keep new.keep 0 1
   pub cause : IsErrOf result faults.Device → Rises (terms.failures old.keep) (terms.failures new.keep)
+  pub plain : IfOk result (λ out. apart (said_of out) ≡ None)
+  pub stays : IfErr result (λ fault. SameDesk before desk)

@@ -1,5 +1,6 @@
 mod bench;
 mod ciphers;
+mod failures;
 mod given;
 mod isolation;
 mod objects;

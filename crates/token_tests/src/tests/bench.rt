@@ -6,7 +6,7 @@ ghost use Rattle.token_model.specs.Events.{HasRandom};
 
 use super::steps::{Row, Step, Told, call_of, reply_of};
 use ck_calls::{Call, Reply, need};
-use keep::ListKeep;
+use keep::{Keep, ListKeep};
 use pin_record::Record;
 use std::alloc::Global;
 use std::fmt::Debug;
@@ -17,18 +17,27 @@ use token::{Event, Job, Out, Ran, Token};
 /// What a token is given for random bytes, again and again.
 const RANDOM: &[u8; 16] = b"\x76\xb8\xe0\xad\xa0\xf1\x3d\x90\x40\x5d\x6a\xe5\x53\x86\xbd\x28";
 
-/// A token over a list, with the jobs of the pending questions.
+/// A token over a keeper, with the jobs of the pending questions.
 #[derive(Drop)]
-pub(super) struct Bench {
+pub(super) struct BenchOver<K: Keep> {
     alloc: Global,
-    token: Token<ListKeep>,
+    token: Token<K>,
     out: Vec<(u64, Job)>,
 }
 
-impl Bench {
+/// A token over a list.
+pub(super) type Bench = BenchOver<ListKeep>;
+
+impl BenchOver<ListKeep> {
     pub(super) fn new(alloc: Global) -> Result<Bench, Fail> {
-        match Token::new(alloc, ListKeep::new(alloc, Record::new())) {
-            Ok(token) => Ok(Bench {
+        BenchOver::over(alloc, ListKeep::new(alloc, Record::new()))
+    }
+}
+
+impl<K: Keep> BenchOver<K> {
+    pub(super) fn over(alloc: Global, keep: K) -> Result<BenchOver<K>, Fail> {
+        match Token::new(alloc, keep) {
+            Ok(token) => Ok(BenchOver {
                 alloc,
                 token,
                 out: Vec::new(alloc),
@@ -78,7 +87,7 @@ impl Bench {
     }
 
     /// What the application is told, at once or, if it is to be told something, of the question's result.
-    fn told_at_last(&mut self, app: u64, step: Step, is_told: bool) -> Result<Option<Reply>, Fail> {
+    pub(super) fn told_at_last(&mut self, app: u64, step: Step, is_told: bool) -> Result<Option<Reply>, Fail> {
         match self.told(app, step)? {
             None if is_told => self.told(app, Step::Finish),
             told => Ok(told),
@@ -126,7 +135,7 @@ impl Bench {
     }
 }
 
-fn expect_told(
+pub(super) fn expect_told(
     rt: &impl Abort,
     place: impl Debug + Drop,
     (app, step): (u64, Step),
@@ -169,7 +178,17 @@ pub(super) fn play(rt: &impl Abort, alloc: Global, rows: &[Row]) -> Result<(), F
 /// Sees that a new token that takes all rows as one list of events gives the replies that they say, and
 /// that no question is left.
 pub(super) fn run(rt: &impl Abort, alloc: Global, rows: &[Row]) -> Result<(), Fail> {
-    let ran = ran(alloc, rows)?;
+    run_over(rt, alloc, ListKeep::new(alloc, Record::new()), rows)
+}
+
+/// And one over this keeper.
+pub(super) fn run_over<K: Keep>(
+    rt: &impl Abort,
+    alloc: Global,
+    keep: K,
+    rows: &[Row],
+) -> Result<(), Fail> {
+    let ran = ran(alloc, keep, rows)?;
     assert!(rt;
         ran.out.is_empty() && ran.left.is_empty(),
         "jobs or events are left"
@@ -177,9 +196,9 @@ pub(super) fn run(rt: &impl Abort, alloc: Global, rows: &[Row]) -> Result<(), Fa
     expect_replies(rt, alloc, &ran.replies, rows)
 }
 
-fn ran(alloc: Global, rows: &[Row]) -> Result<Ran, Fail> {
+fn ran<K: Keep>(alloc: Global, keep: K, rows: &[Row]) -> Result<Ran, Fail> {
     let events = events_of(alloc, rows)?;
-    match Token::new(alloc, ListKeep::new(alloc, Record::new())) {
+    match Token::new(alloc, keep) {
         Ok(mut token) => Ok(token.run(alloc, events, Vec::new(alloc))),
         Err(_) => Err("the keeper refused".into()),
     }

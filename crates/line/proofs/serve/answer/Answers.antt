@@ -6,7 +6,7 @@ use Rattle.line.proofs.serve.answer.Goals as goal
 pub returns-in_ok-random-in-Ok-clause-ok : goal.returns-in_ok-random-in-Ok-clause-ok
 returns-in_ok-random-in-Ok-clause-ok g c =
     leads-call g.K.Keep.terms c.args.app _ _ _ _ (call_in c.args.payload.now) c.in-Ok.call c.in_ok-random-in-Ok.random.items _ c.in-Ok.ensures.exact
-    (rw c.need.ensures at c.in_ok-random-in-Ok.ensures.ok) c.answer_call.ensures.doubt c.answer_call.ensures.moved
+    (rw c.need.ensures at c.in_ok-random-in-Ok.ensures.ok) c.answer_call.ensures.doubt c.answer_call.ensures.failures c.answer_call.ensures.accounts c.answer_call.ensures.moved
 
 pub returns-in-Err-UnknownFunction-clause-ok : goal.returns-in-Err-UnknownFunction-clause-ok
 returns-in-Err-UnknownFunction-clause-ok g c =

@@ -1,6 +1,8 @@
-use Rattle.std.proofs.Common.{◌≡◌, Some, None, sym, ◌∙◌, ap, arith}
+use Rattle.std.proofs.Common.{◌≡◌, Some, None, [], ◌∷◌, sym, ◌∙◌, ap, arith}
 use Rattle.token_model.specs.Worlds.{World, called}
+use Rattle.token_store.specs.declared.out.Out.TheVariants.{Reply as OutReply}
 use Rattle.token_store.specs.Shown.{question_of}
+use Rattle.token.proofs.Accounts.{accounts-none, accounts-more, accounts-one}
 use Rattle.token.specs.Applications.{IsOpen}
 use Rattle.line.proofs.Moving.{idle, moved-reply, moved-ask}
 use Rattle.line.proofs.serve.answer_call.Goals as goal
@@ -23,3 +25,13 @@ returns-clause-moved g c = λ sure w s h.
     (λ out. c.finish.ensures.world sure v shown (opened out))
     (rw c.deref.ensures.value at (c.in-Ask.ensures.leaves honest w s))
     (λ out. c.finish.ensures.leaves sure v shown (opened out))
+
+-- ---- whom the reply blames
+
+pub returns-in-Reply-clause-accounts : goal.returns-in-Reply-clause-accounts
+returns-in-Reply-clause-accounts g c = accounts-one _ _ c.in-Reply.reply c.in-Reply.ensures.counts.failures (λ is. c.in-Reply.ensures.cause (ap OutReply is))
+
+pub returns-clause-accounts : goal.returns-clause-accounts
+returns-clause-accounts g c =
+    accounts-more _ _ _ [] (c.finish.result ∷ []) (accounts-none _ _ c.in-Ask.ensures.counts.failures)
+    (accounts-one _ _ c.finish.result c.finish.ensures.counts.failures c.finish.ensures.cause) c.finish.ensures.counts.failures

@@ -28,6 +28,8 @@ returns-in_default g c = record {
       (gave-quiet _ _ _ k _ _ _ _ h (λ d may. may) refl (gives-with k d c.args.session None (Code rv.Ok) fits)));
   counts = search rules;
   cause = search rules;
+  plain = refl;
+  stays = tt;
 }
 
 pub returns : goal.returns
@@ -50,4 +52,6 @@ returns g c = record {
       (rw c.key_of-key.ensures (gives-with k d c.args.session (Some (started AesEcb [] (Some c.key_of-key.result))) (Code rv.Ok) fits))));
   counts = search rules;
   cause = search rules;
+  plain = refl;
+  stays = tt;
 }

@@ -1,4 +1,4 @@
-use Rattle.std.proofs.Common.{rules}
+use Rattle.std.proofs.Common.{refl, rules}
 use Rattle.keep.specs.Contents.{with_object}
 use Rattle.token_store.proofs.Gaves.{gave-change}
 use Rattle.serve_objects.proofs.Creating.{gives-added}
@@ -13,4 +13,6 @@ returns g c = record {
       (rw (c.give_handle.ensures.given, c.flag.ensures) at c.give_handle.ensures.handle)));
   counts = search rules;
   cause = search rules;
+  plain = refl;
+  stays = tt;
 }

@@ -1,6 +1,8 @@
 use Rattle.std.proofs.Common.{◌≡◌, rules, not, arith, sym, ◌∙◌, ap, subst}
 use Rattle.token_store.specs.Found.{IsFound}
 use Rattle.token_store.specs.Shown.{view_of}
+use Rattle.token_model.proofs.Templates.{fault-plain}
+use Rattle.token_store.proofs.Plain.{plain-made}
 use Rattle.token_store.proofs.Refusals.{does-is, does-after}
 use Rattle.token_store.proofs.Seated.{seated}
 use Rattle.token_store.proofs.Storing.{has-still}
@@ -21,4 +23,15 @@ returns g c = record {
       (does-after _ _ k _ c.find.new.store _ d c.add_object.new.desk c.add_object.result (λ left may. c.find.ensures.same.crash k left h.held may) (rw s.2 (c.add_object.ensures.serves sure k held fits)));
   counts = search rules;
   cause = search rules;
+  plain = c.add_object.ensures.plain;
+  stays = c.add_object.ensures.stays;
+}
+
+pub returns-in_err-object : goal.returns-in_err-object
+returns-in_err-object g c = record {
+  serves = search rules;
+  counts = search rules;
+  cause = search rules;
+  plain = plain-made c.from_residual-in_err-object.result c.in_err-object.field-0.0 _ _ c.from_residual-in_err-object.ensures.1 c.in_err-object.ensures.made (fault-plain _ _ _ _);
+  stays = search rules;
 }

@@ -1,5 +1,7 @@
 use Rattle.std.proofs.Common.{rules}
 use Rattle.token_store.specs.Shown.{view_of}
+use Rattle.token_model.proofs.Templates.{fault-plain}
+use Rattle.token_store.proofs.Plain.{plain-made}
 use Rattle.token_store.proofs.Refusals.{does-is}
 use Rattle.token_store.proofs.Seated.{seated}
 use Rattle.serve_objects.proofs.Making.{made-object, create-is}
@@ -16,4 +18,15 @@ returns g c = record {
       (rw s.2 (c.add_object.ensures.serves sure k h fits));
   counts = search rules;
   cause = search rules;
+  plain = c.add_object.ensures.plain;
+  stays = c.add_object.ensures.stays;
+}
+
+pub returns-in_err-object : goal.returns-in_err-object
+returns-in_err-object g c = record {
+  serves = search rules;
+  counts = search rules;
+  cause = search rules;
+  plain = plain-made c.from_residual-in_err-object.result c.in_err-object.field-0.0 _ _ c.from_residual-in_err-object.ensures.1 c.in_err-object.ensures (fault-plain _ _ _ _);
+  stays = search rules;
 }

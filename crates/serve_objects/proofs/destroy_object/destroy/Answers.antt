@@ -5,6 +5,7 @@ use Rattle.token_model.specs.Answering.{Answer, place_of}
 use Rattle.token_model.specs.Answers.DestroyObject.{destroyed}
 use Rattle.token_store.specs.Shown.{view_of}
 use Rattle.token_store.proofs.Gaves.{gave-change, gave-quiet}
+use Rattle.token_store.proofs.Plain.{plain-fault}
 use Rattle.token_store.proofs.Refusals.{does-refused, fault-of}
 use Rattle.serve_objects.proofs.Destroying.{gives-kept, gives-own, stays-own}
 use Rattle.serve_objects.proofs.destroy_object.destroy.Goals as goal
@@ -38,3 +39,6 @@ returns-in_err-remove-in-Some-clause-serves g c = λ o sure k h fits at.
         | inr is ↦ inr (_, is, gone.changes)
       ];
     })
+
+pub returns-in_err-remove-in-Some-clause-plain : goal.returns-in_err-remove-in-Some-clause-plain
+returns-in_err-remove-in-Some-clause-plain g c = plain-fault c.from_residual.result (fault-of c.from_residual.result _ c.from_residual.ensures.1)

@@ -27,4 +27,6 @@ returns g c = record {
       (does-after _ _ k _ c.find.new.store _ d c.destroy.new.desk c.destroy.result (λ left may. c.find.ensures.same.crash k left h.held may) (c.destroy.ensures.serves o sure k held fits found.1));
   counts = search rules;
   cause = search rules;
+  plain = c.destroy.ensures.plain;
+  stays = c.destroy.ensures.stays;
 }

@@ -5,6 +5,7 @@ use Rattle.token_model.specs.Answering.{Answer, place_of}
 use Rattle.token_model.specs.Answers.SetAttributeValue.{puts}
 use Rattle.token_store.specs.Shown.{view_of}
 use Rattle.token_store.proofs.Gaves.{gave-change, gave-quiet}
+use Rattle.token_store.proofs.Plain.{plain-fault}
 use Rattle.token_store.proofs.Refusals.{does-refused, fault-of}
 use Rattle.serve_objects.proofs.Setting.{gives-put, gives-put_own, stays-own}
 use Rattle.serve_objects.proofs.set_attribute_value.put.Goals as goal
@@ -40,3 +41,6 @@ returns-in_err-replace-in-Some-clause-serves g c = λ old public sure k h fits a
         | inr is ↦ inr (_, is, put.changes)
       ];
     })
+
+pub returns-in_err-replace-in-Some-clause-plain : goal.returns-in_err-replace-in-Some-clause-plain
+returns-in_err-replace-in-Some-clause-plain g c = plain-fault c.from_residual.result (fault-of c.from_residual.result _ c.from_residual.ensures.1)

@@ -3,6 +3,8 @@ use Rattle.std.specs.Prelude.{◌&&◌}
 use Rattle.guard.specs.Access.{is_rw}
 use Rattle.token_store.specs.Found.{IsFound}
 use Rattle.token_store.specs.Shown.{view_of}
+use Rattle.token_model.proofs.Templates.{fault-plain}
+use Rattle.token_store.proofs.Plain.{plain-made}
 use Rattle.token_store.proofs.Refusals.{does-is, does-after}
 use Rattle.token_store.proofs.Seated.{seated}
 use Rattle.token_store.proofs.Storing.{has-still}
@@ -30,4 +32,15 @@ returns g c = record {
       (does-after _ _ k _ c.find.new.store _ d c.put.new.desk c.put.result (λ left may. c.find.ensures.same.crash k left h.held may) (c.put.ensures.serves o (ap not c.in_ok-object.ensures.placed.private) sure k held fits found.1));
   counts = search rules;
   cause = search rules;
+  plain = c.put.ensures.plain;
+  stays = c.put.ensures.stays;
+}
+
+pub returns-in_err-object : goal.returns-in_err-object
+returns-in_err-object g c = record {
+  serves = search rules;
+  counts = search rules;
+  cause = search rules;
+  plain = plain-made c.from_residual-in_err-object.result c.in_err-object.field-0.0 _ _ c.from_residual-in_err-object.ensures.1 c.in_err-object.ensures.made (fault-plain _ _ _ _);
+  stays = search rules;
 }

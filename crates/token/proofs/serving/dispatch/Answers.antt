@@ -1,43 +1,53 @@
-use Rattle.std.proofs.Common.{refl}
+use Rattle.std.proofs.Common.{refl, arith}
 use Rattle.ck_calls.specs.declared.call.Call.TheVariants as call
-use Rattle.token_model.specs.Answering.{Replies}
 use Rattle.token_model.specs.Answers.{answer_to}
-use Rattle.token_store.specs.declared.out.Out.TheVariants.{Reply as OutReply}
-use Rattle.token_store.specs.Shown.{said_of}
-use Rattle.token.proofs.Dispatching.{call-at-desk, not-device}
+use Rattle.token.proofs.Dispatching.{call-done, call-at-desk, call-asking}
 use Rattle.token.proofs.serving.dispatch.Goals as goal
 
-pub returns-in-OpenSession-clause-serves : goal.returns-in-OpenSession-clause-serves
+pub returns-in-OpenSession : goal.returns-in-OpenSession
 unfolding answer_to
-returns-in-OpenSession-clause-serves g c = call-at-desk g.K.Keep.terms c.args.call (call.OpenSession c.in-OpenSession.slot c.in-OpenSession.flags) c.args.random.now c.in-OpenSession.is Replies OutReply c.args.store.now c.args.desk.now _ c.serve.result c.settle.result (λ t. refl) refl c.settle.ensures c.serve.ensures
+returns-in-OpenSession g c = call-at-desk g.K.Keep.terms c.args.app c.args.call (call.OpenSession c.in-OpenSession.slot c.in-OpenSession.flags) c.args.random.now c.in-OpenSession.is c.args.store.now c.args.desk.now _ c.serve.result c.settle.result refl c.settle.ensures c.serve.ensures
 
-pub returns-in-OpenSession-clause-cause : goal.returns-in-OpenSession-clause-cause
-returns-in-OpenSession-clause-cause g c = not-device OutReply c.serve.result c.settle.result c.settle.ensures c.serve.ensures.cause
-
-pub returns-in-CloseSession-clause-serves : goal.returns-in-CloseSession-clause-serves
+pub returns-in-CloseSession : goal.returns-in-CloseSession
 unfolding answer_to
-returns-in-CloseSession-clause-serves g c = call-at-desk g.K.Keep.terms c.args.call (call.CloseSession c.in-CloseSession.session) c.args.random.now c.in-CloseSession.is Replies OutReply c.args.store.now c.args.desk.now _ c.serve-in-CloseSession.result c.settle-in-CloseSession.result (λ t. refl) refl c.settle-in-CloseSession.ensures c.serve-in-CloseSession.ensures
+returns-in-CloseSession g c = call-at-desk g.K.Keep.terms c.args.app c.args.call (call.CloseSession c.in-CloseSession.session) c.args.random.now c.in-CloseSession.is c.args.store.now c.args.desk.now _ c.serve-in-CloseSession.result c.settle-in-CloseSession.result refl c.settle-in-CloseSession.ensures c.serve-in-CloseSession.ensures
 
-pub returns-in-CloseSession-clause-cause : goal.returns-in-CloseSession-clause-cause
-returns-in-CloseSession-clause-cause g c = not-device OutReply c.serve-in-CloseSession.result c.settle-in-CloseSession.result c.settle-in-CloseSession.ensures c.serve-in-CloseSession.ensures.cause
-
-pub returns-in-CloseAllSessions-clause-serves : goal.returns-in-CloseAllSessions-clause-serves
+pub returns-in-CloseAllSessions : goal.returns-in-CloseAllSessions
 unfolding answer_to
-returns-in-CloseAllSessions-clause-serves g c = call-at-desk g.K.Keep.terms c.args.call (call.CloseAllSessions c.in-CloseAllSessions.slot) c.args.random.now c.in-CloseAllSessions.is Replies OutReply c.args.store.now c.args.desk.now _ c.serve_all.result c.settle-in-CloseAllSessions.result (λ t. refl) refl c.settle-in-CloseAllSessions.ensures c.serve_all.ensures
+returns-in-CloseAllSessions g c = call-at-desk g.K.Keep.terms c.args.app c.args.call (call.CloseAllSessions c.in-CloseAllSessions.slot) c.args.random.now c.in-CloseAllSessions.is c.args.store.now c.args.desk.now _ c.serve_all.result c.settle-in-CloseAllSessions.result refl c.settle-in-CloseAllSessions.ensures c.serve_all.ensures
 
-pub returns-in-CloseAllSessions-clause-cause : goal.returns-in-CloseAllSessions-clause-cause
-returns-in-CloseAllSessions-clause-cause g c = not-device OutReply c.serve_all.result c.settle-in-CloseAllSessions.result c.settle-in-CloseAllSessions.ensures c.serve_all.ensures.cause
-
-pub returns-in-GetSessionInfo-clause-serves : goal.returns-in-GetSessionInfo-clause-serves
+pub returns-in-GetSessionInfo : goal.returns-in-GetSessionInfo
 unfolding answer_to
-returns-in-GetSessionInfo-clause-serves g c = call-at-desk g.K.Keep.terms c.args.call (call.GetSessionInfo c.in-GetSessionInfo.session) c.args.random.now c.in-GetSessionInfo.is Replies OutReply c.args.store.now c.args.desk.now _ c.serve-in-GetSessionInfo.result c.settle-in-GetSessionInfo.result (λ t. refl) refl c.settle-in-GetSessionInfo.ensures c.serve-in-GetSessionInfo.ensures
+returns-in-GetSessionInfo g c = call-at-desk g.K.Keep.terms c.args.app c.args.call (call.GetSessionInfo c.in-GetSessionInfo.session) c.args.random.now c.in-GetSessionInfo.is c.args.store.now c.args.desk.now _ c.serve-in-GetSessionInfo.result c.settle-in-GetSessionInfo.result refl c.settle-in-GetSessionInfo.ensures c.serve-in-GetSessionInfo.ensures
 
-pub returns-in-GetSessionInfo-clause-cause : goal.returns-in-GetSessionInfo-clause-cause
-returns-in-GetSessionInfo-clause-cause g c = not-device OutReply c.serve-in-GetSessionInfo.result c.settle-in-GetSessionInfo.result c.settle-in-GetSessionInfo.ensures c.serve-in-GetSessionInfo.ensures.cause
-
-pub returns-in-Encrypt-clause-serves : goal.returns-in-Encrypt-clause-serves
+pub returns-in-CreateObject : goal.returns-in-CreateObject
 unfolding answer_to
-returns-in-Encrypt-clause-serves g c = call-at-desk g.K.Keep.terms c.args.call (call.Encrypt c.in-Encrypt.session c.in-Encrypt.data c.in-Encrypt.room) c.args.random.now c.in-Encrypt.is said_of (λ out. out) c.args.store.now c.args.desk.now _ c.serve-in-Encrypt.result c.settle_asking.result (λ t. refl) refl c.settle_asking.ensures c.serve-in-Encrypt.ensures.serves
+returns-in-CreateObject g c = call-done g.K.Keep.terms c.args.app c.args.call (call.CreateObject c.in-CreateObject.session c.in-CreateObject.template) c.args.random.now c.in-CreateObject.is 1 c.args.store.now _ c.args.desk.now _ c.serve-in-CreateObject.result c.settle-in-CreateObject.result (omega arith) c.settle-in-CreateObject.ensures c.serve-in-CreateObject.ensures
 
-pub returns-in-Encrypt-clause-cause : goal.returns-in-Encrypt-clause-cause
-returns-in-Encrypt-clause-cause g c = not-device (λ out. out) c.serve-in-Encrypt.result c.settle_asking.result c.settle_asking.ensures c.serve-in-Encrypt.ensures.serves.cause
+pub returns-in-CopyObject : goal.returns-in-CopyObject
+unfolding answer_to
+returns-in-CopyObject g c = call-done g.K.Keep.terms c.args.app c.args.call (call.CopyObject c.in-CopyObject.session c.in-CopyObject.object c.in-CopyObject.template) c.args.random.now c.in-CopyObject.is 1 c.args.store.now _ c.args.desk.now _ c.serve-in-CopyObject.result c.settle-in-CopyObject.result (omega arith) c.settle-in-CopyObject.ensures c.serve-in-CopyObject.ensures
+
+pub returns-in-DestroyObject : goal.returns-in-DestroyObject
+unfolding answer_to
+returns-in-DestroyObject g c = call-done g.K.Keep.terms c.args.app c.args.call (call.DestroyObject c.in-DestroyObject.session c.in-DestroyObject.object) c.args.random.now c.in-DestroyObject.is 1 c.args.store.now _ c.args.desk.now _ c.serve-in-DestroyObject.result c.settle-in-DestroyObject.result (omega arith) c.settle-in-DestroyObject.ensures c.serve-in-DestroyObject.ensures
+
+pub returns-in-GetObjectSize : goal.returns-in-GetObjectSize
+unfolding answer_to
+returns-in-GetObjectSize g c = call-done g.K.Keep.terms c.args.app c.args.call (call.GetObjectSize c.in-GetObjectSize.session c.in-GetObjectSize.object) c.args.random.now c.in-GetObjectSize.is 0 c.args.store.now _ c.args.desk.now _ c.serve-in-GetObjectSize.result c.settle-in-GetObjectSize.result (omega arith) c.settle-in-GetObjectSize.ensures c.serve-in-GetObjectSize.ensures
+
+pub returns-in-GetAttributeValue : goal.returns-in-GetAttributeValue
+unfolding answer_to
+returns-in-GetAttributeValue g c = call-done g.K.Keep.terms c.args.app c.args.call (call.GetAttributeValue c.in-GetAttributeValue.session c.in-GetAttributeValue.object c.in-GetAttributeValue.query) c.args.random.now c.in-GetAttributeValue.is 0 c.args.store.now _ c.args.desk.now _ c.serve-in-GetAttributeValue.result c.settle-in-GetAttributeValue.result (omega arith) c.settle-in-GetAttributeValue.ensures c.serve-in-GetAttributeValue.ensures
+
+pub returns-in-SetAttributeValue : goal.returns-in-SetAttributeValue
+unfolding answer_to
+returns-in-SetAttributeValue g c = call-done g.K.Keep.terms c.args.app c.args.call (call.SetAttributeValue c.in-SetAttributeValue.session c.in-SetAttributeValue.object c.in-SetAttributeValue.template) c.args.random.now c.in-SetAttributeValue.is 1 c.args.store.now _ c.args.desk.now _ c.serve-in-SetAttributeValue.result c.settle-in-SetAttributeValue.result (omega arith) c.settle-in-SetAttributeValue.ensures c.serve-in-SetAttributeValue.ensures
+
+pub returns-in-EncryptInit : goal.returns-in-EncryptInit
+unfolding answer_to
+returns-in-EncryptInit g c = call-done g.K.Keep.terms c.args.app c.args.call (call.EncryptInit c.in-EncryptInit.session c.in-EncryptInit.mechanism c.in-EncryptInit.key) c.args.random.now c.in-EncryptInit.is 0 c.args.store.now _ c.args.desk.now _ c.serve-in-EncryptInit.result c.settle-in-EncryptInit.result (omega arith) c.settle-in-EncryptInit.ensures c.serve-in-EncryptInit.ensures
+
+pub returns-in-Encrypt : goal.returns-in-Encrypt
+unfolding answer_to
+returns-in-Encrypt g c = call-asking g.K.Keep.terms c.args.app c.args.call (call.Encrypt c.in-Encrypt.session c.in-Encrypt.data c.in-Encrypt.room) c.args.random.now c.in-Encrypt.is c.args.store.now c.args.desk.now _ c.serve-in-Encrypt.result c.settle_asking.result refl c.settle_asking.ensures c.serve-in-Encrypt.ensures.asker c.serve-in-Encrypt.ensures.serves

@@ -1,4 +1,4 @@
-use Rattle.std.proofs.Common.{rules, sym, ◌∙◌, subst}
+use Rattle.std.proofs.Common.{refl, rules, sym, ◌∙◌}
 use Rattle.token_model.specs.Answering.{reveals_nothing}
 use Rattle.token_store.proofs.Gaves.{gave-reply}
 use Rattle.token.proofs.Dispatching.{answer-is, busy-is, serves-is}
@@ -10,13 +10,17 @@ returns-then-is_busy g c = rw (c.code-then-is_busy.ensures, c.code.ensures) (rec
   says = search rules;
   counts = search rules;
   cause = search rules;
+  plain = refl;
+  stays = tt;
 })
 
 pub returns : goal.returns
 returns g c = record {
   serves = λ sure k h fits.
       serves-is _ _ _ k _ _ c.args.desk.now c.dispatch.new.desk c.dispatch.result (answer-is k c.args.desk.now c.args.call c.args.random.now reveals_nothing (sym c.is_busy.ensures ∙ c.if-is_busy.false)) (c.dispatch.ensures.serves sure k h fits);
-  says = search rules;
-  counts = search rules;
-  cause = search rules;
+  says = c.dispatch.ensures.says;
+  counts = c.dispatch.ensures.counts;
+  cause = c.dispatch.ensures.cause;
+  plain = c.dispatch.ensures.plain;
+  stays = c.dispatch.ensures.stays;
 }

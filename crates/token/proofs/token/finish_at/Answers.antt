@@ -6,7 +6,7 @@ use Rattle.token.proofs.Outcomes.{work-value}
 use Rattle.token.proofs.token.finish_at.Goals as goal
 
 pub returns-in-Ok : goal.returns-in-Ok
-returns-in-Ok c = λ is k fits.
+returns-in-Ok c = λ k fits.
     let d = c.args.desk.now in
     subst (λ o. Gives (answer_result (view_of k d) o reveals_nothing) d.sessions.login k (Replies c.serve_outcome.result) k c.serve_outcome.new.desk)
     (c.in-Ok.ensures.value ∙ work-value c.args.done.job.value.work) (c.serve_outcome.ensures k fits)

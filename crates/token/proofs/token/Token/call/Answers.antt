@@ -1,5 +1,5 @@
 use Rattle.std.proofs.Common.{refl, sym, ◌∙◌}
-use Rattle.token.proofs.Called.{shows-called, says-called, leaves-called, blames-device}
+use Rattle.token.proofs.Called.{shows-called, says-called, leaves-called, blames-device, stays-called}
 use Rattle.token.proofs.token.Token.call.Goals as goal
 
 pub returns-clause-world : goal.returns-clause-world
@@ -18,6 +18,7 @@ returns-clause-leaves g c = λ sure w s.
     rw (c.told_as.ensures, ← c.self.view_is) (leaves-called _ _ _ _ _ _ c.args.app c.args.call c.args.random.now w t c.serve_app.ensures.others c.serve_app.result (c.serve_app.ensures.serves sure t.contents t.has (t.fits c.args.app)))
 
 pub returns-clause-cause : goal.returns-clause-cause
-returns-clause-cause g c = λ sure w s is.
-    let t = rw (← c.self.view_is) at s in
-    rw (← c.self.view_is) (c.serve_app.ensures.cause (rw (blames-device _ _ _ _ _ _ c.args.app c.args.call c.args.random.now w t c.serve_app.ensures.others c.serve_app.result (c.serve_app.ensures.serves sure t.contents t.has (t.fits c.args.app)) (sym c.told_as.ensures ∙ is)) refl))
+returns-clause-cause g c = λ is. rw (← c.self.view_is) (c.serve_app.ensures.cause (blames-device c.serve_app.result c.serve_app.ensures.plain (sym c.told_as.ensures ∙ is)))
+
+pub returns-clause-stays : goal.returns-clause-stays
+returns-clause-stays g c = λ some. rw (← c.self.view_is) (stays-called c.serve_app.result _ _ c.serve_app.ensures.plain c.serve_app.ensures.stays (rw c.told_as.ensures at some))

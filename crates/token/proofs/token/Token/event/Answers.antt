@@ -1,5 +1,7 @@
-use Rattle.std.proofs.Common.{refl, sym, ◌∙◌, ap, Some}
+use Rattle.std.proofs.Common.{refl, sym, ◌∙◌, ap, Some, arith}
+use Rattle.token_store.specs.declared.out.Out.TheVariants.{Reply as OutReply}
 use Rattle.token.proofs.Jobs.{step_reply, step_ask, step_finish, step_pass, step_gone, open_is, no_question, none-left}
+use Rattle.token.proofs.Accounts.{accounts-one, accounts-none}
 use Rattle.token.proofs.token.Token.event.Goals as goal
 
 pub returns-in-Reply-clause-step : goal.returns-in-Reply-clause-step
@@ -29,3 +31,20 @@ pub returns-clause-step : goal.returns-clause-step
 returns-clause-step g c = λ sure w s h.
     let rest = none-left c.in-Gone.app c.args.out.now.items c.take_job-in-Gone.result c.take_job-in-Gone.new.out.items w h c.take_job-in-Gone.ensures in
     rw c.in-Gone.is (step_gone w c.args.out.now.items h c.in-Gone.app _ _ _ c.take_job-in-Gone.new.out.items rest.0 rest.1 (c.gone.ensures.world w s) (λ l may. rw c.gone.ensures.keep at may))
+
+-- ---- whom the reply blames
+
+pub returns-in-Reply-clause-accounts : goal.returns-in-Reply-clause-accounts
+returns-in-Reply-clause-accounts g c = accounts-one _ _ c.in-Reply.reply c.in-Reply.ensures.counts.failures (λ is. c.in-Reply.ensures.cause (ap OutReply is))
+
+pub returns-in-Call-clause-accounts : goal.returns-in-Call-clause-accounts
+returns-in-Call-clause-accounts g c = accounts-none _ _ c.in-Ask.ensures.counts.failures
+
+pub returns-in-Some-clause-accounts : goal.returns-in-Some-clause-accounts
+returns-in-Some-clause-accounts g c = accounts-one _ _ c.finish-reply.result c.finish-reply.ensures.counts.failures c.finish-reply.ensures.cause
+
+pub returns-in-Finish-clause-accounts : goal.returns-in-Finish-clause-accounts
+returns-in-Finish-clause-accounts g c = accounts-none _ _ (omega arith)
+
+pub returns-clause-accounts : goal.returns-clause-accounts
+returns-clause-accounts g c = rw c.gone.ensures.keep (accounts-none _ _ (omega arith))

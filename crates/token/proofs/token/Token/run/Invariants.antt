@@ -1,9 +1,9 @@
 use Rattle.std.proofs.Common.{◌≡◌, ◌≤◌, All, length}
-use Rattle.std.specs.Prelude.{reverse}
+use Rattle.std.specs.Prelude.{map, reverse}
 use Rattle.token_model.specs.Events.{HasRandom}
 use Rattle.token_model.specs.Worlds.{World}
 use Rattle.token.specs.Applications.{Shows}
-use Rattle.token.specs.Runs.{MayLeave, IsRun}
+use Rattle.token.specs.Runs.{MayLeave, IsRun, AccountsFor}
 use Rattle.token.proofs.token.Token.run.Given as goal
 
 abbrev pub invariant-events : goal.invariant-events
@@ -11,6 +11,7 @@ invariant-events g l =
     (g.K.Keep.terms.doubt l.fn.self.store.keep ≤ g.K.Keep.terms.doubt l.self.store.keep)
     × (g.K.Keep.terms.doubt l.self.store.keep ≡ 0 → (w : World) → Shows g.K.Keep.terms l.fn.self w → IsRun (Shows g.K.Keep.terms l.self) (MayLeave g.K.Keep.terms l.fn.self) (MayLeave g.K.Keep.terms l.self) w l.fn.events.items l.replies.items (reverse l.events.items) l.out.items)
     × All HasRandom l.events.items
+    × AccountsFor (g.K.Keep.terms.failures l.fn.self.store.keep) (g.K.Keep.terms.failures l.self.store.keep) (map (λ r. r.1) l.replies.items)
 
 abbrev pub decreases-events : goal.decreases-events
 decreases-events g l = length l.events.items

@@ -1,0 +1,123 @@
+//! A keeper that fails at its n-th call: the event is refused by the code of the failure, and nothing has changed, so the
+//! same event then goes as if nothing had been.
+
+use super::bench::{BenchOver, expect_told, run_over};
+use super::given::*;
+use super::steps::{Asked, Row, Step, Told, Values, reply_of};
+use ck_calls::Reply;
+use ck_types::Rv;
+use failing_keep::{FailingKeep, Failure};
+use keep::{KeepFault, ListKeep};
+use pin_record::Record;
+use std::alloc::Global;
+use std::process::Abort;
+use std::test::*;
+use token::Token;
+
+const ASKED: Asked = &[(LABEL, Some(2))];
+
+const NAMED: Values = &[(2, Some(b"k1"))];
+
+/// Each call that asks the keeper.
+const ROWS: &[Row] = &[
+    (A, OPEN, Told::Session(1)),
+    (A, Step::CreateObject(1, TOKEN_KEY), Told::Object(1)),
+    (A, Step::SetAttributeValue(1, 1, NEW_LABEL), OK),
+    (A, Step::GetAttributeValue(1, 1, ASKED), Told::AttributeValues(Rv::Ok, NAMED)),
+    (A, Step::CopyObject(1, 1, NOTHING), Told::Object(2)),
+    (A, Step::DestroyObject(1, 1), OK),
+    (A, Step::GetAttributeValue(1, 1, ASKED), NO_OBJECT),
+    (A, Step::GetObjectSize(1, 2), Told::ObjectSize(290)),
+    (A, Step::EncryptInit(1, ECB, 2), OK),
+    (A, Step::Encrypt(1, TEXT, Some(16)), Told::Nothing),
+    (A, Step::Finish, CIPHERTEXT),
+    (A, Step::DestroyObject(1, 2), OK),
+];
+
+/// How often these calls, and the token's making before them, ask the keeper for what may be refused.
+const CALLS: u64 = 13;
+
+/// A keeper in memory whose n-th call fails.
+fn failing(alloc: Global, n: u64, failure: Failure) -> FailingKeep<ListKeep> {
+    FailingKeep::new(ListKeep::new(alloc, Record::new()), n, failure)
+}
+
+fn code_of(failure: Failure) -> Rv {
+    match failure {
+        Failure::Memory => Rv::HostMemory,
+        Failure::Device => Rv::DeviceError,
+    }
+}
+
+/// The place of the row that is refused where the n-th call fails. It goes as it says when it comes again, and each other
+/// one goes so at once.
+fn refused_row(
+    rt: &impl Abort,
+    alloc: Global,
+    n: u64,
+    failure: Failure,
+) -> Result<Option<usize>, Fail> {
+    let mut bench = BenchOver::over(alloc, failing(alloc, n, failure))?;
+    let mut refused = None;
+    for (place, row) in ROWS.iter().enumerate() {
+        let (app, step, told) = *row;
+        let wanted = reply_of(alloc, told)?;
+        let mut got = bench.told(app, step)?;
+        if got == Some(Reply::Code(code_of(failure))) {
+            assert!(rt; refused.is_none(), "a second refusal");
+            refused = Some(place);
+            got = bench.told(app, step)?;
+        }
+        expect_told(rt, place, (app, step), &wanted, &got);
+    }
+    Ok(refused)
+}
+
+/// The rows, of which the one at the place is refused when it comes first.
+fn rows_with_refusal(alloc: Global, place: usize, failure: Failure) -> Result<Vec<Row>, Fail> {
+    let mut rows = Vec::new(alloc);
+    for (number, row) in ROWS.iter().enumerate() {
+        let (app, step, _) = *row;
+        if number == place {
+            rows.push((app, step, Told::Code(code_of(failure))))?;
+        }
+        rows.push(*row)?;
+    }
+    Ok(rows)
+}
+
+/// Sees that each failure is told once, by calls one after the other and in a list of events.
+fn expect_refusals(rt: &impl Abort, alloc: Global, failure: Failure) -> Result<(), Fail> {
+    for n in 2..=CALLS {
+        match refused_row(rt, alloc, n, failure)? {
+            Some(place) => {
+                let rows = rows_with_refusal(alloc, place, failure)?;
+                run_over(rt, alloc, failing(alloc, n, failure), &rows)?;
+            }
+            None => panic!(rt; "the failure of call {n} was not told"),
+        }
+    }
+    let after_all = refused_row(rt, alloc, CALLS + 1, failure)?;
+    assert!(rt; after_all.is_none(), "there are more calls");
+    Ok(())
+}
+
+#[test]
+fn a_failed_device_is_told_once_and_changes_nothing(rt: HostRuntime) -> Result<(), Fail> {
+    expect_refusals(&rt, rt.alloc(), Failure::Device)
+}
+
+#[test]
+fn want_of_memory_is_told_once_and_changes_nothing(rt: HostRuntime) -> Result<(), Fail> {
+    expect_refusals(&rt, rt.alloc(), Failure::Memory)
+}
+
+#[test]
+fn a_keeper_whose_ids_cannot_be_read_comes_back(rt: HostRuntime) {
+    match Token::new(rt.alloc(), failing(rt.alloc(), 1, Failure::Device)) {
+        Ok(_) => panic!(rt; "the failure was not told"),
+        Err((fault, keep)) => {
+            assert_eq!(rt; (fault, keep.failures()), (KeepFault::Device, 1));
+        }
+    }
+}
