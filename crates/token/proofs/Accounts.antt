@@ -10,7 +10,7 @@ use Rattle.token_model.specs.Worlds.{set_apart}
 use Rattle.token.specs.Runs.{blames, AccountsFor}
 
 blames-append : (xs ys : List Reply) → blames (xs ++ ys) ≡ blames xs + blames ys
-blames-append [] ys = refl
+blames-append [] ys = omega arith
 blames-append (x ∷ xs) ys = let k = blames-append xs ys in omega (arith, k)
 
 pub accounts-more : (before mid now : ℕ) (xs ys : List Reply) → AccountsFor before mid xs → AccountsFor mid now ys → mid ≤ now → AccountsFor before now (xs ++ ys)

@@ -1,6 +1,6 @@
 -- A call at one desk is the world's next step.
 use Rattle.std.proofs.lemmas.Bool.{cases_eq}
-use Rattle.std.proofs.Common.{◌≡◌, ◌≢◌, ◌⊎◌, ℕ, List, Option, Some, None, Result, Ok, Err, refl, sym, ◌∙◌, ap, inl, inr, subst}
+use Rattle.std.proofs.Common.{◌≡◌, false, true, ◌≢◌, ◌⊎◌, ℕ, List, Option, Some, None, Result, Ok, Err, refl, sym, ◌∙◌, ap, inl, inr, subst}
 use Rattle.std.specs.Prelude.{IfErr, IfOk, IsSome}
 use Rattle.std.specs.Option.{option_map}
 use Rattle.ck_types.specs.declared.rv.Rv.TheVariants.{DeviceError}
@@ -101,5 +101,5 @@ blames-device (Err Device) plain is = refl
 
 -- a refusal leaves the desk
 pub stays-called : (r : Result Out Fault) (before desk : DeskState) → IfOk r (λ out. apart (said_of out) ≡ None) → IfErr r (λ fault. SameDesk before desk) → IsSome (apart (said_of (told_as r))) → SameDesk before desk
-stays-called (Ok out) before desk plain stays some = absurd (subst IsSome plain some)
+stays-called (Ok out) before desk plain stays some = let k : false ≡ true = subst IsSome plain some in cc
 stays-called (Err fault) before desk plain stays some = stays

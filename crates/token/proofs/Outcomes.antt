@@ -1,5 +1,5 @@
 -- The outcome of a question, at its desk.
-use Rattle.std.proofs.Common.{◌≡◌, ◌≢◌, ℕ, Option, Some, None, Result, Ok, Err, inl, refl, sym, ◌∙◌, subst, ap}
+use Rattle.std.proofs.Common.{◌≡◌, false, true, ◌≢◌, ℕ, Option, Some, None, Result, Ok, Err, inl, refl, sym, ◌∙◌, subst, ap}
 use Rattle.std.specs.Option.{option_map}
 use Rattle.std.specs.Prelude.{IsSome}
 use Rattle.ck_types.specs.declared.rv.Rv.TheVariants.{DeviceError, FunctionFailed, HostMemory}
@@ -81,7 +81,7 @@ module _ (job : Job) (c : Contents) (old new : DeskState) where
   not-device (Err Device) none is = none
 
   pub stays-finished : (r : Result Reply Fault) → Finishes result c old r new → IsSome (set_apart (told_result r)) → SameDesk (over old) new
-  stays-finished (Ok reply) gives some = absurd (subst IsSome (ap apart gives.says ∙ plain-result (view_of c old) (value_of (question_of job).task) reveals_nothing) some)
+  stays-finished (Ok reply) gives some = let k : false ≡ true = subst IsSome (ap apart gives.says ∙ plain-result (view_of c old) (value_of (question_of job).task) reveals_nothing) some in cc
   stays-finished (Err Memory) same some = same
   stays-finished (Err Device) none some = absurd none
 

@@ -69,8 +69,7 @@ module _ {K : Type 0} (terms : Terms K) (old new : StoreState K) (ds ds' : List 
   lasts : (d : Contents) → Changes (in_list (sees (desk_at ds app).sessions.login) (objects_of s.contents) given.change) s.contents d → lasting_in d ≡ lasting_of (taken_by w app job None)
   lasts d is =
       let change : Change = in_list (sees (desk_at ds app).sessions.login) (objects_of s.contents) given.change in
-      let c : list_change w app given ≡ change = rw (s.depicts.views app, s.depicts.objects) refl in
-      rw (takes, c, s.depicts.token_record, s.depicts.objects, objects-changed change s.contents d is, record-changed change s.contents d is) refl
+      rw (change-is, s.depicts.token_record, s.depicts.objects, objects-changed change s.contents d is, record-changed change s.contents d is) refl
 
   pub taken : (r : Result Reply Fault) → IsServed r → IsTakenBy (Shows terms after) (MayLeave terms before) (MayLeave terms after) w app job (told_result r)
   taken (Ok reply) m =

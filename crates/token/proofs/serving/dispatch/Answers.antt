@@ -1,7 +1,8 @@
-use Rattle.std.proofs.Common.{refl, arith}
+use Rattle.std.proofs.Common.{refl, rules, arith}
 use Rattle.ck_calls.specs.declared.call.Call.TheVariants as call
+use Rattle.ck_types.specs.declared.rv.Rv.TheVariants.{FunctionNotSupported}
 use Rattle.token_model.specs.Answers.{answer_to}
-use Rattle.token.proofs.Dispatching.{call-done, call-at-desk, call-asking}
+use Rattle.token.proofs.Dispatching.{call-done, call-at-desk, call-asking, call-refused}
 use Rattle.token.proofs.serving.dispatch.Goals as goal
 
 pub returns-in-OpenSession : goal.returns-in-OpenSession
@@ -51,3 +52,41 @@ returns-in-EncryptInit g c = call-done g.K.Keep.terms c.args.app c.args.call (ca
 pub returns-in-Encrypt : goal.returns-in-Encrypt
 unfolding answer_to
 returns-in-Encrypt g c = call-asking g.K.Keep.terms c.args.app c.args.call (call.Encrypt c.in-Encrypt.session c.in-Encrypt.data c.in-Encrypt.room) c.args.random.now c.in-Encrypt.is c.args.store.now c.args.desk.now _ c.serve-in-Encrypt.result c.settle_asking.result refl c.settle_asking.ensures c.serve-in-Encrypt.ensures.asker c.serve-in-Encrypt.ensures.serves
+
+-- ---- calls that aren't served
+
+pub returns-in-GetTokenInfo : goal.returns-in-GetTokenInfo
+unfolding answer_to
+returns-in-GetTokenInfo g c = call-refused g.K.Keep.terms c.args.app c.args.call c.args.random.now FunctionNotSupported c.args.store.now c.args.desk.now c.code.result (λ v. search rules) refl c.code.ensures
+
+pub returns-in-Login : goal.returns-in-Login
+unfolding answer_to
+returns-in-Login g c = call-refused g.K.Keep.terms c.args.app c.args.call c.args.random.now FunctionNotSupported c.args.store.now c.args.desk.now c.code-in-Login.result (λ v. search rules) refl c.code-in-Login.ensures
+
+pub returns-in-FindObjectsInit : goal.returns-in-FindObjectsInit
+unfolding answer_to
+returns-in-FindObjectsInit g c = call-refused g.K.Keep.terms c.args.app c.args.call c.args.random.now FunctionNotSupported c.args.store.now c.args.desk.now c.code-in-FindObjectsInit.result (λ v. search rules) refl c.code-in-FindObjectsInit.ensures
+
+pub returns-in-EncryptUpdate : goal.returns-in-EncryptUpdate
+unfolding answer_to
+returns-in-EncryptUpdate g c = call-refused g.K.Keep.terms c.args.app c.args.call c.args.random.now FunctionNotSupported c.args.store.now c.args.desk.now c.code-in-EncryptUpdate.result (λ v. search rules) refl c.code-in-EncryptUpdate.ensures
+
+pub returns-in-DecryptInit : goal.returns-in-DecryptInit
+unfolding answer_to
+returns-in-DecryptInit g c = call-refused g.K.Keep.terms c.args.app c.args.call c.args.random.now FunctionNotSupported c.args.store.now c.args.desk.now c.code-in-DecryptInit.result (λ v. search rules) refl c.code-in-DecryptInit.ensures
+
+pub returns-in-SignInit : goal.returns-in-SignInit
+unfolding answer_to
+returns-in-SignInit g c = call-refused g.K.Keep.terms c.args.app c.args.call c.args.random.now FunctionNotSupported c.args.store.now c.args.desk.now c.code-in-SignInit.result (λ v. search rules) refl c.code-in-SignInit.ensures
+
+pub returns-in-VerifyInit : goal.returns-in-VerifyInit
+unfolding answer_to
+returns-in-VerifyInit g c = call-refused g.K.Keep.terms c.args.app c.args.call c.args.random.now FunctionNotSupported c.args.store.now c.args.desk.now c.code-in-VerifyInit.result (λ v. search rules) refl c.code-in-VerifyInit.ensures
+
+pub returns-in-GenerateKey : goal.returns-in-GenerateKey
+unfolding answer_to
+returns-in-GenerateKey g c = call-refused g.K.Keep.terms c.args.app c.args.call c.args.random.now FunctionNotSupported c.args.store.now c.args.desk.now c.code-in-GenerateKey.result (λ v. search rules) refl c.code-in-GenerateKey.ensures
+
+pub returns : goal.returns
+unfolding answer_to
+returns g c = call-refused g.K.Keep.terms c.args.app c.args.call c.args.random.now FunctionNotSupported c.args.store.now c.args.desk.now c.code-in-GenerateRandom.result (λ v. search rules) refl c.code-in-GenerateRandom.ensures

@@ -1,4 +1,5 @@
 use Rattle.std.proofs.Common.{refl, sym, ◌∙◌}
+use Rattle.token.specs.Applications.{desk_at}
 use Rattle.token.proofs.Called.{shows-called, says-called, leaves-called, blames-device, stays-called}
 use Rattle.token.proofs.token.Token.call.Goals as goal
 
@@ -21,4 +22,4 @@ pub returns-clause-cause : goal.returns-clause-cause
 returns-clause-cause g c = λ is. rw (← c.self.view_is) (c.serve_app.ensures.cause (blames-device c.serve_app.result c.serve_app.ensures.plain (sym c.told_as.ensures ∙ is)))
 
 pub returns-clause-stays : goal.returns-clause-stays
-returns-clause-stays g c = λ some. rw (← c.self.view_is) (stays-called c.serve_app.result _ _ c.serve_app.ensures.plain c.serve_app.ensures.stays (rw c.told_as.ensures at some))
+returns-clause-stays g c = λ some. rw (← c.self.view_is) (stays-called c.serve_app.result (desk_at c.self.inside.desks.entries c.args.app) (desk_at c.serve_app.new.desks.entries c.args.app) c.serve_app.ensures.plain c.serve_app.ensures.stays (rw c.told_as.ensures at some))

@@ -1,5 +1,6 @@
 use Rattle.std.proofs.Common.{refl, sym, ◌∙◌}
 use Rattle.std.proofs.lemmas.Bool.{true≢false}
+use Rattle.token.specs.Applications.{desk_at}
 use Rattle.token.proofs.Outcomes.{serves-finished, never-device, always-stays}
 use Rattle.token.proofs.Jobs.{asked-of, told-has, told-other}
 use Rattle.token.proofs.Resulted.{taken, open-numbers, shows-open, tells-open, leaves-open}
@@ -22,10 +23,10 @@ pub returns-clause-leaves : goal.returns-clause-leaves
 returns-clause-leaves g c = λ sure w s is. leaves-open w c.args.app c.args.done.job.value is _ _ _ c.told_result-reply.result (returns-clause-taken g c sure w s (open-numbers w c.args.app c.args.done.job.value is))
 
 pub returns-clause-cause : goal.returns-clause-cause
-returns-clause-cause g c = λ blamed. absurd (never-device c.args.done.job.value _ _ c.finish_app.result c.finish_app.ensures.serves (sym c.told_result-reply.ensures ∙ blamed))
+returns-clause-cause g c = λ blamed. absurd (never-device c.args.done.job.value (desk_at c.self.inside.desks.entries c.args.app) (desk_at c.finish_app.new.desks.entries c.args.app) c.finish_app.result c.finish_app.ensures.serves (sym c.told_result-reply.ensures ∙ blamed))
 
 pub returns-clause-stays : goal.returns-clause-stays
-returns-clause-stays g c = λ some. rw (← c.self.view_is) (always-stays c.args.done.job.value _ _ c.finish_app.result c.finish_app.ensures.serves (rw c.told_result-reply.ensures at some))
+returns-clause-stays g c = λ some. rw (← c.self.view_is) (always-stays c.args.done.job.value (desk_at c.self.inside.desks.entries c.args.app) (desk_at c.finish_app.new.desks.entries c.args.app) c.finish_app.result c.finish_app.ensures.serves (rw c.told_result-reply.ensures at some))
 
 -- ---- a job of no pending question, and one that has its numbers
 
