@@ -91,19 +91,16 @@ fn counted(count: u64) -> u64
     count.saturating_add(1)
 }
 
-/// What the keeper below answered. A failure of its device is counted here too.
-fn noted<T: Drop>(failures: &mut u64, outcome: Result<T, KeepFault>) -> Result<T, KeepFault>
-    ensures same { result ≡ outcome }
+/// Why the keeper that is asked refused. A failure of its device is counted here too.
+fn noted(failures: &mut u64, fault: KeepFault) -> KeepFault
+    ensures same { result ≡ fault }
     ensures more { failures.old ≤ failures.new }
-    ensures cause { IsErrOf outcome Device → Rises failures.old failures.new }
+    ensures cause { fault ≡ Device → Rises failures.old failures.new }
 {
-    match outcome {
-        Err(KeepFault::Device) => {
-            *failures = counted(*failures);
-            Err(KeepFault::Device)
-        }
-        other => other,
+    if fault == KeepFault::Device {
+        *failures = counted(*failures);
     }
+    fault
 }
 
 impl<K: Keep> Keep for FailingKeep<K> {
@@ -130,41 +127,62 @@ impl<K: Keep> Keep for FailingKeep<K> {
 
     fn ids(&mut self, alloc: Global) -> Result<Vec<u64>, KeepFault> {
         self.pass()?;
-        noted(&mut self.failures, self.keep.ids(alloc))
+        match self.keep.ids(alloc) {
+            Ok(ids) => Ok(ids),
+            Err(fault) => Err(noted(&mut self.failures, fault)),
+        }
     }
 
     fn object(&mut self, alloc: Global, id: u64) -> Result<Object, KeepFault> {
         self.pass()?;
-        noted(&mut self.failures, self.keep.object(alloc, id))
+        match self.keep.object(alloc, id) {
+            Ok(object) => Ok(object),
+            Err(fault) => Err(noted(&mut self.failures, fault)),
+        }
     }
 
     fn set_record(&mut self, record: Record) -> Result<(), KeepFault> {
         self.tried.add();
         self.pass()?;
-        noted(&mut self.failures, self.keep.set_record(record))
+        match self.keep.set_record(record) {
+            Ok(()) => Ok(()),
+            Err(fault) => Err(noted(&mut self.failures, fault)),
+        }
     }
 
     fn insert(&mut self, object: &Object) -> Result<u64, KeepFault> {
         self.tried.add();
         self.pass()?;
-        noted(&mut self.failures, self.keep.insert(object))
+        match self.keep.insert(object) {
+            Ok(id) => Ok(id),
+            Err(fault) => Err(noted(&mut self.failures, fault)),
+        }
     }
 
     fn replace(&mut self, id: u64, object: &Object) -> Result<(), KeepFault> {
         self.tried.add();
         self.pass()?;
-        noted(&mut self.failures, self.keep.replace(id, object))
+        match self.keep.replace(id, object) {
+            Ok(()) => Ok(()),
+            Err(fault) => Err(noted(&mut self.failures, fault)),
+        }
     }
 
     fn remove(&mut self, id: u64) -> Result<(), KeepFault> {
         self.tried.add();
         self.pass()?;
-        noted(&mut self.failures, self.keep.remove(id))
+        match self.keep.remove(id) {
+            Ok(()) => Ok(()),
+            Err(fault) => Err(noted(&mut self.failures, fault)),
+        }
     }
 
     fn reset(&mut self, record: Record) -> Result<(), KeepFault> {
         self.tried.add();
         self.pass()?;
-        noted(&mut self.failures, self.keep.reset(record))
+        match self.keep.reset(record) {
+            Ok(()) => Ok(()),
+            Err(fault) => Err(noted(&mut self.failures, fault)),
+        }
     }
 }
