@@ -87,7 +87,12 @@ impl<K: Keep> BenchOver<K> {
     }
 
     /// What the application is told, at once or, if it is to be told something, of the question's result.
-    pub(super) fn told_at_last(&mut self, app: u64, step: Step, is_told: bool) -> Result<Option<Reply>, Fail> {
+    pub(super) fn told_at_last(
+        &mut self,
+        app: u64,
+        step: Step,
+        is_told: bool,
+    ) -> Result<Option<Reply>, Fail> {
         match self.told(app, step)? {
             None if is_told => self.told(app, Step::Finish),
             told => Ok(told),

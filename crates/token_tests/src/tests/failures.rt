@@ -7,7 +7,7 @@ use super::steps::{Asked, Row, Step, Told, Values, reply_of};
 use ck_calls::Reply;
 use ck_types::Rv;
 use failing_keep::{FailingKeep, Failure};
-use keep::{KeepFault, ListKeep};
+use keep::{Keep, KeepFault, ListKeep};
 use pin_record::Record;
 use std::alloc::Global;
 use std::process::Abort;
@@ -23,11 +23,15 @@ const ROWS: &[Row] = &[
     (A, OPEN, Told::Session(1)),
     (A, Step::CreateObject(1, TOKEN_KEY), Told::Object(1)),
     (A, Step::SetAttributeValue(1, 1, NEW_LABEL), OK),
-    (A, Step::GetAttributeValue(1, 1, ASKED), Told::AttributeValues(Rv::Ok, NAMED)),
+    (
+        A,
+        Step::GetAttributeValue(1, 1, ASKED),
+        Told::AttributeValues(Rv::Ok, NAMED),
+    ),
     (A, Step::CopyObject(1, 1, NOTHING), Told::Object(2)),
     (A, Step::DestroyObject(1, 1), OK),
     (A, Step::GetAttributeValue(1, 1, ASKED), NO_OBJECT),
-    (A, Step::GetObjectSize(1, 2), Told::ObjectSize(290)),
+    (A, Step::GetObjectSize(1, 2), Told::ObjectSize(311)),
     (A, Step::EncryptInit(1, ECB, 2), OK),
     (A, Step::Encrypt(1, TEXT, Some(16)), Told::Nothing),
     (A, Step::Finish, CIPHERTEXT),
