@@ -1,5 +1,7 @@
 //! Runs a command line.
 
+ghost use Rattle.std.specs.Prelude.{◌≡◌};
+ghost use Rattle.clap.specs.Values.{kind_of};
 ghost use Rattle.programs.specs.Statuses.{IsStatus};
 
 use crate::command::{command, seed_of};
@@ -17,7 +19,7 @@ use token::Token;
 const STDIO_APP: u64 = 0;
 
 /// The exit status for a command line that is refused.
-const REFUSED: u8 = 2;
+pub(crate) const REFUSED: u8 = 2;
 
 fn stdio<I: Read, O: Write>(
     alloc: Global,
@@ -50,7 +52,8 @@ fn run<I: Read, O: Write>(
 /// Writes what the parser of the command line has to say: help and version to the output, and a
 /// refusal to the output for errors.
 fn tell<O: Write, E: Write>(error: &Error, output: &mut O, errors: &mut E) -> u8
-    ensures { IsStatus result }
+    ensures known { IsStatus result }
+    ensures memory { kind_of error.now ≡ ErrorKind.OutOfMemory → result ≡ 6 }
 {
     match error.kind() {
         ErrorKind::DisplayHelp | ErrorKind::DisplayVersion => match write!(output, "{error}") {
