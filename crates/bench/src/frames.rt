@@ -7,7 +7,7 @@ use aes_modes::{Direction, ecb};
 use ck_calls::{Call, Mechanism};
 use ck_types::{AttrType, Bytes, Entry, KeyType, MechType, ObjectClass, Template};
 use keep::ListKeep;
-use line::{Words, serve_one};
+use line::{Noted, Words, serve_one};
 use pin_record::Record;
 use std::alloc::Global;
 use std::io::{self, Read, Write};
@@ -150,20 +150,21 @@ pub(crate) fn frames(
         return Err(failed());
     };
     let mut words = Words::for_app([0; 32], 0);
-    let mut reader = Pieces {
+    let mut reader = Noted::new(Pieces {
         rest: &stream,
         most,
-    };
-    let mut writer = Tally {
+    });
+    let mut writer = Noted::new(Tally {
         written: 0,
         last: 0,
-    };
+    });
     let start = rt.thread_cpu_time()?;
     let Ok(replies) = serve_one(alloc, &mut reader, &mut writer, &mut token, &mut words) else {
         return Err(failed());
     };
     let time = rt.thread_cpu_time()?.saturating_sub(start);
-    let sum = u128::from(writer.written) << 64 | u128::from(replies) << 8 | u128::from(writer.last);
+    let tally = writer.into_inner();
+    let sum = u128::from(tally.written) << 64 | u128::from(replies) << 8 | u128::from(tally.last);
     Ok(Run {
         what,
         unit: Unit::Bytes(text_len),

@@ -44,9 +44,6 @@ pub record Front (bytes rest : List ℕ) (old now : Option (List ℕ)) : Type 0 
   pub whole : bytes ≡ front ++ rest
   pub wrote : Appends old now front
 
-pub front-none : (bytes : List ℕ) (w : Option (List ℕ)) → Front bytes bytes w w
-front-none bytes w = record { front = []; whole = refl; wrote = Appends-none w }
-
 -- a write took some of the rest
 pub front-more : (bytes rest more : List ℕ) (count : ℕ) (a b c : Option (List ℕ)) → Front bytes rest a b → Appends b c (take count rest) → more ≡ drop count rest → Front bytes more a c
 front-more bytes rest more count a b c p q m = record {
@@ -55,7 +52,7 @@ front-more bytes rest more count a b c p q m = record {
   wrote = Appends-then a b c p.front (take count rest) p.wrote q;
 }
 
--- it failed
+-- it took none
 pub front-kept : (bytes rest : List ℕ) (a b c : Option (List ℕ)) → Front bytes rest a b → Keeps b c → Front bytes rest a c
 front-kept bytes rest a b c p k = record { front = p.front; whole = p.whole; wrote = Appends-kept a b c p.front p.wrote k }
 

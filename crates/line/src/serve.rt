@@ -1,6 +1,7 @@
 //! Answers the frames of a reader to a writer.
 
-ghost use Rattle.std.specs.Prelude.{◌≡◌, ◌≤◌, ◌∷◌, [], ℕ, IfErr, IfOk, false, length};
+ghost use Rattle.std.specs.Prelude.{◌≡◌, ◌≤◌, ◌∷◌, [], ℕ, IfErr, IfOk, OnOk, false, length};
+ghost use Rattle.std.specs.Io.KnownBytes.{Appends, Keeps};
 ghost use Rattle.ck_calls.specs.Need.{random_bytes};
 ghost use Rattle.token_model.specs.Worlds.{World};
 ghost use Rattle.token.specs.Applications.{HasJobs};
@@ -9,34 +10,32 @@ ghost use Rattle.token.specs.Runs.{AccountsFor, MayLeave};
 ghost use Rattle.wire.specs.Messages.{call_in};
 ghost use Rattle.line.specs.declared.fault.LineFault.TheVariants.{Memory};
 ghost use Rattle.line.specs.Lines.{Calls, Finishes, Leads, LeadsAway, Moved};
-ghost use Rattle.line.specs.Serve.{Serves};
-ghost use Rattle.line.specs.Parts.{Answers, Sends, Writes};
+ghost use Rattle.line.specs.Noting.{HasFailed, Unfailing};
+ghost use Rattle.line.specs.Parts.{Answers, Sends, TakesPart};
+ghost use Rattle.line.specs.Serve.{ReadsBy, Serves, WritesBy};
 
 use crate::fault::LineFault;
+use crate::noted::{Noted, is_interrupted};
 use crate::words::Words;
 use ck_calls::{Call, Reply, need};
 use ck_types::Rv;
 use keep::Keep;
 use std::alloc::Global;
-use std::io::{Error, ErrorKind, Read, Write};
+use std::io::{Read, Write};
 use token::{Out, Token};
 use wire::{FrameReader, WireFault, read_call, write_reply};
 
 /// How many bytes are read at once.
 const PIECE_LEN: usize = 4096;
 
-/// Whether a read or write may be tried again.
-fn is_interrupted(error: &Error) -> bool {
-    matches!(error.kind(), ErrorKind::Interrupted)
-}
-
 /// Writes all of the bytes, by up to 2^64 - 1 writes; one that was interrupted counts. On a fault the
 /// first of the bytes were written, and no others.
-fn write_out<W: Write>(writer: &mut W, bytes: &[u8]) -> Result<(), LineFault>
-    ensures { Writes (W.contents writer.old) (W.contents writer.new) bytes.now result }
+fn write_out<W: Write>(writer: &mut Noted<W>, bytes: &[u8]) -> Result<(), LineFault>
+    ensures ok { OnOk result (Appends (W.contents writer.old.inner) (W.contents writer.new.inner) bytes.now × Unfailing writer.old writer.new) }
+    ensures err { IfErr result (λ fault. (fault ≡ LineFault.Write) × TakesPart (W.contents writer.old.inner) (W.contents writer.new.inner) bytes.now × HasFailed writer.old writer.new) }
 {
     let mut rest = bytes;
-    'rest: for _ in 0..u64::MAX {
+    'rest: for _turn in 0..u64::MAX {
         if rest.is_empty() {
             return Ok(());
         }
@@ -56,10 +55,30 @@ fn write_out<W: Write>(writer: &mut W, bytes: &[u8]) -> Result<(), LineFault>
     Err(LineFault::Write)
 }
 
-/// Writes the frame of a reply, and sees that it goes out. A reply that has no frame counts as a
-/// writer's failure, with nothing written.
-fn send<W: Write>(alloc: Global, writer: &mut W, reply: &Reply) -> Result<(), LineFault>
-    ensures { Sends (W.contents writer.old) (W.contents writer.new) reply.now result }
+/// Sees that what was written goes out, by up to 2^64 - 1 flushes; one that was interrupted counts.
+fn flush_out<W: Write>(writer: &mut Noted<W>) -> Result<(), LineFault>
+    ensures bytes { Keeps (W.contents writer.old.inner) (W.contents writer.new.inner) }
+    ensures ok { OnOk result (Unfailing writer.old writer.new) }
+    ensures err { IfErr result (λ fault. (fault ≡ LineFault.Write) × HasFailed writer.old writer.new) }
+{
+    'flushes: for _turn in 0..u64::MAX {
+        match writer.flush() {
+            Ok(()) => return Ok(()),
+            Err(error) => {
+                if !is_interrupted(&error) {
+                    return Err(LineFault::Write);
+                }
+            }
+        }
+    }
+    Err(LineFault::Write)
+}
+
+/// Writes the frame of a reply, and sees that it goes out. Of a reply that has no frame nothing is
+/// written, and the fault is `Write`.
+fn send<W: Write>(alloc: Global, writer: &mut Noted<W>, reply: &Reply) -> Result<(), LineFault>
+    ensures sends { Sends (HasFailed writer.old writer.new) (W.contents writer.old.inner) (W.contents writer.new.inner) reply.now result }
+    ensures writes { WritesBy writer.old writer.new result }
 {
     let frame = match write_reply(alloc, reply) {
         Ok(frame) => frame,
@@ -68,9 +87,9 @@ fn send<W: Write>(alloc: Global, writer: &mut W, reply: &Reply) -> Result<(), Li
     };
     match write_out(writer, &frame) {
         Ok(()) => {}
-        Err(fault) => return Err(fault),
+        Err(_) => return Err(LineFault::Write),
     }
-    match writer.flush() {
+    match flush_out(writer) {
         Ok(()) => Ok(()),
         Err(_) => Err(LineFault::Write),
     }
@@ -123,14 +142,15 @@ fn answer<K: Keep>(
 fn answer_all<W: Write, K: Keep>(
     alloc: Global,
     frames: &mut FrameReader,
-    writer: &mut W,
+    writer: &mut Noted<W>,
     token: &mut Token<K>,
     app: u64,
     words: &mut Words,
     count: &mut u64,
 ) -> Result<(), LineFault>
     requires { frames.old.failed ≡ false }
-    ensures { Answers (Leads K.terms app token.old token.new words.old words.new) frames.old frames.new count.old count.new (W.contents writer.old) (W.contents writer.new) result }
+    ensures answers { Answers (Leads K.terms app token.old token.new words.old words.new) (HasFailed writer.old writer.new) frames.old frames.new count.old count.new (W.contents writer.old.inner) (W.contents writer.new.inner) result }
+    ensures writes { WritesBy writer.old writer.new result }
 {
     let _counted = *count;
     loop {
@@ -150,18 +170,20 @@ fn answer_all<W: Write, K: Keep>(
 /// Answers the frames of a reader, as `serve_one` does, for an application that stays.
 fn serve_frames<R: Read, W: Write, K: Keep>(
     alloc: Global,
-    reader: &mut R,
-    writer: &mut W,
+    reader: &mut Noted<R>,
+    writer: &mut Noted<W>,
     token: &mut Token<K>,
     app: u64,
     words: &mut Words,
 ) -> Result<u64, LineFault>
-    ensures { Serves (Leads K.terms app token.old token.new words.old words.new) (R.remaining reader.old) (R.remaining reader.new) (W.contents writer.old) (W.contents writer.new) result }
+    ensures serves { Serves (Leads K.terms app token.old token.new words.old words.new) (HasFailed writer.old writer.new) (R.remaining reader.old.inner) (R.remaining reader.new.inner) (W.contents writer.old.inner) (W.contents writer.new.inner) result }
+    ensures reads { ReadsBy reader.old reader.new result }
+    ensures writes { WritesBy writer.old writer.new result }
 {
     let mut frames = FrameReader::new(alloc);
     let mut piece = [0u8; PIECE_LEN];
     let mut count = 0;
-    for _ in 0..u64::MAX {
+    'pieces: for _turn in 0..u64::MAX {
         match reader.read(&mut piece) {
             Ok(0) => {
                 if frames.is_empty() {
@@ -199,22 +221,24 @@ fn serve_frames<R: Read, W: Write, K: Keep>(
 ///
 /// # Errors
 ///
-/// - `Read` where the reader fails, also after 2^64 - 1 reads. One that was interrupted is tried again,
-///   and counts.
-/// - `Write` where the writer fails or takes nothing, also after 2^64 - 1 writes of one frame, of which
-///   one that was interrupted is tried again, and counts; and for a reply that has no frame. The replies
-///   before the last were written, and perhaps a part of the last.
+/// - `Read` only where the reader notes a failure, and after 2^64 - 1 reads. A read that was interrupted
+///   is made again, and counts.
+/// - `Write` only where the writer notes a failure, after 2^64 - 1 writes of one frame, or as many
+///   flushes, of which one that was interrupted is made again, and counts; and where the last reply has
+///   no frame. The replies before the last were written, and perhaps a part of the last, of one without
+///   a frame nothing.
 /// - `TooLong` for a frame above the limit.
 /// - `Cut` where the reader ends within a frame.
 /// - `Memory` where memory was refused, but for a call's own work, which then answers
 ///   `CKR_HOST_MEMORY`. Perhaps the last reply was not written, and a payload that was read is perhaps
 ///   not answered.
 ///
-/// At `Read`, `TooLong` and `Cut` the replies to all whole frames before were written.
+/// No failure of the reader or the writer is passed over. At `Read`, `TooLong` and `Cut` the replies to
+/// all whole frames before were written.
 pub fn serve_one<R: Read, W: Write, K: Keep>(
     alloc: Global,
-    reader: &mut R,
-    writer: &mut W,
+    reader: &mut Noted<R>,
+    writer: &mut Noted<W>,
     token: &mut Token<K>,
     words: &mut Words,
 ) -> Result<u64, LineFault>
@@ -223,7 +247,11 @@ pub fn serve_one<R: Read, W: Write, K: Keep>(
     // The bytes written are the frames of the replies to the messages of the bytes read. While the store is
     // honest, these are a run of the token from each world that it showed, and it shows the world after
     // that, without the application.
-    ensures serves { Serves (LeadsAway K.terms words.old.stream token.old token.new words.old words.new) (R.remaining reader.old) (R.remaining reader.new) (W.contents writer.old) (W.contents writer.new) result }
+    ensures serves { Serves (LeadsAway K.terms words.old.stream token.old token.new words.old words.new) (HasFailed writer.old writer.new) (R.remaining reader.old.inner) (R.remaining reader.new.inner) (W.contents writer.old.inner) (W.contents writer.new.inner) result }
+    // `Read` comes only where a read failed, or after 2^64 - 1 reads, and no failure is passed over.
+    ensures reads { ReadsBy reader.old reader.new result }
+    // No failure of the writer is passed over.
+    ensures writes { WritesBy writer.old writer.new result }
     // No question is pending.
     ensures idle { K.terms.doubt token.new.store.keep ≡ 0 → (v : World) → Shows K.terms token.old v → (w : World) → Shows K.terms token.new w → HasJobs w [] }
     // No lie of the disk is forgotten.

@@ -8,7 +8,7 @@ ghost use Rattle.token.specs.Applications.{Shows};
 use ck_calls::{Call, Reply};
 use ck_types::Rv;
 use keep::{Keep, ListKeep};
-use line::{LineFault, Words, serve_one};
+use line::{LineFault, Noted, Words, serve_one};
 use pin_record::Record;
 use std::alloc::Global;
 use std::io::{self, ErrorKind, Read, Write};
@@ -43,10 +43,10 @@ const ENCRYPTED: &[u8] = b"\x00\x00\x00\x1d\x00\x00\x00\x00\x00\x00\x00\x00\x01\
 /// A writer that takes at most three bytes at once, and so many in all. Every other call is
 /// interrupted.
 #[derive(Drop)]
-struct Narrow {
-    bytes: Vec<u8>,
-    room: usize,
-    interrupts: bool,
+pub(crate) struct Narrow {
+    pub(crate) bytes: Vec<u8>,
+    pub(crate) room: usize,
+    pub(crate) interrupts: bool,
 }
 
 impl Write for Narrow {
@@ -68,6 +68,10 @@ impl Write for Narrow {
     }
 
     fn flush(&mut self) -> io::Result<()> {
+        self.interrupts = !self.interrupts;
+        if self.interrupts {
+            return Err(ErrorKind::Interrupted.into());
+        }
         Ok(())
     }
 }
@@ -75,10 +79,10 @@ impl Write for Narrow {
 /// A reader that gives at most two bytes at once, and may fail at the end. Every other call is
 /// interrupted.
 #[derive(Drop)]
-struct Drip<'a> {
-    rest: &'a [u8],
-    fails: bool,
-    interrupts: bool,
+pub(crate) struct Drip<'a> {
+    pub(crate) rest: &'a [u8],
+    pub(crate) fails: bool,
+    pub(crate) interrupts: bool,
 }
 
 impl Read for Drip<'_> {
@@ -109,7 +113,7 @@ fn joined(alloc: Global, parts: &[&[u8]]) -> Result<Vec<u8>, Fail> {
 }
 
 /// A token that nobody has called.
-fn token_over<K: Keep>(alloc: Global, keep: K) -> Result<Token<K>, Fail>
+pub(crate) fn token_over<K: Keep>(alloc: Global, keep: K) -> Result<Token<K>, Fail>
     ensures { IfOk result (λ t. (w : World) → Shows K.terms t w → HasJobs w []) }
 {
     match Token::new(alloc, keep) {
@@ -125,20 +129,21 @@ fn run(
     fails: bool,
     room: usize,
 ) -> Result<(Result<u64, LineFault>, Vec<u8>), Fail> {
-    let mut reader = Drip {
+    let mut reader = Noted::new(Drip {
         rest: input,
         fails,
         interrupts: false,
-    };
-    let mut writer = Narrow {
+    });
+    let mut writer = Noted::new(Narrow {
         bytes: Vec::new(alloc),
         room,
         interrupts: false,
-    };
+    });
     let mut token = token_over(alloc, ListKeep::new(alloc, Record::new()))?;
     let mut words = Words::for_app([0; 32], 0);
     let ended = serve_one(alloc, &mut reader, &mut writer, &mut token, &mut words);
-    Ok((ended, writer.bytes))
+    let Narrow { bytes, .. } = writer.into_inner();
+    Ok((ended, bytes))
 }
 
 /// Whether a line over the input ends so for a new token, and writes just this, where the writer has so much room.
@@ -154,7 +159,7 @@ fn goes(
 }
 
 /// The frames of the first run, and the replies to them.
-fn first_run(alloc: Global) -> Result<(Vec<u8>, Vec<u8>), Fail> {
+pub(crate) fn first_run(alloc: Global) -> Result<(Vec<u8>, Vec<u8>), Fail> {
     let input = joined(alloc, &[OPEN_SESSION, CREATE_OBJECT, ENCRYPT_INIT, ENCRYPT])?;
     let replies = joined(alloc, &[NUMBER_ONE, NUMBER_ONE, OK, ENCRYPTED])?;
     Ok((input, replies))
@@ -168,7 +173,7 @@ fn the_first_run_gives_the_ciphertext_of_fips_197_c_1(rt: HostRuntime) -> Result
 }
 
 /// How a line over so many bytes of the first run ends, and how many bytes it writes.
-fn after_cut(cut: usize) -> (Result<u64, LineFault>, usize) {
+pub(crate) fn after_cut(cut: usize) -> (Result<u64, LineFault>, usize) {
     match cut {
         0 => (Ok(0), 0),
         22 => (Ok(1), 20),
@@ -289,12 +294,12 @@ fn served(
     alloc: Global,
     input: &[u8],
 ) -> Result<(Result<u64, LineFault>, Vec<u8>, Token<ListKeep>), Fail> {
-    let mut reader = input;
-    let mut written = Vec::<u8>::new(alloc);
+    let mut reader = Noted::new(input);
+    let mut writer = Noted::new(Vec::<u8>::new(alloc));
     let mut token = token_over(alloc, ListKeep::new(alloc, Record::new()))?;
     let mut words = Words::for_app([0; 32], 0);
-    let ended = serve_one(alloc, &mut reader, &mut written, &mut token, &mut words);
-    Ok((ended, written, token))
+    let ended = serve_one(alloc, &mut reader, &mut writer, &mut token, &mut words);
+    Ok((ended, writer.into_inner(), token))
 }
 
 /// The front of a frame, and the length of its payload.

@@ -2,18 +2,20 @@
 //!
 //! `tokend_with` runs a command line over an input, an output and an output for errors, and answers
 //! the exit status: 0 where it ended as asked, 2 for a command line that is refused, 5 for a bad seed,
-//! 6 where memory ran out, 7 where the line ended badly. This crate is safe and tested, and states no
-//! theorem.
+//! 6 where memory ran out, 7 where the line ended badly. `refuse_args` answers it where the process's own
+//! arguments can't be read. This crate is safe and tested, and states no theorem.
 //!
 //! ```
 //! let status = tokend_with(&rt, &args, &mut input, &mut output, &mut errors);
 //! ```
 #![tactic(auto)]
 
+mod args;
 mod command;
 mod failure;
 mod run;
 
+pub use args::refuse_args;
 pub use run::tokend_with;
 
 #[cfg(test)]

@@ -1,5 +1,7 @@
 //! Runs a command line.
 
+ghost use Rattle.std.specs.Prelude.{◌≡◌};
+ghost use Rattle.clap.specs.Values.{kind_of};
 ghost use Rattle.programs.specs.Statuses.{IsStatus};
 
 use crate::command::{command, seed_of};
@@ -7,7 +9,7 @@ use crate::failure::Failure;
 use clap::error::ErrorKind;
 use clap::{ArgMatches, Error};
 use keep::ListKeep;
-use line::{Words, serve_one};
+use line::{Noted, Words, serve_one};
 use pin_record::Record;
 use std::alloc::Global;
 use std::io::{Read, Write};
@@ -17,7 +19,7 @@ use token::Token;
 const STDIO_APP: u64 = 0;
 
 /// The exit status for a command line that is refused.
-const REFUSED: u8 = 2;
+pub(crate) const REFUSED: u8 = 2;
 
 fn stdio<I: Read, O: Write>(
     alloc: Global,
@@ -30,7 +32,8 @@ fn stdio<I: Read, O: Write>(
     let Ok(mut token) = Token::new(alloc, keep) else {
         return Err(Failure::Memory);
     };
-    let _replies = serve_one(alloc, input, output, &mut token, &mut words)?;
+    let (mut reader, mut writer) = (Noted::new(input), Noted::new(output));
+    let _replies = serve_one(alloc, &mut reader, &mut writer, &mut token, &mut words)?;
     Ok(())
 }
 
@@ -49,7 +52,8 @@ fn run<I: Read, O: Write>(
 /// Writes what the parser of the command line has to say: help and version to the output, and a
 /// refusal to the output for errors.
 fn tell<O: Write, E: Write>(error: &Error, output: &mut O, errors: &mut E) -> u8
-    ensures { IsStatus result }
+    ensures known { IsStatus result }
+    ensures memory { kind_of error.now ≡ ErrorKind.OutOfMemory → result ≡ 6 }
 {
     match error.kind() {
         ErrorKind::DisplayHelp | ErrorKind::DisplayVersion => match write!(output, "{error}") {

@@ -1,4 +1,5 @@
-use crate::tokend_with;
+use crate::{refuse_args, tokend_with};
+use std::io::{Error, ErrorKind};
 use std::test::*;
 
 /// What a command line answered and wrote.
@@ -123,6 +124,27 @@ fn a_command_line_that_is_refused_says_why(rt: HostRuntime) -> Result<(), Fail> 
         assert_eq!(rt; ended.status, 2);
         assert_eq!(rt; ended.output.len(), 0);
         assert!(rt; !ended.errors.is_empty());
+    }
+    Ok(())
+}
+
+/// Why the arguments can't be read, the exit status, and the text.
+const REFUSALS: &[(ErrorKind, u8, &[u8])] = &[
+    (ErrorKind::OutOfMemory, 6, b"tokend: out of memory\n"),
+    (
+        ErrorKind::InvalidData,
+        2,
+        b"tokend: an argument is not UTF-8\n",
+    ),
+];
+
+#[test]
+fn arguments_that_cannot_be_read_have_their_status_and_text(rt: HostRuntime) -> Result<(), Fail> {
+    for (kind, status, text) in REFUSALS {
+        let mut errors = Vec::<u8>::new(rt.alloc());
+        let ended = refuse_args(&Error::from(*kind), &mut errors);
+        assert_eq!(rt; ended, *status);
+        assert!(rt; errors.as_slice() == *text);
     }
     Ok(())
 }

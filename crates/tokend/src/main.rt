@@ -2,7 +2,7 @@
 //! process's own arguments and streams.
 #![tactic(auto)]
 
-use programs::tokend_with;
+use programs::{refuse_args, tokend_with};
 use std::process::ExitCode;
 use std::{env, io};
 
@@ -15,11 +15,12 @@ fn words(rt: &HostRuntime) -> io::Result<Vec<String>> {
 }
 
 fn main(rt: HostRuntime) -> ExitCode {
-    let Ok(words) = words(&rt) else {
-        return ExitCode::from(2);
+    let mut errors = rt.stderr();
+    let words = match words(&rt) {
+        Ok(words) => words,
+        Err(error) => return ExitCode::from(refuse_args(&error, &mut errors)),
     };
     let mut input = rt.stdin();
     let mut output = rt.stdout();
-    let mut errors = rt.stderr();
     ExitCode::from(tokend_with(&rt, &words, &mut input, &mut output, &mut errors))
 }

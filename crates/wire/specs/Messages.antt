@@ -1,5 +1,5 @@
 -- Requests as bytes: the payload of a call and its frame. The form is this project's.
-use Rattle.std.specs.Prelude.{◌≡◌, ℕ, ◌<◌, ◌≤◌, List, ◌++◌, length, take, drop, Option, Some, None, Result, Ok, Err, nat_lt, if◌then◌else◌}
+use Rattle.std.specs.Prelude.{◌≡◌, ℕ, ◌-◌, ◌^◌, ◌<◌, ◌≤◌, min, List, ◌++◌, length, take, drop, Option, Some, None, Result, Ok, Err, nat_lt, if◌then◌else◌}
 use Rattle.std.specs.Int.{w16, w32, to_be_bytes, from_be_bytes}
 use Rattle.std.specs.Global.{Vec}
 use Rattle.ck_calls.specs.declared.function.Function.{Function}
@@ -12,6 +12,10 @@ use Rattle.wire.specs.Requests.{encode_fields, decode_fields, Fits-fields}
 -- the greatest length of a payload
 abbrev pub most : ℕ
 most = 1048576
+
+-- a length as 64 bits count it: at the greatest number it stays
+abbrev pub capped : ℕ → ℕ
+capped n = min n (2 ^ 64 - 1)
 
 -- A frame is the length of its payload in 32 bits, and the payload.
 abbrev pub frame : List ℕ → List ℕ
@@ -34,11 +38,12 @@ Frames payload (Err faults.UnknownFunction) = ⊥
 Frames payload (Err faults.Memory) = Unit {0}
 
 -- What a writer of messages answers: the frame of the payload where the fields fit and the payload is
--- within the limit, unless memory runs out.
+-- within the limit, unless memory runs out. A payload above the limit is too long also where the fields
+-- don't fit.
 abbrev pub Writes : List ℕ → Type 0 → Result (Vec ℕ) WireFault → Type 0
 Writes payload fits (Ok v) = (v.items ≡ frame payload) × fits × (length payload ≤ most)
-Writes payload fits (Err faults.TooLong) = fits × (most < length payload)
-Writes payload fits (Err faults.Malformed) = fits → ⊥
+Writes payload fits (Err faults.TooLong) = most < length payload
+Writes payload fits (Err faults.Malformed) = (¬ fits) × (length payload ≤ most)
 Writes payload fits (Err faults.UnknownFunction) = ⊥
 Writes payload fits (Err faults.Memory) = Unit {0}
 

@@ -8,6 +8,7 @@ ghost use Rattle.wire.specs.Requests.{Fits-fields};
 
 use crate::fault::WireFault;
 use crate::frame::{MAX_PAYLOAD_LEN, frame_start, framed};
+use crate::length::fields_len;
 use crate::request::{decode_fields, encode_fields};
 use byteorder::{BigEndian, ByteOrder};
 use ck_calls::{Call, Function};
@@ -66,11 +67,14 @@ pub fn read_call(alloc: Global, payload: &[u8]) -> Result<Call, WireFault>
 ///
 /// # Errors
 ///
-/// `Malformed` where a field of the call has no encoding, as a template of 33 entries, else `TooLong`
-/// for a payload above the limit, else `Memory`.
+/// `TooLong` for a payload above the limit, else `Malformed` where a field of the call has no encoding,
+/// as a template of 33 entries, else `Memory`.
 pub fn write_call(alloc: Global, call: &Call) -> Result<Vec<u8>, WireFault>
     ensures { Writes (call_payload call.now) (Fits-fields call.now) result }
 {
+    if fields_len(call).saturating_add(2) > MAX_PAYLOAD_LEN {
+        return Err(WireFault::TooLong);
+    }
     let mut frame = frame_start(alloc)?;
     frame.extend_from_slice(&Function::of(call).number().to_be_bytes())?;
     encode_fields(call, &mut frame)?;

@@ -23,6 +23,7 @@ mod call;
 mod encode;
 mod fault;
 mod frame;
+mod length;
 mod reply;
 mod request;
 mod shape;

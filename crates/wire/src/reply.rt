@@ -12,6 +12,7 @@ ghost use Rattle.wire.specs.Replies.{decode_reply, decode_after, decode_carried,
 use crate::encode::encode_2;
 use crate::fault::WireFault;
 use crate::frame::{MAX_PAYLOAD_LEN, frame_start, framed};
+use crate::length::reply_len;
 use crate::shape::{Shape, is};
 use ck_calls::{AttributeValue, Function, MechanismInfo, Output, Reply, SessionInfo, TokenInfo};
 use ck_types::{Bytes, Codec, CodecFault, Items, Rv, decode_whole};
@@ -179,11 +180,14 @@ pub fn read_reply(alloc: Global, function: u16, payload: &[u8]) -> Result<Reply,
 ///
 /// # Errors
 ///
-/// `Malformed` where a part of the reply has no encoding, else `TooLong` for a payload above the
-/// limit, else `Memory`.
+/// `TooLong` for a payload above the limit, else `Malformed` where a part of the reply has no encoding,
+/// else `Memory`.
 pub fn write_reply(alloc: Global, reply: &Reply) -> Result<Vec<u8>, WireFault>
     ensures { Writes (reply_payload reply.now) (Fits-reply reply.now) result }
 {
+    if reply_len(reply) > MAX_PAYLOAD_LEN {
+        return Err(WireFault::TooLong);
+    }
     let mut frame = frame_start(alloc)?;
     encode_reply(reply, &mut frame)?;
     framed(frame)

@@ -278,9 +278,13 @@ fn refusal_of_random(alloc: Global, len: usize) -> Result<Option<WireFault>, Fai
     Ok(refusal_of(alloc, &Reply::Random(Bytes::from_vec(random))))
 }
 
-/// Why a C_CreateObject with so many attributes has no frame.
-fn refusal_of_template(alloc: Global, count: u64) -> Result<Option<WireFault>, Fail> {
-    let template = template(alloc, count)?;
+/// Why a C_CreateObject with so many attributes, each of so many bytes, has no frame.
+fn refusal_of_template(alloc: Global, count: u64, len: usize) -> Result<Option<WireFault>, Fail> {
+    let mut template = Template::new(alloc);
+    for number in 0..count {
+        let value = Bytes::from_vec(vec![in alloc; 0u8; len]?);
+        template.push(Entry { number, value })?;
+    }
     let call = Call::CreateObject {
         session: 1,
         template,
@@ -290,8 +294,18 @@ fn refusal_of_template(alloc: Global, count: u64) -> Result<Option<WireFault>, F
 
 #[test]
 fn a_list_that_is_too_long_is_malformed(rt: HostRuntime) -> Result<(), Fail> {
-    let refused = refusal_of_template(rt.alloc(), 33)?;
+    let refused = refusal_of_template(rt.alloc(), 33, 5)?;
     assert_eq!(rt; refused, Some(WireFault::Malformed));
+    Ok(())
+}
+
+// 33 attributes in a payload of 1,048,556 bytes, and with a byte more in each.
+#[test]
+fn a_malformed_payload_above_its_limit_is_too_long(rt: HostRuntime) -> Result<(), Fail> {
+    let refused = refusal_of_template(rt.alloc(), 33, 31_762)?;
+    assert_eq!(rt; refused, Some(WireFault::Malformed));
+    let refused = refusal_of_template(rt.alloc(), 33, 31_763)?;
+    assert_eq!(rt; refused, Some(WireFault::TooLong));
     Ok(())
 }
 

@@ -1,0 +1,137 @@
+//! A reader or a writer that notes its failures.
+
+ghost use Rattle.std.specs.Prelude.{◌≡◌, ◌↔◌, IsTrue};
+ghost use Rattle.std.specs.Io.{ReadsAtMost, WritesAtMost};
+ghost use Rattle.std.specs.Io.KnownBytes.{Keeps, ReadConsumes, WriteAppends};
+ghost use Rattle.keep.specs.Keeping.{Rises};
+ghost use Rattle.line.specs.Noting.{IsInterruption, Notes, NotesWrite};
+
+use keep::WriteCount as CallCount;
+use std::io::{self, Error, ErrorKind, Read, Write};
+use std::marker::Model;
+
+/// A reader or a writer that counts how many of its calls failed. A call that was interrupted did not
+/// fail; a write that took nothing of bytes that were there did. For clauses alone, without bytes, it
+/// counts all calls.
+#[derive(Drop)]
+pub struct Noted<T> {
+    inner: T,
+    failures: u64,
+    calls: CallCount,
+}
+
+impl<T> Model for Noted<T> {
+    ghost use Rattle.line.specs.Noting.{Noting};
+
+    ghost Value = { Noting T };
+
+    ghost view = { λ n. record { inner = n.inner; failures = n.failures; calls = n.calls.count } };
+}
+
+/// Whether a read, a write or a flush may be tried again.
+pub(crate) fn is_interrupted(error: &Error) -> bool
+    ensures { IsTrue result ↔ IsInterruption error.now }
+{
+    error.kind() == ErrorKind::Interrupted
+}
+
+/// Counts a failure; at its greatest value the count stays.
+fn count_failure(failures: &mut u64)
+    ensures { Rises failures.old failures.new }
+{
+    *failures = failures.saturating_add(1);
+}
+
+/// Counts a failure where the error is one.
+fn note(failures: &mut u64, error: &Error)
+    ensures passes { IsInterruption error.now → failures.new ≡ failures.old }
+    ensures slips { (¬ IsInterruption error.now) → Rises failures.old failures.new }
+{
+    if !is_interrupted(error) {
+        count_failure(failures);
+    }
+}
+
+impl<T> Noted<T> {
+    /// A reader or a writer of which no call was made yet.
+    pub fn new(inner: T) -> Noted<T>
+        ensures { result ≡ record { inner = inner; failures = 0; calls = 0 } }
+    {
+        Noted {
+            inner,
+            failures: 0,
+            calls: CallCount::new(),
+        }
+    }
+
+    /// How many calls failed; at its greatest value the count stays.
+    pub fn failures(&self) -> u64
+        ensures { result ≡ self.now.failures }
+    {
+        self.failures
+    }
+
+    /// The reader or the writer itself.
+    pub fn into_inner(self) -> T
+        ensures { result ≡ self.inner }
+    {
+        self.inner
+    }
+}
+
+impl<R: Read> Read for Noted<R> {
+    ghost remaining = { λ n. R.remaining n.inner };
+
+    fn read(&mut self, buf: &mut [u8]) -> io::Result<usize>
+        ensures bound { ReadsAtMost result buf.new }
+        ensures bytes { ReadConsumes (R.remaining self.old.inner) (R.remaining self.new.inner) result buf.new }
+        ensures noted { Notes self.old self.new result }
+    {
+        self.calls.add();
+        match self.inner.read(buf) {
+            Ok(count) => Ok(count),
+            Err(error) => {
+                note(&mut self.failures, &error);
+                Err(error)
+            }
+        }
+    }
+}
+
+impl<W: Write> Write for Noted<W> {
+    ghost contents = { λ n. W.contents n.inner };
+
+    fn write(&mut self, buf: &[u8]) -> io::Result<usize>
+        ensures bound { WritesAtMost result buf.now }
+        ensures bytes { WriteAppends (W.contents self.old.inner) (W.contents self.new.inner) result buf.now }
+        ensures noted { NotesWrite self.old self.new buf.now result }
+    {
+        self.calls.add();
+        match self.inner.write(buf) {
+            Ok(count) => {
+                if count == 0 && !buf.is_empty() {
+                    count_failure(&mut self.failures);
+                }
+                Ok(count)
+            }
+            Err(error) => {
+                note(&mut self.failures, &error);
+                Err(error)
+            }
+        }
+    }
+
+    fn flush(&mut self) -> io::Result<()>
+        ensures bytes { Keeps (W.contents self.old.inner) (W.contents self.new.inner) }
+        ensures noted { Notes self.old self.new result }
+    {
+        self.calls.add();
+        match self.inner.flush() {
+            Ok(()) => Ok(()),
+            Err(error) => {
+                note(&mut self.failures, &error);
+                Err(error)
+            }
+        }
+    }
+}
