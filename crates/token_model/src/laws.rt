@@ -1,13 +1,14 @@
 //! Laws of the definitions alone: of answers, and of any two worlds and runs.
 
-ghost use Rattle.std.specs.Prelude.{◌≡◌, ℕ, List};
+ghost use Rattle.std.specs.Prelude.{◌≡◌, ℕ, List, []};
 ghost use Rattle.ck_calls.specs.declared.call.Call.{Call};
 ghost use Rattle.mech.specs.declared.outcome.Outcome.{Outcome};
 ghost use Rattle.token_model.specs.Views.{View, mask};
+ghost use Rattle.token_model.specs.Changes.{Change, seen};
 ghost use Rattle.token_model.specs.Answering.{Reveal, mask_reveal, shown};
 ghost use Rattle.token_model.specs.Answers.{answer, answer_result};
 ghost use Rattle.token_model.specs.Worlds.{World, Move, event_of, happens, after, replies};
-ghost use Rattle.token_model.specs.Traces.{trace, replies_to, NotSetApart, IsTold, IsQuiet, AllQuiet, own_moves};
+ghost use Rattle.token_model.specs.Traces.{saw, trace, replies_to, NotSetApart, IsTold, IsQuiet, AllQuiet, own_moves};
 
 /// What is shown of an answer depends on what is shown of the view, and of what comes in from outside,
 /// alone: no value that is kept back, of a masked key, of a key in use or of a PIN's verifier, is in a
@@ -15,6 +16,12 @@ ghost use Rattle.token_model.specs.Traces.{trace, replies_to, NotSetApart, IsTol
 pub fn blind_answers()
     ensures calls { (v : View) (call : Call) (random : List ℕ) (r : Reveal) → shown (answer (mask v) call random (mask_reveal r)) ≡ shown (answer v call random r) }
     ensures results { (v : View) (outcome : Outcome) (r : Reveal) → shown (answer_result (mask v) outcome (mask_reveal r)) ≡ shown (answer_result v outcome r) }
+{}
+
+/// A change by others comes to an application just where it alters what the application sees.
+pub fn seen_changes()
+    ensures left_out { (v : View) (change : Change) → mask (seen change v) ≡ mask v → saw v change ≡ [] }
+    ensures only { (v : View) (change : Change) → saw v change ≡ [] → mask (seen change v) ≡ mask v }
 {}
 
 /// An application that met no refusal set apart was told, and sees, what the fold of its own trace tells.
