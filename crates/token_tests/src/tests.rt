@@ -7,3 +7,4 @@ mod order;
 mod runs;
 mod session_calls;
 mod steps;
+mod stores;
