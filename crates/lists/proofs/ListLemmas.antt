@@ -69,6 +69,15 @@ filter-less t u (e ∷ es) less = elim (cases_Bool (u e)) [
   ]
 ]
 
+pub filter-swap : {A : Type 0} (t u : A → Bool) (xs : List A) → filter t (filter u xs) ≡ filter u (filter t xs)
+filter-swap t u [] = refl
+filter-swap t u (x ∷ xs) = step (t x) (u x) refl refl (filter-swap t u xs) where
+  step : (a b : Bool) → t x ≡ a → u x ≡ b → filter t (filter u xs) ≡ filter u (filter t xs) → filter t (cond b (x ∷ filter u xs) (filter u xs)) ≡ filter u (cond a (x ∷ filter t xs) (filter t xs))
+  step true true p q h = ap (λ a. cond a (x ∷ filter t (filter u xs)) (filter t (filter u xs))) p ∙ ap (λ ys. x ∷ ys) h ∙ sym (ap (λ b. cond b (x ∷ filter u (filter t xs)) (filter u (filter t xs))) q)
+  step true false p q h = h ∙ sym (ap (λ b. cond b (x ∷ filter u (filter t xs)) (filter u (filter t xs))) q)
+  step false true p q h = ap (λ a. cond a (x ∷ filter t (filter u xs)) (filter t (filter u xs))) p ∙ h
+  step false false p q h = h
+
 -- ---- what is found
 
 pub find-same : {A : Type 0} (t u : A → Bool) (xs : List A) → ((x : A) → t x ≡ u x) → find t xs ≡ find u xs

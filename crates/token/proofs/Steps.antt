@@ -13,16 +13,17 @@ use Rattle.desk.specs.Desks.{DeskState, SameDesk, empty_desk}
 use Rattle.token_model.specs.declared.check.Check.{Check}
 use Rattle.token_model.specs.declared.event.Event.TheVariants.{Gone}
 use Rattle.token_store.specs.declared.out.Out.{Out}
-use Rattle.token_model.specs.Views.{record_sight, TokenObject, View, Task, Encrypts, sees, without_handle, fresh, left}
+use Rattle.token_model.specs.Views.{record_sight, TokenObject, View, sees, without_handle, fresh, left}
 use Rattle.token_model.specs.Changes.{Change, seen, in_list, as_seen}
 use Rattle.token_model.specs.Answering.{Said, Replies, Asks, Answer, reveals_nothing}
 use Rattle.token_model.specs.Answers.{answer}
 use Rattle.token_store.specs.Stores.{StoreState, Serves}
-use Rattle.token_model.specs.Worlds.{World, list_change, change_for, checks_of, checked_by, checks_begun, without_checks, stepped, unchecked, with_view, goes}
+use Rattle.token_model.specs.Worlds.{World, list_change, change_for, checks_of, checked_in, without_checks, stepped, unchecked, with_view, goes}
 use Rattle.token_store.specs.Shown.{objects_of, sees_kept, token_object, view_of, IsNoted, Fits, Gives, said_of}
 use Rattle.token.specs.Applications.{State, desk_at, Depicts, opening, AllFit}
 use Rattle.lists.proofs.ListLemmas.{map-map, filter-map, filter-less}
 use Rattle.lists.proofs.PlaceLemmas.{append_nil}
+use Rattle.token_model.proofs.Tries.{unchecked-task}
 use Rattle.token_store.proofs.Seeing.{less-none}
 use Rattle.token_store.proofs.Changing.{fits-changed, objects-changed, record-changed, view_of-changed}
 
@@ -37,11 +38,9 @@ pub fits-same : (c : Contents) (d d' : DeskState) → SameDesk d d' → Fits c d
 fits-same c d d' same fits = rw same fits
 
 -- no question checks a PIN yet
-none-checked : (app : ℕ) (s : Said) → checks_begun app s ≡ []
+none-checked : (app : ℕ) (s : Said) → checks_of app (checked_in s) ≡ []
 none-checked app (Replies reply) = refl
-none-checked app (Asks q) = task q.task where
-  task : (t : Task) → checks_of app (checked_by t) ≡ []
-  task (Encrypts operation input) = refl
+none-checked app (Asks q) = ap (checks_of app) (unchecked-task q.task)
 
 -- ---- an answer at one desk, after which the other desks are as before
 module _ (a : Answer) (c c' : Contents) (ds ds' : List (ℕ × DeskState)) (app : ℕ) (fits : AllFit c ds) (others : (b : ℕ) → b ≢ app → SameDesk (desk_at ds b) (desk_at ds' b)) (said : Said) (gives : Gives a (desk_at ds app).sessions.login c said c' (desk_at ds' app)) where

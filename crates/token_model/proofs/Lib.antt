@@ -8,3 +8,5 @@ pub mod Seen
 pub mod Proper
 pub mod Told
 pub mod RunLaws
+pub mod UnderWay
+pub mod Tries

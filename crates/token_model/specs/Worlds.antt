@@ -1,5 +1,5 @@
 -- All that a token is to all applications, and what an event makes of it.
-use Rattle.std.specs.Prelude.{ℕ, Bool, true, false, not, ◌==◌, List, [], ◌∷◌, ◌++◌, filter, unwrap_or, if◌then◌else◌, Option, Some, None}
+use Rattle.std.specs.Prelude.{ℕ, Bool, not, ◌==◌, List, [], ◌∷◌, ◌++◌, filter, unwrap_or, if◌then◌else◌, Option, Some, None}
 use Rattle.ck_types.specs.declared.entry.Entry.{Entry}
 use Rattle.ck_types.specs.declared.rv.Rv.TheVariants.{HostMemory, DeviceError}
 use Rattle.ck_types.specs.declared.user_type.UserType.{UserType}
@@ -45,9 +45,10 @@ abbrev pub checks_of : ℕ → Option UserType → List Check
 checks_of app None = []
 checks_of app (Some user) = record { user = user; app = app } ∷ []
 
-abbrev pub checks_begun : ℕ → Said → List Check
-checks_begun app (Replies reply) = []
-checks_begun app (Asks q) = checks_of app (checked_by q.task)
+-- the PIN that a question which is asked begins to check
+abbrev pub checked_in : Said → Option UserType
+checked_in (Replies reply) = None
+checked_in (Asks q) = checked_by q.task
 
 -- a check ends with its question, and with its application
 abbrev pub without_checks : ℕ → List Check → List Check
@@ -59,7 +60,7 @@ stepped w app a =
     record {
       token_record = recorded (list_change w app a) w.token_record;
       objects = changed (list_change w app a) w.objects;
-      checks = w.checks ++ checks_begun app a.says;
+      checks = w.checks ++ checks_of app (checked_in a.says);
       views = λ b. if b == app then a.view else seen (change_for b w app a) (w.views b);
     }
 
