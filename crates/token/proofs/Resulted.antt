@@ -71,7 +71,7 @@ module _ {K : Type 0} (terms : Terms K) (old new : StoreState K) (ds ds' : List 
         contents = m.contents;
         has = m.has;
         fits = fits-given given s.contents m.contents ds ds' app s.fits others (Replies reply) m.gives;
-        depicts = record { token_record = d.token_record; objects = d.objects; checks = ap (without_checks app) d.checks; views = d.views };
+        depicts = record { token_record = d.token_record; objects = d.objects; checks = ap (without_checks app) d.checks; in_session = d.in_session; views = d.views };
       })
   shows-finished (Err fault) m = let f = fault-apart fault in rw (f.1, open_is.question) (record {
     contents = s.contents;
