@@ -16,7 +16,7 @@ use Rattle.token.specs.Applications.{move_of, moved, HasJobs}
 use Rattle.token.specs.Runs.{Lasting, LeavesBy, LeftBy, LeftAfter, call_change}
 use Rattle.line.specs.Lines.{Act, Calls, Finishes, act_of, Moved}
 use Rattle.token_model.proofs.Proper.{over-result}
-use Rattle.token.proofs.Jobs.{seen-question}
+use Rattle.token_model.proofs.Tries.{seen-question}
 use Rattle.line.proofs.Questions.{left_by, leaves-answer}
 
 -- ---- no question is pending

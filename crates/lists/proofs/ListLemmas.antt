@@ -1,9 +1,9 @@
 -- Lists, and places in them.
-use Rattle.std.proofs.Common.{◌≡◌, ℕ, zero, suc, Bool, true, false, cond, List, [], ◌∷◌, ◌++◌, map, length, Some, None, refl, sym, ◌∙◌, ap, inl, inr}
+use Rattle.std.proofs.Common.{◌≡◌, ℕ, zero, suc, Bool, true, false, cond, not, List, [], ◌∷◌, ◌++◌, map, length, Some, None, refl, sym, ◌∙◌, ap, inl, inr}
 use Rattle.std.proofs.lemmas.Bool.{cases_Bool}
-use Rattle.std.specs.Prelude.{find, filter}
+use Rattle.std.specs.Prelude.{find, filter, ◌||◌}
 use Rattle.std.specs.Option.{option_map}
-use Rattle.std.specs.List.{remove, AllByRecursion}
+use Rattle.std.specs.List.{remove, list_any, AllByRecursion}
 use Rattle.std.proofs.lemmas.List.Elements.{filter-append}
 use Rattle.lists.specs.Places.{first_place, kept_place}
 
@@ -68,6 +68,32 @@ filter-less t u (e ∷ es) less = elim (cases_Bool (u e)) [
     | inr k ↦ rw (is, k) (filter-less t u es less)
   ]
 ]
+
+pub filter-swap : {A : Type 0} (t u : A → Bool) (xs : List A) → filter t (filter u xs) ≡ filter u (filter t xs)
+filter-swap t u [] = refl
+filter-swap t u (x ∷ xs) = step (t x) (u x) refl refl (filter-swap t u xs) where
+  step : (a b : Bool) → t x ≡ a → u x ≡ b → filter t (filter u xs) ≡ filter u (filter t xs) → filter t (cond b (x ∷ filter u xs) (filter u xs)) ≡ filter u (cond a (x ∷ filter t xs) (filter t xs))
+  step true true p q h = ap (λ a. cond a (x ∷ filter t (filter u xs)) (filter t (filter u xs))) p ∙ ap (λ ys. x ∷ ys) h ∙ sym (ap (λ b. cond b (x ∷ filter u (filter t xs)) (filter u (filter t xs))) q)
+  step true false p q h = h ∙ sym (ap (λ b. cond b (x ∷ filter u (filter t xs)) (filter u (filter t xs))) q)
+  step false true p q h = ap (λ a. cond a (x ∷ filter t (filter u xs)) (filter t (filter u xs))) p ∙ h
+  step false false p q h = h
+
+-- ---- whether any passes
+
+pub any-none : {A : Type 0} (t : A → Bool) (xs : List A) → list_any t (filter (λ x. not (t x)) xs) ≡ false
+any-none t [] = refl
+any-none t (x ∷ xs) = step (t x) refl (any-none t xs) where
+  step : (b : Bool) → t x ≡ b → list_any t (filter (λ x. not (t x)) xs) ≡ false → list_any t (cond (not b) (x ∷ filter (λ x. not (t x)) xs) (filter (λ x. not (t x)) xs)) ≡ false
+  step true is h = h
+  step false is h = ap (λ b. b || list_any t (filter (λ x. not (t x)) xs)) is ∙ h
+
+pub any-less : {A : Type 0} (t u : A → Bool) (xs : List A) → ((x : A) → t x ≡ true → u x ≡ true) → list_any t (filter u xs) ≡ list_any t xs
+any-less t u [] less = refl
+any-less t u (x ∷ xs) less = step (t x) (u x) refl refl (any-less t u xs less) where
+  step : (a b : Bool) → t x ≡ a → u x ≡ b → list_any t (filter u xs) ≡ list_any t xs → list_any t (cond b (x ∷ filter u xs) (filter u xs)) ≡ (t x || list_any t xs)
+  step a true p q h = ap (λ c. t x || c) h
+  step true false p q h = let k : true ≡ false = sym (less x p) ∙ q in cc
+  step false false p q h = h ∙ sym (ap (λ c. c || list_any t xs) p)
 
 -- ---- what is found
 

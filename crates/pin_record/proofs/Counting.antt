@@ -43,7 +43,7 @@ once-without (m ∷ ns) number once = elim (cases_Bool (m == number)) [
 ]
 
 -- where it isn't under way, none ends
-without-none : (ns : List ℕ) (number : ℕ) → is_under_way ns number ≡ false → without ns number ≡ ns
+pub without-none : (ns : List ℕ) (number : ℕ) → is_under_way ns number ≡ false → without ns number ≡ ns
 without-none [] number none = refl
 without-none (m ∷ ns) number none = elim (cases_Bool (m == number)) [
   | inl e ↦ let k : true ≡ false = rw e at none in cc

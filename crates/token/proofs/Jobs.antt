@@ -18,8 +18,7 @@ use Rattle.token_store.specs.Stores.{StoreState}
 use Rattle.token.specs.Applications.{Shows}
 use Rattle.token_model.specs.declared.event.Event.TheVariants.{Call as EventCall, Finish, Gone}
 use Rattle.token_store.specs.declared.out.Out.TheVariants.{Reply as OutReply}
-use Rattle.token_model.specs.Views.{View, Question}
-use Rattle.token_model.specs.Changes.{Change, Stays, Insert, Replace, Remove, Records, Resets, seen}
+use Rattle.token_model.specs.Views.{Question}
 use Rattle.token_model.specs.Answering.{Replies, Asks}
 use Rattle.token_model.specs.Worlds.{World, Move, Goes, Refuses, value_of, reveal_to_call, reveal_to_task, answer_at, result_at, change_for, set_apart, called, says_called, goes, happens, told, reply_to}
 use Rattle.token_store.specs.Shown.{question_of}
@@ -28,6 +27,7 @@ use Rattle.token.specs.Runs.{Lasting, LeavesBy, LeftBy, IsStep, call_change}
 use Rattle.lists.proofs.ListLemmas.{map-push}
 use Rattle.token_model.proofs.Blind.{Leaves}
 use Rattle.token_model.proofs.Proper.{leaves-answer, none-asked, over-result}
+use Rattle.token_model.proofs.Tries.{seen-question}
 
 -- ---- the jobs of one application
 
@@ -111,15 +111,6 @@ no_question w app out h is = only (w.views app).question (ap (map asked_by) (sym
   only : (o : Option Question) → [] ≡ asked app o → o ≡ None
   only None e = refl
   only (Some q) e = cc
-
--- a change by others leaves the question
-pub seen-question : (change : Change) (v : View) → (seen change v).question ≡ v.question
-seen-question Stays v = refl
-seen-question (Insert o) v = refl
-seen-question (Replace place o) v = refl
-seen-question (Remove place) v = refl
-seen-question (Records r) v = refl
-seen-question (Resets r) v = refl
 
 module _ (w : World) (out : List (ℕ × Job)) (h : HasJobs w out) (app : ℕ) (shows : World → Type 0) (prior left : Option Lasting → Type 0) where
   abbrev pub Left : Move → Type 0

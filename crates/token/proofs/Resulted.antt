@@ -1,11 +1,13 @@
 -- A result at one desk, and an application that goes, are the world's next step.
-use Rattle.std.proofs.Common.{◌≡◌, ◌≢◌, ◌⊎◌, ℕ, List, [], ◌∷◌, Option, Some, None, Result, Ok, Err, refl, sym, ◌∙◌, ap, inl, inr}
+use Rattle.std.proofs.Common.{◌≡◌, ◌≢◌, ◌⊎◌, ◌≤◌, ℕ, List, [], ◌∷◌, Option, Some, None, Result, Ok, Err, refl, sym, ◌∙◌, ap, inl, inr}
 use Rattle.std.proofs.lemmas.Bool.{cases_eq}
 use Rattle.std.specs.Prelude.{option_to_list, map}
 use Rattle.std.specs.Option.{option_map}
+use Rattle.ck_types.specs.declared.user_type.UserType.{UserType}
 use Rattle.ck_calls.specs.declared.reply.Reply.{Reply}
 use Rattle.keep.specs.Contents.{Contents}
 use Rattle.keep.specs.Keeping.{Terms}
+use Rattle.pin_record.specs.Records.{tries_limit, tries_of}
 use Rattle.token_model.specs.declared.fault.Fault.{Fault}
 use Rattle.token_model.specs.declared.fault.Fault.TheVariants.{Memory, Device}
 use Rattle.mech.specs.declared.job.Job.{Job}
@@ -24,7 +26,9 @@ use Rattle.token.specs.Applications.{desk_at, told_result, moved, move_of, IsOpe
 use Rattle.token_store.specs.Stores.{StoreState, Has, Serves}
 use Rattle.token.specs.Applications.{TokenState, Shows}
 use Rattle.token.specs.Runs.{Lasting, lasting_of, lasting_in, MayLeave, LeavesBy, LeftBy, IsTakenBy, result_change}
+use Rattle.token_model.specs.Tries.{IsSound, stored_record}
 use Rattle.token_model.proofs.Proper.{plain-result}
+use Rattle.token_model.proofs.Tries.{sound-start}
 use Rattle.token_store.proofs.Changing.{objects-changed, record-changed}
 use Rattle.token.proofs.Steps.{state, fits-given, depicts-given, depicts-put, fits-put, fits-empty, depicts-gone, depicts-opening}
 
@@ -80,7 +84,7 @@ module _ {K : Type 0} (terms : Terms K) (old new : StoreState K) (ds ds' : List 
           contents = m.contents;
           has = m.has;
           fits = fits-given given s.contents m.contents ds ds' app s.fits others (Replies reply) m.gives;
-          depicts = record { token_record = d.token_record; objects = d.objects; checks = ap (without_checks app) d.checks; views = d.views };
+          depicts = record { token_record = d.token_record; objects = d.objects; checks = ap (without_checks app) d.checks; in_session = d.in_session; views = d.views };
         });
         says = rw e (m.gives.says ∙ ap (λ (a : Answer). a.says) (sym given-is));
         leaves = λ l may. rw e (elim (m.leaves may.0 may.1) [
@@ -153,3 +157,7 @@ module _ {K : Type 0} (terms : Terms K) where
 
   pub no-jobs : (store : StoreState K) (cs : List Check) (w : World) → Shows terms (record { store = store; desks = []; checks = cs }) w → HasJobs w []
   no-jobs store cs w s app = ap (λ v. map (λ q. (app, q)) (option_to_list v.question)) (sym (s.depicts.views app))
+
+  -- the ten tries begin
+  pub sound-new : (store : StoreState K) (w : World) → Shows terms (record { store = store; desks = []; checks = [] }) w → ((who : UserType) → tries_of (stored_record w.token_record) who ≤ tries_limit) → IsSound (tries_of (stored_record w.token_record)) w
+  sound-new store w s few = sound-start w s.depicts.checks (λ app. ap (λ v. v.question) (s.depicts.views app)) (λ app. ap (λ v. v.token_record) (s.depicts.views app) ∙ sym s.depicts.token_record) few

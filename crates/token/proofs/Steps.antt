@@ -1,8 +1,8 @@
 -- What an event at one desk is to all applications.
-use Rattle.std.proofs.Common.{◌≡◌, ◌≢◌, ℕ, Bool, true, false, not, List, [], ◌∷◌, ◌++◌, map, Option, Some, None, Result, Ok, Err, refl, sym, ◌∙◌, ap, inl, inr}
-use Rattle.std.specs.Prelude.{filter}
-use Rattle.std.specs.List.{AllByRecursion}
-use Rattle.std.proofs.lemmas.Bool.{cases_eq, eq-eqb, ne_eqb}
+use Rattle.std.proofs.Common.{◌≡◌, ◌≢◌, ℕ, Bool, true, false, cond, not, List, [], ◌∷◌, ◌++◌, map, Option, Some, None, Result, Ok, Err, refl, sym, ◌∙◌, ap, inl, inr}
+use Rattle.std.specs.Prelude.{filter, ◌==◌, ◌||◌}
+use Rattle.std.specs.List.{AllByRecursion, list_any}
+use Rattle.std.proofs.lemmas.Bool.{cases_eq, eq-eqb, ne_eqb, eqb-true}
 use Rattle.ck_types.specs.declared.entry.Entry.{Entry}
 use Rattle.ck_types.specs.declared.user_type.UserType.{UserType}
 use Rattle.ck_calls.specs.declared.call.Call.{Call}
@@ -13,16 +13,17 @@ use Rattle.desk.specs.Desks.{DeskState, SameDesk, empty_desk}
 use Rattle.token_model.specs.declared.check.Check.{Check}
 use Rattle.token_model.specs.declared.event.Event.TheVariants.{Gone}
 use Rattle.token_store.specs.declared.out.Out.{Out}
-use Rattle.token_model.specs.Views.{record_sight, TokenObject, View, Task, Encrypts, sees, without_handle, fresh, left}
+use Rattle.token_model.specs.Views.{record_sight, TokenObject, View, sees, without_handle, fresh, left}
 use Rattle.token_model.specs.Changes.{Change, seen, in_list, as_seen}
 use Rattle.token_model.specs.Answering.{Said, Replies, Asks, Answer, reveals_nothing}
 use Rattle.token_model.specs.Answers.{answer}
 use Rattle.token_store.specs.Stores.{StoreState, Serves}
-use Rattle.token_model.specs.Worlds.{World, list_change, change_for, checks_of, checked_by, checks_begun, without_checks, stepped, unchecked, with_view, goes}
+use Rattle.token_model.specs.Worlds.{World, has_session, seated, list_change, change_for, checks_of, checked_in, without_checks, stepped, unchecked, with_view, goes}
 use Rattle.token_store.specs.Shown.{objects_of, sees_kept, token_object, view_of, IsNoted, Fits, Gives, said_of}
 use Rattle.token.specs.Applications.{State, desk_at, Depicts, opening, AllFit}
-use Rattle.lists.proofs.ListLemmas.{map-map, filter-map, filter-less}
+use Rattle.lists.proofs.ListLemmas.{map-map, filter-map, filter-less, any-none, any-less}
 use Rattle.lists.proofs.PlaceLemmas.{append_nil}
+use Rattle.token_model.proofs.Tries.{unchecked-task}
 use Rattle.token_store.proofs.Seeing.{less-none}
 use Rattle.token_store.proofs.Changing.{fits-changed, objects-changed, record-changed, view_of-changed}
 
@@ -37,11 +38,29 @@ pub fits-same : (c : Contents) (d d' : DeskState) → SameDesk d d' → Fits c d
 fits-same c d d' same fits = rw same fits
 
 -- no question checks a PIN yet
-none-checked : (app : ℕ) (s : Said) → checks_begun app s ≡ []
+none-checked : (app : ℕ) (s : Said) → checks_of app (checked_in s) ≡ []
 none-checked app (Replies reply) = refl
-none-checked app (Asks q) = task q.task where
-  task : (t : Task) → checks_of app (checked_by t) ≡ []
-  task (Encrypts operation input) = refl
+none-checked app (Asks q) = ap (checks_of app) (unchecked-task q.task)
+
+-- ---- which applications have a session
+
+in-own : (app : ℕ) (v : View) (apps : List ℕ) → list_any (λ n. n == app) (seated app v apps) ≡ has_session v
+in-own app v apps = step (has_session v) where
+  step : (b : Bool) → list_any (λ n. n == app) (cond b (app ∷ filter (λ n. not (n == app)) apps) (filter (λ n. not (n == app)) apps)) ≡ b
+  step true = ap (λ b. b || list_any (λ n. n == app) (filter (λ n. not (n == app)) apps)) (eq-eqb app app refl)
+  step false = any-none (λ n. n == app) apps
+
+in-other : (app b : ℕ) (v : View) (apps : List ℕ) → b ≢ app → list_any (λ n. n == b) (seated app v apps) ≡ list_any (λ n. n == b) apps
+in-other app b v apps differ = step (has_session v) where
+  rest : list_any (λ n. n == b) (filter (λ n. not (n == app)) apps) ≡ list_any (λ n. n == b) apps
+  rest = any-less (λ n. n == b) (λ n. not (n == app)) apps (λ n is. ap not (ne_eqb n app (λ e. differ (sym (eqb-true n b is) ∙ e))))
+
+  step : (t : Bool) → list_any (λ n. n == b) (cond t (app ∷ filter (λ n. not (n == app)) apps) (filter (λ n. not (n == app)) apps)) ≡ list_any (λ n. n == b) apps
+  step true = ap (λ t. t || list_any (λ n. n == b) (filter (λ n. not (n == app)) apps)) (ne_eqb app b (λ e. differ (sym e))) ∙ rest
+  step false = rest
+
+session-same : (c c' : Contents) (d d' : DeskState) → SameDesk d d' → has_session (view_of c d) ≡ has_session (view_of c' d')
+session-same c c' d d' same = rw same refl
 
 -- ---- an answer at one desk, after which the other desks are as before
 module _ (a : Answer) (c c' : Contents) (ds ds' : List (ℕ × DeskState)) (app : ℕ) (fits : AllFit c ds) (others : (b : ℕ) → b ≢ app → SameDesk (desk_at ds b) (desk_at ds' b)) (said : Said) (gives : Gives a (desk_at ds app).sessions.login c said c' (desk_at ds' app)) where
@@ -59,6 +78,10 @@ module _ (a : Answer) (c c' : Contents) (ds ds' : List (ℕ × DeskState)) (app 
         token_record = rw (is, s.token_record) (sym (record-changed change c c' gives.changes));
         objects = rw (is, s.objects) (sym (objects-changed change c c' gives.changes));
         checks = ap (λ xs. w.checks ++ xs) (none-checked app a.says) ∙ append_nil w.checks ∙ s.checks;
+        in_session = λ b. elim (cases_eq b app) [
+          | inl same ↦ rw same (in-own app a.view w.in_session ∙ ap has_session (sym gives.view))
+          | inr differ ↦ in-other app b a.view w.in_session differ ∙ s.in_session b ∙ session-same c c' (desk_at ds b) (desk_at ds' b) (others b differ)
+        ];
         views = λ b. elim (cases_eq b app) [
           | inl same ↦ rw (eq-eqb b app same) (rw same (sym gives.view))
           | inr differ ↦ rw (ne_eqb b app differ) (
@@ -73,7 +96,13 @@ pub fits-all : (c : Contents) (ds ds' : List (ℕ × DeskState)) → ((b : ℕ) 
 fits-all c ds ds' same fits b = fits-same c (desk_at ds b) (desk_at ds' b) (same b) (fits b)
 
 pub depicts-same : (c : Contents) (ds ds' : List (ℕ × DeskState)) (cs : List Check) (w : World) → ((b : ℕ) → SameDesk (desk_at ds b) (desk_at ds' b)) → Depicts (state c ds cs) w → Depicts (state c ds' cs) w
-depicts-same c ds ds' cs w same s = record { token_record = s.token_record; objects = s.objects; checks = s.checks; views = λ b. s.views b ∙ sym (view_of-same c (desk_at ds b) (desk_at ds' b) (same b)) }
+depicts-same c ds ds' cs w same s = record {
+  token_record = s.token_record;
+  objects = s.objects;
+  checks = s.checks;
+  in_session = λ b. s.in_session b ∙ session-same c c (desk_at ds b) (desk_at ds' b) (same b);
+  views = λ b. s.views b ∙ sym (view_of-same c (desk_at ds b) (desk_at ds' b) (same b));
+}
 
 -- ---- one desk is another, and its application's checks are over
 pub depicts-put : (c : Contents) (ds ds' : List (ℕ × DeskState)) (cs : List Check) (app : ℕ) (d : DeskState) (v : View) (w : World) → SameDesk d (desk_at ds' app) → view_of c d ≡ v → ((b : ℕ) → b ≢ app → SameDesk (desk_at ds b) (desk_at ds' b))
@@ -82,6 +111,10 @@ depicts-put c ds ds' cs app d v w own is others s = record {
   token_record = s.token_record;
   objects = s.objects;
   checks = ap (without_checks app) s.checks;
+  in_session = λ b. elim (cases_eq b app) [
+    | inl same ↦ rw same (in-own app v w.in_session ∙ ap has_session (sym is) ∙ session-same c c d (desk_at ds' app) own)
+    | inr differ ↦ in-other app b v w.in_session differ ∙ s.in_session b ∙ session-same c c (desk_at ds b) (desk_at ds' b) (others b differ)
+  ];
   views = λ b. elim (cases_eq b app) [
     | inl same ↦ rw (eq-eqb b app same) (rw same (sym (view_of-same c d (desk_at ds' app) own ∙ is)))
     | inr differ ↦ rw (ne_eqb b app differ) (s.views b ∙ sym (view_of-same c (desk_at ds b) (desk_at ds' b) (others b differ)))
@@ -118,7 +151,7 @@ view_of-left c d =
     ∙ map-map (λ (e : Kept). e.1) without_handle (filter (sees_kept None) c.objects)))
 
 pub depicts-opening : (c : Contents) → Depicts (state c [] []) (opening c)
-depicts-opening c = record { token_record = refl; objects = refl; checks = refl; views = λ app. sym (view_of-empty c) }
+depicts-opening c = record { token_record = refl; objects = refl; checks = refl; in_session = λ app. refl; views = λ app. sym (view_of-empty c) }
 
 pub depicts-gone : (c : Contents) (ds ds' : List (ℕ × DeskState)) (cs : List Check) (app : ℕ) (w : World) → desk_at ds' app ≡ empty_desk → ((b : ℕ) → b ≢ app → desk_at ds' b ≡ desk_at ds b) → Depicts (state c ds cs) w → Depicts (state c ds' (without_checks app cs)) (goes w (Gone app))
 depicts-gone c ds ds' cs app w own others s =

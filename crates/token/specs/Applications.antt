@@ -18,7 +18,7 @@ use Rattle.token_model.specs.declared.check.Check.{Check}
 use Rattle.token_model.specs.Views.{record_sight, Question, View, fresh}
 use Rattle.token_model.specs.Answering.{Said, Replies, Answer, reveals_nothing}
 use Rattle.token_model.specs.Answers.{answer_result}
-use Rattle.token_model.specs.Worlds.{World, Move, Goes, Refuses, value_of, reveal_to_task, refusal, apart, stepped, unchecked, finish_refused}
+use Rattle.token_model.specs.Worlds.{World, has_session, is_in_session, Move, Goes, Refuses, value_of, reveal_to_task, refusal, apart, stepped, unchecked, finish_refused}
 use Rattle.token_store.specs.Shown.{objects_of, view_of, Fits, Gives, said_of, question_of, over}
 use Rattle.token_store.specs.Stores.{StoreState, Has}
 
@@ -40,6 +40,7 @@ pub record Depicts (t : State) (w : World) : Type 0 where
   pub token_record : w.token_record ≡ record_sight t.kept.token_record
   pub objects : w.objects ≡ objects_of t.kept
   pub checks : w.checks ≡ t.checks
+  pub in_session : (app : ℕ) → is_in_session w app ≡ has_session (view_at t app)
   pub views : (app : ℕ) → w.views app ≡ view_at t app
 
 -- the world of a keeper before any event
@@ -49,6 +50,7 @@ opening c =
       token_record = record_sight c.token_record;
       objects = objects_of c;
       checks = [];
+      in_session = [];
       views = λ app. fresh (record_sight c.token_record) (objects_of c);
     }
 

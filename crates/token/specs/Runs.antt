@@ -2,6 +2,7 @@
 use Rattle.std.specs.Prelude.{◌≡◌, ◌⊎◌, ℕ, ◌+◌, ◌-◌, ◌^◌, ◌≤◌, List, [], ◌++◌, ◌∷◌, map, Option, Some, None}
 use Rattle.std.specs.Option.{option_map}
 use Rattle.ck_types.specs.declared.entry.Entry.{Entry}
+use Rattle.ck_types.specs.declared.user_type.UserType.{UserType}
 use Rattle.ck_calls.specs.declared.call.Call.{Call as CallType}
 use Rattle.ck_calls.specs.declared.reply.Reply.{Reply}
 use Rattle.keep.specs.Contents.{Contents}
@@ -16,6 +17,7 @@ use Rattle.token_model.specs.Changes.{Change, Stays}
 use Rattle.token_model.specs.Answering.{Replies}
 use Rattle.token_model.specs.Worlds.{World, Move, Goes, Refuses, set_apart, event_of, answer_at, result_at, list_change, called, goes, happens, reply_to, after, replies}
 use Rattle.token_model.specs.Traces.{NotSetApart, IsTold}
+use Rattle.token_model.specs.Tries.{IsSound, spent_in}
 use Rattle.token_store.specs.Shown.{objects_of}
 use Rattle.token.specs.Applications.{HasJobs, TokenState, answer_by, taken_by, says_by}
 
@@ -123,3 +125,5 @@ pub record IsRun (showing : World → Type 0) (prior left : Option Lasting → T
   pub leaves : (l : Option Lasting) → left l → LeftAfter prior w moves l
   -- each application that met no refusal set apart was told what its trace tells, and sees that
   pub private : (app : ℕ) → NotSetApart app said → IsTold app w moves
+  -- the tries of each PIN stay the checks of it that are spent and those under way, ten at most
+  pub tries : (s : UserType → ℕ) → IsSound s w → IsSound (spent_in s w moves) (after w moves)

@@ -7,8 +7,10 @@ ghost use Rattle.std.specs.Ordering.{nat_cmp};
 ghost use Rattle.ck_calls.specs.declared.reply.Reply.TheVariants.{Code};
 ghost use Rattle.ck_calls.specs.Need.{random_bytes};
 ghost use Rattle.ck_types.specs.declared.rv.Rv.TheVariants.{DeviceError, FunctionFailed};
+ghost use Rattle.ck_types.specs.declared.user_type.UserType.{UserType as Who};
 ghost use Rattle.desk.specs.Desks.{SameDesk, empty_desk};
 ghost use Rattle.keep.specs.Contents.{Contents};
+ghost use Rattle.pin_record.specs.Records.{tries_limit, tries_of};
 ghost use Rattle.keep.specs.Keeping.{Counted, Rises, Stays};
 ghost use Rattle.token_model.specs.declared.event.Event.TheVariants.{Finish, Gone};
 ghost use Rattle.token_store.specs.declared.out.Out.TheVariants.{Reply as OutReply};
@@ -17,6 +19,7 @@ ghost use Rattle.token_model.specs.declared.fault.Fault.TheVariants.{Device};
 ghost use Rattle.token_model.specs.Answering.{reveals_nothing};
 ghost use Rattle.token_model.specs.Answers.{answer};
 ghost use Rattle.token_model.specs.Worlds.{World, apart, called, goes, happens, refusal, reply_to, says_called, set_apart, without_checks};
+ghost use Rattle.token_model.specs.Tries.{IsSound, stored_record};
 ghost use Rattle.token_store.specs.Shown.{IsFor, over, said_of};
 ghost use Rattle.token.specs.Applications.{FinishesAtDesk, HasJobs, HasNumbers, IsOpen, IsOther, TakesJob, desk_at, is_answer, move_of, opening, told_as, told_result};
 ghost use Rattle.token_store.specs.Stores.{Served};
@@ -58,6 +61,8 @@ impl<K: Keep> Token<K> {
     pub fn new(alloc: Global, keep: K) -> Result<Token<K>, (KeepFault, K)>
         // It shows what the keeper holds, and no application.
         ensures shows { (c : Contents) → K.terms.holds keep c → IfOk result (λ t. K.terms.doubt t.store.keep ≡ 0 → Shows K.terms t (opening c)) }
+        // The ten tries begin.
+        ensures sound { IfOk result (λ t. (w : World) → Shows K.terms t w → ((who : Who) → tries_of (stored_record w.token_record) who ≤ tries_limit) → IsSound (tries_of (stored_record w.token_record)) w) }
         // No question is pending.
         ensures jobs { IfOk result (λ t. (w : World) → Shows K.terms t w → HasJobs w []) }
         ensures leaves { (c : Contents) → K.terms.holds keep c → IfOk result (λ t. (left : Option Contents) → K.terms.may_leave t.store.keep left → K.terms.may_leave keep left) }

@@ -1,20 +1,24 @@
 -- What every answer keeps to, and how it is put together.
-use Rattle.std.proofs.Common.{◌≡◌, ℕ, Bool, true, false, cond, not, List, [], ◌∷◌, Option, Some, None, refl, sym, ◌∙◌, ap}
+use Rattle.std.proofs.Common.{◌≡◌, ℕ, Bool, true, false, cond, List, Option, Some, None, is_some, refl, sym, ◌∙◌, ap, subst}
+use Rattle.std.specs.Prelude.{nat_lt}
 use Rattle.std.specs.Option.{option_map}
 use Rattle.ck_types.specs.declared.entry.Entry.{Entry}
 use Rattle.ck_types.specs.declared.rv.Rv.{Rv}
 use Rattle.ck_types.specs.declared.rv.Rv.TheVariants.{Ok}
+use Rattle.ck_types.specs.declared.user_type.UserType.{UserType}
 use Rattle.ck_calls.specs.declared.reply.Reply.{Reply}
 use Rattle.ck_calls.specs.declared.reply.Reply.TheVariants.{Code}
 use Rattle.attrs.specs.Masking.{mask as mask_object}
 use Rattle.precede.specs.declared.row.Row.{Row}
 use Rattle.precede.specs.Row.{code_of}
+use Rattle.pin_record.specs.Records.{charged, tries_limit, tries_of, verifier_of}
 use Rattle.sessions.specs.declared.Session.{Session}
 use Rattle.ops.specs.Operations.{Operations}
-use Rattle.token_model.specs.Views.{View, Question, mask, mask_session}
-use Rattle.token_model.specs.Changes.{Stays}
+use Rattle.token_model.specs.Views.{RecordSight, View, Question, mask, mask_session}
+use Rattle.token_model.specs.Changes.{Stays, recorded}
 use Rattle.token_model.specs.Answering.{Said, Replies, Asks, Answer, Reveal, shown, mask_reveal, replies, refuses, refuses_by, becomes, session_of, object_at, place_of}
-use Rattle.token_model.specs.Worlds.{apart, set_apart}
+use Rattle.token_model.specs.Worlds.{apart, set_apart, checked_in}
+use Rattle.token_model.specs.Tries.{stored_record}
 use Rattle.token_model.proofs.Masks.{mask-twice, session-mask, object-mask, place-mask}
 
 -- ---- what is shown of an answer depends on what is shown of the view
@@ -52,27 +56,40 @@ pub blind-place : (f : View → Option ℕ → Answer) (v : View) (handle : ℕ)
 blind-place f v handle same = ap (λ p. shown (f (mask v) p)) (place-mask v handle) ∙ same (place_of v.tokens handle)
 
 -- ---- an answer is no refusal set apart, a quiet one makes no change, and where it is no question it leaves the
--- question as it was; else the question that it asks is pending
+-- question as it was; else the question that it asks is pending; the record is seen as it becomes
 
 abbrev pub Leaves : Option Question → Said → Option Question → Type 0
 Leaves old (Replies reply) new = new ≡ old
 Leaves old (Asks question) new = new ≡ Some question
 
+-- A check of a PIN begins with its charge, and only where the PIN is set and isn't locked. Nothing else changes the record.
+abbrev pub Charged : Option UserType → RecordSight → RecordSight → Type 0
+Charged None old new = new ≡ old
+Charged (Some who) old new = (is_some (verifier_of (stored_record old) who) ≡ true) × (nat_lt (tries_of (stored_record old) who) tries_limit ≡ true) × (stored_record new ≡ charged (stored_record old) who)
+
 pub record IsFair (quiet : Bool) (v : View) (a : Answer) : Type 0 where
   pub plain : apart a.says ≡ None
   pub still : quiet ≡ true → a.change ≡ Stays
   pub asks : Leaves v.question a.says a.view.question
+  pub shows : a.view.token_record ≡ recorded a.change v.token_record
+  pub charges : Charged (checked_in a.says) v.token_record a.view.token_record
 
 module _ {quiet : Bool} (v : View) where
-  pub fair : {a : Answer} → apart a.says ≡ None → a.change ≡ Stays → Leaves v.question a.says a.view.question → IsFair quiet v a
-  fair is still leaves = record { plain = is; still = λ q. still; asks = leaves }
+  pub fair : {a : Answer} → apart a.says ≡ None → a.change ≡ Stays → Leaves v.question a.says a.view.question → a.view.token_record ≡ v.token_record → checked_in a.says ≡ None → IsFair quiet v a
+  fair {a} is still leaves kept none = record {
+    plain = is;
+    still = λ q. still;
+    asks = leaves;
+    shows = kept ∙ sym (ap (λ c. recorded c v.token_record) still);
+    charges = subst (λ o. Charged o v.token_record a.view.token_record) (sym none) kept;
+  }
 
   pub fair-if : (b : Bool) {x y : Answer} → IsFair quiet v x → IsFair quiet v y → IsFair quiet v (cond b x y)
   fair-if true p q = p
   fair-if false p q = q
 
   pub fair-refusal : (code : Rv) → set_apart (Code code) ≡ None → IsFair quiet v (refuses v code)
-  fair-refusal code is = record { plain = is; still = λ q. refl; asks = refl }
+  fair-refusal code is = record { plain = is; still = λ q. refl; asks = refl; shows = refl; charges = refl }
 
   pub fair-row : (row : Row) (b : Bool) {x : Answer} → set_apart (Code (code_of Ok row)) ≡ None → IsFair quiet v x → IsFair quiet v (cond b (refuses_by v row) x)
   fair-row row true is p = fair-refusal (code_of Ok row) is

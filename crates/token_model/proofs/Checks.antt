@@ -1,6 +1,6 @@
 -- An answer by its table is proper: by a fact of what each row tests, and of what it answers where that is not its code
 -- alone.
-use Rattle.std.proofs.Common.{◌≡◌, ℕ, Bool, true, false, not, List, [], ◌∷◌, map, Option, Some, None, refl, sym, ◌∙◌, ap, arith}
+use Rattle.std.proofs.Common.{◌≡◌, ℕ, Bool, true, List, [], ◌∷◌, Option, Some, None, refl, ◌∙◌, ap}
 pub use Rattle.ck_types.specs.declared.entry.Entry.{Entry}
 pub use Rattle.attrs.specs.Masking.{mask as mask_object}
 pub use Rattle.precede.specs.declared.row.Row.{Row}
@@ -15,7 +15,6 @@ use Rattle.ck_types.specs.declared.attr_type.AttrType.{AttrType}
 use Rattle.ck_types.specs.declared.attr_type.AttrType.TheVariants as attr
 use Rattle.ck_types.specs.declared.rv.Rv.TheVariants.{Ok}
 use Rattle.ck_types.specs.Numbers.{attr_type_number}
-use Rattle.attrs.specs.Objects.{flag}
 use Rattle.attrs.specs.MaskingLaws.{flag-mask}
 use Rattle.sessions.specs.declared.Session.{Session}
 use Rattle.sessions.specs.Sessions.{state_of}
@@ -108,4 +107,4 @@ blind-told handle tells same v = ap (λ o. shown (replies (mask v) (tells (unwra
 pub proper-reads : (f : Function) (s handle : ℕ) (tells : List Entry → Reply) → ((o : List Entry) → tells (mask_object o) ≡ tells o) → ((o : List Entry) → set_apart (tells o) ≡ None) → IsProper (λ v r. reads f v s handle tells) true
 proper-reads f s handle tells same plain =
     proper-checked f (λ v. object_row v s handle) (λ v. replies v (tells (unwrap_or (object_at v handle) []))) (object-mask-row s handle)
-    (blind-told handle tells same) (λ v. fair v {a = replies v (tells (unwrap_or (object_at v handle) []))} (plain (unwrap_or (object_at v handle) [])) refl refl)
+    (blind-told handle tells same) (λ v. fair v {a = replies v (tells (unwrap_or (object_at v handle) []))} (plain (unwrap_or (object_at v handle) [])) refl refl refl refl)

@@ -4,6 +4,9 @@ pub mod Checks
 pub mod Templates
 pub mod Sizes
 pub mod Telling
+pub mod Seen
 pub mod Proper
 pub mod Told
 pub mod RunLaws
+pub mod UnderWay
+pub mod Tries

@@ -25,7 +25,7 @@ use Rattle.token_model.proofs.Masks.{mask-twice}
 use Rattle.token_model.specs.Changes.{Stays}
 use Rattle.token_model.specs.Answering.{Said, Replies, Asks, Answer, Reveal, shown, mask_reveal, refuses, refuses_by, answered, is_closed}
 use Rattle.token_model.specs.Answers.{answer, answer_to, answer_outcome, answer_question, answer_result, may_change_objects}
-use Rattle.token_model.specs.Worlds.{apart}
+use Rattle.token_model.specs.Worlds.{apart, checked_in}
 use Rattle.token_model.proofs.Blind.{IsProper, IsFair, Leaves, blind-row, blind-refusal, fair, fair-row, fair-refusal}
 use Rattle.token_model.proofs.Proper.OpenSession.{proper-open_session}
 use Rattle.token_model.proofs.Proper.CloseSession.{proper-close_session, proper-close_all_sessions}
@@ -40,7 +40,7 @@ use Rattle.token_model.proofs.Telling.{attributes_told-mask}
 use Rattle.token_model.proofs.Checks.{proper-reads}
 use Rattle.token_model.proofs.Proper.SetAttributeValue.{proper-set_attribute_value}
 use Rattle.token_model.proofs.Proper.EncryptInit.{proper-encrypt_init}
-use Rattle.token_model.proofs.Proper.Encrypt.{proper-encrypt, blind-encrypted, over-encrypted, still-encrypted, plain-encrypted}
+use Rattle.token_model.proofs.Proper.Encrypt.{proper-encrypt, blind-encrypted, over-encrypted, still-encrypted, plain-encrypted, unasking-encrypted, record-encrypted}
 
 -- a call that isn't built
 proper-refused : {quiet : Bool} → IsProper (λ v r. refuses v FunctionNotSupported) quiet
@@ -75,7 +75,7 @@ pub shown-answer : (v : View) (c : Call) (random : List ℕ) (r : Reveal) → sh
 unfolding answer
 shown-answer v c random r = blind-row v Busy _ (is_closed v) _ _ (closed-mask v) ((proper-answer_to c random).blind v r)
 
-fair-answer : (v : View) (c : Call) (random : List ℕ) (r : Reveal) → IsFair (not (may_change_objects (function_of c))) v (answer v c random r)
+pub fair-answer : (v : View) (c : Call) (random : List ℕ) (r : Reveal) → IsFair (not (may_change_objects (function_of c))) v (answer v c random r)
 unfolding answer
 fair-answer v c random r = fair-row v Busy (is_closed v) refl ((proper-answer_to c random).fair v r)
 
@@ -145,3 +145,27 @@ plain-result v outcome r = out v.question where
   out : (q : Option Question) → apart (answer_question v q outcome r).says ≡ None
   out None = refl
   out (Some q) = plain-outcome v q.session q.function outcome r
+
+-- a result asks nothing
+unasking-outcome : (v : View) (s : ℕ) (f : Function) (outcome : Outcome) (r : Reveal) → checked_in (answer_outcome v s f outcome r).says ≡ None
+unasking-outcome v s function.Encrypt outcome r = unasking-encrypted s outcome v
+unasking-outcome v s _ outcome r = refl
+
+pub unasking-result : (v : View) (outcome : Outcome) (r : Reveal) → checked_in (answer_result v outcome r).says ≡ None
+unfolding answer_result
+unasking-result v outcome r = out v.question where
+  out : (q : Option Question) → checked_in (answer_question v q outcome r).says ≡ None
+  out None = refl
+  out (Some q) = unasking-outcome v q.session q.function outcome r
+
+-- and leaves the record
+record-outcome : (v : View) (s : ℕ) (f : Function) (outcome : Outcome) (r : Reveal) → (answer_outcome v s f outcome r).view.token_record ≡ v.token_record
+record-outcome v s function.Encrypt outcome r = record-encrypted s outcome v
+record-outcome v s _ outcome r = refl
+
+pub record-result : (v : View) (outcome : Outcome) (r : Reveal) → (answer_result v outcome r).view.token_record ≡ v.token_record
+unfolding answer_result
+record-result v outcome r = out v.question where
+  out : (q : Option Question) → (answer_question v q outcome r).view.token_record ≡ v.token_record
+  out None = refl
+  out (Some q) = record-outcome v q.session q.function outcome r

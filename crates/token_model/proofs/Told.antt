@@ -1,5 +1,5 @@
 -- An application is told what its trace tells.
-use Rattle.std.proofs.Common.{◌≡◌, ◌≢◌, ℕ, List, [], ◌∷◌, ◌++◌, Option, Some, None, refl, sym, ◌∙◌, ap, inl, inr}
+use Rattle.std.proofs.Common.{◌≡◌, ◌≢◌, ℕ, Bool, true, false, cond, List, [], ◌∷◌, ◌++◌, Option, Some, None, refl, sym, ◌∙◌, ap, inl, inr}
 use Rattle.std.specs.List.{AllByRecursion}
 use Rattle.std.proofs.lemmas.Bool.{cases_eq, eq-eqb, ne_eqb}
 use Rattle.ck_types.specs.declared.rv.Rv.TheVariants.{HostMemory, DeviceError}
@@ -11,30 +11,27 @@ use Rattle.token_model.specs.declared.fault.Fault.{Fault}
 use Rattle.token_model.specs.declared.fault.Fault.TheVariants.{Memory, Device}
 use Rattle.token_model.specs.declared.event.Event.TheVariants.{Call, Finish, Gone}
 use Rattle.token_model.specs.Views.{Question, View, mask}
-use Rattle.token_model.specs.Changes.{Change, Stays, Insert, Replace, Remove, Records, Resets, seen}
+use Rattle.token_model.specs.Changes.{Change, mask_change, seen, is_seen}
 use Rattle.token_model.specs.Answering.{Said, Replies, Asks, mask_said, Answer, Reveal, mask_reveal, shown}
 use Rattle.token_model.specs.Answers.{answer, answer_result}
 use Rattle.token_model.specs.Worlds.{World, answer_at, result_at, value_of, reveal_to_call, reveal_to_task, Move, Goes, Refuses, refusal, change_for, happens, after, told, finish_tells, finish_refusal, finish_refused, finished, reply_to, replies}
-use Rattle.token_model.specs.Traces.{Moment, saw, got, saw_result, moments, trace, said, replies_told, view_told, replies_to, NotSetApart, IsTold}
+use Rattle.token_model.specs.Traces.{Moment, Sees, saw, got, saw_result, moments, trace, said, replies_told, view_told, replies_to, NotSetApart, IsTold}
 use Rattle.token_model.proofs.Masks.{seen-mask, left-mask}
+use Rattle.token_model.proofs.Seen.{unseen-view}
 use Rattle.token_model.proofs.Proper.{shown-answer, shown-result}
 
 -- what others change comes as it is seen
-replies_told-saw : (v : View) (change : Change) (ms : List Moment) → replies_told (mask v) (saw change ++ ms) ≡ replies_told (mask (seen change v)) ms
-replies_told-saw v Stays ms = refl
-replies_told-saw v (Insert o) ms = ap (λ u. replies_told u ms) (seen-mask v (Insert o))
-replies_told-saw v (Replace place o) ms = ap (λ u. replies_told u ms) (seen-mask v (Replace place o))
-replies_told-saw v (Records r) ms = ap (λ u. replies_told u ms) (seen-mask v (Records r))
-replies_told-saw v (Resets r) ms = ap (λ u. replies_told u ms) (seen-mask v (Resets r))
-replies_told-saw v (Remove place) ms = ap (λ u. replies_told u ms) (seen-mask v (Remove place))
+replies_told-saw : (v : View) (change : Change) (ms : List Moment) → replies_told (mask v) (saw v change ++ ms) ≡ replies_told (mask (seen change v)) ms
+replies_told-saw v change ms = step (is_seen v change) refl where
+  step : (b : Bool) → is_seen v change ≡ b → replies_told (mask v) (cond b (Sees (mask_change change) ∷ []) [] ++ ms) ≡ replies_told (mask (seen change v)) ms
+  step true is = ap (λ u. replies_told u ms) (seen-mask v change)
+  step false is = ap (λ u. replies_told u ms) (unseen-view v change is)
 
-view_told-saw : (v : View) (change : Change) (ms : List Moment) → view_told (mask v) (saw change ++ ms) ≡ view_told (mask (seen change v)) ms
-view_told-saw v Stays ms = refl
-view_told-saw v (Insert o) ms = ap (λ u. view_told u ms) (seen-mask v (Insert o))
-view_told-saw v (Replace place o) ms = ap (λ u. view_told u ms) (seen-mask v (Replace place o))
-view_told-saw v (Records r) ms = ap (λ u. view_told u ms) (seen-mask v (Records r))
-view_told-saw v (Resets r) ms = ap (λ u. view_told u ms) (seen-mask v (Resets r))
-view_told-saw v (Remove place) ms = ap (λ u. view_told u ms) (seen-mask v (Remove place))
+view_told-saw : (v : View) (change : Change) (ms : List Moment) → view_told (mask v) (saw v change ++ ms) ≡ view_told (mask (seen change v)) ms
+view_told-saw v change ms = step (is_seen v change) refl where
+  step : (b : Bool) → is_seen v change ≡ b → view_told (mask v) (cond b (Sees (mask_change change) ∷ []) [] ++ ms) ≡ view_told (mask (seen change v)) ms
+  step true is = ap (λ u. view_told u ms) (seen-mask v change)
+  step false is = ap (λ u. view_told u ms) (unseen-view v change is)
 
 pub replies_to-append : (app : ℕ) (xs ys : List (ℕ × Reply)) → replies_to app (xs ++ ys) ≡ replies_to app xs ++ replies_to app ys
 replies_to-append app [] ys = refl

@@ -51,10 +51,61 @@ answer_to v _ random reveal = refuses v FunctionNotSupported
 unfoldable pub answer : View → Call → List ℕ → Reveal → Answer
 answer v call random reveal = if is_closed v then refuses_by v Busy else answer_to v call random reveal
 
--- the answer to the result of the pending question, by the call that asked it
+-- of a call that asks nothing, or isn't built: no question of it is ever pending
+abbrev pub unasked : View → Answer
+unasked v = refuses (answered v) FunctionFailed
+
+-- the answer to the result of the pending question, by the call that asked it (PKCS #11 v3.1)
 abbrev pub answer_outcome : View → ℕ → Function → Outcome → Reveal → Answer
+-- 5.5, slots and tokens
+answer_outcome v session function.GetTokenInfo outcome reveal = unasked v
+answer_outcome v session function.GetMechanismList outcome reveal = unasked v
+answer_outcome v session function.GetMechanismInfo outcome reveal = unasked v
+answer_outcome v session function.InitToken outcome reveal = unasked v
+answer_outcome v session function.InitPin outcome reveal = unasked v
+answer_outcome v session function.SetPin outcome reveal = unasked v
+-- 5.6, sessions
+answer_outcome v session function.OpenSession outcome reveal = unasked v
+answer_outcome v session function.CloseSession outcome reveal = unasked v
+answer_outcome v session function.CloseAllSessions outcome reveal = unasked v
+answer_outcome v session function.GetSessionInfo outcome reveal = unasked v
+answer_outcome v session function.Login outcome reveal = unasked v
+answer_outcome v session function.Logout outcome reveal = unasked v
+-- 5.7, objects
+answer_outcome v session function.CreateObject outcome reveal = unasked v
+answer_outcome v session function.CopyObject outcome reveal = unasked v
+answer_outcome v session function.DestroyObject outcome reveal = unasked v
+answer_outcome v session function.GetObjectSize outcome reveal = unasked v
+answer_outcome v session function.GetAttributeValue outcome reveal = unasked v
+answer_outcome v session function.SetAttributeValue outcome reveal = unasked v
+answer_outcome v session function.FindObjectsInit outcome reveal = unasked v
+answer_outcome v session function.FindObjects outcome reveal = unasked v
+answer_outcome v session function.FindObjectsFinal outcome reveal = unasked v
+-- 5.8, encryption
+answer_outcome v session function.EncryptInit outcome reveal = unasked v
 answer_outcome v session function.Encrypt outcome reveal = encrypted v session outcome
-answer_outcome v session _ outcome reveal = refuses (answered v) FunctionFailed
+answer_outcome v session function.EncryptUpdate outcome reveal = unasked v
+answer_outcome v session function.EncryptFinal outcome reveal = unasked v
+-- 5.10, decryption
+answer_outcome v session function.DecryptInit outcome reveal = unasked v
+answer_outcome v session function.Decrypt outcome reveal = unasked v
+answer_outcome v session function.DecryptUpdate outcome reveal = unasked v
+answer_outcome v session function.DecryptFinal outcome reveal = unasked v
+-- 5.13, signing and MACing
+answer_outcome v session function.SignInit outcome reveal = unasked v
+answer_outcome v session function.Sign outcome reveal = unasked v
+answer_outcome v session function.SignUpdate outcome reveal = unasked v
+answer_outcome v session function.SignFinal outcome reveal = unasked v
+-- 5.15, verifying
+answer_outcome v session function.VerifyInit outcome reveal = unasked v
+answer_outcome v session function.Verify outcome reveal = unasked v
+answer_outcome v session function.VerifyUpdate outcome reveal = unasked v
+answer_outcome v session function.VerifyFinal outcome reveal = unasked v
+-- 5.18 and 5.19, keys and random numbers
+answer_outcome v session function.GenerateKey outcome reveal = unasked v
+answer_outcome v session function.WrapKey outcome reveal = unasked v
+answer_outcome v session function.UnwrapKey outcome reveal = unasked v
+answer_outcome v session function.GenerateRandom outcome reveal = unasked v
 
 abbrev pub answer_question : View → Option Question → Outcome → Reveal → Answer
 answer_question v None outcome reveal = refuses_by v Busy

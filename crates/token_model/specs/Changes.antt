@@ -1,10 +1,15 @@
 -- What one application does that others may see: a change of the token objects, or of the token's record.
-use Rattle.std.specs.Prelude.{ℕ, Bool, true, false, List, [], ◌∷◌, ◌++◌, filter, Option, Some, None, if◌then◌else◌}
+use Rattle.std.specs.Prelude.{ℕ, ◌==◌, nat_eq, Bool, true, false, ◌&&◌, not, List, [], ◌∷◌, ◌++◌, Option, Some, None, if◌then◌else◌}
+use Rattle.std.specs.Bool.{beq}
+use Rattle.std.specs.Cmp.Lexicographic.{pointwise}
 use Rattle.std.specs.List.{remove}
+use Rattle.std.specs.Option.{option_eq}
+use Rattle.std.specs.Str.{bytes_eq}
 use Rattle.ck_types.specs.declared.entry.Entry.{Entry}
 use Rattle.attrs.specs.Masking.{mask as mask_object}
+use Rattle.attrs.specs.Sameness.{same_object}
 use Rattle.lists.specs.Places.{seen_place, kept_place, replaced, updated}
-use Rattle.token_model.specs.Views.{RecordSight, View, TokenObject, without_handle, mask_record}
+use Rattle.token_model.specs.Views.{PinSight, RecordSight, View, TokenObject, without_handle, mask_record, mask}
 
 pub data Change : Type 0 where
   Stays : Change
@@ -62,6 +67,26 @@ seen (Replace place o) v = record v { tokens = rewritten v.tokens place o }
 seen (Remove place) v = record v { tokens = remove v.tokens place }
 seen (Records r) v = record v { token_record = r }
 seen (Resets r) v = record v { token_record = r; tokens = [] }
+
+-- ---- whether a change alters what an application sees
+
+-- a PIN and a record, but for verifiers, which no view shows
+abbrev pub same_pin : PinSight → PinSight → Bool
+same_pin p q = beq p.is_set q.is_set && (p.tries == q.tries)
+
+abbrev pub same_record : RecordSight → RecordSight → Bool
+same_record r s = bytes_eq r.label s.label && (same_pin r.so s.so && same_pin r.user s.user)
+
+abbrev pub same_token_object : TokenObject → TokenObject → Bool
+same_token_object t u = same_object t.object u.object && option_eq nat_eq t.handle u.handle
+
+-- the record and the token objects of two views, which are all that others change
+abbrev pub same_shared : View → View → Bool
+same_shared u v = same_record u.token_record v.token_record && pointwise same_token_object u.tokens v.tokens
+
+-- it alters the view
+unfoldable pub is_seen : View → Change → Bool
+is_seen v change = not (same_shared (mask v) (mask (seen change v)))
 
 -- ---- places, which one application counts among the objects that it sees
 

@@ -7,3 +7,4 @@ pub mod Calls
 pub mod Answers
 pub mod Worlds
 pub mod Traces
+pub mod Tries

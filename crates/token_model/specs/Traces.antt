@@ -14,7 +14,7 @@ use Rattle.mech.specs.declared.outcome.Outcome.{Outcome}
 use Rattle.token_model.specs.declared.event.Event.{Event}
 use Rattle.token_model.specs.declared.event.Event.TheVariants.{Call, Finish, Gone}
 use Rattle.token_model.specs.Views.{View, Question, is_user_in, mask, left}
-use Rattle.token_model.specs.Changes.{Change, Stays, Insert, Replace, Remove, Records, Resets, mask_change, seen, is_still}
+use Rattle.token_model.specs.Changes.{Change, Stays, Insert, Replace, Remove, Records, Resets, mask_change, seen, is_seen, is_still}
 use Rattle.token_model.specs.Answering.{Said, Replies, Asks, Answer, Reveal, mask_reveal}
 use Rattle.token_model.specs.Answers.{answer, answer_result, is_pin_function, may_change_objects}
 use Rattle.token_model.specs.Worlds.{World, Move, Goes, Refuses, event_of, value_of, reveal_to_call, reveal_to_task, answer_at, result_at, list_change, change_for, happens, after, replies}
@@ -26,18 +26,13 @@ pub data Moment : Type 0 where
   Leaves : Moment
   Sees : (change : Change) → Moment
 
--- a change by others, as it is seen, where there is one
-abbrev pub saw : Change → List Moment
-saw Stays = []
-saw (Insert o) = Sees (mask_change (Insert o)) ∷ []
-saw (Replace place o) = Sees (mask_change (Replace place o)) ∷ []
-saw (Remove place) = Sees (mask_change (Remove place)) ∷ []
-saw (Records r) = Sees (mask_change (Records r)) ∷ []
-saw (Resets r) = Sees (mask_change (Resets r)) ∷ []
+-- a change by others, as it is seen, where it alters the view
+abbrev pub saw : View → Change → List Moment
+saw v change = if is_seen v change then Sees (mask_change change) ∷ [] else []
 
 abbrev pub saw_result : ℕ → World → ℕ → Option Question → List Moment
 saw_result app w other None = []
-saw_result app w other (Some q) = saw (change_for app w other (result_at w other q))
+saw_result app w other (Some q) = saw (w.views app) (change_for app w other (result_at w other q))
 
 -- a result, with what it reveals
 abbrev pub got : World → ℕ → Option Question → List Moment
@@ -47,7 +42,7 @@ got w app (Some q) = Gets (value_of q.task) (mask_reveal (reveal_to_task w app q
 abbrev pub moments : ℕ → World → Move → List Moment
 moments app w (Goes (Call other call random)) =
     if app == other then Calls call random.items (mask_reveal (reveal_to_call w other call)) ∷ []
-    else saw (change_for app w other (answer_at w other call random.items))
+    else saw (w.views app) (change_for app w other (answer_at w other call random.items))
 moments app w (Goes (Finish other)) =
     if app == other then got w other (w.views other).question else saw_result app w other (w.views other).question
 moments app w (Goes (Gone other)) = if app == other then Leaves ∷ [] else []

@@ -1,5 +1,6 @@
 -- All that a token is to all applications, and what an event makes of it.
-use Rattle.std.specs.Prelude.{ℕ, Bool, true, false, not, ◌==◌, List, [], ◌∷◌, ◌++◌, filter, unwrap_or, if◌then◌else◌, Option, Some, None}
+use Rattle.std.specs.Prelude.{ℕ, nat_lt, Bool, not, ◌==◌, length, List, [], ◌∷◌, ◌++◌, filter, unwrap_or, if◌then◌else◌, Option, Some, None}
+use Rattle.std.specs.List.{list_any}
 use Rattle.ck_types.specs.declared.entry.Entry.{Entry}
 use Rattle.ck_types.specs.declared.rv.Rv.TheVariants.{HostMemory, DeviceError}
 use Rattle.ck_types.specs.declared.user_type.UserType.{UserType}
@@ -19,13 +20,26 @@ use Rattle.token_model.specs.Changes.{Change, changed, recorded, seen, in_list, 
 use Rattle.token_model.specs.Answering.{Said, Replies, Asks, Answer, Reveal, reveals_nothing, answered}
 use Rattle.token_model.specs.Answers.{answer, answer_result}
 
--- The token's record, the token objects with their values, the checks that are under way, and the full view of each
--- application. One that isn't there has the fresh view.
+-- The token's record, the token objects with their values, the checks that are under way, the applications that have a
+-- session, and the full view of each application. One that isn't there has the fresh view.
 pub record World : Type 0 where
   pub token_record : RecordSight
   pub objects : List (List Entry)
   pub checks : List Check
+  pub in_session : List ℕ
   pub views : ℕ → View
+
+-- ---- the applications that have a session
+
+abbrev pub has_session : View → Bool
+has_session v = nat_lt 0 (length v.sessions.sessions)
+
+-- an application that has this view is one of them, or isn't
+abbrev pub seated : ℕ → View → List ℕ → List ℕ
+seated app v apps = if has_session v then app ∷ filter (λ n. not (n == app)) apps else filter (λ n. not (n == app)) apps
+
+abbrev pub is_in_session : World → ℕ → Bool
+is_in_session w app = list_any (λ n. n == app) w.in_session
 
 -- ---- one application's answer, for all
 
@@ -45,9 +59,10 @@ abbrev pub checks_of : ℕ → Option UserType → List Check
 checks_of app None = []
 checks_of app (Some user) = record { user = user; app = app } ∷ []
 
-abbrev pub checks_begun : ℕ → Said → List Check
-checks_begun app (Replies reply) = []
-checks_begun app (Asks q) = checks_of app (checked_by q.task)
+-- the PIN that a question which is asked begins to check
+abbrev pub checked_in : Said → Option UserType
+checked_in (Replies reply) = None
+checked_in (Asks q) = checked_by q.task
 
 -- a check ends with its question, and with its application
 abbrev pub without_checks : ℕ → List Check → List Check
@@ -59,7 +74,8 @@ stepped w app a =
     record {
       token_record = recorded (list_change w app a) w.token_record;
       objects = changed (list_change w app a) w.objects;
-      checks = w.checks ++ checks_begun app a.says;
+      checks = w.checks ++ checks_of app (checked_in a.says);
+      in_session = seated app a.view w.in_session;
       views = λ b. if b == app then a.view else seen (change_for b w app a) (w.views b);
     }
 
@@ -69,7 +85,7 @@ unchecked w app = record w { checks = without_checks app w.checks }
 
 -- one application's view is replaced
 abbrev pub with_view : World → ℕ → View → World
-with_view w app v = record w { views = λ b. if b == app then v else w.views b }
+with_view w app v = record w { in_session = seated app v w.in_session; views = λ b. if b == app then v else w.views b }
 
 -- ---- results
 

@@ -1,13 +1,18 @@
 //! Laws of the definitions alone: of answers, and of any two worlds and runs.
 
-ghost use Rattle.std.specs.Prelude.{◌≡◌, ℕ, List};
+ghost use Rattle.std.specs.Prelude.{◌≡◌, ℕ, ◌≤◌, List, [], None};
 ghost use Rattle.ck_calls.specs.declared.call.Call.{Call};
+ghost use Rattle.ck_types.specs.declared.user_type.UserType.{UserType as Who};
 ghost use Rattle.mech.specs.declared.outcome.Outcome.{Outcome};
+ghost use Rattle.pin_record.specs.Charges.{after as charged_after};
+ghost use Rattle.pin_record.specs.Records.{tries_limit, tries_of};
 ghost use Rattle.token_model.specs.Views.{View, mask};
+ghost use Rattle.token_model.specs.Changes.{Change, seen};
 ghost use Rattle.token_model.specs.Answering.{Reveal, mask_reveal, shown};
 ghost use Rattle.token_model.specs.Answers.{answer, answer_result};
 ghost use Rattle.token_model.specs.Worlds.{World, Move, event_of, happens, after, replies};
-ghost use Rattle.token_model.specs.Traces.{trace, replies_to, NotSetApart, IsTold, IsQuiet, AllQuiet, own_moves};
+ghost use Rattle.token_model.specs.Traces.{saw, trace, replies_to, NotSetApart, IsTold, IsQuiet, AllQuiet, own_moves};
+ghost use Rattle.token_model.specs.Tries.{stored_record, charges_of, events_in, IsSound, spent_in};
 
 /// What is shown of an answer depends on what is shown of the view, and of what comes in from outside,
 /// alone: no value that is kept back, of a masked key, of a key in use or of a PIN's verifier, is in a
@@ -15,6 +20,12 @@ ghost use Rattle.token_model.specs.Traces.{trace, replies_to, NotSetApart, IsTol
 pub fn blind_answers()
     ensures calls { (v : View) (call : Call) (random : List ℕ) (r : Reveal) → shown (answer (mask v) call random (mask_reveal r)) ≡ shown (answer v call random r) }
     ensures results { (v : View) (outcome : Outcome) (r : Reveal) → shown (answer_result (mask v) outcome (mask_reveal r)) ≡ shown (answer_result v outcome r) }
+{}
+
+/// A change by others comes to an application just where it alters what the application sees.
+pub fn seen_changes()
+    ensures left_out { (v : View) (change : Change) → mask (seen change v) ≡ mask v → saw v change ≡ [] }
+    ensures only { (v : View) (change : Change) → saw v change ≡ [] → mask (seen change v) ≡ mask v }
 {}
 
 /// An application that met no refusal set apart was told, and sees, what the fold of its own trace tells.
@@ -40,4 +51,16 @@ pub fn quiet_event()
 pub fn quiet_run()
     ensures replies { (app : ℕ) (w : World) (ms : List Move) → AllQuiet app w ms → replies_to app (replies w ms) ≡ replies_to app (replies w (own_moves app ms)) }
     ensures views { (app : ℕ) (w : World) (ms : List Move) → AllQuiet app w ms → (after w ms).views app ≡ (after w (own_moves app ms)).views app }
+{}
+
+/// The ten tries, over a run: the record and the checks under way are what its events of PINs make of them
+/// (`pin_record::laws::ten_tries`), so the tries of each PIN stay the checks of it that ended otherwise than right since
+/// it was last entered right or set, and those under way; and at most ten do so end. It begins so with each world in
+/// which no question is pending and no check is under way.
+pub fn ten_tries()
+    ensures begins { (w : World) → w.checks ≡ [] → ((app : ℕ) → (w.views app).question ≡ None) → ((app : ℕ) → (w.views app).token_record ≡ w.token_record)
+        → ((who : Who) → tries_of (stored_record w.token_record) who ≤ tries_limit) → IsSound (tries_of (stored_record w.token_record)) w }
+    ensures goes { (s : Who → ℕ) (w : World) (ms : List Move) → IsSound s w → charges_of (after w ms) ≡ charged_after (charges_of w) (events_in w ms) }
+    ensures goes_on { (s : Who → ℕ) (w : World) (ms : List Move) → IsSound s w → IsSound (spent_in s w ms) (after w ms) }
+    ensures ten { (who : Who) (s : Who → ℕ) (w : World) (ms : List Move) → IsSound s w → spent_in s w ms who ≤ tries_limit }
 {}

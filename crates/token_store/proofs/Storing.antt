@@ -4,9 +4,10 @@ use Rattle.std.specs.Prelude.{find, filter, is_ok, ◌==◌, ◌||◌, OnErr}
 use Rattle.std.specs.List.{list_any, AllByRecursion}
 use Rattle.ck_types.specs.declared.entry.Entry.{Entry}
 use Rattle.lists.specs.Bisection.{IsPlaceOf, KeysRise}
-use Rattle.keep.specs.Contents.{Contents, Kept, IdsRise, IsTokenObject, ids_of, object_at, with_object, with_replacement, without_object}
+use Rattle.pin_record.specs.Records.{TokenRecord}
+use Rattle.keep.specs.Contents.{Contents, Kept, IdsRise, IsTokenObject, after_reset, ids_of, object_at, with_object, with_record, with_replacement, without_object}
 use Rattle.keep.specs.Keeping.{Stays, Terms}
-use Rattle.keep.specs.ContentsLaws.{IsSound-with_object, IsSound-with_replacement, IsSound-without_object}
+use Rattle.keep.specs.ContentsLaws.{IsSound-after_reset, IsSound-with_object, IsSound-with_record, IsSound-with_replacement, IsSound-without_object}
 use Rattle.keep.specs.IdLaws.{ids_of-with_object, ids_of-with_replacement, ids_of-without_object, is_some-object_at}
 use Rattle.token_store.specs.Stores.{StoreState, Has}
 
@@ -39,6 +40,12 @@ module _ {K : Type 0} (terms : Terms K) (old new : StoreState K) (c : Contents) 
     ids = ids ∙ ap (filter (λ i. not (i == id))) h.ids ∙ sym (ids_of-without_object id c);
     sound = IsSound-without_object id c h.sound;
   }
+
+  pub has-recorded : (r : TokenRecord) → Has terms old c → terms.holds new.keep (with_record r c) → new.ids ≡ old.ids → Has terms new (with_record r c)
+  has-recorded r h held ids = record { held = held; ids = ids ∙ h.ids; sound = IsSound-with_record r c h.sound }
+
+pub has-reset : {K : Type 0} (terms : Terms K) (new : StoreState K) (c : Contents) (r : TokenRecord) → terms.holds new.keep (after_reset r c) → new.ids ≡ [] → Has terms new (after_reset r c)
+has-reset terms new c r held ids = record { held = held; ids = ids; sound = IsSound-after_reset r c }
 
 -- ---- ids rise
 

@@ -2,13 +2,14 @@
 
 ghost use Rattle.std.specs.Prelude.{◌≡◌, ◌==◌, ◌+◌, not, filter, Option, IfOk, IfErr, OnOk, OnErr, IfSome};
 ghost use Rattle.std.specs.List.{list_any};
-ghost use Rattle.keep.specs.Contents.{Contents, IsTokenObject, object_at, with_object, with_replacement, without_object};
+ghost use Rattle.keep.specs.Contents.{Contents, IsTokenObject, after_reset, object_at, with_object, with_record, with_replacement, without_object};
 ghost use Rattle.keep.specs.Keeping.{Stays, HasCause, Counted};
 ghost use Rattle.lists.specs.Bisection.{IsPlaceOf, KeysRise};
 ghost use Rattle.token_store.specs.Stores.{Has, LeavesAlone, LeavesOr};
 
 use attrs::Object;
 use keep::{Keep, KeepFault};
+use pin_record::Record;
 use std::alloc::Global;
 use std::marker::Model;
 
@@ -45,6 +46,40 @@ impl<K: Keep> Store<K> {
     {
         let Store { keep, .. } = self;
         keep
+    }
+
+    /// The record. It is at hand, so nothing is read and no memory is taken.
+    pub fn get_record(&self) -> Record
+        ensures { (c : Contents) → Has K.terms self.now c → result ≡ c.token_record }
+    {
+        self.keep.get_record()
+    }
+
+    /// Puts another record in the place of the one held. The objects stay.
+    pub fn set_record(&mut self, record: Record) -> Result<(), KeepFault>
+        ensures has { (c : Contents) → Has K.terms self.old c → OnOk result (Has K.terms self.new (with_record «record» c)) }
+        ensures leaves { (c : Contents) → Has K.terms self.old c → OnOk result (LeavesAlone K.terms self.new (with_record «record» c)) }
+        ensures same { (c : Contents) → Has K.terms self.old c → OnErr result (Has K.terms self.new c) }
+        ensures leaves_or { (c : Contents) → Has K.terms self.old c → OnErr result (LeavesOr K.terms self.old self.new (with_record «record» c)) }
+        ensures counts { Counted K.terms self.old.keep self.new.keep 0 1 }
+        ensures cause { HasCause (K.terms.failures self.old.keep) (K.terms.failures self.new.keep) result }
+    {
+        self.keep.set_record(record)?;
+        Ok(())
+    }
+
+    /// Takes all objects away and puts another record in the place of the one held, as one change. Ids go on.
+    pub fn reset(&mut self, record: Record) -> Result<(), KeepFault>
+        ensures has { (c : Contents) → Has K.terms self.old c → OnOk result (Has K.terms self.new (after_reset «record» c)) }
+        ensures leaves { (c : Contents) → Has K.terms self.old c → OnOk result (LeavesAlone K.terms self.new (after_reset «record» c)) }
+        ensures same { (c : Contents) → Has K.terms self.old c → OnErr result (Has K.terms self.new c) }
+        ensures leaves_or { (c : Contents) → Has K.terms self.old c → OnErr result (LeavesOr K.terms self.old self.new (after_reset «record» c)) }
+        ensures counts { Counted K.terms self.old.keep self.new.keep 0 1 }
+        ensures cause { HasCause (K.terms.failures self.old.keep) (K.terms.failures self.new.keep) result }
+    {
+        self.keep.reset(record)?;
+        self.ids.clear();
+        Ok(())
     }
 
     /// Whether there is an object under the id, where the ids rise.

@@ -8,3 +8,4 @@ mod order;
 mod runs;
 mod session_calls;
 mod steps;
+mod stores;

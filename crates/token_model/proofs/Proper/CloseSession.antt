@@ -38,7 +38,7 @@ closed-mask v s =
 pub proper-close_session : (s : ℕ) → IsProper (λ v r. close_session v s) true
 proper-close_session s =
     proper-checked CloseSession (λ v. close_row v s) (λ v. becomes (Code Ok) (closed v s)) (row-mask s)
-    (λ v. blind-becomes (Code Ok) (closed (mask v) s) (closed v s) (closed-mask v s)) (λ v. fair v {a = becomes (Code Ok) (closed v s)} refl refl refl)
+    (λ v. blind-becomes (Code Ok) (closed (mask v) s) (closed v s) (closed-mask v s)) (λ v. fair v {a = becomes (Code Ok) (closed v s)} refl refl refl refl refl)
 
 all_closed-mask : (v : View) → mask (all_closed (mask v)) ≡ mask (all_closed v)
 all_closed-mask v = rw (seen-tokens None v.tokens, tokens-twice (seen_by None v.tokens), question-twice v.question) refl
@@ -46,4 +46,4 @@ all_closed-mask v = rw (seen-tokens None v.tokens, tokens-twice (seen_by None v.
 pub proper-close_all_sessions : (slot : ℕ) → IsProper (λ v r. close_all_sessions v slot) true
 proper-close_all_sessions slot =
     proper-checked CloseAllSessions (λ v. close_all_row slot) (λ v. becomes (Code Ok) (all_closed v)) (λ v row. refl)
-    (λ v. blind-becomes (Code Ok) (all_closed (mask v)) (all_closed v) (all_closed-mask v)) (λ v. fair v {a = becomes (Code Ok) (all_closed v)} refl refl refl)
+    (λ v. blind-becomes (Code Ok) (all_closed (mask v)) (all_closed v) (all_closed-mask v)) (λ v. fair v {a = becomes (Code Ok) (all_closed v)} refl refl refl refl refl)

@@ -1,6 +1,6 @@
 -- C_CreateObject.
 use Rattle.std.proofs.Common.{◌≢◌, ◌+◌, ◌++◌, length, ◌≡◌, ℕ, Bool, false, not, List, [], ◌∷◌, map, Option, Some, None, refl, sym, ◌∙◌, ap, arith}
-use Rattle.std.specs.Prelude.{◌&&◌, nat_le, is_some}
+use Rattle.std.specs.Prelude.{◌&&◌, nat_le}
 use Rattle.std.proofs.lemmas.Bool.{false≢true}
 use Rattle.ck_types.specs.declared.attr_type.AttrType.{AttrType}
 use Rattle.ck_types.specs.declared.attr_type.AttrType.TheVariants as attr
@@ -22,7 +22,7 @@ use Rattle.lists.proofs.ListLemmas.{map-push, length-map}
 use Rattle.token_model.specs.Views.{TokenObject, SessionObject}
 use Rattle.token_model.specs.Changes.{Stays, Insert}
 use Rattle.token_model.specs.Answering.{Replies}
-use Rattle.token_model.specs.Checked.{state_in, made_by, refuses_template}
+use Rattle.token_model.specs.Checked.{state_in, made_by}
 use Rattle.token_model.specs.Answers.CreateObject.{adds_token_object, adds_session_object, adds, makes_row, makes_says, create_row, creates, create_object}
 use Rattle.token_model.proofs.Templates.{IsPlainFault, fault-plain}
 use Rattle.token_model.proofs.Checks.{Entry, mask_object, Row, View, mask, mask_token_object, mask_session_object, Answer, shown, tokens-twice, own-twice, sessions-twice, question-twice, IsProper, IsFair, blind-if, blind-refusal, fair, fair-if, fair-refusal, blind-row, fair-row, blind-checked_by, fair-checked_by, row-session, state-mask}
@@ -98,7 +98,7 @@ makes-fair v (Some code) plain TemplateRefused = fair-refusal v code plain.plain
 makes-fair v fault plain row = fair-row v row
 
 pub fair-adds : (v : View) (s : ℕ) (o : List Entry) → IsFair false v (adds v s o)
-fair-adds v s o = fair-if v (flag o attr.Token) {x = adds_token_object v o} {y = adds_session_object v s o} (record { plain = refl; still = λ q. absurd (false≢true q); asks = refl }) (fair v {a = adds_session_object v s o} refl refl refl)
+fair-adds v s o = fair-if v (flag o attr.Token) {x = adds_token_object v o} {y = adds_session_object v s o} (record { plain = refl; still = λ q. absurd (false≢true q); asks = refl; shows = refl; charges = refl }) (fair v {a = adds_session_object v s o} refl refl refl refl refl)
 
 blind-creates : (v : View) (s : ℕ) (fault : Option Rv) (o : List Entry) → shown (creates (mask v) s fault o) ≡ shown (creates v s fault o)
 blind-creates v s fault o =

@@ -1,6 +1,6 @@
 -- C_DestroyObject.
 use Rattle.std.proofs.Common.{◌≡◌, ℕ, false, not, Option, Some, None, refl, ap, arith}
-use Rattle.std.specs.Prelude.{filter, ◌==◌, ◌&&◌}
+use Rattle.std.specs.Prelude.{filter, ◌==◌}
 use Rattle.std.specs.List.{remove}
 use Rattle.std.proofs.lemmas.Bool.{false≢true}
 use Rattle.ck_types.specs.declared.attr_type.AttrType.TheVariants as attr
@@ -37,8 +37,8 @@ blind-destroyed handle v (Some place) =
     ) refl
 
 fair-destroyed : (handle : ℕ) (v : View) (place : Option ℕ) → IsFair false v (destroyed v handle place)
-fair-destroyed handle v None = fair v {a = destroyed v handle None} refl refl refl
-fair-destroyed handle v (Some place) = record { plain = refl; still = λ q. absurd (false≢true q); asks = refl }
+fair-destroyed handle v None = fair v {a = destroyed v handle None} refl refl refl refl refl
+fair-destroyed handle v (Some place) = record { plain = refl; still = λ q. absurd (false≢true q); asks = refl; shows = refl; charges = refl }
 
 pub proper-destroy_object : (s handle : ℕ) → IsProper (λ v r. destroy_object v s handle) false
 proper-destroy_object s handle =

@@ -1,21 +1,20 @@
 -- C_Encrypt.
 use Rattle.std.specs.Option.{option_map}
-use Rattle.std.proofs.Common.{length, ◌≡◌, ℕ, true, not, List, Option, Some, None, refl, ◌∙◌, ap}
-use Rattle.std.specs.Prelude.{is_none, ◌==◌}
+use Rattle.std.proofs.Common.{length, ◌≡◌, ℕ, true, List, Option, Some, None, refl, ◌∙◌, ap}
 use Rattle.ck_calls.specs.declared.function.Function.TheVariants as functions
 use Rattle.ck_calls.specs.declared.reply.Output.TheVariants as output
 use Rattle.ck_calls.specs.declared.reply.Reply.TheVariants.{Output, BufferTooSmall}
 use Rattle.mech.specs.declared.outcome.Outcome.{Outcome}
 use Rattle.mech.specs.declared.outcome.Outcome.TheVariants as outcome
-use Rattle.precede.specs.declared.row.Row.TheVariants.{NoSession, NoOperation, DataTaken, DataLength, NoBuffer, SmallBuffer}
+use Rattle.precede.specs.declared.row.Row.TheVariants.{NoSession, DataTaken, DataLength, NoBuffer, SmallBuffer}
 use Rattle.ops.specs.Operations.{Operation, mask_operation}
 use Rattle.token_model.specs.Views.{Encrypts}
 use Rattle.token_model.specs.Changes.{Stays}
-use Rattle.token_model.specs.Worlds.{apart}
+use Rattle.token_model.specs.Worlds.{apart, checked_in}
 use Rattle.token_model.specs.Answering.{asks, answered}
 use Rattle.token_model.specs.Answers.EncryptInit.{operation_in, with_encryption, ends}
-use Rattle.token_model.specs.Answers.Encrypt.{is_whole, operation_of, encrypt_row, encrypt_says, encrypts, encrypt, encrypted_reply, encrypted}
-use Rattle.token_model.proofs.Proper.EncryptInit.{with_encryption-mask, operation-mask, blind-ends, question-stays}
+use Rattle.token_model.specs.Answers.Encrypt.{operation_of, encrypt_row, encrypt_says, encrypts, encrypt, encrypted_reply, encrypted}
+use Rattle.token_model.proofs.Proper.EncryptInit.{with_encryption-mask, operation-mask, blind-ends, question-stays, record-stays}
 use Rattle.token_model.proofs.Checks.{Row, View, mask, shown, replies, session_of, tokens-twice, own-twice, sessions-twice, IsProper, IsFair, blind-reply, blind-becomes, fair, blind-row, fair-row, blind-checked_by, fair-checked_by, row-session}
 
 row-mask : (v : View) (s : ℕ) (o : Option Operation) (input : List ℕ) (room : Option ℕ) (row : Row) → encrypt_row (mask v) s (option_map mask_operation o) input room row ≡ encrypt_row v s o input room row
@@ -42,10 +41,10 @@ blind-encrypts v s o input room =
     (row-mask v s o input room) (blind-says v s input) (blind-asks v s o input)
 
 fair-says : (v : View) (s : ℕ) (input : List ℕ) (row : Row) → IsFair true v (encrypt_says v s input row)
-fair-says v s input DataTaken = fair v {a = ends v s DataTaken} refl refl (question-stays v (session_of v s) None)
-fair-says v s input DataLength = fair v {a = ends v s DataLength} refl refl (question-stays v (session_of v s) None)
-fair-says v s input NoBuffer = fair v {a = replies v (Output (output.Length (length input)))} refl refl refl
-fair-says v s input SmallBuffer = fair v {a = replies v (BufferTooSmall (length input))} refl refl refl
+fair-says v s input DataTaken = fair v {a = ends v s DataTaken} refl refl (question-stays v (session_of v s) None) (record-stays v (session_of v s) None) refl
+fair-says v s input DataLength = fair v {a = ends v s DataLength} refl refl (question-stays v (session_of v s) None) (record-stays v (session_of v s) None) refl
+fair-says v s input NoBuffer = fair v {a = replies v (Output (output.Length (length input)))} refl refl refl refl refl
+fair-says v s input SmallBuffer = fair v {a = replies v (BufferTooSmall (length input))} refl refl refl refl refl
 fair-says v s input row = fair-row v row
 
 pub proper-encrypt : (s : ℕ) (input : List ℕ) (room : Option ℕ) → IsProper (λ v r. encrypt v s input room) true
@@ -54,7 +53,7 @@ proper-encrypt s input room = record {
   fair = λ v r.
       let o = operation_in (session_of v s) in
       let a = asks v functions.Encrypt s (Encrypts (operation_of o) input) in
-      fair-checked_by functions.Encrypt v (encrypt_row v s o input room) (encrypt_says v s input) a (fair-says v s input) (fair v {a = a} refl refl refl);
+      fair-checked_by functions.Encrypt v (encrypt_row v s o input room) (encrypt_says v s input) a (fair-says v s input) (fair v {a = a} refl refl refl refl refl);
 }
 
 -- ---- its result
@@ -71,3 +70,9 @@ still-encrypted s result v = refl
 
 pub plain-encrypted : (s : ℕ) (result : Outcome) (v : View) → apart (encrypted v s result).says ≡ None
 plain-encrypted s (outcome.Data bytes) v = refl
+
+pub unasking-encrypted : (s : ℕ) (result : Outcome) (v : View) → checked_in (encrypted v s result).says ≡ None
+unasking-encrypted s result v = refl
+
+pub record-encrypted : (s : ℕ) (result : Outcome) (v : View) → (encrypted v s result).view.token_record ≡ v.token_record
+record-encrypted s result v = record-stays (answered v) (session_of v s) None

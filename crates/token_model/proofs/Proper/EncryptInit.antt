@@ -1,5 +1,5 @@
 -- C_EncryptInit.
-use Rattle.std.proofs.Common.{◌≡◌, ℕ, Bool, true, not, List, [], Option, Some, None, refl, ◌∙◌, ap, arith}
+use Rattle.std.proofs.Common.{◌≡◌, ℕ, true, not, List, [], Option, Some, None, refl, ◌∙◌, ap, arith}
 use Rattle.std.specs.Prelude.{is_some}
 use Rattle.std.specs.Option.{unwrap_or, option_map}
 use Rattle.ck_types.specs.declared.attr_type.AttrType.TheVariants as attr
@@ -18,7 +18,7 @@ use Rattle.ops.specs.Operations.{Operation, Operations, mask_operation, started}
 use Rattle.token_model.specs.Views.{mask_operations}
 use Rattle.token_model.specs.Answers.EncryptInit.{is_aes, operation_in, with_encryption, ends, cipher_in, parameter_in, init_row, init_says, begins, begins_under, encrypt_init}
 use Rattle.token_model.proofs.Masks.{operation-twice, busy-mask}
-use Rattle.token_model.proofs.Checks.{Entry, mask_object, Row, View, mask, mask_session, shown, becomes, session_of, object_at, tokens-twice, own-twice, question-twice, mask-twice, session-mask, object-mask, IsProper, IsFair, blind-becomes, fair, blind-row, fair-row, blind-checked_by, fair-checked_by, row-session, none-masked, flag-masked}
+use Rattle.token_model.proofs.Checks.{Entry, mask_object, Row, View, mask, mask_session, shown, session_of, object_at, tokens-twice, own-twice, question-twice, mask-twice, session-mask, object-mask, IsProper, IsFair, blind-becomes, fair, blind-row, fair-row, blind-checked_by, fair-checked_by, row-session, none-masked, flag-masked}
 
 -- ---- the encryption of a session, as it is seen
 
@@ -51,6 +51,11 @@ blind-ends v s row = blind-becomes (Code (code_of Ok row)) (with_encryption (mas
 pub question-stays : (v : View) (s : Option (Session Operations)) (o : Option Operation) → (with_encryption v s o).question ≡ v.question
 question-stays v None o = refl
 question-stays v (Some s) o = refl
+
+-- and the record
+pub record-stays : (v : View) (s : Option (Session Operations)) (o : Option Operation) → (with_encryption v s o).token_record ≡ v.token_record
+record-stays v None o = refl
+record-stays v (Some s) o = refl
 
 -- ---- the call
 
@@ -90,7 +95,7 @@ blind-under v s m o =
     (row-mask v s m o) (blind-says v s) (blind-begins v s (cipher_in m) (parameter_in m) (unwrap_or (option_map mask_object o) []) (unwrap_or o []))
 
 fair-says : (v : View) (s : ℕ) (row : Row) → IsFair true v (init_says v s row)
-fair-says v s NoMechanism = fair v {a = ends v s NoMechanism} refl refl (question-stays v (session_of v s) None)
+fair-says v s NoMechanism = fair v {a = ends v s NoMechanism} refl refl (question-stays v (session_of v s) None) (record-stays v (session_of v s) None) refl
 fair-says v s row = fair-row v row
 
 pub proper-encrypt_init : (s : ℕ) (mechanism : Option Mechanism) (key : ℕ) → IsProper (λ v r. encrypt_init v s mechanism key) true
@@ -98,5 +103,6 @@ proper-encrypt_init s m key = record {
   blind = λ v r. ap (λ o. shown (begins_under (mask v) s m o)) (object-mask v key) ∙ blind-under v s m (object_at v key);
   fair = λ v r.
       let a = begins v s (cipher_in m) (parameter_in m) (unwrap_or (object_at v key) []) in
-      fair-checked_by EncryptInit v (init_row v s m (object_at v key)) (init_says v s) a (fair-says v s) (fair v {a = a} refl refl (question-stays v (session_of v s) (Some (started (cipher_in m) (parameter_in m) (attribute_of (unwrap_or (object_at v key) []) attr.Value)))));
+      let begun : Option Operation = Some (started (cipher_in m) (parameter_in m) (attribute_of (unwrap_or (object_at v key) []) attr.Value)) in
+      fair-checked_by EncryptInit v (init_row v s m (object_at v key)) (init_says v s) a (fair-says v s) (fair v {a = a} refl refl (question-stays v (session_of v s) begun) (record-stays v (session_of v s) begun) refl);
 }

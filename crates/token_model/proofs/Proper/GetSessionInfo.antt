@@ -1,5 +1,5 @@
 -- C_GetSessionInfo.
-use Rattle.std.proofs.Common.{◌≡◌, ℕ, true, refl, ◌∙◌}
+use Rattle.std.proofs.Common.{◌≡◌, ℕ, true, refl}
 use Rattle.ck_calls.specs.declared.function.Function.TheVariants.{GetSessionInfo}
 use Rattle.ck_calls.specs.declared.reply.Reply.TheVariants.{SessionInfo}
 use Rattle.precede.specs.declared.row.Row.TheVariants.{NoSession}
@@ -16,4 +16,4 @@ blind-info s v = rw (state-mask v s, row-writes v s) (blind-reply v (SessionInfo
 
 pub proper-get_session_info : (s : ℕ) → IsProper (λ v r. get_session_info v s) true
 proper-get_session_info s =
-    proper-checked GetSessionInfo (λ v. info_row v s) (λ v. session_info v s) (row-mask s) (blind-info s) (λ v. fair v {a = session_info v s} refl refl refl)
+    proper-checked GetSessionInfo (λ v. info_row v s) (λ v. session_info v s) (row-mask s) (blind-info s) (λ v. fair v {a = session_info v s} refl refl refl refl refl)

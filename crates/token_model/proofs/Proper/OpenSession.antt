@@ -28,4 +28,4 @@ blind-opened v read_write =
 pub proper-open_session : (slot flags : ℕ) → IsProper (λ v r. open_session v slot flags) true
 proper-open_session slot flags =
     proper-checked OpenSession (λ v. open_row v slot flags) (λ v. opened v (is_read_write flags)) (row-mask slot flags)
-    (λ v. blind-opened v (is_read_write flags)) (λ v. fair v {a = opened v (is_read_write flags)} refl refl refl)
+    (λ v. blind-opened v (is_read_write flags)) (λ v. fair v {a = opened v (is_read_write flags)} refl refl refl refl refl)

@@ -1,6 +1,6 @@
 -- C_SetAttributeValue.
 use Rattle.std.proofs.Common.{zero, suc, true, cond, ◌≡◌, ℕ, Bool, false, not, List, [], ◌∷◌, map, Option, Some, None, refl, ◌∙◌, ap, arith}
-use Rattle.std.specs.Prelude.{◌==◌, ◌&&◌, is_none}
+use Rattle.std.specs.Prelude.{◌==◌}
 use Rattle.std.specs.Option.{unwrap_or, option_map}
 use Rattle.std.proofs.lemmas.Bool.{false≢true}
 use Rattle.ck_types.specs.declared.attr_type.AttrType.TheVariants as attr
@@ -8,7 +8,6 @@ use Rattle.ck_types.specs.declared.rv.Rv.{Rv}
 use Rattle.ck_types.specs.declared.session_state.SessionState.{SessionState}
 use Rattle.ck_calls.specs.declared.function.Function.TheVariants.{SetAttributeValue}
 use Rattle.attrs.specs.MaskingLaws.{mask-mask}
-use Rattle.guard.specs.Access.{is_rw}
 use Rattle.templates.specs.declared.call.Call.TheVariants.{Set}
 use Rattle.templates.specs.Faults.{template_fault}
 use Rattle.templates.specs.Made.{object_made}
@@ -16,7 +15,7 @@ use Rattle.templates.proofs.Blind.{fault-mask, made-mask}
 use Rattle.precede.specs.declared.row.Row.TheVariants.{NoSession, NoObject, TokenObjectReadOnly, NotModifiable}
 use Rattle.token_model.specs.Views.{TokenObject, SessionObject}
 use Rattle.token_model.specs.Changes.{rewritten}
-use Rattle.token_model.specs.Checked.{flag_at, state_in, made_by}
+use Rattle.token_model.specs.Checked.{state_in, made_by}
 use Rattle.token_model.specs.Answers.CreateObject.{makes_says}
 use Rattle.token_model.specs.Answers.SetAttributeValue.{rewritten_own, puts, set_row, sets, sets_in, set_attribute_value}
 use Rattle.token_model.proofs.Templates.{fault-plain}
@@ -96,8 +95,8 @@ blind-sets template v s handle (Some o) =
     ∙ blind-with v s handle (Some o) f (set_of f m template) (set_of f o template) (same-set (state_in v s) o template f refl)
 
 fair-puts : (v : View) (handle : ℕ) (o : List Entry) (place : Option ℕ) → IsFair false v (puts v handle o place)
-fair-puts v handle o None = fair v {a = puts v handle o None} refl refl refl
-fair-puts v handle o (Some place) = record { plain = refl; still = λ q. absurd (false≢true q); asks = refl }
+fair-puts v handle o None = fair v {a = puts v handle o None} refl refl refl refl refl
+fair-puts v handle o (Some place) = record { plain = refl; still = λ q. absurd (false≢true q); asks = refl; shows = refl; charges = refl }
 
 fair-sets : (template : List Entry) (v : View) (s handle : ℕ) (o : Option (List Entry)) → IsFair false v (sets_in v s handle o template)
 fair-sets template v s handle o =

@@ -2,7 +2,7 @@
 use Rattle.std.specs.Prelude.{ℕ, ◌%◌, Bool, false, ◌==◌, not, nat_lt, List, [], length, Option, None, is_none}
 use Rattle.std.specs.Option.{unwrap_or}
 use Rattle.ck_types.specs.declared.mech_type.MechType.{MechType}
-use Rattle.ck_types.specs.declared.mech_type.MechType.TheVariants.{AesEcb}
+use Rattle.ck_types.specs.declared.mech_type.MechType.TheVariants as mechanism
 use Rattle.ck_calls.specs.declared.function.Function.TheVariants as functions
 use Rattle.ck_calls.specs.declared.reply.Output.TheVariants as output
 use Rattle.ck_calls.specs.declared.reply.Reply.TheVariants.{Output, BufferTooSmall}
@@ -14,13 +14,27 @@ use Rattle.token_model.specs.Views.{Encrypts}
 use Rattle.token_model.specs.Calls.{Reply, Row, Operation, View, Answer, replies, refuses_by, becomes, asks, answered, session_of, checked_by}
 use Rattle.token_model.specs.Answers.EncryptInit.{operation_in, with_encryption, ends}
 
--- whole blocks alone
+-- A mechanism takes a text of so many bytes: ECB whole blocks alone. One that is no cipher, or isn't built, takes none; no
+-- operation of it begins.
 abbrev pub is_whole : MechType → ℕ → Bool
-is_whole mechanism len = len % 16 == 0
+is_whole mechanism.AesEcb len = len % 16 == 0
+-- ciphers that aren't built
+is_whole mechanism.AesCbc len = false
+is_whole mechanism.AesCbcPad len = false
+is_whole mechanism.AesCtr len = false
+-- codes of messages, wrapping and generation
+is_whole mechanism.AesCmac len = false
+is_whole mechanism.Sha224Hmac len = false
+is_whole mechanism.Sha256Hmac len = false
+is_whole mechanism.Sha384Hmac len = false
+is_whole mechanism.Sha512Hmac len = false
+is_whole mechanism.AesKeyWrap len = false
+is_whole mechanism.AesKeyGen len = false
+is_whole mechanism.GenericSecretKeyGen len = false
 
 -- the operation that is under way
 abbrev pub operation_of : Option Operation → Operation
-operation_of o = unwrap_or o (started AesEcb [] None)
+operation_of o = unwrap_or o (started mechanism.AesEcb [] None)
 
 abbrev pub encrypt_row : View → ℕ → Option Operation → List ℕ → Option ℕ → Row → Bool
 encrypt_row v s o input room NoSession = is_none (session_of v s)

@@ -46,6 +46,12 @@ impl<K: Keep> BenchOver<K> {
         }
     }
 
+    /// The token's keeper, once the token has stopped.
+    pub(super) fn into_keep(self) -> ListKeep {
+        let Bench { token, .. } = self;
+        token.into_keep()
+    }
+
     /// Sees that each row goes as it says.
     pub(super) fn play(&mut self, rt: &impl Abort, rows: &[Row]) -> Result<(), Fail> {
         for (number, row) in rows.iter().enumerate() {
