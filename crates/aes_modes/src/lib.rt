@@ -45,10 +45,11 @@ mod direction;
 mod fault;
 mod padded_chaining;
 
+pub use blocks::{filled_block, push_number, xor_number};
 pub use chaining::cbc;
 pub use codebook::ecb;
 pub use counter::CounterBits;
 pub use counter_mode::ctr;
 pub use direction::Direction;
 pub use fault::ModeFault;
-pub use padded_chaining::cbc_pad;
+pub use padded_chaining::{cbc_pad, unpadded_len};
