@@ -9,7 +9,7 @@ use Rattle.aes_modes.specs.Modes.{chained, cbc_blocks, cbc_enciphered, cbc_pad_e
 use Rattle.aes_modes.specs.Padding.{padded, pad_count}
 use Rattle.aes_modes.proofs.Texts.{block_of-drop, block_of-rest}
 use Rattle.aes_modes.proofs.Chains.{chained-back, cbc_blocks-back}
-use Rattle.aes_modes.proofs.Only.{cbc_enciphered-only}
+use Rattle.aes_modes.proofs.Only.{cbc_enciphered-only, cbc_pad_enciphered-only}
 use Rattle.aes_modes.proofs.Paddings.{AreBytes-padded, IsWhole-padded, length-padded-blocks, padded-last, cbc_pad-blocks}
 use Rattle.streams.specs.Flows.{blocks_done}
 use Rattle.streams.specs.CbcFlows.{IsCbcEnciphered, IsCbcDeciphered}
@@ -76,6 +76,11 @@ module _ (key iv given taken chain kept d last block : List ℕ) (held : ℕ)
   pub ended_value : (out : List ℕ) → padded out ≡ last → cbc_pad_enciphered key iv (given ++ out) ≡ taken
   ended_value out found =
       ap (cbc_enciphered key iv) (append_padded given out q g.size ∙ ap (λ x. given ++ x) found) ∙ ended_back
+
+  pub ended_only : (out : List ℕ) → padded out ≡ last → AreBytes out → (x : List ℕ) → AreBytes x → cbc_pad_enciphered key iv x ≡ taken → x ≡ given ++ out
+  ended_only out found bytes x hx same =
+      cbc_pad_enciphered-only key g.is_key iv x (given ++ out) g.block hx (All-append (λ y. y < 256) given out g.bytes bytes)
+      (same ∙ sym (ended_value out found))
 
   pub ended_none : AreBytes last → (x : List ℕ) → AreBytes x → cbc_pad_enciphered key iv x ≡ taken → padded (drop (16 * q) x) ≡ last
   ended_none bytes x hx same =

@@ -1,8 +1,11 @@
 -- ECB over data and a piece more, from what was kept of the data.
-use Rattle.std.proofs.Common.{◌≡◌, ℕ, ◌+◌, ◌*◌, ◌/◌, ◌≤◌, List, [], ◌++◌, length, take, drop, ap, sym, ◌∙◌, arith}
+use Rattle.std.proofs.Common.{◌≡◌, ℕ, ◌+◌, ◌*◌, ◌/◌, ◌≤◌, List, [], ◌++◌, length, take, drop, ap, sym, subst, ◌∙◌, arith, ◌<◌}
 use Rattle.std.proofs.Math.Seq.{take-add}
 use Rattle.std.proofs.lemmas.List.{take-append-le, drop_at}
+use Rattle.std.proofs.lemmas.List.Elements.{All-append, All-nil}
+use Rattle.aes_block.specs.Bytes.{AreBytes}
 use Rattle.aes_block.specs.Encipher.{enciphered_block}
+use Rattle.aes_block.specs.KeyExpansion.{IsKey}
 use Rattle.aes_modes.specs.Blocks.{first_blocks}
 use Rattle.aes_modes.specs.Modes.{ecb_block, ecb_blocks}
 use Rattle.aes_modes.proofs.Texts.{first_blocks-add, first_blocks-alike, first_blocks-append, block_of-drop}
@@ -43,9 +46,9 @@ module _ (key given taken piece kept out all after : List ℕ) (n len : ℕ)
       }
 
   pub ecb_further_back : IsEcbDeciphered (record { iv = []; key = key; held = 0; taken = taken; given = given })
-      → ecb_blocks key out n ≡ take (16 * n) (kept ++ piece)
+      → ecb_blocks key out n ≡ take (16 * n) (kept ++ piece) → AreBytes out
       → IsEcbDeciphered (record { iv = []; key = key; held = 0; taken = after; given = all })
-  ecb_further_back g back =
+  ecb_further_back g back bytes =
       let both : List ℕ = given ++ out in
       let at : 16 * q ≤ length taken = whole taken piece kept after n len k l is a in
       let count : q + n ≡ length after / 16 = count_after taken piece kept after n len k l is a in
@@ -60,6 +63,8 @@ module _ (key given taken piece kept out all after : List ℕ) (n len : ℕ)
             ∙ ecb_blocks-add key both q n ∙ (λ t. first t ++ later t)
             ∙ sym (take-add (16 * q) (16 * n) (taken ++ piece)) ∙ ap (λ m. take m (taken ++ piece)) sum
             ∙ (λ i. take (16 * count i) (sym a i));
+        bytes = subst AreBytes (sym o) (All-append (λ b. b < 256) given out g.bytes bytes);
+        is_key = g.is_key;
       }
 
 -- where nothing was taken
@@ -71,9 +76,11 @@ module _ (key taken given : List ℕ) (t : taken ≡ []) (g : given ≡ []) wher
   unfolding first_blocks
   ecb_begun = record { size = begun_size; out = g ∙ ap (λ l. ecb_blocks key l (length l / 16)) (sym t) }
 
-  pub ecb_begun_back : IsEcbDeciphered (record { iv = []; key = key; held = 0; taken = taken; given = given })
+  pub ecb_begun_back : IsKey key → IsEcbDeciphered (record { iv = []; key = key; held = 0; taken = taken; given = given })
   unfolding first_blocks
-  ecb_begun_back = record {
+  ecb_begun_back is_key = record {
     size = begun_size;
     back = (λ j. ecb_blocks key (g j) (length (t j) / 16)) ∙ ap (λ l. take (16 * (length l / 16)) l) (sym t);
+    bytes = subst AreBytes (sym g) (All-nil (λ b. b < 256));
+    is_key = is_key;
   }

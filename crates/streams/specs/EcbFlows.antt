@@ -1,5 +1,7 @@
 -- ECB in pieces (SP 800-38A, 6.1).
 use Rattle.std.specs.Prelude.{◌≡◌, ◌*◌, ◌/◌, length, take}
+use Rattle.aes_block.specs.Bytes.{AreBytes}
+use Rattle.aes_block.specs.KeyExpansion.{IsKey}
 use Rattle.aes_modes.specs.Modes.{ecb_blocks}
 use Rattle.streams.specs.Flows.{Flow}
 
@@ -12,3 +14,5 @@ pub record IsEcbEnciphered (f : Flow) : Type 0 where
 pub record IsEcbDeciphered (f : Flow) : Type 0 where
   pub size : length f.given ≡ 16 * (length f.taken / 16)
   pub back : ecb_blocks f.key f.given (length f.taken / 16) ≡ take (16 * (length f.taken / 16)) f.taken
+  pub bytes : AreBytes f.given
+  pub is_key : IsKey f.key

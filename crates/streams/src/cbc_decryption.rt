@@ -123,6 +123,9 @@ impl CbcDecryption {
         requires { self.now.held ≡ 1 }
         ensures value { IfOk result (λ out.
             cbc_pad_enciphered self.now.key self.now.iv (self.now.given ++ out.items) ≡ self.now.taken) }
+        ensures only { IfOk result (λ out. (x : List ℕ) → AreBytes x
+            → cbc_pad_enciphered self.now.key self.now.iv x ≡ self.now.taken → x ≡ self.now.given ++ out.items) }
+        ensures size { IfOk result (λ out. length out.items ≤ length self.now.taken - length self.now.given) }
         ensures len_range { IsErrOf result ModeFault.LenRange
             ↔ ((length self.now.taken ≡ 0) ⊎ (length self.now.taken % 16 ≢ 0)) }
         ensures bad_pad { IsErrOf result ModeFault.BadPad → (x : List ℕ) → AreBytes x

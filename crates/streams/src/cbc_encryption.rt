@@ -109,8 +109,9 @@ impl CbcEncryption {
 
     /// The last block of the padded text: the rest of the output.
     pub(crate) fn padded_block(&self, alloc: Global) -> Result<Vec<u8>, AllocError>
-        ensures { IfOk result (λ out.
+        ensures value { IfOk result (λ out.
             self.now.given ++ out.items ≡ cbc_pad_enciphered self.now.key self.now.iv self.now.taken) }
+        ensures size { IfOk result (λ out. length out.items ≡ 16) }
     {
         let mut out = Vec::with_capacity(alloc, BLOCK_SIZE)?;
         let count = BLOCK_SIZE - self.kept.len();

@@ -1,12 +1,13 @@
 //! ECB decryption in pieces (SP 800-38A, 6.1).
 
 ghost use Rattle.std.specs.Prelude.{◌≡◌, [], ◌+◌, ◌-◌, ◌*◌, ◌≤◌, ◌++◌, length, take, IfOk, OnErr};
+ghost use Rattle.aes_block.specs.Bytes.{AreBytes};
 ghost use Rattle.aes_modes.specs.Modes.{ecb_blocks};
 ghost use Rattle.streams.specs.Flows.{begun, further};
 ghost use Rattle.streams.specs.EcbFlows.{IsEcbDeciphered};
 
 use crate::kept::Kept;
-use aes_block::{BLOCK_SIZE, Key};
+use aes_block::{BLOCK_SIZE, Key, are_bytes};
 use noted::Noted;
 use std::alloc::{AllocError, Global};
 use std::marker::Model;
@@ -44,11 +45,13 @@ fn deciphered_blocks(
     ensures size { IfOk result (λ out. length out.items ≡ 16 * blocks) }
     ensures back { IfOk result (λ out.
         ecb_blocks key.now out.items blocks ≡ take (16 * blocks) (kept.now ++ piece.now)) }
+    ensures bytes { IfOk result (λ out. AreBytes out.items) }
 {
     let mut out = Vec::with_capacity(alloc, kept.len() + piece.len())?;
     'turns: for i in 0..blocks {
         out.extend_from_slice(&key.decipher(kept.block(piece, i)))?;
     }
+    are_bytes(&out);
     Ok(out)
 }
 
@@ -57,6 +60,7 @@ impl EcbDecryption {
     pub(crate) fn new(key: Key) -> EcbDecryption
         ensures { result ≡ begun [] key 0 }
     {
+        let _size = key.size();
         EcbDecryption {
             key,
             kept: Kept::new(),

@@ -1,11 +1,11 @@
 //! A text enciphered or deciphered in pieces.
 
-ghost use Rattle.std.specs.Prelude.{◌≡◌, ◌≢◌, ◌⊎◌, ℕ, List, ◌↔◌, ◌++◌, length, IfOk, IfErr, OnErr, IsErrOf};
+ghost use Rattle.std.specs.Prelude.{◌≡◌, ◌≢◌, ◌≤◌, ◌⊎◌, ℕ, List, ◌↔◌, ◌++◌, length, IfOk, IfErr, OnErr, IsErrOf};
 ghost use Rattle.aes_block.specs.Bytes.{AreBytes};
 ghost use Rattle.streams.specs.Streamed.{started, after_piece};
 ghost use Rattle.streams.specs.Lengths.{wanted, IsOfNoText, RefusesLength, EndsCounters};
 ghost use Rattle.streams.specs.States.{streamed, HoldsBack};
-ghost use Rattle.streams.specs.Right.{whole_enciphered, IsRight, IsRest, TakesPaddingOff};
+ghost use Rattle.streams.specs.Right.{whole_enciphered, IsRight, IsRest, IsOnlyRest, TakesPaddingOff};
 
 use crate::cbc_decryption::CbcDecryption;
 use crate::cbc_encryption::CbcEncryption;
@@ -85,6 +85,7 @@ impl Stream {
     /// and `Memory` where the result gets no memory.
     pub fn update(&mut self, alloc: Global, piece: &[u8]) -> Result<Vec<u8>, ModeFault>
         ensures state { IfOk result (λ out. self.new ≡ after_piece self.old piece.now out.items) }
+        ensures length { IfOk result (λ out. length out.items ≡ wanted Part.Update self.old (length piece.now)) }
         ensures right { IsRight self.new }
         ensures err { OnErr result (self.new ≡ self.old) }
         ensures counter_end { IsErrOf result ModeFault.CounterEnd ↔ EndsCounters self.old piece.now }
@@ -123,6 +124,8 @@ impl Stream {
     /// `Memory` where the result gets no memory.
     pub fn finish(&self, alloc: Global) -> Result<Vec<u8>, ModeFault>
         ensures rest { IfOk result (λ out. IsRest self.now out.items) }
+        ensures only { IfOk result (λ out. IsOnlyRest self.now out.items) }
+        ensures length { IfOk result (λ out. length out.items ≤ wanted Part.Last self.now 0) }
         ensures len_range { IsErrOf result ModeFault.LenRange
             ↔ IsOfNoText self.now.mechanism self.now.direction (length self.now.taken) }
         ensures bad_pad_mechanism { IsErrOf result ModeFault.BadPad
@@ -134,12 +137,22 @@ impl Stream {
         self.is_right();
         match &self.state {
             State::EcbEncrypt(stream) => nothing_more(alloc, stream.waiting()),
-            State::EcbDecrypt(stream) => nothing_more(alloc, stream.waiting()),
+            State::EcbDecrypt(stream) => {
+                stream.gives();
+                nothing_more(alloc, stream.waiting())
+            }
             State::CbcEncrypt(stream) => nothing_more(alloc, stream.waiting()),
-            State::CbcDecrypt(stream) => nothing_more(alloc, stream.waiting()),
+            State::CbcDecrypt(stream) => {
+                stream.gives();
+                nothing_more(alloc, stream.waiting())
+            }
             State::CbcPadEncrypt(stream) => Ok(stream.padded_block(alloc)?),
             State::CbcPadDecrypt(stream) => stream.unpadded_block(alloc),
-            State::CtrEncrypt(_) | State::CtrDecrypt(_) => Ok(Vec::new(alloc)),
+            State::CtrEncrypt(_) => Ok(Vec::new(alloc)),
+            State::CtrDecrypt(stream) => {
+                stream.is_key();
+                Ok(Vec::new(alloc))
+            }
         }
     }
 

@@ -11,6 +11,6 @@ invariant_of-self c =
     let all = c.push-2.ensures ∙ ap (λ x. s.given.bytes ++ x) c.deref.ensures.value in
     record {
       given = ecb_further_back s.key s.given.bytes s.taken.bytes c.args.piece.now s.kept c.in_ok-out.out.items _ _ _ c.len.result h.kept c.len.ensures.value refl
-          c.push.ensures all r.size h.given r.back;
+          c.push.ensures all r.size h.given r.back r.bytes;
       kept = kept_after s.taken.bytes c.args.piece.now s.kept _ _ c.len.result h.kept c.len.ensures.value refl c.push.ensures _ c.behind-self-inside.ensures;
     }
