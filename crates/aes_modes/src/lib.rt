@@ -32,6 +32,8 @@
 //! blocks of a text are enciphered alike whatever follows, and the further ones from the block
 //! before (`Texts`, `Chains`).
 //!
+//! `filled_block`, `xor_number`, `push_number` and `unpadded_len` are for a crate that works in pieces.
+//!
 //! Each call makes one growth, of the length that it gives. The time that it takes depends on
 //! secrets, as that of `aes_block`. Nothing here is authenticated.
 #![tactic(auto)]
