@@ -15,7 +15,7 @@ use Rattle.aes_modes.proofs.CounterNumbers.{counter_block-sum, counter-fits, cou
 use Rattle.aes_modes.proofs.CounterTexts.{take-xor_more, length-xor_short, IsBlock-output_block, ctr_block-append}
 use Rattle.streams.specs.Flows.{blocks_done}
 use Rattle.streams.specs.Countings.{number_block, numbered}
-use Rattle.streams.proofs.Pieces.{take-past, joined, next_kept, next_done}
+use Rattle.streams.proofs.Pieces.{take-past, joined, whole_held, count_held}
 
 -- ---- under counters from a number on
 
@@ -176,22 +176,19 @@ module _ (key start taken piece kept after : List ℕ) (m number left n total le
     (k : kept ≡ drop (16 * blocks_done 1 taken) taken)
     (l : len ≡ length kept) (t : total ≡ len + length piece - 1) (is : n ≡ total / 16) (a : after ≡ taken ++ piece) (within : n ≤ left) where
   whole : 16 * blocks_done 1 taken ≤ length taken
-  whole = omega arith
+  whole = whole_held 1 taken piece kept after n total len (omega arith) k l t is a
 
   blocks : n ≡ (length kept + length piece - 1) / 16
   blocks = is ∙ ap (λ c. c / 16) (t ∙ ap (λ c. c + length piece - 1) l)
 
   count : blocks_done 1 taken + n ≡ blocks_done 1 after
-  count = ap (λ c. blocks_done 1 taken + c) blocks ∙ next_done 1 taken piece kept (omega arith) k ∙ ap (blocks_done 1) (sym a)
+  count = count_held 1 taken piece kept after n total len (omega arith) k l t is a
 
   pub number_further : number + n ≡ from_be_bytes w128 start + blocks_done 1 after
   number_further = omega (arith, v, count)
 
   pub left_further : counter_start m start + blocks_done 1 after + (left - n + 1) ≡ 2 ^ m
   left_further = omega (arith, room, within, count)
-
-  pub kept_further : (next : List ℕ) → next ≡ drop (16 * n) (kept ++ piece) → next ≡ drop (16 * blocks_done 1 after) after
-  kept_further next e = e ∙ next_kept taken piece kept (blocks_done 1 taken) n whole k ∙ (λ i. drop (16 * count i) (sym a i))
 
   pub output_further : IsKey key → (all out part : List ℕ) → all ≡ numbered key number (kept ++ piece) → length all ≡ length kept + length piece
       → out ≡ drop len all ++ take len all → part ≡ take (length piece) out

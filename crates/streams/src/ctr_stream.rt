@@ -51,7 +51,7 @@ fn joined_counters(
     ensures size { IfOk result (λ out. length out.items ≡ length kept.now + length piece.now) }
     ensures value { IfOk result (λ out. out.items ≡ numbered key.now number (kept.now ++ piece.now)) }
 {
-    let whole = (kept.len() + piece.len()) / 16;
+    let whole = (kept.len() + piece.len()) / BLOCK_SIZE;
     let mut out = Vec::with_capacity(alloc, kept.len() + piece.len())?;
     'turns: for i in 0..whole {
         let output = key.encipher_number(number + i as u128);
@@ -99,7 +99,7 @@ impl CtrStream {
         ensures faults { IfErr result (λ fault. (fault ≡ ModeFault.CounterEnd) ⊎ (fault ≡ ModeFault.Memory)) }
     {
         let used = self.kept.len();
-        let blocks = (used + piece.len()).saturating_sub(1) / 16;
+        let blocks = (used + piece.len()).saturating_sub(1) / BLOCK_SIZE;
         if blocks as u128 > self.left {
             return Err(ModeFault::CounterEnd);
         }
@@ -118,8 +118,8 @@ impl CtrStream {
         ensures { IsTrue result
             ↔ (2 ^ self.now.bits < counter_start self.now.bits self.now.start + blocks_begun (self.now.taken ++ piece.now)) }
     {
-        let blocks = (self.kept.len() + piece.len()).saturating_sub(1) / BLOCK_SIZE;
-        if blocks as u128 > self.left {
+        let further = (self.kept.len() + piece.len()).saturating_sub(1) / BLOCK_SIZE;
+        if further as u128 > self.left {
             return true;
         }
         false

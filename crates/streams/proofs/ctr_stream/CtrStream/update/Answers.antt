@@ -1,7 +1,8 @@
 use Rattle.std.proofs.Common.{◌≤◌, ◌+◌, ◌-◌, ◌/◌, ◌++◌, ◌∙◌, ap, sym, refl, arith, length}
 use Rattle.streams.specs.Flows.{blocks_done}
 use Rattle.streams.specs.Countings.{ctr_output}
-use Rattle.streams.proofs.CtrLaw.{fits_further, number_further, left_further, kept_further, output_further}
+use Rattle.streams.proofs.CtrLaw.{fits_further, number_further, left_further, output_further}
+use Rattle.streams.proofs.Pieces.{kept_held}
 use Rattle.streams.proofs.ctr_stream.CtrStream.update.Goals as goal
 
 pub joined_counters-requires : goal.joined_counters-requires
@@ -27,7 +28,7 @@ invariant_of-self c =
       left = left_further s.key s.start.value s.taken.bytes c.args.piece.now s.kept _ s.bits s.number s.left _ _ _ h.bits h.number h.left h.kept c.len-used.ensures.value c.saturating_sub-blocks.ensures refl c.push.ensures within;
       bits = h.bits;
       is_key = h.is_key;
-      kept = kept_further s.key s.start.value s.taken.bytes c.args.piece.now s.kept _ s.bits s.number s.left _ _ _ h.bits h.number h.left h.kept c.len-used.ensures.value c.saturating_sub-blocks.ensures refl c.push.ensures within _ c.behind-self-inside.ensures;
+      kept = kept_held 1 s.taken.bytes c.args.piece.now s.kept _ _ _ _ (omega arith) h.kept c.len-used.ensures.value c.saturating_sub-blocks.ensures refl c.push.ensures _ c.behind-self-inside.ensures;
     }
 
 pub returns-clause-output : goal.returns-clause-output
