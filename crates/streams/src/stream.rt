@@ -1,6 +1,6 @@
 //! A text enciphered or deciphered in pieces.
 
-ghost use Rattle.std.specs.Prelude.{◌≡◌, ◌≢◌, ◌≤◌, ◌⊎◌, ℕ, List, ◌↔◌, ◌++◌, length, IfOk, IfErr, OnErr, IsErrOf};
+ghost use Rattle.std.specs.Prelude.{◌≡◌, ◌≢◌, ◌≤◌, ◌⊎◌, ℕ, List, ◌↔◌, length, IfOk, IfErr, OnErr, IsErrOf};
 ghost use Rattle.aes_block.specs.Bytes.{AreBytes};
 ghost use Rattle.streams.specs.Streamed.{started, after_piece};
 ghost use Rattle.streams.specs.Lengths.{wanted, IsOfNoText, RefusesLength, EndsCounters};
