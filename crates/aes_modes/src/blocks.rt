@@ -18,7 +18,7 @@ pub(crate) fn rest_of(text: &[u8]) -> &[u8]
 }
 
 /// At most 16 bytes, and as many times `fill` as make them a block.
-pub(crate) fn filled_block(bytes: &[u8], fill: u8) -> Block
+pub fn filled_block(bytes: &[u8], fill: u8) -> Block
     requires { length bytes.now ≤ 16 }
     ensures { result ≡ bytes.now ++ replicate (16 - length bytes.now) fill }
 {
@@ -31,7 +31,7 @@ pub(crate) fn filled_block(bytes: &[u8], fill: u8) -> Block
 
 /// The number whose bytes are the exclusive or of a block and those of `number`, the highest first.
 #[inline(always)]
-pub(crate) fn xor_number(block: Block, number: u128) -> u128
+pub fn xor_number(block: Block, number: u128) -> u128
     ensures { to_be_bytes w128 result ≡ xor_bytes block (to_be_bytes w128 number) }
 {
     are_bytes(&block);
@@ -40,7 +40,7 @@ pub(crate) fn xor_number(block: Block, number: u128) -> u128
 
 /// Adds the bytes of a number to `out`, the highest first.
 #[inline(always)]
-pub(crate) fn push_number(out: &mut Vec<u8>, number: u128) -> Result<(), AllocError>
+pub fn push_number(out: &mut Vec<u8>, number: u128) -> Result<(), AllocError>
     ensures { IfOk result (λ _. out.new.items ≡ out.old.items ++ to_be_bytes w128 number) }
 {
     out.extend_from_slice(&bytes_of((number >> 64) as u64))?;

@@ -32,6 +32,8 @@
 //! blocks of a text are enciphered alike whatever follows, and the further ones from the block
 //! before (`Texts`, `Chains`).
 //!
+//! `filled_block`, `xor_number`, `push_number` and `unpadded_len` are for a crate that works in pieces.
+//!
 //! Each call makes one growth, of the length that it gives. The time that it takes depends on
 //! secrets, as that of `aes_block`. Nothing here is authenticated.
 #![tactic(auto)]
@@ -45,10 +47,11 @@ mod direction;
 mod fault;
 mod padded_chaining;
 
+pub use blocks::{filled_block, push_number, xor_number};
 pub use chaining::cbc;
 pub use codebook::ecb;
 pub use counter::CounterBits;
 pub use counter_mode::ctr;
 pub use direction::Direction;
 pub use fault::ModeFault;
-pub use padded_chaining::cbc_pad;
+pub use padded_chaining::{cbc_pad, unpadded_len};

@@ -12,8 +12,9 @@ use crate::{Direction, ModeFault, chaining};
 use aes_block::{BLOCK_SIZE, Block, Key, xor_blocks};
 use std::alloc::{AllocError, Global};
 
-/// The length of the text that has `text` as its padded text, if one has.
-fn unpadded_len(text: &[u8]) -> Option<usize>
+/// The length of the text that has `text` as its padded text (RFC 5652, 6.3), if one has. `text` is
+/// whole blocks, one at least.
+pub fn unpadded_len(text: &[u8]) -> Option<usize>
     requires whole { IsWhole text.now }
     requires some { 0 < length text.now }
     ensures within { IfSome result (λ n. n < length text.now) }

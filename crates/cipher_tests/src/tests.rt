@@ -4,3 +4,4 @@ mod codes_by_hash;
 mod given;
 mod key_wrap;
 mod modes;
+mod pieces;

@@ -1,0 +1,19 @@
+use Rattle.std.proofs.Common.{refl, ap, ◌∙◌, ◌++◌}
+use Rattle.streams.proofs.CbcBackLaw.{chain_further, cbc_further_back}
+use Rattle.streams.proofs.Pieces.{kept_held}
+use Rattle.streams.proofs.cbc_decryption.CbcDecryption.update.Goals as goal
+
+pub invariant_of-self : goal.invariant_of-self
+invariant_of-self c =
+    let s = c.self.inside in
+    let h = c.self.invariant in
+    let r = c.in_ok-out.ensures in
+    let len = c.len.ensures.value in
+    let total = c.saturating_sub-blocks.ensures in
+    let all = c.push-2.ensures ∙ ap (λ x. s.given.bytes ++ x) c.deref.ensures.value in
+    record {
+      held = h.held;
+      given = cbc_further_back s.key s.iv.value s.given.bytes s.taken.bytes c.args.piece.now s.chain s.kept c.in_ok-out.out.items _ _ s.held _ _ _ h.held h.given h.chain h.kept len total refl c.push.ensures all r.size r.back r.bytes;
+      chain = chain_further s.key s.iv.value s.given.bytes s.taken.bytes c.args.piece.now s.chain s.kept c.in_ok-out.out.items _ _ s.held _ _ _ h.held h.given h.chain h.kept len total refl c.push.ensures all _ r.chain;
+      kept = kept_held s.held s.taken.bytes c.args.piece.now s.kept _ _ _ _ h.held h.kept len total refl c.push.ensures _ c.behind-self-inside.ensures;
+    }

@@ -1,0 +1,9 @@
+use Rattle.streams.proofs.EcbLaw.{ecb_begun}
+use Rattle.streams.proofs.Pieces.{begun_kept}
+use Rattle.streams.proofs.ecb_encryption.EcbEncryption.new.Goals as goal
+
+pub invariant_of-result : goal.invariant_of-result
+invariant_of-result c = record {
+  given = ecb_begun c.args.key _ _ c.new-2.ensures c.new-3.ensures;
+  kept = begun_kept _ _ c.new.ensures c.new-2.ensures;
+}

@@ -1,0 +1,16 @@
+use Rattle.std.proofs.Common.{refl, ap, ◌∙◌, ◌++◌}
+use Rattle.streams.proofs.EcbLaw.{ecb_further}
+use Rattle.streams.proofs.Pieces.{kept_after}
+use Rattle.streams.proofs.ecb_encryption.EcbEncryption.update.Goals as goal
+
+pub invariant_of-self : goal.invariant_of-self
+invariant_of-self c =
+    let s = c.self.inside in
+    let h = c.self.invariant in
+    let r = c.in_ok-out.ensures in
+    let all = c.push-2.ensures ∙ ap (λ x. s.given.bytes ++ x) c.deref.ensures.value in
+    record {
+      given = ecb_further s.key s.given.bytes s.taken.bytes c.args.piece.now s.kept c.in_ok-out.out.items _ _ _ c.len.result h.kept c.len.ensures.value refl
+          c.push.ensures all r.size h.given r.value;
+      kept = kept_after s.taken.bytes c.args.piece.now s.kept _ _ c.len.result h.kept c.len.ensures.value refl c.push.ensures _ c.behind-self-inside.ensures;
+    }

@@ -1,0 +1,10 @@
+use Rattle.std.proofs.Common.{◌∙◌, ap, ◌-◌, length}
+use Rattle.streams.proofs.Pieces.{waiting-whole}
+use Rattle.streams.proofs.ecb_encryption.EcbEncryption.waiting.Goals as goal
+
+pub returns-clause-value : goal.returns-clause-value
+returns-clause-value c =
+    let s = c.self.inside in
+    let h = c.self.invariant in
+    c.len.ensures.value ∙ waiting-whole s.taken.bytes s.given.bytes s.kept h.given.size h.kept
+    ∙ ap (λ f. length f.taken - length f.given) c.self.view_is

@@ -1,0 +1,13 @@
+-- The fields of an ECB encryption.
+use Rattle.std.specs.Prelude.{◌≡◌, ◌*◌, ◌/◌, [], length, drop}
+use Rattle.streams.specs.Flows.{Flow}
+use Rattle.streams.specs.EcbFlows.{IsEcbEnciphered}
+use Rattle.streams.specs.declared.ecb_encryption.EcbEncryption.TheInside.{Inside}
+
+abbrev pub flow_of : Inside → Flow
+flow_of s = record { iv = []; key = s.key; held = 0; taken = s.taken.bytes; given = s.given.bytes }
+
+-- the bytes behind the whole blocks are kept
+pub record Holds (s : Inside) : Type 0 where
+  pub given : IsEcbEnciphered (flow_of s)
+  pub kept : s.kept ≡ drop (16 * (length s.taken.bytes / 16)) s.taken.bytes

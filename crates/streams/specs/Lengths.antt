@@ -1,0 +1,58 @@
+-- The table of lengths: how many bytes a call wants room for, and which data is refused. `d` counts all
+-- data, that of the call included.
+use Rattle.std.specs.Prelude.{◌≡◌, ◌≢◌, ◌⊎◌, ℕ, ◌+◌, ◌-◌, ◌*◌, ◌/◌, ◌%◌, ◌^◌, ◌<◌, List, ◌++◌, length}
+use Rattle.aes_modes.specs.Blocks.{blocks_begun}
+use Rattle.aes_modes.specs.Counter.{counter_start}
+use Rattle.aes_modes.specs.declared.direction.Direction.{Direction}
+use Rattle.aes_modes.specs.declared.direction.Direction.TheVariants.{Encipher, Decipher}
+use Rattle.streams.specs.declared.mechanism.Mechanism.{Mechanism}
+use Rattle.streams.specs.declared.mechanism.Mechanism.TheVariants.{Ecb, Cbc, CbcPad, Ctr}
+use Rattle.streams.specs.declared.part.Part.{Part}
+use Rattle.streams.specs.declared.part.Part.TheVariants.{Update, Last}
+use Rattle.streams.specs.Streamed.{Streamed}
+
+-- how many bytes are given before the end is known: the whole blocks, but where a padding is taken off the last
+-- block waits, and CTR gives each byte
+abbrev pub length_so_far : Mechanism → Direction → ℕ → ℕ
+length_so_far Ecb direction d = 16 * (d / 16)
+length_so_far (Cbc iv) direction d = 16 * (d / 16)
+length_so_far (CbcPad iv) Encipher d = 16 * (d / 16)
+length_so_far (CbcPad iv) Decipher d = 16 * ((d - 1) / 16)
+length_so_far (Ctr bits start) direction d = d
+
+-- how many bytes the whole output has; where a padding is taken off, a bound on them
+abbrev pub whole_length : Mechanism → Direction → ℕ → ℕ
+whole_length Ecb direction d = d
+whole_length (Cbc iv) direction d = d
+whole_length (CbcPad iv) Encipher d = 16 * (d / 16 + 1)
+whole_length (CbcPad iv) Decipher d = d
+whole_length (Ctr bits start) direction d = d
+
+-- the room that a call with n bytes of data wants: what the output then has, less what was given
+abbrev pub wanted : Part → Streamed → ℕ → ℕ
+wanted Update s n = length_so_far s.mechanism s.direction (length s.taken + n) - length s.given
+wanted Last s n = whole_length s.mechanism s.direction (length s.taken + n) - length s.given
+
+-- so many bytes can't be all data: ECB and CBC take whole blocks, and deciphering a padded text one at least
+abbrev pub IsOfNoText : Mechanism → Direction → ℕ → Type 0
+IsOfNoText Ecb direction d = d % 16 ≢ 0
+IsOfNoText (Cbc iv) direction d = d % 16 ≢ 0
+IsOfNoText (CbcPad iv) Encipher d = ⊥
+IsOfNoText (CbcPad iv) Decipher d = (d ≡ 0) ⊎ (d % 16 ≢ 0)
+IsOfNoText (Ctr bits start) direction d = ⊥
+
+-- a call with n bytes of data is refused for the length: where data ends with it that can't be all
+abbrev pub RefusesLength : Part → Streamed → ℕ → Type 0
+RefusesLength Update s n = ⊥
+RefusesLength Last s n = IsOfNoText s.mechanism s.direction (length s.taken + n)
+
+-- CTR has no counter for each block of the text (SP 800-38A, appendix B.1)
+abbrev pub IsPastCounters : Mechanism → List ℕ → Type 0
+IsPastCounters Ecb text = ⊥
+IsPastCounters (Cbc iv) text = ⊥
+IsPastCounters (CbcPad iv) text = ⊥
+IsPastCounters (Ctr bits start) text = 2 ^ bits < counter_start bits start + blocks_begun text
+
+-- more data has no counters
+abbrev pub EndsCounters : Streamed → List ℕ → Type 0
+EndsCounters s piece = IsPastCounters s.mechanism (s.taken ++ piece)

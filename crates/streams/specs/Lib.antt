@@ -1,0 +1,14 @@
+pub mod Kept
+pub mod Streamed
+pub mod Lengths
+pub mod Right
+pub mod Flows
+pub mod EcbFlows
+pub mod EcbEncryptions
+pub mod EcbDecryptions
+pub mod CbcFlows
+pub mod CbcEncryptions
+pub mod CbcDecryptions
+pub mod Countings
+pub mod CtrFields
+pub mod States

@@ -1,0 +1,20 @@
+-- A text that is enciphered or deciphered in pieces, as contracts see it (SP 800-38A, 6; PKCS #11 v3.1,
+-- 5.8 and 5.10).
+use Rattle.std.specs.Prelude.{ℕ, List, [], ◌++◌}
+use Rattle.aes_modes.specs.declared.direction.Direction.{Direction}
+use Rattle.streams.specs.declared.mechanism.Mechanism.{Mechanism}
+
+-- the mechanism with its parameter, the direction, the key, all data that was taken and all bytes that were given for it
+pub record Streamed : Type 0 where
+  pub mechanism : Mechanism
+  pub direction : Direction
+  pub key : List ℕ
+  pub taken : List ℕ
+  pub given : List ℕ
+
+abbrev pub started : Mechanism → Direction → List ℕ → Streamed
+started mechanism direction key = record { mechanism = mechanism; direction = direction; key = key; taken = []; given = [] }
+
+-- a piece further, for which `out` was given
+abbrev pub after_piece : Streamed → List ℕ → List ℕ → Streamed
+after_piece s piece out = record s { taken = s.taken ++ piece; given = s.given ++ out }

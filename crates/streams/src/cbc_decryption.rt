@@ -1,0 +1,146 @@
+//! CBC decryption in pieces (SP 800-38A, 6.2), with or without padding at the end (RFC 5652, 6.3).
+
+ghost use Rattle.std.specs.Prelude.{◌≡◌, ◌≢◌, ◌⊎◌, ℕ, List, ◌+◌, ◌-◌, ◌*◌, ◌%◌, ◌≤◌, ◌++◌, ◌↔◌, length, take, IfOk, IfErr, OnErr, IsErrOf};
+ghost use Rattle.aes_block.specs.Bytes.{AreBytes};
+ghost use Rattle.aes_modes.specs.Modes.{chained, cbc_blocks, cbc_pad_enciphered};
+ghost use Rattle.streams.specs.Flows.{begun, further};
+ghost use Rattle.streams.specs.CbcFlows.{IsCbcDeciphered};
+
+use crate::kept::Kept;
+use aes_block::{BLOCK_SIZE, Block, Key, are_bytes, xor_blocks};
+use aes_modes::{ModeFault, unpadded_len};
+use noted::Noted;
+use std::alloc::{AllocError, Global};
+use std::marker::Model;
+use std::snapshot::Snapshot;
+
+/// A CBC decryption that has taken data. It keeps the last block that it worked on and at most a
+/// block of data: so many bytes at least as are held back until the end, which is 1 where a padding
+/// is to be taken off, and else 0.
+#[derive(Drop)]
+pub(crate) struct CbcDecryption {
+    key: Key,
+    chain: Block,
+    kept: Kept,
+    held: usize,
+    iv: Snapshot<Block>,
+    taken: Noted,
+    given: Noted,
+}
+
+impl Model for CbcDecryption {
+    ghost use Rattle.streams.specs.Flows.{Flow};
+
+    ghost Value = { Flow };
+
+    ghost use Rattle.streams.specs.CbcDecryptions.{flow_of, Holds};
+
+    ghost view = { flow_of };
+
+    ghost invariant = { Holds };
+}
+
+// What the first blocks of kept bytes and a piece are deciphered to, and the last of these blocks.
+fn deciphered_blocks(
+    alloc: Global,
+    key: &Key,
+    start: Block,
+    kept: &Kept,
+    piece: &[u8],
+    blocks: usize,
+) -> Result<(Vec<u8>, Block), AllocError>
+    requires { 16 * blocks ≤ length kept.now + length piece.now }
+    ensures size { IfOk result (λ r. length r.0.items ≡ 16 * blocks) }
+    ensures back { IfOk result (λ r.
+        cbc_blocks key.now start r.0.items blocks ≡ take (16 * blocks) (kept.now ++ piece.now)) }
+    ensures chain { IfOk result (λ r. r.1 ≡ chained key.now start r.0.items blocks) }
+    ensures bytes { IfOk result (λ r. AreBytes r.0.items) }
+{
+    let mut out = Vec::with_capacity(alloc, kept.len() + piece.len())?;
+    let mut chain = start;
+    'turns: for i in 0..blocks {
+        let block = kept.block(piece, i);
+        out.extend_from_slice(&xor_blocks(key.decipher(block), chain))?;
+        chain = block;
+    }
+    are_bytes(&out);
+    Ok((out, chain))
+}
+
+impl CbcDecryption {
+    /// A decryption that has taken nothing, and holds so many bytes at least back until the end.
+    pub(crate) fn new(key: Key, iv: Block, held: usize) -> CbcDecryption
+        requires { held ≤ 1 }
+        ensures { result ≡ begun iv key held }
+    {
+        let _size = key.size();
+        are_bytes(&iv);
+        let start = Snapshot::of(&iv);
+        CbcDecryption {
+            key,
+            chain: iv,
+            kept: Kept::new(),
+            held,
+            iv: start,
+            taken: Noted::new(),
+            given: Noted::new(),
+        }
+    }
+
+    /// Takes a piece, and gives what it adds to the output. An `Err` changes nothing.
+    pub(crate) fn update(&mut self, alloc: Global, piece: &[u8]) -> Result<Vec<u8>, AllocError>
+        ensures state { IfOk result (λ out. self.new ≡ further self.old piece.now out.items) }
+        ensures err { OnErr result (self.new ≡ self.old) }
+    {
+        let blocks = (self.kept.len() + piece.len()).saturating_sub(self.held) / BLOCK_SIZE;
+        let (out, chain) = deciphered_blocks(
+            alloc, &self.key, self.chain, &self.kept, piece, blocks,
+        )?;
+        self.chain = chain;
+        self.kept = self.kept.behind(piece, blocks);
+        self.taken.push(piece);
+        self.given.push(&out);
+        Ok(out)
+    }
+
+    /// What the bytes given are. It does nothing.
+    pub(crate) fn gives(&self)
+        ensures { IsCbcDeciphered self.now }
+    {
+        let _kept = &self.kept;
+    }
+
+    /// How many bytes were taken for which none were given: at most 16.
+    pub(crate) fn waiting(&self) -> usize
+        ensures value { result ≡ length self.now.taken - length self.now.given }
+        ensures within { result ≤ 16 }
+    {
+        self.kept.len()
+    }
+
+    /// The rest of the output, without the padding.
+    pub(crate) fn unpadded_block(&self, alloc: Global) -> Result<Vec<u8>, ModeFault>
+        requires { self.now.held ≡ 1 }
+        ensures value { IfOk result (λ out.
+            cbc_pad_enciphered self.now.key self.now.iv (self.now.given ++ out.items) ≡ self.now.taken) }
+        ensures only { IfOk result (λ out. (x : List ℕ) → AreBytes x
+            → cbc_pad_enciphered self.now.key self.now.iv x ≡ self.now.taken → x ≡ self.now.given ++ out.items) }
+        ensures size { IfOk result (λ out. length out.items ≤ length self.now.taken - length self.now.given) }
+        ensures len_range { IsErrOf result ModeFault.LenRange
+            ↔ ((length self.now.taken ≡ 0) ⊎ (length self.now.taken % 16 ≢ 0)) }
+        ensures bad_pad { IsErrOf result ModeFault.BadPad → (x : List ℕ) → AreBytes x
+            → cbc_pad_enciphered self.now.key self.now.iv x ≢ self.now.taken }
+        ensures faults { IfErr result (λ fault. fault ≢ ModeFault.CounterEnd) }
+    {
+        if self.kept.len() != BLOCK_SIZE {
+            return Err(ModeFault::LenRange);
+        }
+        let last = xor_blocks(self.key.decipher(self.kept.block(b"", 0)), self.chain);
+        let Some(len) = unpadded_len(&last) else {
+            return Err(ModeFault::BadPad);
+        };
+        let mut out = Vec::with_capacity(alloc, BLOCK_SIZE)?;
+        out.extend_from_slice(&last[..len])?;
+        Ok(out)
+    }
+}

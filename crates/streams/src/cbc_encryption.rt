@@ -1,0 +1,122 @@
+//! CBC encryption in pieces (SP 800-38A, 6.2), with or without padding at the end (RFC 5652, 6.3).
+
+ghost use Rattle.std.specs.Prelude.{◌≡◌, ◌+◌, ◌-◌, ◌*◌, ◌≤◌, ◌++◌, length, IfOk, OnErr};
+ghost use Rattle.aes_modes.specs.Modes.{chained, cbc_blocks, cbc_pad_enciphered};
+ghost use Rattle.streams.specs.Flows.{begun, further};
+ghost use Rattle.streams.specs.CbcFlows.{IsCbcEnciphered};
+
+use crate::kept::Kept;
+use aes_block::{BLOCK_SIZE, Block, Key, xor_blocks};
+use aes_modes::filled_block;
+use noted::Noted;
+use std::alloc::{AllocError, Global};
+use std::marker::Model;
+use std::snapshot::Snapshot;
+
+/// A CBC encryption that has taken data. It keeps the last block of its output and less than a
+/// block of data.
+#[derive(Drop)]
+pub(crate) struct CbcEncryption {
+    key: Key,
+    chain: Block,
+    kept: Kept,
+    iv: Snapshot<Block>,
+    taken: Noted,
+    given: Noted,
+}
+
+impl Model for CbcEncryption {
+    ghost use Rattle.streams.specs.Flows.{Flow};
+
+    ghost Value = { Flow };
+
+    ghost use Rattle.streams.specs.CbcEncryptions.{flow_of, Holds};
+
+    ghost view = { flow_of };
+
+    ghost invariant = { Holds };
+}
+
+// What the first blocks of kept bytes and a piece are enciphered to, and the last block of that.
+fn enciphered_blocks(
+    alloc: Global,
+    key: &Key,
+    start: Block,
+    kept: &Kept,
+    piece: &[u8],
+    blocks: usize,
+) -> Result<(Vec<u8>, Block), AllocError>
+    requires { 16 * blocks ≤ length kept.now + length piece.now }
+    ensures size { IfOk result (λ r. length r.0.items ≡ 16 * blocks) }
+    ensures out { IfOk result (λ r. r.0.items ≡ cbc_blocks key.now start (kept.now ++ piece.now) blocks) }
+    ensures chain { IfOk result (λ r. r.1 ≡ chained key.now start (kept.now ++ piece.now) blocks) }
+{
+    let mut out = Vec::with_capacity(alloc, kept.len() + piece.len())?;
+    let mut chain = start;
+    'turns: for i in 0..blocks {
+        chain = key.encipher(xor_blocks(kept.block(piece, i), chain));
+        out.extend_from_slice(&chain)?;
+    }
+    Ok((out, chain))
+}
+
+impl CbcEncryption {
+    /// An encryption that has taken nothing.
+    pub(crate) fn new(key: Key, iv: Block) -> CbcEncryption
+        ensures { result ≡ begun iv key 0 }
+    {
+        let start = Snapshot::of(&iv);
+        CbcEncryption {
+            key,
+            chain: iv,
+            kept: Kept::new(),
+            iv: start,
+            taken: Noted::new(),
+            given: Noted::new(),
+        }
+    }
+
+    /// Takes a piece, and gives what it adds to the output. An `Err` changes nothing.
+    pub(crate) fn update(&mut self, alloc: Global, piece: &[u8]) -> Result<Vec<u8>, AllocError>
+        ensures state { IfOk result (λ out. self.new ≡ further self.old piece.now out.items) }
+        ensures err { OnErr result (self.new ≡ self.old) }
+    {
+        let blocks = (self.kept.len() + piece.len()) / BLOCK_SIZE;
+        let (out, chain) = enciphered_blocks(
+            alloc, &self.key, self.chain, &self.kept, piece, blocks,
+        )?;
+        self.chain = chain;
+        self.kept = self.kept.behind(piece, blocks);
+        self.taken.push(piece);
+        self.given.push(&out);
+        Ok(out)
+    }
+
+    /// What the bytes given are. It does nothing.
+    pub(crate) fn gives(&self)
+        ensures { IsCbcEnciphered self.now }
+    {
+        let _kept = &self.kept;
+    }
+
+    /// How many bytes were taken for which none were given: at most 16.
+    pub(crate) fn waiting(&self) -> usize
+        ensures value { result ≡ length self.now.taken - length self.now.given }
+        ensures within { result ≤ 16 }
+    {
+        self.kept.len()
+    }
+
+    /// The last block of the padded text: the rest of the output.
+    pub(crate) fn padded_block(&self, alloc: Global) -> Result<Vec<u8>, AllocError>
+        ensures value { IfOk result (λ out.
+            self.now.given ++ out.items ≡ cbc_pad_enciphered self.now.key self.now.iv self.now.taken) }
+        ensures size { IfOk result (λ out. length out.items ≡ 16) }
+    {
+        let mut out = Vec::with_capacity(alloc, BLOCK_SIZE)?;
+        let count = BLOCK_SIZE - self.kept.len();
+        let last = filled_block(self.kept.as_slice(), count as u8);
+        out.extend_from_slice(&self.key.encipher(xor_blocks(last, self.chain)))?;
+        Ok(out)
+    }
+}

@@ -1,0 +1,99 @@
+//! ECB decryption in pieces (SP 800-38A, 6.1).
+
+ghost use Rattle.std.specs.Prelude.{◌≡◌, [], ◌+◌, ◌-◌, ◌*◌, ◌≤◌, ◌++◌, length, take, IfOk, OnErr};
+ghost use Rattle.aes_block.specs.Bytes.{AreBytes};
+ghost use Rattle.aes_modes.specs.Modes.{ecb_blocks};
+ghost use Rattle.streams.specs.Flows.{begun, further};
+ghost use Rattle.streams.specs.EcbFlows.{IsEcbDeciphered};
+
+use crate::kept::Kept;
+use aes_block::{BLOCK_SIZE, Key, are_bytes};
+use noted::Noted;
+use std::alloc::{AllocError, Global};
+use std::marker::Model;
+
+/// An ECB decryption that has taken data. It keeps less than a block of data.
+#[derive(Drop)]
+pub(crate) struct EcbDecryption {
+    key: Key,
+    kept: Kept,
+    taken: Noted,
+    given: Noted,
+}
+
+impl Model for EcbDecryption {
+    ghost use Rattle.streams.specs.Flows.{Flow};
+
+    ghost Value = { Flow };
+
+    ghost use Rattle.streams.specs.EcbDecryptions.{flow_of, Holds};
+
+    ghost view = { flow_of };
+
+    ghost invariant = { Holds };
+}
+
+// What the first blocks of kept bytes and a piece are deciphered to.
+fn deciphered_blocks(
+    alloc: Global,
+    key: &Key,
+    kept: &Kept,
+    piece: &[u8],
+    blocks: usize,
+) -> Result<Vec<u8>, AllocError>
+    requires { 16 * blocks ≤ length kept.now + length piece.now }
+    ensures size { IfOk result (λ out. length out.items ≡ 16 * blocks) }
+    ensures back { IfOk result (λ out.
+        ecb_blocks key.now out.items blocks ≡ take (16 * blocks) (kept.now ++ piece.now)) }
+    ensures bytes { IfOk result (λ out. AreBytes out.items) }
+{
+    let mut out = Vec::with_capacity(alloc, kept.len() + piece.len())?;
+    'turns: for i in 0..blocks {
+        out.extend_from_slice(&key.decipher(kept.block(piece, i)))?;
+    }
+    are_bytes(&out);
+    Ok(out)
+}
+
+impl EcbDecryption {
+    /// A decryption that has taken nothing.
+    pub(crate) fn new(key: Key) -> EcbDecryption
+        ensures { result ≡ begun [] key 0 }
+    {
+        let _size = key.size();
+        EcbDecryption {
+            key,
+            kept: Kept::new(),
+            taken: Noted::new(),
+            given: Noted::new(),
+        }
+    }
+
+    /// Takes a piece, and gives what it adds to the output. An `Err` changes nothing.
+    pub(crate) fn update(&mut self, alloc: Global, piece: &[u8]) -> Result<Vec<u8>, AllocError>
+        ensures state { IfOk result (λ out. self.new ≡ further self.old piece.now out.items) }
+        ensures err { OnErr result (self.new ≡ self.old) }
+    {
+        let blocks = (self.kept.len() + piece.len()) / BLOCK_SIZE;
+        let out = deciphered_blocks(alloc, &self.key, &self.kept, piece, blocks)?;
+        self.kept = self.kept.behind(piece, blocks);
+        self.taken.push(piece);
+        self.given.push(&out);
+        Ok(out)
+    }
+
+    /// What the bytes given are. It does nothing.
+    pub(crate) fn gives(&self)
+        ensures { IsEcbDeciphered self.now }
+    {
+        let _kept = &self.kept;
+    }
+
+    /// How many bytes were taken for which none were given: at most 16.
+    pub(crate) fn waiting(&self) -> usize
+        ensures value { result ≡ length self.now.taken - length self.now.given }
+        ensures within { result ≤ 16 }
+    {
+        self.kept.len()
+    }
+}

@@ -1,0 +1,94 @@
+//! ECB encryption in pieces (SP 800-38A, 6.1).
+
+ghost use Rattle.std.specs.Prelude.{◌≡◌, [], ◌+◌, ◌-◌, ◌*◌, ◌≤◌, ◌++◌, length, IfOk, OnErr};
+ghost use Rattle.aes_modes.specs.Modes.{ecb_blocks};
+ghost use Rattle.streams.specs.Flows.{begun, further};
+ghost use Rattle.streams.specs.EcbFlows.{IsEcbEnciphered};
+
+use crate::kept::Kept;
+use aes_block::{BLOCK_SIZE, Key};
+use noted::Noted;
+use std::alloc::{AllocError, Global};
+use std::marker::Model;
+
+/// An ECB encryption that has taken data. It keeps less than a block of data.
+#[derive(Drop)]
+pub(crate) struct EcbEncryption {
+    key: Key,
+    kept: Kept,
+    taken: Noted,
+    given: Noted,
+}
+
+impl Model for EcbEncryption {
+    ghost use Rattle.streams.specs.Flows.{Flow};
+
+    ghost Value = { Flow };
+
+    ghost use Rattle.streams.specs.EcbEncryptions.{flow_of, Holds};
+
+    ghost view = { flow_of };
+
+    ghost invariant = { Holds };
+}
+
+// What the first blocks of kept bytes and a piece are enciphered to.
+fn enciphered_blocks(
+    alloc: Global,
+    key: &Key,
+    kept: &Kept,
+    piece: &[u8],
+    blocks: usize,
+) -> Result<Vec<u8>, AllocError>
+    requires { 16 * blocks ≤ length kept.now + length piece.now }
+    ensures size { IfOk result (λ out. length out.items ≡ 16 * blocks) }
+    ensures value { IfOk result (λ out. out.items ≡ ecb_blocks key.now (kept.now ++ piece.now) blocks) }
+{
+    let mut out = Vec::with_capacity(alloc, kept.len() + piece.len())?;
+    'turns: for i in 0..blocks {
+        out.extend_from_slice(&key.encipher(kept.block(piece, i)))?;
+    }
+    Ok(out)
+}
+
+impl EcbEncryption {
+    /// An encryption that has taken nothing.
+    pub(crate) fn new(key: Key) -> EcbEncryption
+        ensures { result ≡ begun [] key 0 }
+    {
+        EcbEncryption {
+            key,
+            kept: Kept::new(),
+            taken: Noted::new(),
+            given: Noted::new(),
+        }
+    }
+
+    /// Takes a piece, and gives what it adds to the output. An `Err` changes nothing.
+    pub(crate) fn update(&mut self, alloc: Global, piece: &[u8]) -> Result<Vec<u8>, AllocError>
+        ensures state { IfOk result (λ out. self.new ≡ further self.old piece.now out.items) }
+        ensures err { OnErr result (self.new ≡ self.old) }
+    {
+        let blocks = (self.kept.len() + piece.len()) / BLOCK_SIZE;
+        let out = enciphered_blocks(alloc, &self.key, &self.kept, piece, blocks)?;
+        self.kept = self.kept.behind(piece, blocks);
+        self.taken.push(piece);
+        self.given.push(&out);
+        Ok(out)
+    }
+
+    /// What the bytes given are. It does nothing.
+    pub(crate) fn gives(&self)
+        ensures { IsEcbEnciphered self.now }
+    {
+        let _kept = &self.kept;
+    }
+
+    /// How many bytes were taken for which none were given: at most 16.
+    pub(crate) fn waiting(&self) -> usize
+        ensures value { result ≡ length self.now.taken - length self.now.given }
+        ensures within { result ≤ 16 }
+    {
+        self.kept.len()
+    }
+}

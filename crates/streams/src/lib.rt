@@ -1,0 +1,52 @@
+//! Texts enciphered and deciphered in pieces: CKM_AES_ECB, CKM_AES_CBC, CKM_AES_CBC_PAD and
+//! CKM_AES_CTR (PKCS #11 v3.1, 5.8, 5.10, 6.10 and 6.11; SP 800-38A; the padding of PKCS #7, RFC
+//! 5652, 6.3), in memory that does not grow with the text.
+//!
+//! ```rust
+//! use aes_block::Key;
+//! use aes_modes::Direction;
+//! use streams::{Mechanism, Part, Stream};
+//!
+//! let Some(key) = Key::new(b"sixteen byte key") else {
+//!     return Ok(());
+//! };
+//! let mut stream = Stream::new(Mechanism::CbcPad { iv: [7; 16] }, Direction::Encipher, key);
+//! let room = stream.room_of(Part::Update, b"a piece of any length")?;
+//! let blocks = stream.update(alloc, b"a piece of any length")?;
+//! let last = stream.finish(alloc)?;
+//! ```
+//!
+//! Contracts see a `Stream` as one record for all mechanisms (`Streamed`): the mechanism with its
+//! parameter, the direction, the key, all data that was taken and all bytes that were given. The
+//! last two take no memory; of the data at most 16 bytes are kept.
+//!
+//! Proved, for every key, parameter and data, however it is cut:
+//!
+//! - The bytes given are what the mode over whole texts turns as many bytes of the data to as the
+//!   table of lengths says (`IsRight`; `specs/Lengths.antt`), and with the final call's they are
+//!   what it turns all data to (`IsRest`). The definitions are those of `aes_modes`.
+//! - `LenRange` comes exactly where the data's length is that of no text, and `CounterEnd` exactly
+//!   where a counter block would come again, before anything changes. `BadPad` comes only where no
+//!   text is enciphered to the data. But for these there is only `Memory`, for a growth refused.
+//! - A refused call, and a final one, leaves the stream as it is.
+//! - `room_of` tells before any work what a call wants and why it is refused.
+//!
+//! An update makes one growth, of the length of the piece and a block, and a final call at most one
+//! of a block. The time that they take depends on secrets, as that of `aes_block`.
+#![tactic(auto)]
+
+mod cbc_decryption;
+mod cbc_encryption;
+mod ctr_stream;
+mod ecb_decryption;
+mod ecb_encryption;
+mod kept;
+mod mechanism;
+mod part;
+mod rooms;
+mod state;
+mod stream;
+
+pub use mechanism::Mechanism;
+pub use part::Part;
+pub use stream::Stream;

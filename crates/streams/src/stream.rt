@@ -1,0 +1,230 @@
+//! A text enciphered or deciphered in pieces.
+
+ghost use Rattle.std.specs.Prelude.{◌≡◌, ◌≢◌, ◌≤◌, ◌⊎◌, ℕ, List, ◌↔◌, length, IfOk, IfErr, OnErr, IsErrOf};
+ghost use Rattle.aes_block.specs.Bytes.{AreBytes};
+ghost use Rattle.streams.specs.Streamed.{started, after_piece};
+ghost use Rattle.streams.specs.Lengths.{wanted, IsOfNoText, RefusesLength, EndsCounters};
+ghost use Rattle.streams.specs.States.{streamed, HoldsBack};
+ghost use Rattle.streams.specs.Right.{whole_enciphered, IsRight, IsRest, IsOnlyRest, TakesPaddingOff};
+
+use crate::cbc_decryption::CbcDecryption;
+use crate::cbc_encryption::CbcEncryption;
+use crate::ctr_stream::CtrStream;
+use crate::ecb_decryption::EcbDecryption;
+use crate::ecb_encryption::EcbEncryption;
+use crate::rooms::{counted, nothing_more, padded, so_far, unpadded, whole};
+use crate::state::State;
+use crate::{Mechanism, Part};
+use aes_block::Key;
+use aes_modes::{Direction, ModeFault};
+use std::alloc::Global;
+use std::marker::Model;
+
+/// A text that is enciphered or deciphered in pieces. Contracts see its mechanism with parameter, its
+/// direction and key, all data that it has taken and all bytes that it has given.
+///
+/// Of the data it keeps at most 16 bytes.
+#[derive(Drop)]
+pub struct Stream {
+    state: State,
+}
+
+impl Model for Stream {
+    ghost use Rattle.streams.specs.Streamed.{Streamed};
+
+    ghost Value = { Streamed };
+
+    ghost use Rattle.streams.specs.States.{streamed, HoldsBack};
+
+    ghost view = { λ s. streamed s.state };
+
+    ghost invariant = { λ s. HoldsBack s.state };
+}
+
+// The state of a stream that has taken nothing.
+fn begun(mechanism: Mechanism, direction: Direction, key: Key) -> State
+    ensures state { streamed result ≡ started mechanism direction key }
+    ensures held { HoldsBack result }
+{
+    match mechanism {
+        Mechanism::Ecb => match direction {
+            Direction::Encipher => State::EcbEncrypt(EcbEncryption::new(key)),
+            Direction::Decipher => State::EcbDecrypt(EcbDecryption::new(key)),
+        },
+        Mechanism::Cbc { iv } => match direction {
+            Direction::Encipher => State::CbcEncrypt(CbcEncryption::new(key, iv)),
+            Direction::Decipher => State::CbcDecrypt(CbcDecryption::new(key, iv, 0)),
+        },
+        Mechanism::CbcPad { iv } => match direction {
+            Direction::Encipher => State::CbcPadEncrypt(CbcEncryption::new(key, iv)),
+            Direction::Decipher => State::CbcPadDecrypt(CbcDecryption::new(key, iv, 1)),
+        },
+        Mechanism::Ctr { bits, start } => match direction {
+            Direction::Encipher => State::CtrEncrypt(CtrStream::new(key, bits, start)),
+            Direction::Decipher => State::CtrDecrypt(CtrStream::new(key, bits, start)),
+        },
+    }
+}
+
+impl Stream {
+    /// A stream that has taken nothing. It takes no memory and cannot fail.
+    pub fn new(mechanism: Mechanism, direction: Direction, key: Key) -> Stream
+        ensures { result ≡ started mechanism direction key }
+    {
+        Stream {
+            state: begun(mechanism, direction, key),
+        }
+    }
+
+    /// Takes a piece of any length, and gives what it adds to the output (PKCS #11 v3.1, 5.8 and
+    /// 5.10): all bytes that the data determines before its end is known. These are its whole
+    /// blocks, but for the last one where a padding is to be taken off, and of CTR as many bytes as
+    /// the piece has.
+    ///
+    /// An `Err` changes nothing: `CounterEnd` where CTR has no counter for each block of the data,
+    /// and `Memory` where the result gets no memory.
+    pub fn update(&mut self, alloc: Global, piece: &[u8]) -> Result<Vec<u8>, ModeFault>
+        ensures state { IfOk result (λ out. self.new ≡ after_piece self.old piece.now out.items) }
+        ensures length { IfOk result (λ out. length out.items ≡ wanted Part.Update self.old (length piece.now)) }
+        ensures right { IsRight self.new }
+        ensures err { OnErr result (self.new ≡ self.old) }
+        ensures counter_end { IsErrOf result ModeFault.CounterEnd ↔ EndsCounters self.old piece.now }
+        ensures faults { IfErr result (λ fault. (fault ≡ ModeFault.CounterEnd) ⊎ (fault ≡ ModeFault.Memory)) }
+    {
+        let result = self.further(alloc, piece);
+        self.is_right();
+        result
+    }
+
+    // The work of an update.
+    fn further(&mut self, alloc: Global, piece: &[u8]) -> Result<Vec<u8>, ModeFault>
+        ensures state { IfOk result (λ out. self.new ≡ after_piece self.old piece.now out.items) }
+        ensures err { OnErr result (self.new ≡ self.old) }
+        ensures counter_end { IsErrOf result ModeFault.CounterEnd ↔ EndsCounters self.old piece.now }
+        ensures faults { IfErr result (λ fault. (fault ≡ ModeFault.CounterEnd) ⊎ (fault ≡ ModeFault.Memory)) }
+    {
+        match &mut self.state {
+            State::EcbEncrypt(stream) => Ok(stream.update(alloc, piece)?),
+            State::EcbDecrypt(stream) => Ok(stream.update(alloc, piece)?),
+            State::CbcEncrypt(stream) => Ok(stream.update(alloc, piece)?),
+            State::CbcDecrypt(stream) => Ok(stream.update(alloc, piece)?),
+            State::CbcPadEncrypt(stream) => Ok(stream.update(alloc, piece)?),
+            State::CbcPadDecrypt(stream) => Ok(stream.update(alloc, piece)?),
+            State::CtrEncrypt(stream) => stream.update(alloc, piece),
+            State::CtrDecrypt(stream) => stream.update(alloc, piece),
+        }
+    }
+
+    /// Ends the text, and gives the rest of the output (PKCS #11 v3.1, 5.8 and 5.10): of
+    /// `CbcPad` the last block with the padding, or what the last block has before its padding, and
+    /// else nothing. The stream is left as it is.
+    ///
+    /// `LenRange` where data of this length is no text: under ECB and CBC it is whole blocks, and
+    /// where a padding is taken off one at least. `BadPad` where no text is enciphered to the data.
+    /// `Memory` where the result gets no memory.
+    pub fn finish(&self, alloc: Global) -> Result<Vec<u8>, ModeFault>
+        ensures rest { IfOk result (λ out. IsRest self.now out.items) }
+        ensures only { IfOk result (λ out. IsOnlyRest self.now out.items) }
+        ensures length { IfOk result (λ out. length out.items ≤ wanted Part.Last self.now 0) }
+        ensures len_range { IsErrOf result ModeFault.LenRange
+            ↔ IsOfNoText self.now.mechanism self.now.direction (length self.now.taken) }
+        ensures bad_pad_mechanism { IsErrOf result ModeFault.BadPad
+            → TakesPaddingOff self.now.mechanism self.now.direction }
+        ensures bad_pad { IsErrOf result ModeFault.BadPad → (x : List ℕ) → AreBytes x
+            → whole_enciphered self.now.mechanism self.now.key x ≢ self.now.taken }
+        ensures faults { IfErr result (λ fault. fault ≢ ModeFault.CounterEnd) }
+    {
+        self.is_right();
+        match &self.state {
+            State::EcbEncrypt(stream) => nothing_more(alloc, stream.waiting()),
+            State::EcbDecrypt(stream) => {
+                stream.gives();
+                nothing_more(alloc, stream.waiting())
+            }
+            State::CbcEncrypt(stream) => nothing_more(alloc, stream.waiting()),
+            State::CbcDecrypt(stream) => {
+                stream.gives();
+                nothing_more(alloc, stream.waiting())
+            }
+            State::CbcPadEncrypt(stream) => Ok(stream.padded_block(alloc)?),
+            State::CbcPadDecrypt(stream) => stream.unpadded_block(alloc),
+            State::CtrEncrypt(_) => Ok(Vec::new(alloc)),
+            State::CtrDecrypt(stream) => {
+                stream.is_key();
+                Ok(Vec::new(alloc))
+            }
+        }
+    }
+
+    /// How many bytes of room a call wants that comes with `input` (PKCS #11 v3.1, 5.2), or why it
+    /// is refused. This is told before any work, and nothing is changed. The call's output is no
+    /// longer than that, and shorter only where a padding is taken off.
+    ///
+    /// A single-part call is the last part with all data, and a final call the last part with none.
+    ///
+    /// `LenRange` where with the last part the data has a length that no text has, and `CounterEnd`
+    /// where CTR has no counter for each block of the data.
+    pub fn room_of(&self, part: Part, input: &[u8]) -> Result<usize, ModeFault>
+        ensures room { IfOk result (λ room. room ≡ wanted part self.now (length input.now)) }
+        ensures len_range { IsErrOf result ModeFault.LenRange ↔ RefusesLength part self.now (length input.now) }
+        ensures counter_end { IsErrOf result ModeFault.CounterEnd ↔ EndsCounters self.now input.now }
+        ensures faults { IfErr result (λ fault. (fault ≡ ModeFault.LenRange) ⊎ (fault ≡ ModeFault.CounterEnd)) }
+    {
+        match part {
+            Part::Update => self.room_of_update(input),
+            Part::Last => self.room_of_last(input),
+        }
+    }
+
+    fn room_of_update(&self, input: &[u8]) -> Result<usize, ModeFault>
+        ensures room { IfOk result (λ room. room ≡ wanted Part.Update self.now (length input.now)) }
+        ensures counter_end { IsErrOf result ModeFault.CounterEnd ↔ EndsCounters self.now input.now }
+        ensures faults { IfErr result (λ fault. fault ≡ ModeFault.CounterEnd) }
+    {
+        self.is_right();
+        match &self.state {
+            State::EcbEncrypt(stream) => Ok(so_far(stream.waiting(), 0, input)),
+            State::EcbDecrypt(stream) => Ok(so_far(stream.waiting(), 0, input)),
+            State::CbcEncrypt(stream) => Ok(so_far(stream.waiting(), 0, input)),
+            State::CbcDecrypt(stream) => Ok(so_far(stream.waiting(), 0, input)),
+            State::CbcPadEncrypt(stream) => Ok(so_far(stream.waiting(), 0, input)),
+            State::CbcPadDecrypt(stream) => Ok(so_far(stream.waiting(), 1, input)),
+            State::CtrEncrypt(stream) | State::CtrDecrypt(stream) => counted(stream, input),
+        }
+    }
+
+    fn room_of_last(&self, input: &[u8]) -> Result<usize, ModeFault>
+        ensures room { IfOk result (λ room. room ≡ wanted Part.Last self.now (length input.now)) }
+        ensures len_range { IsErrOf result ModeFault.LenRange ↔ RefusesLength Part.Last self.now (length input.now) }
+        ensures counter_end { IsErrOf result ModeFault.CounterEnd ↔ EndsCounters self.now input.now }
+        ensures faults { IfErr result (λ fault. (fault ≡ ModeFault.LenRange) ⊎ (fault ≡ ModeFault.CounterEnd)) }
+    {
+        self.is_right();
+        match &self.state {
+            State::EcbEncrypt(stream) => whole(stream.waiting(), input),
+            State::EcbDecrypt(stream) => whole(stream.waiting(), input),
+            State::CbcEncrypt(stream) => whole(stream.waiting(), input),
+            State::CbcDecrypt(stream) => whole(stream.waiting(), input),
+            State::CbcPadEncrypt(stream) => Ok(padded(stream.waiting(), input)),
+            State::CbcPadDecrypt(stream) => unpadded(stream.waiting(), input),
+            State::CtrEncrypt(stream) | State::CtrDecrypt(stream) => counted(stream, input),
+        }
+    }
+
+    /// What the bytes given are: pieces equal the whole (SP 800-38A, 6). It does nothing: a proof
+    /// cites it.
+    pub fn is_right(&self)
+        ensures { IsRight self.now }
+    {
+        match &self.state {
+            State::EcbEncrypt(stream) => stream.gives(),
+            State::EcbDecrypt(stream) => stream.gives(),
+            State::CbcEncrypt(stream) => stream.gives(),
+            State::CbcDecrypt(stream) => stream.gives(),
+            State::CbcPadEncrypt(stream) => stream.gives(),
+            State::CbcPadDecrypt(stream) => stream.gives(),
+            State::CtrEncrypt(stream) => stream.is_key(),
+            State::CtrDecrypt(stream) => stream.is_key(),
+        }
+    }
+}
