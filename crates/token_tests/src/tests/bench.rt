@@ -47,8 +47,8 @@ impl<K: Keep> BenchOver<K> {
     }
 
     /// The token's keeper, once the token has stopped.
-    pub(super) fn into_keep(self) -> ListKeep {
-        let Bench { token, .. } = self;
+    pub(super) fn into_keep(self) -> K {
+        let BenchOver { token, .. } = self;
         token.into_keep()
     }
 
