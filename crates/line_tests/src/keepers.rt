@@ -86,12 +86,12 @@ fn output(alloc: Global, input: &[u8], n: u64, failure: Failure) -> Result<Vec<u
 fn replies_of(alloc: Global, bytes: &[u8], code: Rv) -> Result<u64, Fail> {
     let mut frames = FrameReader::new(alloc);
     frames.feed(bytes)?;
-    let mut count = 0;
+    let mut count = 0_u64;
     for _ in 0..4 {
         match frames.next(alloc)? {
             Some(payload) => {
                 if payload.starts_with(&code.number().to_be_bytes()) {
-                    count += 1;
+                    count = count.saturating_add(1);
                 }
             }
             None => return Err("a reply is missing".into()),
