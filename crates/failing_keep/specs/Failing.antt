@@ -1,9 +1,13 @@
 -- What contracts see of a keeper that fails once.
 use Rattle.std.specs.Prelude.{ℕ}
+use Rattle.failing_keep.specs.declared.Failure.{Failure}
 
 pub record FailingState (K : Type 0) : Type 0 where
   -- the keeper that is asked
   pub keep : K
+  -- how many calls there are up to the one that fails, 0 where none does any more
+  pub left : ℕ
+  pub failure : Failure
   pub failures : ℕ
   -- how many writes were tried
   pub tried : ℕ

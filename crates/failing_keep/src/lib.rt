@@ -36,13 +36,15 @@ impl<K: Keep> Model for FailingKeep<K> {
 
     ghost Value = { FailingState K };
 
-    ghost view = { λ f. record { keep = f.keep; failures = f.failures; tried = f.tried.count } };
+    ghost view = { λ f. record { keep = f.keep; left = f.left; failure = f.failure; failures = f.failures; tried = f.tried.count } };
 }
 
 impl<K: Keep> FailingKeep<K> {
     /// A keeper whose n-th call fails so, of those that may fail, where the first is 1. With 0 none does.
     pub fn new(keep: K, n: u64, failure: Failure) -> Self
         ensures keep { result.keep ≡ keep }
+        ensures left { result.left ≡ n }
+        ensures failure { result.failure ≡ failure }
         ensures failures { result.failures ≡ 0 }
         ensures tried { result.tried ≡ 0 }
     {
