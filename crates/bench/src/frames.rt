@@ -7,7 +7,7 @@ use aes_modes::{Direction, ecb};
 use ck_calls::{Call, Mechanism};
 use ck_types::{AttrType, Bytes, Entry, KeyType, MechType, ObjectClass, Template};
 use keep::ListKeep;
-use line::{Noted, Words, serve_one};
+use line::{Watched, Words, serve_one};
 use pin_record::Record;
 use std::alloc::Global;
 use std::io::{self, Read, Write};
@@ -150,11 +150,11 @@ pub(crate) fn frames(
         return Err(failed());
     };
     let mut words = Words::for_app([0; 32], 0);
-    let mut reader = Noted::new(Pieces {
+    let mut reader = Watched::new(Pieces {
         rest: &stream,
         most,
     });
-    let mut writer = Noted::new(Tally {
+    let mut writer = Watched::new(Tally {
         written: 0,
         last: 0,
     });

@@ -3,7 +3,7 @@
 //! - `Words` are the random bytes of one application: the words of ChaCha20 under the operator's seed,
 //!   whose stream number is the application's. `take` gives the next of them, and for want of memory
 //!   leaves them where they were.
-//! - `Noted` wraps a reader or a writer and counts its failures.
+//! - `Watched` wraps a reader or a writer and counts its failures.
 //! - `serve_one` answers the frames of a reader, each as soon as it is whole, until the reader ends or
 //!   the line fails. A payload that is no call answers `CKR_ARGUMENTS_BAD`, and one that names no known
 //!   function `CKR_FUNCTION_NOT_SUPPORTED`; neither changes the token nor takes random bytes. The bytes
@@ -12,17 +12,17 @@
 //!
 //! ```
 //! let mut words = Words::for_app([0; 32], 0);
-//! let (mut reader, mut writer) = (Noted::new(input), Noted::new(output));
+//! let (mut reader, mut writer) = (Watched::new(input), Watched::new(output));
 //! let replies = serve_one(alloc, &mut reader, &mut writer, &mut token, &mut words)?;
 //! ```
 #![tactic(auto)]
 
 mod fault;
-mod noted;
 mod serve;
+mod watched;
 mod words;
 
 pub use fault::LineFault;
-pub use noted::Noted;
 pub use serve::serve_one;
+pub use watched::Watched;
 pub use words::Words;

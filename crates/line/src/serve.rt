@@ -15,7 +15,7 @@ ghost use Rattle.line.specs.Parts.{Answers, Sends, TakesPart};
 ghost use Rattle.line.specs.Serve.{ReadsBy, Serves, WritesBy};
 
 use crate::fault::LineFault;
-use crate::noted::{Noted, is_interrupted};
+use crate::watched::{Watched, is_interrupted};
 use crate::words::Words;
 use ck_calls::{Call, Reply, need};
 use ck_types::Rv;
@@ -30,7 +30,7 @@ const PIECE_LEN: usize = 4096;
 
 /// Writes all of the bytes, by up to 2^64 - 1 writes; one that was interrupted counts. On a fault the
 /// first of the bytes were written, and no others.
-fn write_out<W: Write>(writer: &mut Noted<W>, bytes: &[u8]) -> Result<(), LineFault>
+fn write_out<W: Write>(writer: &mut Watched<W>, bytes: &[u8]) -> Result<(), LineFault>
     ensures ok { OnOk result (Appends (W.contents writer.old.inner) (W.contents writer.new.inner) bytes.now × Unfailing writer.old writer.new) }
     ensures err { IfErr result (λ fault. (fault ≡ LineFault.Write) × TakesPart (W.contents writer.old.inner) (W.contents writer.new.inner) bytes.now × HasFailed writer.old writer.new) }
 {
@@ -56,7 +56,7 @@ fn write_out<W: Write>(writer: &mut Noted<W>, bytes: &[u8]) -> Result<(), LineFa
 }
 
 /// Sees that what was written goes out, by up to 2^64 - 1 flushes; one that was interrupted counts.
-fn flush_out<W: Write>(writer: &mut Noted<W>) -> Result<(), LineFault>
+fn flush_out<W: Write>(writer: &mut Watched<W>) -> Result<(), LineFault>
     ensures bytes { Keeps (W.contents writer.old.inner) (W.contents writer.new.inner) }
     ensures ok { OnOk result (Unfailing writer.old writer.new) }
     ensures err { IfErr result (λ fault. (fault ≡ LineFault.Write) × HasFailed writer.old writer.new) }
@@ -76,7 +76,7 @@ fn flush_out<W: Write>(writer: &mut Noted<W>) -> Result<(), LineFault>
 
 /// Writes the frame of a reply, and sees that it goes out. Of a reply that has no frame nothing is
 /// written, and the fault is `Write`.
-fn send<W: Write>(alloc: Global, writer: &mut Noted<W>, reply: &Reply) -> Result<(), LineFault>
+fn send<W: Write>(alloc: Global, writer: &mut Watched<W>, reply: &Reply) -> Result<(), LineFault>
     ensures sends { Sends (HasFailed writer.old writer.new) (W.contents writer.old.inner) (W.contents writer.new.inner) reply.now result }
     ensures writes { WritesBy writer.old writer.new result }
 {
@@ -142,7 +142,7 @@ fn answer<K: Keep>(
 fn answer_all<W: Write, K: Keep>(
     alloc: Global,
     frames: &mut FrameReader,
-    writer: &mut Noted<W>,
+    writer: &mut Watched<W>,
     token: &mut Token<K>,
     app: u64,
     words: &mut Words,
@@ -170,8 +170,8 @@ fn answer_all<W: Write, K: Keep>(
 /// Answers the frames of a reader, as `serve_one` does, for an application that stays.
 fn serve_frames<R: Read, W: Write, K: Keep>(
     alloc: Global,
-    reader: &mut Noted<R>,
-    writer: &mut Noted<W>,
+    reader: &mut Watched<R>,
+    writer: &mut Watched<W>,
     token: &mut Token<K>,
     app: u64,
     words: &mut Words,
@@ -237,8 +237,8 @@ fn serve_frames<R: Read, W: Write, K: Keep>(
 /// all whole frames before were written.
 pub fn serve_one<R: Read, W: Write, K: Keep>(
     alloc: Global,
-    reader: &mut Noted<R>,
-    writer: &mut Noted<W>,
+    reader: &mut Watched<R>,
+    writer: &mut Watched<W>,
     token: &mut Token<K>,
     words: &mut Words,
 ) -> Result<u64, LineFault>

@@ -4,7 +4,7 @@ ghost use Rattle.std.specs.Prelude.{Some};
 
 use crate::tests::{Drip, Narrow, after_cut, first_run, token_over};
 use keep::ListKeep;
-use line::{LineFault, Noted, Words, serve_one};
+use line::{LineFault, Watched, Words, serve_one};
 use pin_record::Record;
 use std::alloc::Global;
 use std::io::{self, ErrorKind, Read, Write};
@@ -74,8 +74,8 @@ struct Ended {
 /// A line over a reader and a writer, for a new token.
 fn serve<R: Read, W: Write>(
     alloc: Global,
-    reader: &mut Noted<R>,
-    writer: &mut Noted<W>,
+    reader: &mut Watched<R>,
+    writer: &mut Watched<W>,
 ) -> Result<Ended, Fail> {
     let mut token = token_over(alloc, ListKeep::new(alloc, Record::new()))?;
     let mut words = Words::for_app([0; 32], 0);
@@ -89,16 +89,16 @@ fn serve<R: Read, W: Write>(
 
 /// How the first run ends over a reader that fails after so many reads, and what it writes.
 fn after_reads(alloc: Global, input: &[u8], reads: usize) -> Result<(Ended, Vec<u8>), Fail> {
-    let mut reader = Noted::new(FailingReader { rest: input, reads });
-    let mut writer = Noted::new(Vec::<u8>::new(alloc));
+    let mut reader = Watched::new(FailingReader { rest: input, reads });
+    let mut writer = Watched::new(Vec::<u8>::new(alloc));
     let ended = serve(alloc, &mut reader, &mut writer)?;
     Ok((ended, writer.into_inner()))
 }
 
 /// How the first run ends over a writer that fails after so many calls, and what it writes.
 fn after_calls(alloc: Global, input: &[u8], calls: usize) -> Result<(Ended, Vec<u8>), Fail> {
-    let mut reader = Noted::new(input);
-    let mut writer = Noted::new(FailingWriter {
+    let mut reader = Watched::new(input);
+    let mut writer = Watched::new(FailingWriter {
         bytes: Vec::new(alloc),
         calls,
     });
@@ -177,8 +177,8 @@ fn a_write_or_flush_that_fails_is_noted_and_ends_the_line(rt: HostRuntime) -> Re
 fn a_writer_that_takes_nothing_has_failed(rt: HostRuntime) -> Result<(), Fail> {
     let (input, replies) = first_run(rt.alloc())?;
     let mut room = [0; 25];
-    let mut reader = Noted::new(input.as_slice());
-    let mut writer = Noted::new(room.as_mut_slice());
+    let mut reader = Watched::new(input.as_slice());
+    let mut writer = Watched::new(room.as_mut_slice());
     let ended = serve(rt.alloc(), &mut reader, &mut writer)?;
     let failed = Ended {
         ended: Err(LineFault::Write),
@@ -193,12 +193,12 @@ fn a_writer_that_takes_nothing_has_failed(rt: HostRuntime) -> Result<(), Fail> {
 #[test]
 fn an_interruption_is_no_failure(rt: HostRuntime) -> Result<(), Fail> {
     let (input, replies) = first_run(rt.alloc())?;
-    let mut reader = Noted::new(Drip {
+    let mut reader = Watched::new(Drip {
         rest: &input,
         fails: false,
         interrupts: false,
     });
-    let mut writer = Noted::new(Narrow {
+    let mut writer = Watched::new(Narrow {
         bytes: Vec::new(rt.alloc()),
         room: usize::MAX,
         interrupts: false,
@@ -212,7 +212,7 @@ fn an_interruption_is_no_failure(rt: HostRuntime) -> Result<(), Fail> {
 
 #[test]
 fn failures_are_counted_one_by_one(rt: HostRuntime) -> Result<(), Fail> {
-    let mut reader = Noted::new(FailingReader {
+    let mut reader = Watched::new(FailingReader {
         rest: b"abc",
         reads: 1,
     });

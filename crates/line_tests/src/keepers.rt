@@ -5,7 +5,7 @@ use ck_calls::Call;
 use ck_types::{AttrType, Bytes, Entry, Rv, Template};
 use failing_keep::{FailingKeep, Failure};
 use keep::ListKeep;
-use line::{Noted, Words, serve_one};
+use line::{Watched, Words, serve_one};
 use pin_record::Record;
 use std::alloc::Global;
 use std::process::Abort;
@@ -76,8 +76,8 @@ fn output(alloc: Global, input: &[u8], n: u64, failure: Failure) -> Result<Vec<u
     let list = ListKeep::new(alloc, Record::new());
     let mut token = token_over(alloc, FailingKeep::new(list, n, failure))?;
     let mut words = Words::for_app([0; 32], 0);
-    let mut reader = Noted::new(input);
-    let mut writer = Noted::new(Vec::<u8>::new(alloc));
+    let mut reader = Watched::new(input);
+    let mut writer = Watched::new(Vec::<u8>::new(alloc));
     serve_one(alloc, &mut reader, &mut writer, &mut token, &mut words)?;
     Ok(writer.into_inner())
 }

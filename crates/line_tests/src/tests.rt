@@ -8,7 +8,7 @@ ghost use Rattle.token.specs.Applications.{Shows};
 use ck_calls::{Call, Reply};
 use ck_types::Rv;
 use keep::{Keep, ListKeep};
-use line::{LineFault, Noted, Words, serve_one};
+use line::{LineFault, Watched, Words, serve_one};
 use pin_record::Record;
 use std::alloc::Global;
 use std::io::{self, ErrorKind, Read, Write};
@@ -129,12 +129,12 @@ fn run(
     fails: bool,
     room: usize,
 ) -> Result<(Result<u64, LineFault>, Vec<u8>), Fail> {
-    let mut reader = Noted::new(Drip {
+    let mut reader = Watched::new(Drip {
         rest: input,
         fails,
         interrupts: false,
     });
-    let mut writer = Noted::new(Narrow {
+    let mut writer = Watched::new(Narrow {
         bytes: Vec::new(alloc),
         room,
         interrupts: false,
@@ -294,8 +294,8 @@ fn served(
     alloc: Global,
     input: &[u8],
 ) -> Result<(Result<u64, LineFault>, Vec<u8>, Token<ListKeep>), Fail> {
-    let mut reader = Noted::new(input);
-    let mut writer = Noted::new(Vec::<u8>::new(alloc));
+    let mut reader = Watched::new(input);
+    let mut writer = Watched::new(Vec::<u8>::new(alloc));
     let mut token = token_over(alloc, ListKeep::new(alloc, Record::new()))?;
     let mut words = Words::for_app([0; 32], 0);
     let ended = serve_one(alloc, &mut reader, &mut writer, &mut token, &mut words);

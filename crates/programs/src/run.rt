@@ -9,7 +9,7 @@ use crate::failure::Failure;
 use clap::error::ErrorKind;
 use clap::{ArgMatches, Error};
 use keep::ListKeep;
-use line::{Noted, Words, serve_one};
+use line::{Watched, Words, serve_one};
 use pin_record::Record;
 use std::alloc::Global;
 use std::io::{Read, Write};
@@ -32,7 +32,7 @@ fn stdio<I: Read, O: Write>(
     let Ok(mut token) = Token::new(alloc, keep) else {
         return Err(Failure::Memory);
     };
-    let (mut reader, mut writer) = (Noted::new(input), Noted::new(output));
+    let (mut reader, mut writer) = (Watched::new(input), Watched::new(output));
     let _replies = serve_one(alloc, &mut reader, &mut writer, &mut token, &mut words)?;
     Ok(())
 }

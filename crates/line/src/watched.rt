@@ -14,13 +14,13 @@ use std::marker::Model;
 /// fail; a write that took nothing of bytes that were there did. For clauses alone, without bytes, it
 /// counts all calls.
 #[derive(Drop)]
-pub struct Noted<T> {
+pub struct Watched<T> {
     inner: T,
     failures: u64,
     calls: CallCount,
 }
 
-impl<T> Model for Noted<T> {
+impl<T> Model for Watched<T> {
     ghost use Rattle.line.specs.Noting.{Noting};
 
     ghost Value = { Noting T };
@@ -52,12 +52,12 @@ fn note(failures: &mut u64, error: &Error)
     }
 }
 
-impl<T> Noted<T> {
+impl<T> Watched<T> {
     /// A reader or a writer of which no call was made yet.
-    pub fn new(inner: T) -> Noted<T>
+    pub fn new(inner: T) -> Watched<T>
         ensures { result ≡ record { inner = inner; failures = 0; calls = 0 } }
     {
-        Noted {
+        Watched {
             inner,
             failures: 0,
             calls: CallCount::new(),
@@ -79,7 +79,7 @@ impl<T> Noted<T> {
     }
 }
 
-impl<R: Read> Read for Noted<R> {
+impl<R: Read> Read for Watched<R> {
     ghost remaining = { λ n. R.remaining n.inner };
 
     fn read(&mut self, buf: &mut [u8]) -> io::Result<usize>
@@ -98,7 +98,7 @@ impl<R: Read> Read for Noted<R> {
     }
 }
 
-impl<W: Write> Write for Noted<W> {
+impl<W: Write> Write for Watched<W> {
     ghost contents = { λ n. W.contents n.inner };
 
     fn write(&mut self, buf: &[u8]) -> io::Result<usize>
