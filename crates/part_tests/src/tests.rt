@@ -1,4 +1,5 @@
 mod access;
+mod given;
 mod handle_table;
 mod keepers;
 mod matching;

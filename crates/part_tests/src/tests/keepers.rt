@@ -3,11 +3,12 @@ ghost use Rattle.pin_record.specs.Records.{charged};
 ghost use Rattle.keep.specs.Contents.{Contents, object_at, with_record};
 ghost use Rattle.keep.specs.Keeping.{HasCause, LeavesSome};
 
-use attrs::{Form, Object, attributes};
-use ck_types::{AttrType, Bytes, Entry, Items, ObjectClass, UserType};
+use super::given::{Given, object_of};
+use attrs::Object;
+use ck_types::{AttrType, ObjectClass, UserType};
 use keep::*;
 use pin_record::{Record, begin_check};
-use std::alloc::{AllocError, Global};
+use std::alloc::Global;
 use std::process::Abort;
 use std::test::Fail;
 
@@ -36,29 +37,11 @@ fn charge_and_read<K: Keep>(
     Ok(Some(keep.object(alloc, id)?))
 }
 
-/// What a data object has for each attribute, with CKA_TOKEN true and CKA_VALUE of one byte.
-fn value_of(alloc: Global, attribute: AttrType, form: Form, byte: u8) -> Result<Bytes, AllocError> {
-    match attribute {
-        AttrType::Token => Bytes::from_slice(alloc, &[1]),
-        AttrType::Value => Bytes::from_slice(alloc, &[byte]),
-        _ => match form {
-            Form::Truth => Bytes::from_slice(alloc, &[0]),
-            Form::Number => Bytes::from_slice(alloc, &[0; 8]),
-            Form::Bytes => Ok(Bytes::new(alloc)),
-        },
-    }
-}
-
+/// A data object of the token, with this value.
 fn token_object(alloc: Global, byte: u8) -> Result<Object, Fail> {
-    let mut entries = Items::new(alloc);
-    for row in attributes() {
-        if row.is_held_by(ObjectClass::Data) {
-            let value = value_of(alloc, row.attribute, row.form, byte)?;
-            let number = row.attribute.number();
-            entries.push(Entry { number, value })?;
-        }
-    }
-    Ok(Object::from_entries(entries).ok_or("a data object")?)
+    let value = [byte];
+    let given: [Given; 2] = [(AttrType::Token, &[1]), (AttrType::Value, &value)];
+    object_of(alloc, ObjectClass::Data, &given)
 }
 
 /// Inserts a token object with this value.

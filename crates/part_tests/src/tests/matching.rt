@@ -1,34 +1,22 @@
-use attrs::{AttributeRow, Form, Object, Template, attributes};
+use super::given::{Given, object_of};
+use attrs::{Object, Template};
 use ck_types::{AttrType, Bytes, Entry, Items, ObjectClass};
 use find::*;
 use std::alloc::{AllocError, Global};
 use std::test::Fail;
 
-fn value_of(alloc: Global, row: &AttributeRow, extractable: bool) -> Result<Bytes, AllocError> {
-    match (row.attribute, row.form) {
-        (AttrType::Class, _) => Bytes::from_slice(alloc, &[0, 0, 0, 0, 0, 0, 0, 4]),
-        (AttrType::KeyType, _) => Bytes::from_slice(alloc, &[0, 0, 0, 0, 0, 0, 0, 0x10]),
-        (AttrType::Value, _) => Bytes::from_slice(alloc, b"v"),
-        (AttrType::ValueLen, _) => Bytes::from_slice(alloc, &[0, 0, 0, 0, 0, 0, 0, 1]),
-        (AttrType::Label, _) => Bytes::from_slice(alloc, b"k1"),
-        (AttrType::Extractable, _) => Bytes::from_slice(alloc, &[u8::from(extractable)]),
-        (_, Form::Truth) => Bytes::from_slice(alloc, &[0]),
-        (_, Form::Number) => Bytes::from_slice(alloc, &[0; 8]),
-        (_, Form::Bytes) => Ok(Bytes::new(alloc)),
-    }
-}
+const LABEL: Given = (AttrType::Label, b"k1");
+
+const EXTRACTABLE: Given = (AttrType::Extractable, &[1]);
 
 /// A key of the byte `v` with the label `k1`, not sensitive.
-fn key(alloc: Global, extractable: bool) -> Result<Option<Object>, AllocError> {
-    let mut entries = Items::new(alloc);
-    for row in attributes() {
-        if row.is_held_by(ObjectClass::SecretKey) {
-            let value = value_of(alloc, row, extractable)?;
-            let number = row.attribute.number();
-            entries.push(Entry { number, value })?;
-        }
-    }
-    Ok(Object::from_entries(entries))
+fn key(alloc: Global, extractable: bool) -> Result<Object, Fail> {
+    let given: &[Given] = if extractable {
+        &[LABEL, EXTRACTABLE]
+    } else {
+        &[LABEL]
+    };
+    object_of(alloc, ObjectClass::SecretKey, given)
 }
 
 fn template(alloc: Global, given: &[(u64, &[u8])]) -> Result<Template, AllocError> {
@@ -59,8 +47,7 @@ const CASES: &[Case] = &[
 ];
 
 fn is_found(alloc: Global, template: &Template, extractable: bool) -> Result<bool, Fail> {
-    let key = key(alloc, extractable)?.ok_or("no key")?;
-    Ok(matches(template, &key))
+    Ok(matches(template, &key(alloc, extractable)?))
 }
 
 #[test]

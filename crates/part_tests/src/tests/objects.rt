@@ -1,22 +1,9 @@
+use super::given::{entries_of, object_of};
 use attrs::*;
-use ck_types::{AttrType, Bytes, Entry, Items, KeyType, ObjectClass};
+use ck_types::{AttrType, Entry, Items, KeyType, ObjectClass};
 use std::alloc::{AllocError, Global};
 use std::process::Abort;
 use std::test::Fail;
-
-/// A value of each default: no key bytes, a unique identifier of 32 bytes.
-fn default_value(alloc: Global, row: &AttributeRow) -> Result<Bytes, AllocError> {
-    if row.attribute == AttrType::UniqueId {
-        return Bytes::from_slice(alloc, &[b'0'; 32]);
-    }
-    match row.form {
-        Form::Truth => Bytes::from_slice(alloc, &[0]),
-        Form::Number => Bytes::from_slice(alloc, &[0; 8]),
-        Form::Bytes => Ok(Bytes::new(alloc)),
-    }
-}
-
-const SECRET_KEY: [u8; 8] = [0, 0, 0, 0, 0, 0, 0, 4];
 
 const GENERIC: [u8; 8] = [0, 0, 0, 0, 0, 0, 0, 0x10];
 
@@ -26,19 +13,6 @@ const LEN_16: [u8; 8] = [0, 0, 0, 0, 0, 0, 0, 16];
 
 const LEN_5: [u8; 8] = [0, 0, 0, 0, 0, 0, 0, 5];
 
-/// The attributes of a data object, all by default.
-fn data_entries(alloc: Global) -> Result<Items<Entry>, AllocError> {
-    let mut entries = Items::new(alloc);
-    for row in attributes() {
-        if row.is_held_by(ObjectClass::Data) {
-            let value = default_value(alloc, row)?;
-            let number = row.attribute.number();
-            entries.push(Entry { number, value })?;
-        }
-    }
-    Ok(entries)
-}
-
 /// The attributes of a key, but for its type, value and length all by default.
 fn key_entries(
     alloc: Global,
@@ -46,21 +20,12 @@ fn key_entries(
     value: &[u8],
     len: &[u8],
 ) -> Result<Items<Entry>, AllocError> {
-    let mut entries = Items::new(alloc);
-    for row in attributes() {
-        if row.is_held_by(ObjectClass::SecretKey) {
-            let value = match row.attribute {
-                AttrType::Class => Bytes::from_slice(alloc, &SECRET_KEY)?,
-                AttrType::KeyType => Bytes::from_slice(alloc, key_type)?,
-                AttrType::Value => Bytes::from_slice(alloc, value)?,
-                AttrType::ValueLen => Bytes::from_slice(alloc, len)?,
-                _ => default_value(alloc, row)?,
-            };
-            let number = row.attribute.number();
-            entries.push(Entry { number, value })?;
-        }
-    }
-    Ok(entries)
+    let given = [
+        (AttrType::KeyType, key_type),
+        (AttrType::Value, value),
+        (AttrType::ValueLen, len),
+    ];
+    entries_of(alloc, ObjectClass::SecretKey, &given)
 }
 
 fn aes_key(alloc: Global) -> Result<Object, Fail> {
@@ -68,7 +33,7 @@ fn aes_key(alloc: Global) -> Result<Object, Fail> {
 }
 
 fn data_object(alloc: Global) -> Result<Object, Fail> {
-    Ok(Object::from_entries(data_entries(alloc)?).ok_or("a data object")?)
+    object_of(alloc, ObjectClass::Data, &[])
 }
 
 /// How many attributes the object has, and the length of its stored form as it is told and as it is.

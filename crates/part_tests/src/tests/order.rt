@@ -5,7 +5,7 @@ use precede::{Facts, Row, first_fault, rows};
 const MADE: u64 = 0xd0;
 
 /// The codes of each call's rows in order, by their numbers in pkcs11t.h; the row of the template has `MADE`.
-const CODES: [(u16, &[u64]); 41] = [
+const CODES: &[(u16, &[u64])] = &[
     (1, &[0x6, 0x3]),
     (2, &[0x6, 0x3]),
     (3, &[0x6, 0x3, 0x70]),
@@ -68,61 +68,34 @@ fn answer(function: u16, from: usize, to: usize) -> Option<u64> {
     first_fault(&facts).map(|code| code.number())
 }
 
+/// Whether the call answers by its first row where all hold, by the last where it alone holds, and
+/// nothing where none of its rows holds.
+fn is_answered_by_its_ends(function: u16, codes: &[u64]) -> bool {
+    let count = codes.len();
+    answer(function, 0, count) == Some(0x6)
+        && answer(function, 0, 16) == Some(0x6)
+        && answer(function, count.saturating_sub(1), count) == codes.last().copied()
+        && answer(function, count, 16).is_none()
+}
+
+/// Whether the row answers its code where it alone holds, and where all from it on hold.
+fn is_answered_by_its_row(function: u16, place: usize, count: usize, code: u64) -> bool {
+    answer(function, place, place.saturating_add(1)) == Some(code)
+        && answer(function, place, count) == Some(code)
+}
+
 #[test]
-fn answers_by_the_first_row_where_all_hold(rt: HostRuntime) {
-    for (function, codes) in &CODES {
-        assert_eq!(rt;
-            answer(*function, 0, codes.len()),
-            Some(0x6),
+fn answers_by_the_first_row_that_holds(rt: HostRuntime) {
+    for (function, codes) in CODES {
+        let is_whole = rows(*function).len() == codes.len();
+        assert!(rt;
+            is_whole && is_answered_by_its_ends(*function, codes),
             "call {function}"
         );
-        assert_eq!(rt; answer(*function, 0, 16), Some(0x6), "call {function}");
-    }
-}
-
-#[test]
-fn answers_by_the_last_row_where_it_alone_holds(rt: HostRuntime) {
-    for (function, codes) in &CODES {
-        let rows = codes.len();
-        assert_eq!(rt;
-            answer(*function, rows.saturating_sub(1), rows),
-            codes.last().copied(),
-            "call {function}"
-        );
-    }
-}
-
-#[test]
-fn answers_by_each_row_where_it_alone_holds(rt: HostRuntime) {
-    for (function, codes) in &CODES {
         for (place, code) in codes.iter().enumerate() {
-            assert_eq!(rt;
-                answer(*function, place, place.saturating_add(1)),
-                Some(*code),
-                "call {function}, row {place}"
-            );
+            let is_answered = is_answered_by_its_row(*function, place, codes.len(), *code);
+            assert!(rt; is_answered, "call {function}, row {place}");
         }
-    }
-}
-
-#[test]
-fn answers_by_each_row_where_all_from_it_on_hold(rt: HostRuntime) {
-    for (function, codes) in &CODES {
-        assert_eq!(rt; rows(*function).len(), codes.len(), "call {function}");
-        for (place, code) in codes.iter().enumerate() {
-            assert_eq!(rt;
-                answer(*function, place, codes.len()),
-                Some(*code),
-                "call {function}, row {place}"
-            );
-        }
-    }
-}
-
-#[test]
-fn answers_nothing_past_a_table(rt: HostRuntime) {
-    for (function, codes) in &CODES {
-        assert_eq!(rt; answer(*function, codes.len(), 16), None, "call {function}");
     }
 }
 
@@ -142,7 +115,7 @@ struct Case {
     answer: Option<u64>,
 }
 
-const CASES: [Case; 15] = [
+const CASES: &[Case] = &[
     Case {
         call: "C_OpenSession of a slot that isn't there, without flags",
         function: 7,
@@ -252,7 +225,7 @@ const CASES: [Case; 15] = [
 
 #[test]
 fn answers_calls_with_several_faults_by_the_first(rt: HostRuntime) {
-    for case in &CASES {
+    for case in CASES {
         let mut facts = Facts::new(case.function, case.made);
         for row in case.holding {
             facts.set(*row, true);
