@@ -1,6 +1,6 @@
 //! Answers the frames of a reader to a writer.
 
-ghost use Rattle.std.specs.Prelude.{◌≡◌, ◌≤◌, ◌∷◌, [], ℕ, IfErr, IfOk, OnOk, false, length};
+ghost use Rattle.std.specs.Prelude.{◌≡◌, ◌==◌, ◌≤◌, ◌∷◌, [], ℕ, IfErr, IfOk, OnOk, false, length};
 ghost use Rattle.std.specs.Io.KnownBytes.{Appends, Keeps};
 ghost use Rattle.ck_calls.specs.Need.{random_bytes};
 ghost use Rattle.token_model.specs.Worlds.{World};
@@ -167,6 +167,13 @@ fn answer_all<W: Write, K: Keep>(
     }
 }
 
+/// Whether all that was read are whole frames.
+fn is_whole(frames: &FrameReader) -> bool
+    ensures { result ≡ (length frames.now.bytes == 0) }
+{
+    frames.is_empty()
+}
+
 /// Answers the frames of a reader, as `serve_one` does, for an application that stays.
 fn serve_frames<R: Read, W: Write, K: Keep>(
     alloc: Global,
@@ -186,7 +193,7 @@ fn serve_frames<R: Read, W: Write, K: Keep>(
     'pieces: for _turn in 0..u64::MAX {
         match reader.read(&mut piece) {
             Ok(0) => {
-                if frames.is_empty() {
+                if is_whole(&frames) {
                     return Ok(count);
                 }
                 return Err(LineFault::Cut);
