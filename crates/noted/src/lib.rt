@@ -11,6 +11,7 @@
 //!
 //! let mut taken = Noted::new();
 //! taken.push(b"abc");
+//! let same = taken.copied();
 //! ```
 #![tactic(auto)]
 
@@ -45,4 +46,13 @@ impl Noted {
     pub fn push(&mut self, _piece: &[u8])
         ensures { self.new.bytes ≡ self.old.bytes ++ _piece.now }
     {}
+
+    /// The same bytes once more.
+    pub fn copied(&self) -> Noted
+        ensures { result.bytes ≡ self.now.bytes }
+    {
+        Self {
+            marker: PhantomData,
+        }
+    }
 }

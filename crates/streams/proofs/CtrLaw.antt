@@ -1,9 +1,10 @@
 -- CTR over data and a piece more.
-use Rattle.std.proofs.Common.{◌≡◌, ℕ, ◌+◌, ◌-◌, ◌*◌, ◌/◌, ◌%◌, ◌^◌, ◌<◌, ◌≤◌, List, [], ◌++◌, length, take, drop, replicate, bit_and, ap, refl, sym, ◌∙◌, arith, inl, inr}
+use Rattle.std.proofs.Common.{◌≡◌, ℕ, ◌+◌, ◌-◌, ◌*◌, ◌/◌, ◌%◌, ◌^◌, ◌<◌, ◌≤◌, List, [], ◌++◌, length, take, drop, replicate, bit_and, ap, refl, sym, subst, ◌∙◌, arith, inl, inr}
 use Rattle.std.specs.Int.{w128, from_be_bytes, to_be_bytes}
 use Rattle.std.proofs.lemmas.Bool.{cases_eq}
 use Rattle.std.proofs.lemmas.List.{append_assoc, take-append-drop, take-append-le, take_all, take_at, length-append, length-drop, length-take}
-use Rattle.aes_block.specs.Bytes.{xor_bytes}
+use Rattle.std.proofs.lemmas.List.Elements.{All-nil}
+use Rattle.aes_block.specs.Bytes.{AreBytes, xor_bytes}
 use Rattle.aes_block.specs.Encipher.{enciphered_block}
 use Rattle.aes_block.specs.KeyExpansion.{IsKey}
 use Rattle.aes_block.specs.Texts.{block_of}
@@ -206,3 +207,7 @@ begun_number start first taken number v f none =
     let zero : 0 ≡ blocks_done 1 taken = ap (blocks_done 1) (sym none) in
     let sum : from_be_bytes w128 start ≡ from_be_bytes w128 start + 0 = omega arith in
     v ∙ sum ∙ (λ i. from_be_bytes w128 (sym f i) + zero i)
+
+pub begun_output : (key start taken : List ℕ) (m : ℕ) → taken ≡ [] → AreBytes (ctr_enciphered key m start taken)
+unfolding first_blocks
+begun_output key start taken m none = subst (λ l. AreBytes (ctr_enciphered key m start l)) (sym none) (All-nil (λ b. b < 256))

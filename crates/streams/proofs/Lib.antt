@@ -5,3 +5,5 @@ pub mod CbcBackLaw
 pub mod CbcPadLaw
 pub mod CtrLaw
 pub mod RightLaw
+pub mod FirstTexts
+pub mod OutputLaw

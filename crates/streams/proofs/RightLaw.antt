@@ -1,6 +1,6 @@
 -- What the bytes given are, in the words of the modes over whole texts.
-use Rattle.std.proofs.Common.{◌≡◌, ◌≢◌, ℕ, ◌+◌, ◌%◌, ◌-◌, ◌*◌, ◌/◌, ◌≤◌, List, [], ◌++◌, length, take, drop, ap, sym, ◌∙◌, arith, inl, inr}
-use Rattle.std.proofs.lemmas.Bool.{cases_eq}
+use Rattle.std.proofs.Common.{◌≡◌, ℕ, ◌==◌, not, false, ◌+◌, ◌%◌, ◌-◌, ◌*◌, ◌/◌, ◌≤◌, List, [], ◌++◌, length, take, drop, ap, sym, ◌∙◌, arith}
+use Rattle.std.proofs.lemmas.Bool.{eqb-true, not-false}
 use Rattle.std.proofs.lemmas.List.{append-nil, take_all, take-append-drop, length-take-le}
 use Rattle.aes_block.specs.Bytes.{AreBytes, IsBlock}
 use Rattle.aes_block.specs.KeyExpansion.{IsKey}
@@ -113,13 +113,10 @@ module _ (c : Counting) (is_key : IsKey c.key) where
 
 -- ---- the end, where nothing waits and nothing is added
 
-is_whole : (x : List ℕ) → ¬ (length x % 16 ≢ 0) → length x % 16 ≡ 0
-is_whole x text = elim (cases_eq (length x % 16) 0) [
-  | inl whole ↦ whole
-  | inr some ↦ absurd (text some)
-]
+is_whole : (x : List ℕ) → not (length x % 16 == 0) ≡ false → length x % 16 ≡ 0
+is_whole x text = eqb-true (length x % 16) 0 (not-false (length x % 16 == 0) text)
 
-with_nothing : (given out : List ℕ) → out ≡ [] → given ≡ given ++ out
+pub with_nothing : (given out : List ℕ) → out ≡ [] → given ≡ given ++ out
 with_nothing given out none = sym (append-nil given) ∙ ap (λ x. given ++ x) (sym none)
 
 pub ecb_only_rest : (f : Flow) (waiting : ℕ) (out : List ℕ) → IsEcbDeciphered f → waiting ≡ length f.taken - length f.given → waiting ≡ 0 → out ≡ []

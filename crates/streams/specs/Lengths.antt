@@ -1,6 +1,6 @@
 -- The table of lengths: how many bytes a call wants room for, and which data is refused. `d` counts all
 -- data, that of the call included.
-use Rattle.std.specs.Prelude.{◌≡◌, ◌≢◌, ◌⊎◌, ℕ, ◌+◌, ◌-◌, ◌*◌, ◌/◌, ◌%◌, ◌^◌, ◌<◌, List, ◌++◌, length}
+use Rattle.std.specs.Prelude.{ℕ, ◌+◌, ◌-◌, ◌*◌, ◌/◌, ◌%◌, ◌^◌, ◌==◌, nat_lt, Bool, false, not, ◌||◌, List, ◌++◌, length}
 use Rattle.aes_modes.specs.Blocks.{blocks_begun}
 use Rattle.aes_modes.specs.Counter.{counter_start}
 use Rattle.aes_modes.specs.declared.direction.Direction.{Direction}
@@ -34,25 +34,25 @@ wanted Update s n = length_so_far s.mechanism s.direction (length s.taken + n) -
 wanted Last s n = whole_length s.mechanism s.direction (length s.taken + n) - length s.given
 
 -- so many bytes can't be all data: ECB and CBC take whole blocks, and deciphering a padded text one at least
-abbrev pub IsOfNoText : Mechanism → Direction → ℕ → Type 0
-IsOfNoText Ecb direction d = d % 16 ≢ 0
-IsOfNoText (Cbc iv) direction d = d % 16 ≢ 0
-IsOfNoText (CbcPad iv) Encipher d = ⊥
-IsOfNoText (CbcPad iv) Decipher d = (d ≡ 0) ⊎ (d % 16 ≢ 0)
-IsOfNoText (Ctr bits start) direction d = ⊥
+abbrev pub is_of_no_text : Mechanism → Direction → ℕ → Bool
+is_of_no_text Ecb direction d = not (d % 16 == 0)
+is_of_no_text (Cbc iv) direction d = not (d % 16 == 0)
+is_of_no_text (CbcPad iv) Encipher d = false
+is_of_no_text (CbcPad iv) Decipher d = (d == 0) || not (d % 16 == 0)
+is_of_no_text (Ctr bits start) direction d = false
 
 -- a call with n bytes of data is refused for the length: where data ends with it that can't be all
-abbrev pub RefusesLength : Part → Streamed → ℕ → Type 0
-RefusesLength Update s n = ⊥
-RefusesLength Last s n = IsOfNoText s.mechanism s.direction (length s.taken + n)
+abbrev pub refuses_length : Part → Streamed → ℕ → Bool
+refuses_length Update s n = false
+refuses_length Last s n = is_of_no_text s.mechanism s.direction (length s.taken + n)
 
 -- CTR has no counter for each block of the text (SP 800-38A, appendix B.1)
-abbrev pub IsPastCounters : Mechanism → List ℕ → Type 0
-IsPastCounters Ecb text = ⊥
-IsPastCounters (Cbc iv) text = ⊥
-IsPastCounters (CbcPad iv) text = ⊥
-IsPastCounters (Ctr bits start) text = 2 ^ bits < counter_start bits start + blocks_begun text
+abbrev pub is_past_counters : Mechanism → List ℕ → Bool
+is_past_counters Ecb text = false
+is_past_counters (Cbc iv) text = false
+is_past_counters (CbcPad iv) text = false
+is_past_counters (Ctr bits start) text = nat_lt (2 ^ bits) (counter_start bits start + blocks_begun text)
 
 -- more data has no counters
-abbrev pub EndsCounters : Streamed → List ℕ → Type 0
-EndsCounters s piece = IsPastCounters s.mechanism (s.taken ++ piece)
+abbrev pub ends_counters : Streamed → List ℕ → Bool
+ends_counters s piece = is_past_counters s.mechanism (s.taken ++ piece)

@@ -2,6 +2,7 @@ pub mod Kept
 pub mod Streamed
 pub mod Lengths
 pub mod Right
+pub mod Outputs
 pub mod Flows
 pub mod EcbFlows
 pub mod EcbEncryptions
@@ -12,3 +13,4 @@ pub mod CbcDecryptions
 pub mod Countings
 pub mod CtrFields
 pub mod States
+pub mod StreamFields

@@ -1,5 +1,5 @@
 -- Pieces equal the whole: what the bytes given are, by the modes over whole texts (SP 800-38A, 6).
-use Rattle.std.specs.Prelude.{◌≡◌, ℕ, List, ◌++◌, length, take}
+use Rattle.std.specs.Prelude.{◌≡◌, ℕ, false, List, ◌++◌, length, take}
 use Rattle.aes_block.specs.Bytes.{AreBytes}
 use Rattle.aes_modes.specs.Modes.{ecb_enciphered, cbc_enciphered, cbc_pad_enciphered, ctr_enciphered}
 use Rattle.aes_modes.specs.Directions.{IsTurned}
@@ -8,7 +8,7 @@ use Rattle.aes_modes.specs.declared.direction.Direction.TheVariants.{Encipher, D
 use Rattle.streams.specs.declared.mechanism.Mechanism.{Mechanism}
 use Rattle.streams.specs.declared.mechanism.Mechanism.TheVariants.{Ecb, Cbc, CbcPad, Ctr}
 use Rattle.streams.specs.Streamed.{Streamed}
-use Rattle.streams.specs.Lengths.{length_so_far, IsOfNoText}
+use Rattle.streams.specs.Lengths.{length_so_far, is_of_no_text}
 
 -- a text before its padding, enciphered: of ECB and CBC a text of whole blocks
 abbrev pub enciphered : Mechanism → List ℕ → List ℕ → List ℕ
@@ -37,7 +37,7 @@ IsRest s out = IsTurned s.direction (whole_enciphered s.mechanism s.key) s.taken
 
 -- a text that the mechanism enciphers
 abbrev pub IsText : Mechanism → List ℕ → Type 0
-IsText mechanism text = ¬ IsOfNoText mechanism Encipher (length text)
+IsText mechanism text = is_of_no_text mechanism Encipher (length text) ≡ false
 
 -- and nothing else is the rest
 abbrev pub IsOnlyRest : Streamed → List ℕ → Type 0

@@ -12,7 +12,6 @@ use aes_modes::{ModeFault, unpadded_len};
 use noted::Noted;
 use std::alloc::{AllocError, Global};
 use std::marker::Model;
-use std::snapshot::Snapshot;
 
 /// A CBC decryption that has taken data. It keeps the last block that it worked on and at most a
 /// block of data: so many bytes at least as are held back until the end, which is 1 where a padding
@@ -23,7 +22,7 @@ pub(crate) struct CbcDecryption {
     chain: Block,
     kept: Kept,
     held: usize,
-    iv: Snapshot<Block>,
+    iv: Noted,
     taken: Noted,
     given: Noted,
 }
@@ -75,7 +74,8 @@ impl CbcDecryption {
     {
         let _size = key.size();
         are_bytes(&iv);
-        let start = Snapshot::of(&iv);
+        let mut start = Noted::new();
+        start.push(&iv);
         CbcDecryption {
             key,
             chain: iv,
@@ -84,6 +84,21 @@ impl CbcDecryption {
             iv: start,
             taken: Noted::new(),
             given: Noted::new(),
+        }
+    }
+
+    /// The same once more. It takes no memory.
+    pub(crate) fn copied(&self) -> CbcDecryption
+        ensures { result ≡ self.now }
+    {
+        CbcDecryption {
+            key: self.key.copied(),
+            chain: self.chain,
+            kept: self.kept.copied(),
+            held: self.held,
+            iv: self.iv.copied(),
+            taken: self.taken.copied(),
+            given: self.given.copied(),
         }
     }
 
@@ -126,6 +141,7 @@ impl CbcDecryption {
         ensures only { IfOk result (λ out. (x : List ℕ) → AreBytes x
             → cbc_pad_enciphered self.now.key self.now.iv x ≡ self.now.taken → x ≡ self.now.given ++ out.items) }
         ensures size { IfOk result (λ out. length out.items ≤ length self.now.taken - length self.now.given) }
+        ensures bytes { IfOk result (λ out. AreBytes (self.now.given ++ out.items)) }
         ensures len_range { IsErrOf result ModeFault.LenRange
             ↔ ((length self.now.taken ≡ 0) ⊎ (length self.now.taken % 16 ≢ 0)) }
         ensures bad_pad { IsErrOf result ModeFault.BadPad → (x : List ℕ) → AreBytes x

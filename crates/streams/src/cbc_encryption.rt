@@ -11,7 +11,6 @@ use aes_modes::filled_block;
 use noted::Noted;
 use std::alloc::{AllocError, Global};
 use std::marker::Model;
-use std::snapshot::Snapshot;
 
 /// A CBC encryption that has taken data. It keeps the last block of its output and less than a
 /// block of data.
@@ -20,7 +19,7 @@ pub(crate) struct CbcEncryption {
     key: Key,
     chain: Block,
     kept: Kept,
-    iv: Snapshot<Block>,
+    iv: Noted,
     taken: Noted,
     given: Noted,
 }
@@ -65,7 +64,8 @@ impl CbcEncryption {
     pub(crate) fn new(key: Key, iv: Block) -> CbcEncryption
         ensures { result ≡ begun iv key 0 }
     {
-        let start = Snapshot::of(&iv);
+        let mut start = Noted::new();
+        start.push(&iv);
         CbcEncryption {
             key,
             chain: iv,
@@ -73,6 +73,20 @@ impl CbcEncryption {
             iv: start,
             taken: Noted::new(),
             given: Noted::new(),
+        }
+    }
+
+    /// The same once more. It takes no memory.
+    pub(crate) fn copied(&self) -> CbcEncryption
+        ensures { result ≡ self.now }
+    {
+        CbcEncryption {
+            key: self.key.copied(),
+            chain: self.chain,
+            kept: self.kept.copied(),
+            iv: self.iv.copied(),
+            taken: self.taken.copied(),
+            given: self.given.copied(),
         }
     }
 

@@ -1,18 +1,18 @@
 //! CTR in pieces (SP 800-38A, 6.5), which is the same in both directions.
 
 ghost use Rattle.std.specs.Prelude.{◌≡◌, ◌⊎◌, ◌+◌, ◌-◌, ◌/◌, ◌^◌, ◌<◌, ◌++◌, ◌↔◌, length, IfOk, IfErr, OnOk, OnErr, IsErrOf, IsTrue};
+ghost use Rattle.aes_block.specs.Bytes.{AreBytes};
 ghost use Rattle.aes_block.specs.KeyExpansion.{IsKey};
 ghost use Rattle.aes_modes.specs.Blocks.{blocks_begun};
 ghost use Rattle.aes_modes.specs.Counter.{counter_start};
 ghost use Rattle.streams.specs.Countings.{begun_counting, counted_further, ctr_output, numbered};
 
 use crate::kept::Kept;
-use aes_block::{BLOCK_SIZE, Block, Key};
+use aes_block::{BLOCK_SIZE, Block, Key, are_bytes};
 use aes_modes::{CounterBits, ModeFault, filled_block, push_number, xor_number};
 use noted::Noted;
 use std::alloc::{AllocError, Global};
 use std::marker::Model;
-use std::snapshot::Snapshot;
 
 /// CTR that has taken data. It keeps the number of the last counter block, how many may follow it,
 /// and the bytes of the last block.
@@ -23,7 +23,7 @@ pub(crate) struct CtrStream {
     number: u128,
     left: u128,
     kept: Kept,
-    start: Snapshot<Block>,
+    start: Noted,
     taken: Noted,
 }
 
@@ -76,7 +76,8 @@ impl CtrStream {
         let low_bits = u128::MAX >> (128 - bits.number());
         let number = u128::from_be_bytes(start);
         let left = low_bits - (number & low_bits);
-        let first = Snapshot::of(&start);
+        let mut first = Noted::new();
+        first.push(&start);
         CtrStream {
             key,
             bits,
@@ -85,6 +86,21 @@ impl CtrStream {
             kept: Kept::new(),
             start: first,
             taken: Noted::new(),
+        }
+    }
+
+    /// The same once more. It takes no memory.
+    pub(crate) fn copied(&self) -> CtrStream
+        ensures { result ≡ self.now }
+    {
+        CtrStream {
+            key: self.key.copied(),
+            bits: self.bits,
+            number: self.number,
+            left: self.left,
+            kept: self.kept.copied(),
+            start: self.start.copied(),
+            taken: self.taken.copied(),
         }
     }
 
@@ -106,6 +122,7 @@ impl CtrStream {
         let mut out = joined_counters(alloc, &self.key, self.number, &self.kept, piece)?;
         out.rotate_left(used);
         out.truncate(piece.len());
+        are_bytes(&out);
         self.number += blocks as u128;
         self.left -= blocks as u128;
         self.kept = self.kept.behind(piece, blocks);
@@ -125,9 +142,10 @@ impl CtrStream {
         false
     }
 
-    /// What the type says of the key. It does nothing.
-    pub(crate) fn is_key(&self)
-        ensures { IsKey self.now.key }
+    /// What the key and the output are. It does nothing.
+    pub(crate) fn gives(&self)
+        ensures key { IsKey self.now.key }
+        ensures bytes { AreBytes (ctr_output self.now) }
     {
         let _kept = &self.kept;
     }

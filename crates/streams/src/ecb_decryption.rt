@@ -69,6 +69,18 @@ impl EcbDecryption {
         }
     }
 
+    /// The same once more. It takes no memory.
+    pub(crate) fn copied(&self) -> EcbDecryption
+        ensures { result ≡ self.now }
+    {
+        EcbDecryption {
+            key: self.key.copied(),
+            kept: self.kept.copied(),
+            taken: self.taken.copied(),
+            given: self.given.copied(),
+        }
+    }
+
     /// Takes a piece, and gives what it adds to the output. An `Err` changes nothing.
     pub(crate) fn update(&mut self, alloc: Global, piece: &[u8]) -> Result<Vec<u8>, AllocError>
         ensures state { IfOk result (λ out. self.new ≡ further self.old piece.now out.items) }

@@ -36,6 +36,16 @@ impl Kept {
         }
     }
 
+    /// The same bytes once more.
+    pub(crate) fn copied(&self) -> Kept
+        ensures { result ≡ self.now }
+    {
+        Kept {
+            block: self.block,
+            count: self.count,
+        }
+    }
+
     /// How many there are.
     #[inline(always)]
     pub(crate) fn len(&self) -> usize

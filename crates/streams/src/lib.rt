@@ -13,7 +13,7 @@
 //! let mut stream = Stream::new(Mechanism::CbcPad { iv: [7; 16] }, Direction::Encipher, key);
 //! let room = stream.room_of(Part::Update, b"a piece of any length")?;
 //! let blocks = stream.update(alloc, b"a piece of any length")?;
-//! let last = stream.finish(alloc)?;
+//! let last = stream.last(alloc, b"and the last one")?;
 //! ```
 //!
 //! Contracts see a `Stream` as one record for all mechanisms (`Streamed`): the mechanism with its
@@ -22,17 +22,23 @@
 //!
 //! Proved, for every key, parameter and data, however it is cut:
 //!
-//! - The bytes given are what the mode over whole texts turns as many bytes of the data to as the
-//!   table of lengths says (`IsRight`; `specs/Lengths.antt`), and with the final call's they are
-//!   what it turns all data to (`IsRest`). The definitions are those of `aes_modes`.
+//! - What an update gives and what the last call gives are functions of all data taken
+//!   (`update_output` and `last_output`; `specs/Outputs.antt`), by the modes over whole texts of
+//!   `aes_modes`. What is deciphered is the one text that the mode enciphers to the data.
+//! - The bytes given are what the mode turns as many bytes of the data to as the table of lengths says
+//!   (`IsRight`; `specs/Lengths.antt`), and with the last call's they are what it turns all data to
+//!   (`IsRest`), and nothing else is (`IsOnlyRest`).
 //! - `LenRange` comes exactly where the data's length is that of no text, and `CounterEnd` exactly
 //!   where a counter block would come again, before anything changes. `BadPad` comes only where no
 //!   text is enciphered to the data. But for these there is only `Memory`, for a growth refused.
-//! - A refused call, and a final one, leaves the stream as it is.
+//! - A refused call, and the last one, leaves the stream as it is.
 //! - `room_of` tells before any work what a call wants and why it is refused.
+//! - A copy of a stream stands where the stream stands, and `has_taken` tells whether it has taken a
+//!   byte.
 //!
-//! An update makes one growth, of the length of the piece and a block, and a final call at most one
-//! of a block. The time that they take depends on secrets, as that of `aes_block`.
+//! An update makes one growth, of the length of the piece and a block. The last call makes that one
+//! and, for a padding, at most two more. The time that they take depends on secrets, as that of
+//! `aes_block`.
 #![tactic(auto)]
 
 mod cbc_decryption;

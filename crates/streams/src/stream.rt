@@ -1,9 +1,10 @@
 //! A text enciphered or deciphered in pieces.
 
-ghost use Rattle.std.specs.Prelude.{◌≡◌, ◌≢◌, ◌≤◌, ◌⊎◌, ℕ, List, ◌↔◌, length, IfOk, IfErr, OnErr, IsErrOf};
+ghost use Rattle.std.specs.Prelude.{◌≡◌, ◌≢◌, ◌≤◌, ◌⊎◌, ℕ, List, ◌↔◌, ◌==◌, true, false, not, Some, None, ◌++◌, length, IfOk, IfErr, OnErr, IsErrOf};
 ghost use Rattle.aes_block.specs.Bytes.{AreBytes};
 ghost use Rattle.streams.specs.Streamed.{started, after_piece};
-ghost use Rattle.streams.specs.Lengths.{wanted, IsOfNoText, RefusesLength, EndsCounters};
+ghost use Rattle.streams.specs.Lengths.{wanted, is_of_no_text, refuses_length, ends_counters};
+ghost use Rattle.streams.specs.Outputs.{output_so_far, whole_output, with_data, update_output, last_output};
 ghost use Rattle.streams.specs.States.{streamed, HoldsBack};
 ghost use Rattle.streams.specs.Right.{whole_enciphered, IsRight, IsRest, IsOnlyRest, TakesPaddingOff};
 
@@ -23,10 +24,11 @@ use std::marker::Model;
 /// A text that is enciphered or deciphered in pieces. Contracts see its mechanism with parameter, its
 /// direction and key, all data that it has taken and all bytes that it has given.
 ///
-/// Of the data it keeps at most 16 bytes.
+/// Of the data it keeps at most 16 bytes, and whether there was any.
 #[derive(Drop)]
 pub struct Stream {
     state: State,
+    has_taken: bool,
 }
 
 impl Model for Stream {
@@ -34,11 +36,11 @@ impl Model for Stream {
 
     ghost Value = { Streamed };
 
-    ghost use Rattle.streams.specs.States.{streamed, HoldsBack};
+    ghost use Rattle.streams.specs.StreamFields.{streamed_of, Holds};
 
-    ghost view = { λ s. streamed s.state };
+    ghost view = { streamed_of };
 
-    ghost invariant = { λ s. HoldsBack s.state };
+    ghost invariant = { Holds };
 }
 
 // The state of a stream that has taken nothing.
@@ -73,7 +75,25 @@ impl Stream {
     {
         Stream {
             state: begun(mechanism, direction, key),
+            has_taken: false,
         }
+    }
+
+    /// The same stream once more, from where it stands. It takes no memory and cannot fail.
+    pub fn copied(&self) -> Stream
+        ensures { result ≡ self.now }
+    {
+        Stream {
+            state: self.state.copied(),
+            has_taken: self.has_taken,
+        }
+    }
+
+    /// Whether data was taken: a byte at least.
+    pub fn has_taken(&self) -> bool
+        ensures { result ≡ not (length self.now.taken == 0) }
+    {
+        self.has_taken
     }
 
     /// Takes a piece of any length, and gives what it adds to the output (PKCS #11 v3.1, 5.8 and
@@ -87,8 +107,9 @@ impl Stream {
         ensures state { IfOk result (λ out. self.new ≡ after_piece self.old piece.now out.items) }
         ensures length { IfOk result (λ out. length out.items ≡ wanted Part.Update self.old (length piece.now)) }
         ensures right { IsRight self.new }
+        ensures value { IfOk result (λ out. out.items ≡ update_output self.old piece.now) }
         ensures err { OnErr result (self.new ≡ self.old) }
-        ensures counter_end { IsErrOf result ModeFault.CounterEnd ↔ EndsCounters self.old piece.now }
+        ensures counter_end { IsErrOf result ModeFault.CounterEnd ↔ (ends_counters self.old piece.now ≡ true) }
         ensures faults { IfErr result (λ fault. (fault ≡ ModeFault.CounterEnd) ⊎ (fault ≡ ModeFault.Memory)) }
     {
         let result = self.further(alloc, piece);
@@ -100,38 +121,59 @@ impl Stream {
     fn further(&mut self, alloc: Global, piece: &[u8]) -> Result<Vec<u8>, ModeFault>
         ensures state { IfOk result (λ out. self.new ≡ after_piece self.old piece.now out.items) }
         ensures err { OnErr result (self.new ≡ self.old) }
-        ensures counter_end { IsErrOf result ModeFault.CounterEnd ↔ EndsCounters self.old piece.now }
+        ensures counter_end { IsErrOf result ModeFault.CounterEnd ↔ (ends_counters self.old piece.now ≡ true) }
         ensures faults { IfErr result (λ fault. (fault ≡ ModeFault.CounterEnd) ⊎ (fault ≡ ModeFault.Memory)) }
     {
-        match &mut self.state {
-            State::EcbEncrypt(stream) => Ok(stream.update(alloc, piece)?),
-            State::EcbDecrypt(stream) => Ok(stream.update(alloc, piece)?),
-            State::CbcEncrypt(stream) => Ok(stream.update(alloc, piece)?),
-            State::CbcDecrypt(stream) => Ok(stream.update(alloc, piece)?),
-            State::CbcPadEncrypt(stream) => Ok(stream.update(alloc, piece)?),
-            State::CbcPadDecrypt(stream) => Ok(stream.update(alloc, piece)?),
-            State::CtrEncrypt(stream) => stream.update(alloc, piece),
-            State::CtrDecrypt(stream) => stream.update(alloc, piece),
+        let out = self.state.update(alloc, piece)?;
+        if !piece.is_empty() {
+            self.has_taken = true;
         }
+        Ok(out)
     }
 
-    /// Ends the text, and gives the rest of the output (PKCS #11 v3.1, 5.8 and 5.10): of
-    /// `CbcPad` the last block with the padding, or what the last block has before its padding, and
-    /// else nothing. The stream is left as it is.
+    /// Ends the text with its last data, of any length, and gives the rest of the output (PKCS #11
+    /// v3.1, 5.8 and 5.10): a single-part call gives all data, and a final call none. The stream is
+    /// left as it is.
     ///
     /// `LenRange` where data of this length is no text: under ECB and CBC it is whole blocks, and
-    /// where a padding is taken off one at least. `BadPad` where no text is enciphered to the data.
-    /// `Memory` where the result gets no memory.
-    pub fn finish(&self, alloc: Global) -> Result<Vec<u8>, ModeFault>
+    /// where a padding is taken off one at least. `CounterEnd` where CTR has no counter for each
+    /// block of the data. `BadPad` where no text is enciphered to the data. `Memory` where the result
+    /// gets no memory.
+    pub fn last(&self, alloc: Global, input: &[u8]) -> Result<Vec<u8>, ModeFault>
+        ensures value { IfOk result (λ out. last_output self.now input.now ≡ Some out.items) }
+        ensures rest { IfOk result (λ out. IsRest (with_data self.now input.now) out.items) }
+        ensures only { IfOk result (λ out. IsOnlyRest (with_data self.now input.now) out.items) }
+        ensures length { IfOk result (λ out. length out.items ≤ wanted Part.Last self.now (length input.now)) }
+        ensures len_range { IsErrOf result ModeFault.LenRange ↔ (refuses_length Part.Last self.now (length input.now) ≡ true) }
+        ensures counter_end { IsErrOf result ModeFault.CounterEnd ↔ (ends_counters self.now input.now ≡ true) }
+        ensures bad_pad { IsErrOf result ModeFault.BadPad → last_output self.now input.now ≡ None }
+        ensures bad_pad_text { IsErrOf result ModeFault.BadPad → (x : List ℕ) → AreBytes x
+            → whole_enciphered self.now.mechanism self.now.key x ≢ self.now.taken ++ input.now }
+        ensures bad_pad_mechanism { IsErrOf result ModeFault.BadPad
+            → TakesPaddingOff self.now.mechanism self.now.direction }
+    {
+        self.room_of(Part::Last, input)?;
+        let mut stream = self.copied();
+        let mut out = stream.update(alloc, input)?;
+        let rest = stream.finish(alloc)?;
+        out.extend_from_slice(&rest)?;
+        Ok(out)
+    }
+
+    // The rest of the output where no data is left: of `CbcPad` the last block with the padding, or
+    // what the last block has before its padding, and else nothing.
+    fn finish(&self, alloc: Global) -> Result<Vec<u8>, ModeFault>
         ensures rest { IfOk result (λ out. IsRest self.now out.items) }
         ensures only { IfOk result (λ out. IsOnlyRest self.now out.items) }
+        ensures value { IfOk result (λ out. whole_output self.now ≡ Some (self.now.given ++ out.items)) }
         ensures length { IfOk result (λ out. length out.items ≤ wanted Part.Last self.now 0) }
         ensures len_range { IsErrOf result ModeFault.LenRange
-            ↔ IsOfNoText self.now.mechanism self.now.direction (length self.now.taken) }
+            ↔ (is_of_no_text self.now.mechanism self.now.direction (length self.now.taken) ≡ true) }
         ensures bad_pad_mechanism { IsErrOf result ModeFault.BadPad
             → TakesPaddingOff self.now.mechanism self.now.direction }
         ensures bad_pad { IsErrOf result ModeFault.BadPad → (x : List ℕ) → AreBytes x
             → whole_enciphered self.now.mechanism self.now.key x ≢ self.now.taken }
+        ensures bad_pad_value { IsErrOf result ModeFault.BadPad → whole_output self.now ≡ None }
         ensures faults { IfErr result (λ fault. fault ≢ ModeFault.CounterEnd) }
     {
         self.is_right();
@@ -150,7 +192,7 @@ impl Stream {
             State::CbcPadDecrypt(stream) => stream.unpadded_block(alloc),
             State::CtrEncrypt(_) => Ok(Vec::new(alloc)),
             State::CtrDecrypt(stream) => {
-                stream.is_key();
+                stream.gives();
                 Ok(Vec::new(alloc))
             }
         }
@@ -166,8 +208,8 @@ impl Stream {
     /// where CTR has no counter for each block of the data.
     pub fn room_of(&self, part: Part, input: &[u8]) -> Result<usize, ModeFault>
         ensures room { IfOk result (λ room. room ≡ wanted part self.now (length input.now)) }
-        ensures len_range { IsErrOf result ModeFault.LenRange ↔ RefusesLength part self.now (length input.now) }
-        ensures counter_end { IsErrOf result ModeFault.CounterEnd ↔ EndsCounters self.now input.now }
+        ensures len_range { IsErrOf result ModeFault.LenRange ↔ (refuses_length part self.now (length input.now) ≡ true) }
+        ensures counter_end { IsErrOf result ModeFault.CounterEnd ↔ (ends_counters self.now input.now ≡ true) }
         ensures faults { IfErr result (λ fault. (fault ≡ ModeFault.LenRange) ⊎ (fault ≡ ModeFault.CounterEnd)) }
     {
         match part {
@@ -178,7 +220,7 @@ impl Stream {
 
     fn room_of_update(&self, input: &[u8]) -> Result<usize, ModeFault>
         ensures room { IfOk result (λ room. room ≡ wanted Part.Update self.now (length input.now)) }
-        ensures counter_end { IsErrOf result ModeFault.CounterEnd ↔ EndsCounters self.now input.now }
+        ensures counter_end { IsErrOf result ModeFault.CounterEnd ↔ (ends_counters self.now input.now ≡ true) }
         ensures faults { IfErr result (λ fault. fault ≡ ModeFault.CounterEnd) }
     {
         self.is_right();
@@ -195,8 +237,8 @@ impl Stream {
 
     fn room_of_last(&self, input: &[u8]) -> Result<usize, ModeFault>
         ensures room { IfOk result (λ room. room ≡ wanted Part.Last self.now (length input.now)) }
-        ensures len_range { IsErrOf result ModeFault.LenRange ↔ RefusesLength Part.Last self.now (length input.now) }
-        ensures counter_end { IsErrOf result ModeFault.CounterEnd ↔ EndsCounters self.now input.now }
+        ensures len_range { IsErrOf result ModeFault.LenRange ↔ (refuses_length Part.Last self.now (length input.now) ≡ true) }
+        ensures counter_end { IsErrOf result ModeFault.CounterEnd ↔ (ends_counters self.now input.now ≡ true) }
         ensures faults { IfErr result (λ fault. (fault ≡ ModeFault.LenRange) ⊎ (fault ≡ ModeFault.CounterEnd)) }
     {
         self.is_right();
@@ -214,7 +256,8 @@ impl Stream {
     /// What the bytes given are: pieces equal the whole (SP 800-38A, 6). It does nothing: a proof
     /// cites it.
     pub fn is_right(&self)
-        ensures { IsRight self.now }
+        ensures right { IsRight self.now }
+        ensures value { output_so_far self.now ≡ self.now.given }
     {
         match &self.state {
             State::EcbEncrypt(stream) => stream.gives(),
@@ -223,8 +266,8 @@ impl Stream {
             State::CbcDecrypt(stream) => stream.gives(),
             State::CbcPadEncrypt(stream) => stream.gives(),
             State::CbcPadDecrypt(stream) => stream.gives(),
-            State::CtrEncrypt(stream) => stream.is_key(),
-            State::CtrDecrypt(stream) => stream.is_key(),
+            State::CtrEncrypt(stream) => stream.gives(),
+            State::CtrDecrypt(stream) => stream.gives(),
         }
     }
 }

@@ -30,22 +30,28 @@ fn whole(
     }
 }
 
-// The same in pieces of this length. Each piece gives as many bytes as it wants room for.
+// How many bytes come with the last call: none, some and all.
+const LAST: &[usize] = &[0, 17, usize::MAX];
+
+// The same in pieces of this length, and so many bytes with the last call. Each piece gives as many
+// bytes as it wants room for.
 fn in_pieces(
     alloc: Global,
     mut stream: Stream,
     text: &[u8],
     length: usize,
+    last: usize,
 ) -> Result<Vec<u8>, ModeFault> {
     let mut out = Vec::new(alloc);
-    for piece in text.chunks(length.max(1)) {
+    let (first, rest) = text.split_at(text.len().saturating_sub(last));
+    for piece in first.chunks(length.max(1)) {
         let room = stream.room_of(Part::Update, piece)?;
         let given = stream.update(alloc, piece)?;
         if given.len() == room {
             out.extend_from_slice(&given)?;
         }
     }
-    out.extend_from_slice(&stream.finish(alloc)?)?;
+    out.extend_from_slice(&stream.last(alloc, rest)?)?;
     Ok(out)
 }
 
@@ -58,13 +64,15 @@ fn is_as_whole(
 ) -> Result<bool, ModeFault> {
     let enciphered = whole(alloc, key, mechanism, Direction::Encipher, text)?;
     let back = whole(alloc, key, mechanism, Direction::Decipher, &enciphered)?;
+    let there = Stream::new(mechanism, Direction::Encipher, key.copied());
+    let again = Stream::new(mechanism, Direction::Decipher, key.copied());
     for length in LENGTHS {
-        let there = Stream::new(mechanism, Direction::Encipher, key.copied());
-        let again = Stream::new(mechanism, Direction::Decipher, key.copied());
-        if in_pieces(alloc, there, text, *length)? != enciphered
-            || in_pieces(alloc, again, &enciphered, *length)? != back
-        {
-            return Ok(false);
+        for last in LAST {
+            if in_pieces(alloc, there.copied(), text, *length, *last)? != enciphered
+                || in_pieces(alloc, again.copied(), &enciphered, *length, *last)? != back
+            {
+                return Ok(false);
+            }
         }
     }
     Ok(back.as_slice() == text)
@@ -99,6 +107,53 @@ fn texts_of_any_length_in_pieces_are_as_the_whole(rt: HostRuntime) -> Result<(),
     Ok(())
 }
 
+// Whether a copy of a stream that has taken part of a block goes on by itself.
+fn goes_on_by_itself(alloc: Global, mut stream: Stream) -> Result<bool, ModeFault> {
+    stream.update(alloc, &[1; 20])?;
+    let mut copy = stream.copied();
+    let first = copy.update(alloc, &[2; 28])?;
+    let last = copy.last(alloc, &[3; 16])?;
+    let again = copy.last(alloc, &[3; 16])?;
+    let is_left = stream.update(alloc, &[2; 28])? == first;
+    Ok(is_left && last == again && stream.last(alloc, &[3; 16])? == last)
+}
+
+#[test]
+fn a_copy_goes_on_by_itself(rt: HostRuntime) -> Result<(), Fail> {
+    let key = key_of(rt.alloc(), KEY)?;
+    let bits = CounterBits::new(8).ok_or("no such number of bits")?;
+    let counted = Mechanism::Ctr {
+        bits,
+        start: VECTOR,
+    };
+    let padded = Mechanism::CbcPad { iv: VECTOR };
+    for mechanism in [
+        Mechanism::Ecb,
+        Mechanism::Cbc { iv: VECTOR },
+        padded,
+        counted,
+    ] {
+        let stream = Stream::new(mechanism, Direction::Encipher, key.copied());
+        assert!(rt; goes_on_by_itself(rt.alloc(), stream)?);
+    }
+    for mechanism in [Mechanism::Ecb, Mechanism::Cbc { iv: VECTOR }, counted] {
+        let stream = Stream::new(mechanism, Direction::Decipher, key.copied());
+        assert!(rt; goes_on_by_itself(rt.alloc(), stream)?);
+    }
+    Ok(())
+}
+
+#[test]
+fn it_is_told_whether_data_was_taken(rt: HostRuntime) -> Result<(), Fail> {
+    let key = key_of(rt.alloc(), KEY)?;
+    let mut stream = Stream::new(Mechanism::Ecb, Direction::Encipher, key);
+    stream.update(rt.alloc(), b"")?;
+    let none = stream.has_taken();
+    stream.update(rt.alloc(), b"a")?;
+    assert!(rt; !none && stream.has_taken() && stream.copied().has_taken());
+    Ok(())
+}
+
 // Last blocks whose last bytes are no padding: 0, 17, and unequal ones.
 const UNPADDED: &[Block] = &[
     [1, 1, 1, 1, 1, 1, 1, 1, 1, 1, 1, 1, 1, 1, 1, 0],
@@ -122,11 +177,11 @@ fn what_is_no_padding_is_refused_at_the_end(rt: HostRuntime) -> Result<(), Fail>
     let key = key_of(rt.alloc(), KEY)?;
     for last in UNPADDED {
         let stream = decryption_of(rt.alloc(), &key, *last)?;
-        let is_refused = stream.finish(rt.alloc()) == Err(ModeFault::BadPad);
+        let is_refused = stream.last(rt.alloc(), b"") == Err(ModeFault::BadPad);
         assert!(rt; is_refused);
     }
     let stream = decryption_of(rt.alloc(), &key, [16; 16])?;
-    assert!(rt; stream.finish(rt.alloc())?.is_empty());
+    assert!(rt; stream.last(rt.alloc(), b"")?.is_empty());
     Ok(())
 }
 
@@ -150,11 +205,11 @@ fn a_length_of_no_text_is_refused(rt: HostRuntime) -> Result<(), Fail> {
     let key = key_of(rt.alloc(), KEY)?;
     let mut stream = Stream::new(Mechanism::Ecb, Direction::Encipher, key.copied());
     stream.update(rt.alloc(), &[0; 15])?;
-    let is_refused = stream.finish(rt.alloc()) == Err(ModeFault::LenRange)
+    let is_refused = stream.last(rt.alloc(), b"") == Err(ModeFault::LenRange)
         && stream.room_of(Part::Last, b"") == Err(ModeFault::LenRange);
     let mechanism = Mechanism::CbcPad { iv: VECTOR };
     let none = Stream::new(mechanism, Direction::Decipher, key);
-    assert!(rt; is_refused && none.finish(rt.alloc()) == Err(ModeFault::LenRange));
+    assert!(rt; is_refused && none.last(rt.alloc(), b"") == Err(ModeFault::LenRange));
     assert_eq!(rt; stream.room_of(Part::Last, &[0; 17]), Ok(32));
     Ok(())
 }
@@ -163,5 +218,6 @@ fn a_length_of_no_text_is_refused(rt: HostRuntime) -> Result<(), Fail> {
 fn noted_bytes_take_no_memory(rt: HostRuntime) {
     let mut taken = Noted::new();
     taken.push(b"abc");
+    let _copy = taken.copied();
     assert!(rt; size_of::<Noted>() == 0);
 }

@@ -1,4 +1,4 @@
-use Rattle.std.proofs.Common.{sym, subst, arith}
+use Rattle.std.proofs.Common.{◌++◌, ◌∙◌, ap, sym, subst, arith}
 use Rattle.aes_block.specs.Bytes.{IsBlock}
 use Rattle.streams.proofs.CbcBackLaw.{cbc_begun_back, begun_chain_back}
 use Rattle.streams.proofs.Pieces.{begun_held}
@@ -7,10 +7,10 @@ use Rattle.streams.proofs.cbc_decryption.CbcDecryption.new.Goals as goal
 pub invariant_of-result : goal.invariant_of-result
 invariant_of-result c =
     let iv : IsBlock c.args.iv = record { size = omega arith; bytes = c.are_bytes.ensures } in
-    let start = sym c.of-start.ensures in
+    let start = sym (c.push.ensures ∙ ap (λ b. b ++ c.args.iv) c.new-start.ensures) in
     record {
       held = c.requires;
-      given = cbc_begun_back c.args.key c.of-start.result.value _ _ c.args.iv c.args.held start c.new-2.ensures c.new-3.ensures c.size-size.ensures.key (subst IsBlock start iv);
-      chain = begun_chain_back c.args.key c.of-start.result.value _ _ c.args.iv c.args.held start c.new-2.ensures c.new-3.ensures;
+      given = cbc_begun_back c.args.key _ _ _ c.args.iv c.args.held start c.new-2.ensures c.new-3.ensures c.size-size.ensures.key (subst IsBlock start iv);
+      chain = begun_chain_back c.args.key _ _ _ c.args.iv c.args.held start c.new-2.ensures c.new-3.ensures;
       kept = begun_held c.args.held _ _ c.new.ensures c.new-2.ensures;
     }

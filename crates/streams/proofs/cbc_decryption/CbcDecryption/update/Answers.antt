@@ -13,7 +13,7 @@ invariant_of-self c =
     let all = c.push-2.ensures ∙ ap (λ x. s.given.bytes ++ x) c.deref.ensures.value in
     record {
       held = h.held;
-      given = cbc_further_back s.key s.iv.value s.given.bytes s.taken.bytes c.args.piece.now s.chain s.kept c.in_ok-out.out.items _ _ s.held _ _ _ h.held h.given h.chain h.kept len total refl c.push.ensures all r.size r.back r.bytes;
-      chain = chain_further s.key s.iv.value s.given.bytes s.taken.bytes c.args.piece.now s.chain s.kept c.in_ok-out.out.items _ _ s.held _ _ _ h.held h.given h.chain h.kept len total refl c.push.ensures all _ r.chain;
+      given = cbc_further_back s.key s.iv.bytes s.given.bytes s.taken.bytes c.args.piece.now s.chain s.kept c.in_ok-out.out.items _ _ s.held _ _ _ h.held h.given h.chain h.kept len total refl c.push.ensures all r.size r.back r.bytes;
+      chain = chain_further s.key s.iv.bytes s.given.bytes s.taken.bytes c.args.piece.now s.chain s.kept c.in_ok-out.out.items _ _ s.held _ _ _ h.held h.given h.chain h.kept len total refl c.push.ensures all _ r.chain;
       kept = kept_held s.held s.taken.bytes c.args.piece.now s.kept _ _ _ _ h.held h.kept len total refl c.push.ensures _ c.behind-self-inside.ensures;
     }

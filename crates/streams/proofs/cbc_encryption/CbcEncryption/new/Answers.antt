@@ -1,11 +1,13 @@
-use Rattle.std.proofs.Common.{sym}
+use Rattle.std.proofs.Common.{◌++◌, ◌∙◌, ap, sym}
 use Rattle.streams.proofs.CbcLaw.{begun_chain, cbc_begun}
 use Rattle.streams.proofs.Pieces.{begun_kept}
 use Rattle.streams.proofs.cbc_encryption.CbcEncryption.new.Goals as goal
 
 pub invariant_of-result : goal.invariant_of-result
-invariant_of-result c = record {
-  given = cbc_begun c.args.key c.args.iv _ _ _ (sym c.of-start.ensures) c.new-2.ensures c.new-3.ensures;
-  chain = begun_chain c.args.key c.args.iv _ _ _ (sym c.of-start.ensures) c.new-2.ensures c.new-3.ensures;
-  kept = begun_kept _ _ c.new.ensures c.new-2.ensures;
-}
+invariant_of-result c =
+    let start = sym (c.push.ensures ∙ ap (λ b. b ++ c.args.iv) c.new-start.ensures) in
+    record {
+      given = cbc_begun c.args.key c.args.iv _ _ _ start c.new-2.ensures c.new-3.ensures;
+      chain = begun_chain c.args.key c.args.iv _ _ _ start c.new-2.ensures c.new-3.ensures;
+      kept = begun_kept _ _ c.new.ensures c.new-2.ensures;
+    }

@@ -11,8 +11,8 @@ invariant_of-self c =
     let len = c.len.ensures.value in
     let all = c.push-2.ensures ∙ ap (λ x. s.given.bytes ++ x) c.deref.ensures.value in
     record {
-      given = cbc_further s.key s.iv.value s.taken.bytes c.args.piece.now s.chain s.kept _ _ c.len.result h.chain h.kept len refl c.push.ensures
+      given = cbc_further s.key s.iv.bytes s.taken.bytes c.args.piece.now s.chain s.kept _ _ c.len.result h.chain h.kept len refl c.push.ensures
           s.given.bytes _ _ h.given r.size r.out all;
-      chain = chain_after s.key s.iv.value s.taken.bytes c.args.piece.now s.chain s.kept _ _ c.len.result h.chain h.kept len refl c.push.ensures _ r.chain;
+      chain = chain_after s.key s.iv.bytes s.taken.bytes c.args.piece.now s.chain s.kept _ _ c.len.result h.chain h.kept len refl c.push.ensures _ r.chain;
       kept = kept_after s.taken.bytes c.args.piece.now s.kept _ _ c.len.result h.kept len refl c.push.ensures _ c.behind-self-inside.ensures;
     }
