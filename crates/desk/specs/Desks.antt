@@ -10,7 +10,7 @@ use Rattle.handles.specs.Handles.{HandleTable, no_handles, public_handles}
 use Rattle.sessions.specs.declared.Session.{Session}
 use Rattle.sessions.specs.Sessions.{SessionTable, no_sessions, session_at, with_work, without_session, logged_out}
 use Rattle.desk.specs.declared.own_object.OwnObject.{OwnObject}
-use Rattle.ops.specs.Operations.{Operation, Operations, no_operations}
+use Rattle.ops.specs.Operations.{Operations, no_operations}
 
 -- One application's sessions with their operations and its login, its session objects in the order of their
 -- creation, its handles of token objects, the pending question, and the number of the next one. Of memory it
@@ -76,24 +76,6 @@ logged_out_desk d =
       own = filter (λ e. not (flag e.object Private)) d.own;
       handles = record d.handles { entries = public_handles d.handles.entries };
     }
-
--- ---- operations
-
--- the encryption of a session
-abbrev pub encryption_of : Option (Session Operations) → Option Operation
-encryption_of None = None
-encryption_of (Some s) = s.work.encrypt
-
-abbrev pub encryption_at : DeskState → ℕ → Option Operation
-encryption_at d session = encryption_of (session_at d.sessions.sessions session)
-
-abbrev pub encrypting_in : SessionTable Operations → ℕ → Option (Session Operations) → Option Operation → SessionTable Operations
-encrypting_in t session None operation = t
-encrypting_in t session (Some s) operation = with_work t session (record s.work { encrypt = operation })
-
--- it begins, or it ends
-abbrev pub with_encryption : DeskState → ℕ → Option Operation → DeskState
-with_encryption d session operation = record d { sessions = encrypting_in d.sessions session (session_at d.sessions.sessions session) operation }
 
 -- ---- questions
 

@@ -7,8 +7,8 @@ ghost use Rattle.ck_types.specs.declared.user_type.UserType.TheVariants.{So};
 ghost use Rattle.handles.specs.Handles.{object_of, number_of, with_handle, without_object, HasRoomFor};
 ghost use Rattle.handles.specs.Handles.{IsTable as IsHandleTable};
 ghost use Rattle.sessions.specs.Sessions.{session_at, state_of, with_session, with_work, IsTable};
-ghost use Rattle.ops.specs.Operations.{no_operations};
-ghost use Rattle.desk.specs.Desks.{DeskState, SameDesk, empty_desk, is_busy, own_at, replaced_own, closed, all_closed, logged_out_desk, encryption_at, with_encryption, with_question};
+ghost use Rattle.ops.specs.Operations.{no_operations, operation_in, operation_of, with_operation};
+ghost use Rattle.desk.specs.Desks.{DeskState, SameDesk, empty_desk, is_busy, own_at, replaced_own, closed, all_closed, logged_out_desk, with_question};
 ghost use Rattle.attrs.specs.Objects.{flag};
 ghost use Rattle.ck_types.specs.declared.attr_type.AttrType.TheVariants.{Private};
 
@@ -19,10 +19,11 @@ use ck_types::{AttrType, SessionState, UserType};
 use handles::Handles;
 use lists::NUMBER_LIMIT;
 use mech::Job;
-use ops::{Encryption, Operations};
+use ops::{Place, Places};
 use sessions::Sessions;
 use std::alloc::{AllocError, Global};
 use std::marker::Model;
+use streams::Stream;
 
 /// How many session objects an application has at most.
 pub const SESSION_OBJECT_LIMIT: usize = 256;
@@ -30,7 +31,7 @@ pub const SESSION_OBJECT_LIMIT: usize = 256;
 /// One application's part of a token.
 #[derive(Drop)]
 pub struct Desk {
-    sessions: Sessions<Operations>,
+    sessions: Sessions<Places>,
     own: Vec<OwnObject>,
     handles: Handles,
     question: Option<Question>,
@@ -140,19 +141,20 @@ impl Desk {
         self.handles.retire_private();
     }
 
-    /// The encryption of a session.
-    pub fn encryption(&self, session: u64) -> Option<&Encryption>
-        ensures { option_copied result ≡ encryption_at self.now session }
+    /// The operation at a place of a session.
+    pub fn operation(&self, session: u64, place: Place) -> Option<&Stream>
+        ensures { option_map operation_of (option_copied result) ≡ operation_in (session_at self.now.sessions.sessions session) place }
     {
-        self.sessions.work(session)?.encrypt.as_ref()
+        self.sessions.work(session)?.get(place)
     }
 
-    /// Begins an encryption in a session, or ends it.
-    pub fn set_encryption(&mut self, session: u64, encryption: Option<Encryption>)
-        ensures { self.new ≡ with_encryption self.old session encryption }
+    /// Begins an operation at a place of a session, goes on with it, or ends the one that is there. Without such a session
+    /// nothing changes.
+    pub fn set_operation(&mut self, session: u64, place: Place, operation: Option<Stream>)
+        ensures { self.new ≡ record self.old { sessions = with_operation self.old.sessions session place (option_map operation_of operation) } }
     {
-        if let Some(operations) = self.sessions.work_mut(session) {
-            operations.encrypt = encryption;
+        if let Some(places) = self.sessions.work_mut(session) {
+            places.set(place, operation);
         }
     }
 

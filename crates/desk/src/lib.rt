@@ -22,6 +22,6 @@ mod question;
 
 pub use desk::{Desk, SESSION_OBJECT_LIMIT};
 pub use lists::NUMBER_LIMIT;
-pub use ops::{Encryption, Operations};
+pub use ops::{Place, Places};
 pub use own_object::OwnObject;
 pub use question::Question;

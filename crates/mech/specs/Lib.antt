@@ -1,3 +1,2 @@
 pub mod Runnable
-pub mod Values
 pub mod Works

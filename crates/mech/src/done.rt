@@ -8,11 +8,12 @@ ghost use Rattle.mech.specs.Works.{outcome_of};
 use crate::job::Job;
 use crate::outcome::Outcome;
 use crate::work::Work;
-use aes_modes::{Direction, ecb};
+use aes_modes::ModeFault;
 use ck_calls::Function;
 use ck_types::Bytes;
 use std::alloc::Global;
 use std::snapshot::Snapshot;
+use streams::Part;
 
 /// A job that was run. The job itself is for contracts alone, and takes no bytes.
 #[derive(Drop)]
@@ -61,21 +62,40 @@ impl Done {
     }
 }
 
-#[tactic(auto, unfolding(crate::specs::Values::encrypted))]
+/// Does the work, or gives it back for want of memory.
 fn work_done(alloc: Global, work: Work) -> Result<Outcome, Work>
     requires { IsTrue (is_runnable work) }
     ensures value { IfOk result (λ o. o ≡ outcome_of work) }
     ensures back { IfErr result (λ back. back ≡ work) }
 {
-    match work {
-        Work::EcbEncrypt { key, input } => match ecb(
-            alloc,
-            &key,
-            Direction::Encipher,
-            input.as_slice(),
-        ) {
-            Ok(output) => Ok(Outcome::Data(Bytes::from_vec(output))),
-            Err(_) => Err(Work::EcbEncrypt { key, input }),
+    let Work::Cipher {
+        stream,
+        part,
+        input,
+    } = work;
+    match part {
+        Part::Update => {
+            let mut further = stream.copied();
+            match further.update(alloc, input.as_slice()) {
+                Ok(output) => Ok(Outcome::Piece {
+                    output: Bytes::from_vec(output),
+                    stream: further,
+                }),
+                Err(_) => Err(Work::Cipher {
+                    stream,
+                    part,
+                    input,
+                }),
+            }
+        }
+        Part::Last => match stream.last(alloc, input.as_slice()) {
+            Ok(output) => Ok(Outcome::Rest(Bytes::from_vec(output))),
+            Err(ModeFault::BadPad) => Ok(Outcome::BadPadding),
+            Err(_) => Err(Work::Cipher {
+                stream,
+                part,
+                input,
+            }),
         },
     }
 }

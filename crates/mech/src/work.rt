@@ -1,11 +1,16 @@
 //! What is to be done.
 
-use aes_block::Key;
 use ck_types::Bytes;
+use streams::{Part, Stream};
 
 /// What is to be done, with all that it needs.
 #[derive(Drop)]
 pub enum Work {
-    /// CKM_AES_ECB over whole blocks (SP 800-38A, 6.1).
-    EcbEncrypt { key: Key, input: Bytes },
+    /// Data of an operation that enciphers or deciphers, as a piece or as the last (PKCS #11 v3.1, 5.8 and 5.10). The
+    /// stream is a copy: the operation's own stands where it was.
+    Cipher {
+        stream: Stream,
+        part: Part,
+        input: Bytes,
+    },
 }

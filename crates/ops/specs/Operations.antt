@@ -1,19 +1,37 @@
 -- The operations of a session (PKCS #11 v3.1, 5.2): one of each kind may be active at a time.
-use Rattle.std.specs.Prelude.{ℕ, List, [], Option, Some, None}
-use Rattle.ck_types.specs.declared.mech_type.MechType.{MechType}
+use Rattle.std.specs.Prelude.{ℕ, List, [], ◌++◌, Option, Some, None}
+use Rattle.std.specs.Option.{unwrap_or}
+use Rattle.aes_modes.specs.declared.direction.Direction.{Direction}
+use Rattle.streams.specs.declared.mechanism.Mechanism.{Mechanism}
+use Rattle.streams.specs.Streamed.{Streamed}
+use Rattle.sessions.specs.declared.Session.{Session}
+use Rattle.sessions.specs.Sessions.{SessionTable, session_at, with_work}
+use Rattle.ops.specs.declared.place.Place.{Place}
+use Rattle.ops.specs.declared.place.Place.TheVariants.{Encrypt, Decrypt, Sign, Verify}
 
--- An operation: its mechanism and parameter, the data that it has taken so far, and how many bytes of its
--- output were handed out. It works under a copy of its key's value, which may be left out.
+-- An operation: its mechanism with parameter and its direction, the data that it has taken and the bytes that it has
+-- given so far. It works under a copy of its key's value, which may be left out.
 pub record Operation : Type 0 where
-  pub mechanism : MechType
-  pub parameter : List ℕ
+  pub mechanism : Mechanism
+  pub direction : Direction
   pub taken : List ℕ
-  pub given : ℕ
+  pub given : List ℕ
   pub key : Option (List ℕ)
 
 -- an operation that has taken nothing yet
-abbrev pub started : MechType → List ℕ → Option (List ℕ) → Operation
-started mechanism parameter key = record { mechanism = mechanism; parameter = parameter; taken = []; given = 0; key = key }
+abbrev pub started : Mechanism → Direction → Option (List ℕ) → Operation
+started mechanism direction key = record { mechanism = mechanism; direction = direction; taken = []; given = []; key = key }
+
+-- a piece further, for which `out` was given
+abbrev pub further : Operation → List ℕ → List ℕ → Operation
+further o piece out = record o { taken = o.taken ++ piece; given = o.given ++ out }
+
+-- the operation of a text in pieces, and the text of an operation, where its key isn't left out
+abbrev pub operation_of : Streamed → Operation
+operation_of s = record { mechanism = s.mechanism; direction = s.direction; taken = s.taken; given = s.given; key = Some s.key }
+
+abbrev pub text_of : Operation → Streamed
+text_of o = record { mechanism = o.mechanism; direction = o.direction; key = unwrap_or o.key []; taken = o.taken; given = o.given }
 
 -- what a session has under way: of a search, the handles that were not answered yet
 pub record Operations : Type 0 where
@@ -26,6 +44,36 @@ pub record Operations : Type 0 where
 abbrev pub no_operations : Operations
 no_operations = record { encrypt = None; decrypt = None; sign = None; verify = None; find = None }
 
+-- ---- places
+
+abbrev pub operation_at : Operations → Place → Option Operation
+operation_at ops Encrypt = ops.encrypt
+operation_at ops Decrypt = ops.decrypt
+operation_at ops Sign = ops.sign
+operation_at ops Verify = ops.verify
+
+-- an operation stands at a place, or none; the others stay
+abbrev pub placed : Operations → Place → Option Operation → Operations
+placed ops Encrypt o = record ops { encrypt = o }
+placed ops Decrypt o = record ops { decrypt = o }
+placed ops Sign o = record ops { sign = o }
+placed ops Verify o = record ops { verify = o }
+
+-- ---- in a session
+
+abbrev pub operation_in : Option (Session Operations) → Place → Option Operation
+operation_in None place = None
+operation_in (Some s) place = operation_at s.work place
+
+abbrev pub placed_in : SessionTable Operations → ℕ → Option (Session Operations) → Place → Option Operation → SessionTable Operations
+placed_in t session None place o = t
+placed_in t session (Some s) place o = with_work t session (placed s.work place o)
+
+abbrev pub with_operation : SessionTable Operations → ℕ → Place → Option Operation → SessionTable Operations
+with_operation t session place o = placed_in t session (session_at t.sessions session) place o
+
+-- ---- what is kept back
+
 -- all of an operation but the value of its key
 abbrev pub mask_operation : Operation → Operation
-mask_operation o = record { mechanism = o.mechanism; parameter = o.parameter; taken = o.taken; given = o.given; key = None }
+mask_operation o = record { mechanism = o.mechanism; direction = o.direction; taken = o.taken; given = o.given; key = None }

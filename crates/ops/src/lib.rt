@@ -1,52 +1,16 @@
-//! The operations of a session (PKCS #11 v3.1, 5.2): what it has under way, with a copy of the key.
+//! The operations of a session (PKCS #11 v3.1, 5.2): what it has under way, each at its place, with a copy of its key.
 //!
-//! Contracts see an operation as its mechanism and parameter, the data that it has taken and the key, which the view
-//! of an application leaves out (`specs/Operations.antt`).
+//! Contracts see an operation as its mechanism with parameter and direction, the data that it has taken, the bytes that it
+//! has given, and the key, which the view of an application leaves out (`specs/Operations.antt`).
+//!
+//! ```text
+//! places.set(Place::Encrypt, Some(Stream::new(mechanism, Direction::Encipher, key)));
+//! let operation = places.get(Place::Encrypt).ok_or(Row::NoOperation)?;
+//! ```
 #![tactic(auto)]
 
-ghost use Rattle.std.specs.Prelude.{◌≡◌};
-ghost use Rattle.ops.specs.Operations.{no_operations};
+mod place;
+mod places;
 
-use aes_block::Key;
-use sessions::Work;
-use std::marker::Model;
-
-/// An encryption by CKM_AES_ECB, with a copy of its key.
-#[derive(Drop)]
-pub struct Encryption {
-    pub key: Key,
-}
-
-impl Model for Encryption {
-    ghost use Rattle.std.specs.Prelude.{[], Some};
-    ghost use Rattle.ck_types.specs.declared.mech_type.MechType.TheVariants.{AesEcb};
-    ghost use Rattle.ops.specs.Operations.{Operation, started};
-
-    ghost Value = { Operation };
-
-    ghost view = { λ e. started AesEcb [] (Some e.key) };
-}
-
-/// What a session has under way (PKCS #11 v3.1, 5.2). Of the five kinds of operations the encryptions
-/// are built.
-#[derive(Drop)]
-pub struct Operations {
-    pub encrypt: Option<Encryption>,
-}
-
-impl Model for Operations {
-    ghost use Rattle.std.specs.Prelude.{None};
-    ghost use Rattle.ops.specs.Operations.{Operations as Places};
-
-    ghost Value = { Places };
-
-    ghost view = { λ o. record { encrypt = o.encrypt; decrypt = None; sign = None; verify = None; find = None } };
-}
-
-impl Work for Operations {
-    ghost idle = { no_operations };
-
-    fn idle() -> Operations {
-        Operations { encrypt: None }
-    }
-}
+pub use place::Place;
+pub use places::Places;

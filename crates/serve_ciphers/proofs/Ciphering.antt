@@ -1,91 +1,152 @@
--- C_EncryptInit and C_Encrypt: the encryption of a session.
-use Rattle.std.proofs.Common.{◌≡◌, ℕ, ◌+◌, ◌%◌, Bool, true, false, cond, not, List, [], length, Option, Some, None, Bor, refl, sym, ◌∙◌, ap, subst}
-use Rattle.std.specs.Prelude.{◌==◌, nat_lt, is_some}
+-- The operations of a session that encipher and decipher.
+use Rattle.std.proofs.Common.{◌≡◌, ℕ, ◌+◌, Bool, true, false, not, List, [], ◌∷◌, length, Option, Some, None, Bor, Result, Ok, Err, inl, inr, ◌⊎◌, refl, sym, ◌∙◌, ap, subst}
+use Rattle.std.specs.Prelude.{is_some, is_none, option_map, IsErrOf, IfErr, ◌↔◌}
 use Rattle.std.specs.Option.{option_copied}
-use Rattle.std.proofs.lemmas.Bool.{eqb-true}
 use Rattle.ck_types.specs.declared.entry.Entry.{Entry}
-use Rattle.ck_types.specs.declared.attr_type.AttrType.TheVariants as attr
 use Rattle.ck_types.specs.declared.mech_type.MechType.{MechType}
 use Rattle.ck_types.specs.declared.mech_type.MechType.TheVariants.{AesEcb}
-use Rattle.ck_types.specs.declared.rv.Rv.TheVariants as rv
-use Rattle.ck_types.specs.Numbers.{mech_type_number}
 use Rattle.ck_calls.specs.declared.fields.Mechanism.{Mechanism}
-use Rattle.ck_calls.specs.declared.function.Function.TheVariants as functions
 use Rattle.ck_calls.specs.declared.reply.Reply.{Reply}
-use Rattle.ck_calls.specs.declared.reply.Reply.TheVariants.{Code}
+use Rattle.aes_modes.specs.declared.direction.Direction.{Direction}
+use Rattle.aes_modes.specs.declared.direction.Direction.TheVariants.{Encipher, Decipher}
+use Rattle.aes_modes.specs.declared.fault.ModeFault.{ModeFault}
+use Rattle.aes_modes.specs.declared.fault.ModeFault.TheVariants.{LenRange, CounterEnd as CountersEnd}
+use Rattle.streams.specs.declared.mechanism.Mechanism.{Mechanism as Cipher}
+use Rattle.streams.specs.declared.mechanism.Mechanism.TheVariants.{Ecb}
+use Rattle.streams.specs.declared.part.Part.{Part}
+use Rattle.streams.specs.declared.part.Part.TheVariants.{Update, Last}
+use Rattle.streams.specs.Lengths.{wanted, refuses_length, ends_counters}
+use Rattle.streams.specs.Streamed.{Streamed}
 use Rattle.attrs.specs.Masking.{is_secret_key}
 use Rattle.attrs.specs.Objects.{flag, class_of, key_type_of}
-use Rattle.precede.specs.declared.row.Row.TheVariants.{NoMechanism, DataLength}
+use Rattle.precede.specs.declared.row.Row.TheVariants.{NoMechanism, NoKey, WrongKeyType, KeyNotPermitted, DataLength}
 use Rattle.keep.specs.Contents.{Contents}
-use Rattle.mech.specs.declared.job.Job.{Job}
 use Rattle.sessions.specs.declared.Session.{Session}
 use Rattle.sessions.specs.Sessions.{session_at}
-use Rattle.desk.specs.Desks.{DeskState, encryption_of, with_question}
-use Rattle.desk.specs.Desks.{with_encryption as desk_with_encryption}
-use Rattle.ops.specs.Operations.{Operation, Operations, started}
-use Rattle.token_model.specs.Views.{View, Encrypts, Question}
-use Rattle.token_model.specs.Answering.{Said, Replies, Asks, Answer, becomes, asks, session_of, object_at}
-use Rattle.token_model.specs.Answers.EncryptInit.{cipher_at, is_aes, with_encryption, ends, begins, encrypt_init}
-use Rattle.token_model.specs.Answers.Encrypt.{encrypt}
-use Rattle.token_store.specs.Shown.{question_of, view_of, Fits, Gives}
-use Rattle.lists.proofs.ListLemmas.{find-passes}
+use Rattle.desk.specs.Desks.{DeskState}
+use Rattle.ops.specs.declared.place.Place.{Place}
+use Rattle.ops.specs.Operations.{Operation, Operations, operation_in, operation_of, placed_in, with_operation as in_sessions}
+use Rattle.token_model.specs.Views.{View, Ciphers}
+use Rattle.token_model.specs.Answering.{Said, Replies, Answer, becomes, unless, session_of, object_at, with_operation}
+use Rattle.token_model.specs.Answers.CipherInit.{permission, place_for, cipher_at, with_parameter, is_aes, ends, begins, cipher_init}
+use Rattle.token_model.specs.Answers.Cipher.{single_function, update_function, final_function, has_taken, cipher_single, cipher_update, cipher_final}
+use Rattle.token_store.specs.Shown.{view_of, Fits, Gives}
+use Rattle.serve_ciphers.specs.Steps.{refused_row, asks_within}
 
--- a session that has an encryption
-pub encrypting : (o : Option (Session Operations)) (operation : Operation) → encryption_of o ≡ Some operation → (s : Session Operations) × (o ≡ Some s) × (s.work.encrypt ≡ Some operation)
-encrypting None operation is = let k : None ≡ Some operation = is in cc
-encrypting (Some s) operation is = (s, refl, is)
+-- an operation begins, goes on or ends
+module _ (c : Contents) (d : DeskState) (session : ℕ) (place : Place) (operation : Option Operation) (reply : Reply) where
+  login-stays : (in_sessions d.sessions session place operation).login ≡ d.sessions.login
+  login-stays = at (session_at d.sessions.sessions session) where
+    at : (s : Option (Session Operations)) → (placed_in d.sessions session s place operation).login ≡ d.sessions.login
+    at None = refl
+    at (Some s) = refl
 
-pub idle-is : (r : Option (Bor Operation)) (o : Option Operation) → option_copied r ≡ o → is_some r ≡ false → is_some o ≡ false
+  pub gives-with : Fits c d.handles.entries → Gives (becomes reply (with_operation (view_of c d) session place operation)) d.sessions.login c (Replies reply) c (record d { sessions = in_sessions d.sessions session place operation })
+  gives-with fits = record { says = refl; view = rw login-stays refl; changes = refl; fits = fits }
+
+-- a place of an operation is in a session
+pub seated-at : (o : Option (Session Operations)) (place : Place) (x : Operation) → operation_in o place ≡ Some x → is_none o ≡ false
+seated-at None place x is = let k : None ≡ Some x = is in cc
+seated-at (Some s) place x is = refl
+
+pub idle-is : (r : Option (Bor Streamed)) (o : Option Operation) → option_map operation_of (option_copied r) ≡ o → is_some r ≡ false → is_some o ≡ false
 idle-is None o is idle = ap is_some (sym is)
 idle-is (Some x) o is idle = let k : true ≡ false = idle in cc
 
--- an encryption begins or ends
-module _ (c : Contents) (d : DeskState) (session : ℕ) where
-  pub with-is : (operation : Option Operation) → view_of c (desk_with_encryption d session operation) ≡ with_encryption (view_of c d) (session_of (view_of c d) session) operation
-  with-is operation = step (session_at d.sessions.sessions session) refl where
-    step : (o : Option (Session Operations)) → session_at d.sessions.sessions session ≡ o → view_of c (desk_with_encryption d session operation) ≡ with_encryption (view_of c d) o operation
-    step None is = rw is refl
-    step (Some s) is = rw (is, eqb-true s.number session (find-passes (λ s. s.number == session) d.sessions.sessions s is)) refl
+-- ---- the rows of the calls that take data
 
-  pub gives-with : (operation : Option Operation) (reply : Reply) → Fits c d.handles.entries → Gives (becomes reply (with_encryption (view_of c d) (session_of (view_of c d) session) operation)) d.sessions.login c (Replies reply) c (desk_with_encryption d session operation)
-  gives-with operation reply fits = record { says = refl; view = with-is operation; changes = refl; fits = fits }
+not-true : (b : Bool) → (b ≡ true → ⊥) → b ≡ false
+not-true b never = at b never where
+  at : (b : Bool) → (b ≡ true → ⊥) → b ≡ false
+  at true never = absurd (never refl)
+  at false never = refl
 
-module _ (v : View) (session : ℕ) (s : Session Operations) (there : session_of v session ≡ Some s) where
-  module _ (key input : List ℕ) (room : Option ℕ) (encrypts : s.work.encrypt ≡ Some (started AesEcb [] (Some key))) where
-    pub ends-is : (length input % 16 == 0) ≡ false → encrypt v session input room ≡ ends v session DataLength
-    ends-is uneven = rw (there, encrypts, uneven) refl
+-- what is told by the tests of lengths and counters
+abbrev pub IsTested : Option ModeFault → Streamed → Part → List ℕ → Type 0
+IsTested None s part input = (ends_counters s input ≡ false) × (refuses_length part s (length input) ≡ false)
+IsTested (Some fault) s part input = ((fault ≡ LenRange) × (ends_counters s input ≡ false) × (refuses_length part s (length input) ≡ true)) ⊎ ((fault ≡ CountersEnd) × (ends_counters s input ≡ true))
 
-    pub asks-is : (space : ℕ) → (length input % 16 == 0) ≡ true → room ≡ Some space → nat_lt space (length input) ≡ false → encrypt v session input room ≡ asks v functions.Encrypt session (Encrypts (started AesEcb [] (Some key)) input)
-    asks-is space even is fits = rw (there, encrypts, even, is, fits) refl
+module _ (s : Streamed) (part : Part) (input : List ℕ) where
+  abbrev fault_of : Result ℕ ModeFault → Option ModeFault
+  fault_of (Ok room) = None
+  fault_of (Err fault) = Some fault
 
-  -- the one mechanism that is built
-  cipher-is : (n : ℕ) → is_some (cipher_at n) ≡ true → cipher_at n ≡ Some AesEcb
-  cipher-is n there = at (mech_type_number AesEcb == n) there where
-    at : (b : Bool) → is_some (cond b (Some AesEcb) None) ≡ true → cond b (Some AesEcb) None ≡ Some AesEcb
-    at true e = refl
-    at false e = let k : false ≡ true = e in cc
+  pub tested : (r : Result ℕ ModeFault) → (IsErrOf r LenRange ↔ (refuses_length part s (length input) ≡ true)) → (IsErrOf r CountersEnd ↔ (ends_counters s input ≡ true)) → IfErr r (λ fault. (fault ≡ LenRange) ⊎ (fault ≡ CountersEnd)) → IsTested (fault_of r) s part input
+  tested (Ok room) odd over faults = (not-true (ends_counters s input) (λ e. (let k : Ok room ≡ Err CountersEnd = over.1 e in cc)), not-true (refuses_length part s (length input)) (λ e. (let k : Ok room ≡ Err LenRange = odd.1 e in cc)))
+  tested (Err fault) odd over faults = elim faults [
+    | inl is ↦ inl (is, not-true (ends_counters s input) (λ e. (let k : Err LenRange ≡ Err CountersEnd = ap Err (sym is) ∙ over.1 e in cc)), odd.0 (ap Err is))
+    | inr is ↦ inr (is, over.0 (ap Err is))
+  ]
 
-  module _ (mechanism : Option Mechanism) (key : ℕ) where
-    pub nothing-is : mechanism ≡ None → encrypt_init v session mechanism key ≡ ends v session NoMechanism
-    nothing-is is = rw (there, is) refl
+module _ (v : View) (session : ℕ) (there : is_none (session_of v session) ≡ false) where
+  module _ (d : Direction) (s : Streamed) (under_way : operation_in (session_of v session) (place_for d) ≡ Some (operation_of s)) where
+    module _ (input : List ℕ) (room : Option ℕ) (fresh : has_taken (operation_of s) ≡ false) where
+      pub single-refused : (fault : ModeFault) → IsTested (Some fault) s Last input → cipher_single d v session input room ≡ ends v session (place_for d) (refused_row d fault)
+      single-refused fault told = elim told [
+        | inl odd ↦ rw odd.0 (at-length d under_way odd.1 odd.2)
+        | inr over ↦ rw over.0 (at-counters d under_way over.1)
+      ] where
+        at-length : (d : Direction) → operation_in (session_of v session) (place_for d) ≡ Some (operation_of s) → ends_counters s input ≡ false → refuses_length Last s (length input) ≡ true → cipher_single d v session input room ≡ ends v session (place_for d) (refused_row d LenRange)
+        at-length Encipher is counted odd = rw (there, is, fresh, counted, odd) refl
+        at-length Decipher is counted odd = rw (there, is, fresh, counted, odd) refl
 
-    pub begins-is : (m : Mechanism) (o : List Entry) → mechanism ≡ Some m → is_some s.work.encrypt ≡ false → is_some (cipher_at m.number) ≡ true → m.parameter ≡ [] → object_at v key ≡ Some o
-        → is_secret_key (class_of o) ≡ true → is_aes (key_type_of o) ≡ true → flag o attr.Encrypt ≡ true → encrypt_init v session mechanism key ≡ begins v session AesEcb [] o
-    begins-is m o is idle built empty found secret aes permitted = rw (there, is, idle, cipher-is m.number built, empty, found, secret, aes, permitted) refl
+        at-counters : (d : Direction) → operation_in (session_of v session) (place_for d) ≡ Some (operation_of s) → ends_counters s input ≡ true → cipher_single d v session input room ≡ ends v session (place_for d) DataLength
+        at-counters Encipher is over = rw (there, is, fresh, over) refl
+        at-counters Decipher is over = rw (there, is, fresh, over) refl
 
--- a question is put
-pub gives-asked : (c : Contents) (d d' : DeskState) (j : Job) (q : Question) → Fits c d.handles.entries → question_of j ≡ q → q.number ≡ d.next_question → d' ≡ with_question d j
-    → Gives (asks (view_of c d) q.function q.session q.task) d.sessions.login c (Asks (question_of j)) c d'
-gives-asked c d d' j q fits is number same =
-    let f : Question → View = λ x. record (view_of c d) { question = Some x; next_question = d.next_question + 1 } in
-    let n : Question → ℕ → Question = λ x m. record x { number = m } in
-    rw same (record {
-      says = ap Asks (is ∙ ap (n q) number);
-      view = ap f (is ∙ ap (n q) number);
-      changes = refl;
-      fits = fits;
-    })
+      pub single-asks : IsTested None s Last input → cipher_single d v session input room ≡ asks_within (single_function d) session (Ciphers Last (operation_of s) input) (wanted Last s (length input)) room v
+      single-asks told = at d under_way where
+        at : (d : Direction) → operation_in (session_of v session) (place_for d) ≡ Some (operation_of s) → cipher_single d v session input room ≡ asks_within (single_function d) session (Ciphers Last (operation_of s) input) (wanted Last s (length input)) room v
+        at Encipher is = rw (there, is, fresh, told.0, told.1) refl
+        at Decipher is = rw (there, is, fresh, told.0, told.1) refl
 
--- the same answer, written otherwise
+    module _ (input : List ℕ) (room : Option ℕ) where
+      pub update-asks : IsTested None s Update input → cipher_update d v session input room ≡ asks_within (update_function d) session (Ciphers Update (operation_of s) input) (wanted Update s (length input)) room v
+      update-asks told = at d under_way where
+        at : (d : Direction) → operation_in (session_of v session) (place_for d) ≡ Some (operation_of s) → cipher_update d v session input room ≡ asks_within (update_function d) session (Ciphers Update (operation_of s) input) (wanted Update s (length input)) room v
+        at Encipher is = rw (there, is, told.0) refl
+        at Decipher is = rw (there, is, told.0) refl
+
+    module _ (room : Option ℕ) where
+      pub final-refused : (fault : ModeFault) → IsTested (Some fault) s Last [] → cipher_final d v session room ≡ ends v session (place_for d) (refused_row d fault)
+      final-refused fault told = elim told [
+        | inl odd ↦ rw odd.0 (at-length d under_way odd.1 odd.2)
+        | inr over ↦ rw over.0 (at-counters d under_way over.1)
+      ] where
+        at-length : (d : Direction) → operation_in (session_of v session) (place_for d) ≡ Some (operation_of s) → ends_counters s [] ≡ false → refuses_length Last s 0 ≡ true → cipher_final d v session room ≡ ends v session (place_for d) (refused_row d LenRange)
+        at-length Encipher is counted odd = rw (there, is, counted, odd) refl
+        at-length Decipher is counted odd = rw (there, is, counted, odd) refl
+
+        at-counters : (d : Direction) → operation_in (session_of v session) (place_for d) ≡ Some (operation_of s) → ends_counters s [] ≡ true → cipher_final d v session room ≡ ends v session (place_for d) DataLength
+        at-counters Encipher is over = rw (there, is, over) refl
+        at-counters Decipher is over = rw (there, is, over) refl
+
+      pub final-asks : IsTested None s Last [] → cipher_final d v session room ≡ asks_within (final_function d) session (Ciphers Last (operation_of s) []) (wanted Last s 0) room v
+      final-asks told = at d under_way where
+        at : (d : Direction) → operation_in (session_of v session) (place_for d) ≡ Some (operation_of s) → cipher_final d v session room ≡ asks_within (final_function d) session (Ciphers Last (operation_of s) []) (wanted Last s 0) room v
+        at Encipher is = rw (there, is, told.0, told.1) refl
+        at Decipher is = rw (there, is, told.0, told.1) refl
+
+  -- ---- an operation begins
+
+  module _ (d : Direction) (m : Option Mechanism) (key : ℕ) where
+    pub nothing-is : m ≡ None → cipher_init d v session m key ≡ ends v session (place_for d) NoMechanism
+    nothing-is is = at d where
+      at : (d : Direction) → cipher_init d v session m key ≡ ends v session (place_for d) NoMechanism
+      at Encipher = rw (there, is) refl
+      at Decipher = rw (there, is) refl
+
+    module _ (given : Mechanism) (kind : MechType) (mechanism : Cipher) (o : List Entry) (is : m ≡ Some given) (idle : is_some (operation_in (session_of v session) (place_for d)) ≡ false) (built : cipher_at given.number ≡ Some kind) (fits : with_parameter kind given.parameter ≡ Some mechanism) (found : object_at v key ≡ Some o) where
+      -- what is left to test is the key
+      abbrev pub by_key : Answer
+      by_key = unless v ((NoKey, not (is_secret_key (class_of o))) ∷ (WrongKeyType, not (is_aes (key_type_of o))) ∷ (KeyNotPermitted, not (flag o (permission d))) ∷ []) (begins d v session mechanism o)
+
+      pub by-key : cipher_init d v session m key ≡ by_key
+      by-key = at d idle where
+        at : (d : Direction) → is_some (operation_in (session_of v session) (place_for d)) ≡ false → cipher_init d v session m key ≡ unless v ((NoKey, not (is_secret_key (class_of o))) ∷ (WrongKeyType, not (is_aes (key_type_of o))) ∷ (KeyNotPermitted, not (flag o (permission d))) ∷ []) (begins d v session mechanism o)
+        at Encipher idle = rw (there, is, idle, built, fits, found) refl
+        at Decipher idle = rw (there, is, idle, built, fits, found) refl
+
+-- an answer at the desk, written otherwise
 pub gives-is : (a b : Answer) (c : Contents) (d d' : DeskState) (said : Said) → a ≡ b → Gives b d.sessions.login c said c d' → Gives a d.sessions.login c said c d'
 gives-is a b c d d' said is gives = subst (λ x. Gives x d.sessions.login c said c d') (sym is) gives

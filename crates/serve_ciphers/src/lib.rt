@@ -1,14 +1,18 @@
-//! Calls that encipher (PKCS #11 v3.1, 5.8): they begin an operation of a session under a key, and work on data.
+//! Calls that encipher and decipher (PKCS #11 v3.1, 5.8 and 5.10): they begin an operation of a session under a key, and
+//! work on data, all at once or in pieces.
 //!
-//! Each function answers by the rows of its call's table. Its clauses say that the answer is the written one to what the
-//! application sees, or that it was refused and nothing has changed: `IsDone` where a key is read from the store, `AtDesk`
-//! where none is. Work with a key is a question: the call gives a job, and `encrypt::finish` answers its outcome.
+//! Both directions are served by the same functions. Each answers by the rows of its call's table. Its clauses say that the
+//! answer is the written one to what the application sees, or that it was refused and nothing has changed: `IsDone` where a
+//! key is read from the store, `AtDesk` where none is. Work with a key is a question: the call gives a job, and
+//! `cipher::finish` answers its outcome.
 //!
 //! ```text
-//! settle(encrypt_init::serve(alloc, desk, store, session, mechanism, key))
-//! settle_asking(encrypt::serve(app, desk, session, data, room))
+//! settle(cipher_init::serve(alloc, desk, store, Direction::Encipher, session, mechanism, key))
+//! settle_asking(cipher::single(app, desk, Direction::Encipher, session, data, room))
 //! ```
 #![tactic(auto)]
 
-pub mod encrypt;
-pub mod encrypt_init;
+pub mod cipher;
+pub mod cipher_init;
+mod directions;
+mod parameter;

@@ -11,18 +11,18 @@ use Rattle.pin_record.specs.Records.{tries_limit, tries_of}
 use Rattle.token_model.specs.declared.fault.Fault.{Fault}
 use Rattle.token_model.specs.declared.fault.Fault.TheVariants.{Memory, Device}
 use Rattle.mech.specs.declared.job.Job.{Job}
-use Rattle.mech.specs.declared.outcome.Outcome.{Outcome}
+use Rattle.token_model.specs.Outcomes.{Outcome}
 use Rattle.desk.specs.Desks.{DeskState, SameDesk, empty_desk}
 use Rattle.token_model.specs.declared.check.Check.{Check}
 use Rattle.token_model.specs.declared.event.Event.TheVariants.{Finish, Gone}
 use Rattle.token_store.specs.declared.out.Out.TheVariants.{Reply as OutReply}
-use Rattle.token_model.specs.Views.{Question, Task, Encrypts, sees}
+use Rattle.token_model.specs.Views.{Question, Task, Ciphers, View, sees}
 use Rattle.token_model.specs.Changes.{Change, Stays, in_list}
 use Rattle.token_model.specs.Answering.{Said, Replies, Answer, reveals_nothing, answered}
 use Rattle.token_model.specs.Answers.{answer_result}
 use Rattle.token_model.specs.Worlds.{World, Goes, Refuses, value_of, reveal_to_task, result_at, apart, refusal, set_apart, list_change, without_checks, stepped, unchecked, finished, finish_tells, finish_refusal, goes, happens, told, reply_to}
 use Rattle.token_store.specs.Shown.{objects_of, view_of, question_of, over, Changes}
-use Rattle.token.specs.Applications.{desk_at, told_result, moved, move_of, IsOpen, HasNumbers, HasJobs, opening, answer_by, taken_by, says_by}
+use Rattle.token.specs.Applications.{desk_at, told_result, moved, move_of, IsOpen, HasNumbers, HasJobs, opening, answer_by, answer_to_job, asked_by_job, by_job, taken_by, says_by}
 use Rattle.token_store.specs.Stores.{StoreState, Has, Serves}
 use Rattle.token.specs.Applications.{TokenState, Shows}
 use Rattle.token.specs.Runs.{Lasting, lasting_of, lasting_in, MayLeave, LeavesBy, LeftBy, IsTakenBy, result_change}
@@ -34,7 +34,7 @@ use Rattle.token.proofs.Steps.{state, fits-given, depicts-given, depicts-put, fi
 
 -- no result reveals anything yet
 reveals-nothing : (w : World) (app : ℕ) (t : Task) → reveal_to_task w app t ≡ reveals_nothing
-reveals-nothing w app (Encrypts operation input) = refl
+reveals-nothing w app (Ciphers part operation input) = refl
 
 -- ---- a result with the numbers of the pending question, by its own value
 
@@ -43,7 +43,7 @@ module _ {K : Type 0} (terms : Terms K) (old new : StoreState K) (ds ds' : List 
   outcome = value_of (question_of job).task
 
   abbrev given : Answer
-  given = answer_result (view_of s.contents (desk_at ds app)) outcome reveals_nothing
+  given = answer_to_job job (view_of s.contents (desk_at ds app)) reveals_nothing
 
   abbrev IsServed : Result Reply Fault → Type 0
   IsServed r = Serves terms Replies given s.contents old new (desk_at ds app) (over (desk_at ds app)) r (desk_at ds' app)
@@ -55,13 +55,13 @@ module _ {K : Type 0} (terms : Terms K) (old new : StoreState K) (ds ds' : List 
   after = record { store = new; desks = ds'; checks = without_checks app cs }
 
   given-is : answer_by w app job ≡ given
-  given-is = ap (λ v. answer_result v outcome (reveal_to_task w app (question_of job).task)) (s.depicts.views app) ∙ ap (answer_result (view_of s.contents (desk_at ds app)) outcome) (reveals-nothing w app (question_of job).task)
+  given-is = ap (λ v. answer_to_job job v (reveal_to_task w app (question_of job).task)) (s.depicts.views app) ∙ ap (answer_to_job job (view_of s.contents (desk_at ds app))) (reveals-nothing w app (question_of job).task)
 
   change-is : list_change w app (answer_by w app job) ≡ in_list (sees (desk_at ds app).sessions.login) (objects_of s.contents) given.change
   change-is = ap (list_change w app) given-is ∙ rw (s.depicts.views app, s.depicts.objects) refl
 
   went : (reply : Reply) → Replies reply ≡ given.says → set_apart reply ≡ None
-  went reply is = ap apart is ∙ plain-result (view_of s.contents (desk_at ds app)) outcome reveals_nothing
+  went reply is = ap apart is ∙ plain-result (asked_by_job job (view_of s.contents (desk_at ds app))) outcome reveals_nothing
 
   takes : taken_by w app job None ≡ unchecked (stepped w app given) app
   takes = ap (λ a. unchecked (stepped w app a) app) given-is
@@ -114,16 +114,24 @@ module _ (w : World) (app : ℕ) (job : Job) (open_is : IsOpen w app job) where
   pub open-numbers : HasNumbers (w.views app).question app job
   open-numbers = rw open_is.question (open_is.asker, refl, refl)
 
+  -- it is asked just so
+  asked-open : answer_by w app job ≡ result_at w app (question_of job)
+  asked-open =
+      let v = w.views app in
+      let f : Option Question → View = λ q. record v { question = q } in
+      let same : asked_by_job job v ≡ v = ap (λ q. f (option_map (by_job job) q)) open_is.question ∙ ap f (sym open_is.question) in
+      ap (λ v. answer_result v (value_of (question_of job).task) (reveal_to_task w app (question_of job).task)) same
+
   happens-taken : (o : Option Fault) → happens w (moved (Finish app) o) ≡ taken_by w app job o
-  happens-taken None = ap (finished w app) open_is.question
+  happens-taken None = ap (finished w app) open_is.question ∙ ap (λ a. unchecked (stepped w app a) app) (sym asked-open)
   happens-taken (Some fault) = refl
 
   tells-taken : (o : Option Fault) → reply_to w (moved (Finish app) o) ≡ told app (says_by w app job o)
-  tells-taken None = ap (finish_tells w app) open_is.question
+  tells-taken None = ap (finish_tells w app) open_is.question ∙ ap (λ (a : Answer). told app a.says) (sym asked-open)
   tells-taken (Some fault) = ap (finish_refusal app fault) open_is.question
 
   left-taken : (prior : Option Lasting → Type 0) (l : Option Lasting) (o : Option Fault) → LeavesBy prior (list_change w app (answer_by w app job)) (taken_by w app job None) o l → LeftBy prior w (moved (Finish app) o) l
-  left-taken prior l None by = rw (happens-taken None, ap (result_change w app) open_is.question) by
+  left-taken prior l None by = rw (happens-taken None, ap (result_change w app) open_is.question ∙ ap (list_change w app) (sym asked-open)) by
   left-taken prior l (Some fault) by = rw (happens-taken None) by
 
   module _ (showing : World → Type 0) (prior left : Option Lasting → Type 0) (reply : Reply) (is : IsTakenBy showing prior left w app job reply) where

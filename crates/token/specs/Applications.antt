@@ -3,6 +3,7 @@ use Rattle.std.specs.Prelude.{◌≡◌, ◌≢◌, ◌⊎◌, ℕ, ◌==◌, �
 use Rattle.std.specs.Ordering.{nat_cmp}
 use Rattle.std.specs.BTreeMap.{is_at}
 use Rattle.std.specs.Map.{lookup}
+use Rattle.std.specs.Option.{option_map}
 use Rattle.keep.specs.Contents.{Contents}
 use Rattle.keep.specs.Keeping.{Terms}
 use Rattle.token_model.specs.declared.fault.Fault.{Fault}
@@ -16,7 +17,7 @@ use Rattle.token_store.specs.declared.out.Out.{Out}
 use Rattle.token_store.specs.declared.out.Out.TheVariants.{Reply as OutReply}
 use Rattle.token_model.specs.declared.check.Check.{Check}
 use Rattle.token_model.specs.Views.{record_sight, Question, View, fresh}
-use Rattle.token_model.specs.Answering.{Said, Replies, Answer, reveals_nothing}
+use Rattle.token_model.specs.Answering.{Said, Replies, Answer, Reveal, reveals_nothing}
 use Rattle.token_model.specs.Answers.{answer_result}
 use Rattle.token_model.specs.Worlds.{World, has_session, is_in_session, Move, Goes, Refuses, value_of, reveal_to_task, refusal, apart, stepped, unchecked, finish_refused}
 use Rattle.token_store.specs.Shown.{objects_of, view_of, Fits, Gives, said_of, question_of, over}
@@ -59,6 +60,16 @@ AllFit c ds = (app : ℕ) → Fits c (desk_at ds app).handles.entries
 
 -- ---- a result at its desk
 
+-- A result is answered by the task of its own job, of which the question may have another.
+abbrev pub by_job : Job → Question → Question
+by_job job q = record q { task = (question_of job).task }
+
+abbrev pub asked_by_job : Job → View → View
+asked_by_job job v = record v { question = option_map (by_job job) v.question }
+
+abbrev pub answer_to_job : Job → View → Reveal → Answer
+answer_to_job job v reveal = answer_result (asked_by_job job v) (value_of (question_of job).task) reveal
+
 -- The answer to the result of the job is given, whatever is kept; or memory was refused, and the desk is without its
 -- question. No keeper is asked, so none is to blame.
 abbrev pub Finishes : Answer → Contents → DeskState → Result Reply Fault → DeskState → Type 0
@@ -68,11 +79,11 @@ Finishes a c old (Err Device) new = ⊥
 
 abbrev pub FinishesAtDesk : Job → DeskState → Result Reply Fault → DeskState → Type 0
 FinishesAtDesk job old result new =
-    (c : Contents) → Fits c old.handles.entries → Finishes (answer_result (view_of c old) (value_of (question_of job).task) reveals_nothing) c old result new
+    (c : Contents) → Fits c old.handles.entries → Finishes (answer_to_job job (view_of c old) reveals_nothing) c old result new
 
 -- the answer to the job's own value, and the world after it; or what a refusal leaves
 abbrev pub answer_by : World → ℕ → Job → Answer
-answer_by w app job = answer_result (w.views app) (value_of (question_of job).task) (reveal_to_task w app (question_of job).task)
+answer_by w app job = answer_to_job job (w.views app) (reveal_to_task w app (question_of job).task)
 
 abbrev pub taken_by : World → ℕ → Job → Option Fault → World
 taken_by w app job None = unchecked (stepped w app (answer_by w app job)) app

@@ -8,17 +8,21 @@ ghost use Rattle.ck_calls.specs.Need.{random_bytes};
 ghost use Rattle.desk.specs.Desks.{is_busy};
 ghost use Rattle.keep.specs.Contents.{Contents};
 ghost use Rattle.token_model.specs.Answering.{Replies, reveals_nothing};
-ghost use Rattle.token_model.specs.Answers.{answer, answer_result, answer_to};
+ghost use Rattle.token_model.specs.Answers.{answer, answer_to};
+ghost use Rattle.mech.specs.declared.job.Job.{Job as Asked};
+ghost use Rattle.mech.specs.Works.{outcome_of};
 ghost use Rattle.token_store.specs.Refusing.{IsServed};
+ghost use Rattle.token.specs.Applications.{answer_to_job};
 ghost use Rattle.token_store.specs.Shown.{Fits, Gives, IsFor, view_of};
 
-use ck_calls::{Call, Function, Reply};
+use aes_modes::Direction;
+use ck_calls::{Call, Reply};
 use ck_types::Rv;
 use desk::Desk;
 use keep::Keep;
 use mech::Outcome;
 use precede::Row;
-use serve_ciphers::{encrypt, encrypt_init};
+use serve_ciphers::{cipher, cipher_init};
 use serve_objects::{
     copy_object, create_object, destroy_object, get_attribute_value, get_object_size,
     set_attribute_value,
@@ -112,18 +116,69 @@ fn dispatch<K: Keep>(
             session,
             mechanism,
             key,
-        } => settle(encrypt_init::serve(alloc, desk, store, session, mechanism, key)),
+        } => settle(cipher_init::serve(
+            alloc,
+            desk,
+            store,
+            Direction::Encipher,
+            session,
+            mechanism,
+            key,
+        )),
         Call::Encrypt {
             session,
             data,
             room,
-        } => settle_asking(encrypt::serve(app, desk, session, data, room)),
-        Call::EncryptUpdate { .. } | Call::EncryptFinal { .. } => code(Rv::FunctionNotSupported),
+        } => settle_asking(cipher::single(app, desk, Direction::Encipher, session, data, room)),
+        Call::EncryptUpdate {
+            session,
+            part,
+            room,
+        } => settle_asking(cipher::update(app, desk, Direction::Encipher, session, part, room)),
+        Call::EncryptFinal { session, room } => {
+            settle_asking(cipher::last(alloc, app, desk, Direction::Encipher, session, room))
+        }
         // Decryption (5.10).
-        Call::DecryptInit { .. }
-        | Call::Decrypt { .. }
-        | Call::DecryptUpdate { .. }
-        | Call::DecryptFinal { .. } => code(Rv::FunctionNotSupported),
+        Call::DecryptInit {
+            session,
+            mechanism,
+            key,
+        } => settle(cipher_init::serve(
+            alloc,
+            desk,
+            store,
+            Direction::Decipher,
+            session,
+            mechanism,
+            key,
+        )),
+        Call::Decrypt {
+            session,
+            encrypted_data,
+            room,
+        } => settle_asking(cipher::single(
+            app,
+            desk,
+            Direction::Decipher,
+            session,
+            encrypted_data,
+            room,
+        )),
+        Call::DecryptUpdate {
+            session,
+            encrypted_part,
+            room,
+        } => settle_asking(cipher::update(
+            app,
+            desk,
+            Direction::Decipher,
+            session,
+            encrypted_part,
+            room,
+        )),
+        Call::DecryptFinal { session, room } => {
+            settle_asking(cipher::last(alloc, app, desk, Direction::Decipher, session, room))
+        }
         // Signing and MACing (5.13), and verifying (5.15).
         Call::SignInit { .. }
         | Call::Sign { .. }
@@ -143,15 +198,15 @@ fn dispatch<K: Keep>(
 
 /// The outcome of the pending question, which ends it.
 pub(crate) fn serve_outcome(desk: &mut Desk, outcome: Outcome) -> Reply
-    ensures { (c : Contents) → Fits c desk.old.handles.entries → Gives (answer_result (view_of c desk.old) outcome reveals_nothing) desk.old.sessions.login c (Replies result) c desk.new }
+    ensures { (job : Asked) → outcome ≡ outcome_of job.work → (c : Contents) → Fits c desk.old.handles.entries → Gives (answer_to_job job (view_of c desk.old) reveals_nothing) desk.old.sessions.login c (Replies result) c desk.new }
 {
     let (function, session) = match desk.question() {
         Some(question) => (question.function(), question.session()),
         None => return Reply::Code(Rv::FunctionFailed),
     };
     desk.end_question();
-    match function {
-        Function::Encrypt => encrypt::finish(desk, session, outcome),
-        _ => Reply::Code(Rv::FunctionFailed),
+    match cipher::place_of(function) {
+        Some(place) => cipher::finish(desk, session, place, outcome),
+        None => Reply::Code(Rv::FunctionFailed),
     }
 }

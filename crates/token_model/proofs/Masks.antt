@@ -11,7 +11,7 @@ use Rattle.guard.specs.AccessLaws.{is_visible-mask}
 use Rattle.sessions.specs.declared.Session.{Session}
 use Rattle.sessions.specs.Sessions.{state_of, session_at, busy_at, login_among}
 use Rattle.ops.specs.Operations.{Operation, Operations, mask_operation}
-use Rattle.token_model.specs.Views.{TokenObject, SessionObject, Question, Task, Encrypts, View, sees, seen_by, without_handle, left, mask_token_object, mask_session_object, mask_operations, mask_session, mask_task, mask_question, mask}
+use Rattle.token_model.specs.Views.{TokenObject, SessionObject, Question, Task, Ciphers, View, sees, seen_by, without_handle, left, mask_token_object, mask_session_object, mask_operations, mask_session, mask_task, mask_question, mask}
 use Rattle.token_model.specs.Changes.{Change, Stays, Insert, Replace, Remove, Records, Resets, mask_change, seen, rewritten}
 use Rattle.token_model.specs.Answering.{session_of, object_at, first_object, is_handle, place_of}
 use Rattle.lists.proofs.ListLemmas.{map-push, map-map, map-same, map-twice, map-remove, find-map, filter-map, filter-equal, place-map}
@@ -44,7 +44,7 @@ pub sessions-twice : (ss : List (Session Operations)) → map mask_session (map 
 sessions-twice ss = map-twice mask_session ss session-twice
 
 task-twice : (t : Task) → mask_task (mask_task t) ≡ mask_task t
-task-twice (Encrypts operation input) = refl
+task-twice (Ciphers part operation input) = refl
 
 question-masked : (q : Question) → mask_question (mask_question q) ≡ mask_question q
 question-masked q = let f : Task → Question = λ t. record { number = q.number; function = q.function; session = q.session; task = t } in ap f (task-twice q.task)

@@ -6,8 +6,8 @@ mod CreateObject
 mod CopyObject
 mod DestroyObject
 mod SetAttributeValue
-mod EncryptInit
-mod Encrypt
+mod CipherInit
+mod Cipher
 use Rattle.std.proofs.Common.{◌≡◌, ℕ, ◌^◌, Bool, true, false, cond, not, List, Option, Some, None, refl, ◌∙◌, ap}
 use Rattle.std.specs.Prelude.{◌||◌, nat_le, is_some}
 use Rattle.std.specs.Option.{option_map}
@@ -16,14 +16,18 @@ use Rattle.ck_calls.specs.declared.call.Call.{Call}
 use Rattle.ck_calls.specs.declared.call.Call.TheVariants as call
 use Rattle.ck_calls.specs.declared.reply.Reply.TheVariants.{Code, ObjectSize}
 use Rattle.ck_calls.specs.Functions.{function_of}
-use Rattle.mech.specs.declared.outcome.Outcome.{Outcome}
+use Rattle.aes_modes.specs.declared.direction.Direction.TheVariants.{Encipher, Decipher}
+use Rattle.ops.specs.declared.place.Place.{Place}
+use Rattle.ops.specs.declared.place.Place.TheVariants as place
+use Rattle.token_model.specs.Outcomes.{Outcome}
 use Rattle.precede.specs.declared.row.Row.TheVariants.{Busy}
-use Rattle.token_model.specs.Views.{View, Question, mask, mask_question}
+use Rattle.token_model.specs.Views.{View, Question, Task, mask, mask_question}
 use Rattle.ck_calls.specs.declared.function.Function.{Function}
 use Rattle.ck_calls.specs.declared.function.Function.TheVariants as function
 use Rattle.token_model.proofs.Masks.{mask-twice}
 use Rattle.token_model.specs.Changes.{Stays}
 use Rattle.token_model.specs.Answering.{Said, Replies, Asks, Answer, Reveal, shown, mask_reveal, refuses, refuses_by, answered, is_closed}
+use Rattle.token_model.specs.Answers.Cipher.{ciphered}
 use Rattle.token_model.specs.Answers.{answer, answer_to, answer_outcome, answer_question, answer_result, may_change_objects}
 use Rattle.token_model.specs.Worlds.{apart, checked_in}
 use Rattle.token_model.proofs.Blind.{IsProper, IsFair, Leaves, blind-row, blind-refusal, fair, fair-row, fair-refusal}
@@ -39,8 +43,8 @@ use Rattle.token_model.proofs.Sizes.{object_size-mask}
 use Rattle.token_model.proofs.Telling.{attributes_told-mask}
 use Rattle.token_model.proofs.Checks.{proper-reads}
 use Rattle.token_model.proofs.Proper.SetAttributeValue.{proper-set_attribute_value}
-use Rattle.token_model.proofs.Proper.EncryptInit.{proper-encrypt_init}
-use Rattle.token_model.proofs.Proper.Encrypt.{proper-encrypt, blind-encrypted, over-encrypted, still-encrypted, plain-encrypted, unasking-encrypted, record-encrypted}
+use Rattle.token_model.proofs.Proper.CipherInit.{proper-cipher_init}
+use Rattle.token_model.proofs.Proper.Cipher.{proper-single, proper-update, proper-final, blind-ciphered, plain-ciphered}
 
 -- a call that isn't built
 proper-refused : {quiet : Bool} → IsProper (λ v r. refuses v FunctionNotSupported) quiet
@@ -58,8 +62,14 @@ proper-answer_to (call.DestroyObject session object) random = proper-destroy_obj
 proper-answer_to (call.GetObjectSize session object) random = proper-reads function.GetObjectSize session object (λ o. ObjectSize (object_size o)) (λ o. ap ObjectSize (object_size-mask o)) (λ o. refl)
 proper-answer_to (call.GetAttributeValue session object query) random = proper-reads function.GetAttributeValue session object (λ o. attributes_told o query) (λ o. attributes_told-mask o query) (λ o. refl)
 proper-answer_to (call.SetAttributeValue session object template) random = proper-set_attribute_value session object template
-proper-answer_to (call.EncryptInit session mechanism key) random = proper-encrypt_init session mechanism key
-proper-answer_to (call.Encrypt session input room) random = proper-encrypt session input room
+proper-answer_to (call.EncryptInit session mechanism key) random = proper-cipher_init Encipher session mechanism key
+proper-answer_to (call.Encrypt session input room) random = proper-single Encipher session input room
+proper-answer_to (call.EncryptUpdate session input room) random = proper-update Encipher session input room
+proper-answer_to (call.EncryptFinal session room) random = proper-final Encipher session room
+proper-answer_to (call.DecryptInit session mechanism key) random = proper-cipher_init Decipher session mechanism key
+proper-answer_to (call.Decrypt session input room) random = proper-single Decipher session input room
+proper-answer_to (call.DecryptUpdate session input room) random = proper-update Decipher session input room
+proper-answer_to (call.DecryptFinal session room) random = proper-final Decipher session room
 proper-answer_to _ random = proper-refused
 
 -- ---- calls
@@ -101,71 +111,64 @@ none-asked v c random r q is = none v.question refl where
 shown-answered : (v : View) → shown (refuses (answered (mask v)) FunctionFailed) ≡ shown (refuses (answered v) FunctionFailed)
 shown-answered v = ap (λ u. record { says = Replies (Code FunctionFailed); view = u; change = Stays }) (mask-twice (answered v))
 
-blind-outcome : (v : View) (s : ℕ) (f : Function) (outcome : Outcome) (r : Reveal) → shown (answer_outcome (mask v) s f outcome (mask_reveal r)) ≡ shown (answer_outcome v s f outcome r)
-blind-outcome v s function.Encrypt outcome r = blind-encrypted s outcome v
-blind-outcome v s _ outcome r = shown-answered v
+blind-outcome : (v : View) (q : Question) (f : Function) (outcome : Outcome) (r : Reveal) → shown (answer_outcome (mask v) (mask_question q) f outcome (mask_reveal r)) ≡ shown (answer_outcome v q f outcome r)
+blind-outcome v q function.Encrypt outcome r = blind-ciphered v q.session place.Encrypt q.task outcome
+blind-outcome v q function.EncryptUpdate outcome r = blind-ciphered v q.session place.Encrypt q.task outcome
+blind-outcome v q function.EncryptFinal outcome r = blind-ciphered v q.session place.Encrypt q.task outcome
+blind-outcome v q function.Decrypt outcome r = blind-ciphered v q.session place.Decrypt q.task outcome
+blind-outcome v q function.DecryptUpdate outcome r = blind-ciphered v q.session place.Decrypt q.task outcome
+blind-outcome v q function.DecryptFinal outcome r = blind-ciphered v q.session place.Decrypt q.task outcome
+blind-outcome v q _ outcome r = shown-answered v
 
 pub shown-result : (v : View) (outcome : Outcome) (r : Reveal) → shown (answer_result (mask v) outcome (mask_reveal r)) ≡ shown (answer_result v outcome r)
 unfolding answer_result
 shown-result v outcome r = out v.question where
   out : (q : Option Question) → shown (answer_question (mask v) (option_map mask_question q) outcome (mask_reveal r)) ≡ shown (answer_question v q outcome r)
   out None = blind-refusal v FunctionFailed
-  out (Some q) = blind-outcome v q.session q.function outcome r
+  out (Some q) = blind-outcome v q q.function outcome r
 
-still-outcome : (v : View) (s : ℕ) (f : Function) (outcome : Outcome) (r : Reveal) → (answer_outcome v s f outcome r).change ≡ Stays
-still-outcome v s function.Encrypt outcome r = still-encrypted s outcome v
-still-outcome v s _ outcome r = refl
+-- what every result is: a reply that is no refusal set apart and asks nothing; it changes nothing that others see, ends its
+-- question, and leaves the record
+pub record IsOver (v : View) (a : Answer) : Type 0 where
+  pub plain : apart a.says ≡ None
+  pub unasking : checked_in a.says ≡ None
+  pub still : a.change ≡ Stays
+  pub over : a.view.question ≡ None
+  pub kept : a.view.token_record ≡ v.token_record
+
+over-refused : (v : View) → IsOver v (refuses (answered v) FunctionFailed)
+over-refused v = record { plain = refl; unasking = refl; still = refl; over = refl; kept = refl }
+
+over-ciphered : (v : View) (s : ℕ) (p : Place) (task : Task) (outcome : Outcome) → IsOver v (ciphered v s p task outcome)
+over-ciphered v s p task outcome = record { plain = plain-ciphered outcome; unasking = refl; still = refl; over = refl; kept = refl }
+
+over-outcome : (v : View) (q : Question) (f : Function) (outcome : Outcome) (r : Reveal) → IsOver v (answer_outcome v q f outcome r)
+over-outcome v q function.Encrypt outcome r = over-ciphered v q.session place.Encrypt q.task outcome
+over-outcome v q function.EncryptUpdate outcome r = over-ciphered v q.session place.Encrypt q.task outcome
+over-outcome v q function.EncryptFinal outcome r = over-ciphered v q.session place.Encrypt q.task outcome
+over-outcome v q function.Decrypt outcome r = over-ciphered v q.session place.Decrypt q.task outcome
+over-outcome v q function.DecryptUpdate outcome r = over-ciphered v q.session place.Decrypt q.task outcome
+over-outcome v q function.DecryptFinal outcome r = over-ciphered v q.session place.Decrypt q.task outcome
+over-outcome v q _ outcome r = over-refused v
+
+over-answer : (v : View) (outcome : Outcome) (r : Reveal) → IsOver v (answer_result v outcome r)
+unfolding answer_result
+over-answer v outcome r = out v.question refl where
+  out : (q : Option Question) → v.question ≡ q → IsOver v (answer_question v q outcome r)
+  out None e = record { plain = refl; unasking = refl; still = refl; over = e; kept = refl }
+  out (Some q) e = over-outcome v q q.function outcome r
 
 pub still-result : (v : View) (outcome : Outcome) (r : Reveal) → (answer_result v outcome r).change ≡ Stays
-unfolding answer_result
-still-result v outcome r = out v.question where
-  out : (q : Option Question) → (answer_question v q outcome r).change ≡ Stays
-  out None = refl
-  out (Some q) = still-outcome v q.session q.function outcome r
+still-result v outcome r = (over-answer v outcome r).still
 
-over-outcome : (v : View) (s : ℕ) (f : Function) (outcome : Outcome) (r : Reveal) → (answer_outcome v s f outcome r).view.question ≡ None
-over-outcome v s function.Encrypt outcome r = over-encrypted s outcome v
-over-outcome v s _ outcome r = refl
-
--- a result ends its question
 pub over-result : (v : View) (outcome : Outcome) (r : Reveal) → (answer_result v outcome r).view.question ≡ None
-unfolding answer_result
-over-result v outcome r = out v.question refl where
-  out : (q : Option Question) → v.question ≡ q → (answer_question v q outcome r).view.question ≡ None
-  out None e = e
-  out (Some q) e = over-outcome v q.session q.function outcome r
-
-plain-outcome : (v : View) (s : ℕ) (f : Function) (outcome : Outcome) (r : Reveal) → apart (answer_outcome v s f outcome r).says ≡ None
-plain-outcome v s function.Encrypt outcome r = plain-encrypted s outcome v
-plain-outcome v s _ outcome r = refl
+over-result v outcome r = (over-answer v outcome r).over
 
 pub plain-result : (v : View) (outcome : Outcome) (r : Reveal) → apart (answer_result v outcome r).says ≡ None
-unfolding answer_result
-plain-result v outcome r = out v.question where
-  out : (q : Option Question) → apart (answer_question v q outcome r).says ≡ None
-  out None = refl
-  out (Some q) = plain-outcome v q.session q.function outcome r
-
--- a result asks nothing
-unasking-outcome : (v : View) (s : ℕ) (f : Function) (outcome : Outcome) (r : Reveal) → checked_in (answer_outcome v s f outcome r).says ≡ None
-unasking-outcome v s function.Encrypt outcome r = unasking-encrypted s outcome v
-unasking-outcome v s _ outcome r = refl
+plain-result v outcome r = (over-answer v outcome r).plain
 
 pub unasking-result : (v : View) (outcome : Outcome) (r : Reveal) → checked_in (answer_result v outcome r).says ≡ None
-unfolding answer_result
-unasking-result v outcome r = out v.question where
-  out : (q : Option Question) → checked_in (answer_question v q outcome r).says ≡ None
-  out None = refl
-  out (Some q) = unasking-outcome v q.session q.function outcome r
-
--- and leaves the record
-record-outcome : (v : View) (s : ℕ) (f : Function) (outcome : Outcome) (r : Reveal) → (answer_outcome v s f outcome r).view.token_record ≡ v.token_record
-record-outcome v s function.Encrypt outcome r = record-encrypted s outcome v
-record-outcome v s _ outcome r = refl
+unasking-result v outcome r = (over-answer v outcome r).unasking
 
 pub record-result : (v : View) (outcome : Outcome) (r : Reveal) → (answer_result v outcome r).view.token_record ≡ v.token_record
-unfolding answer_result
-record-result v outcome r = out v.question where
-  out : (q : Option Question) → (answer_question v q outcome r).view.token_record ≡ v.token_record
-  out None = refl
-  out (Some q) = record-outcome v q.session q.function outcome r
+record-result v outcome r = (over-answer v outcome r).kept

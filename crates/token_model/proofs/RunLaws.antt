@@ -13,7 +13,7 @@ use Rattle.token_model.specs.declared.event.Event.{Event}
 use Rattle.token_model.specs.declared.event.Event.TheVariants.{Call, Finish, Gone}
 use Rattle.token_model.specs.declared.fault.Fault.{Fault}
 use Rattle.lists.specs.Places.{seen_place}
-use Rattle.token_model.specs.Views.{sees, is_user_in, Question, Task, Encrypts, View, mask}
+use Rattle.token_model.specs.Views.{sees, is_user_in, Question, Task, Ciphers, View, mask}
 use Rattle.token_model.specs.Changes.{Change, Stays, Insert, Replace, Remove, Records, Resets, is_still, as_seen, replaced_at, removed_at}
 use Rattle.token_model.specs.Answering.{Answer}
 use Rattle.token_model.specs.Answers.{answer, answer_result, is_pin_function, may_change_objects}
@@ -127,7 +127,7 @@ other-replies app w (Refuses (Gone other) fault) ne = refl
 
 -- what a result of such a call reveals is the same in every world
 same-reveal : (v w : World) (app : ℕ) (t : Task) → reveal_to_task v app t ≡ reveal_to_task w app t
-same-reveal v w app (Encrypts operation input) = refl
+same-reveal v w app (Ciphers part operation input) = refl
 
 same-result : (app : ℕ) (v w : World) (q : Question) → v.views app ≡ w.views app → result_at v app q ≡ result_at w app q
 same-result app v w q same =

@@ -5,7 +5,7 @@ use Rattle.std.proofs.lemmas.Bool.{cases_eq, eq-eqb, ne_eqb}
 use Rattle.ck_types.specs.declared.rv.Rv.TheVariants.{HostMemory, DeviceError}
 use Rattle.ck_calls.specs.declared.call.Call.{Call as CallType}
 use Rattle.ck_calls.specs.declared.reply.Reply.{Reply}
-use Rattle.mech.specs.declared.outcome.Outcome.{Outcome}
+use Rattle.token_model.specs.Outcomes.{Outcome}
 use Rattle.ck_calls.specs.declared.reply.Reply.TheVariants.{Code}
 use Rattle.token_model.specs.declared.fault.Fault.{Fault}
 use Rattle.token_model.specs.declared.fault.Fault.TheVariants.{Memory, Device}

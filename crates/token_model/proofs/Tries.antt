@@ -13,7 +13,8 @@ use Rattle.pin_record.specs.Charges.{Charges, Event as PinEvent, Begins, opened,
 use Rattle.pin_record.specs.Charges.{happens as pin_happens, after as pin_after}
 use Rattle.pin_record.proofs.Counting.{goes_on, ten, starts}
 use Rattle.token_model.specs.declared.event.Event.TheVariants.{Call, Finish, Gone}
-use Rattle.token_model.specs.Views.{RecordSight, Question, Task, Encrypts, View, sees, left}
+use Rattle.token_model.specs.Outcomes.{Outcome, Output, BadPadding}
+use Rattle.token_model.specs.Views.{RecordSight, Question, Task, Ciphers, View, sees, left}
 use Rattle.token_model.specs.Changes.{Change, Stays, Insert, Replace, Remove, Records, Resets, recorded, seen, in_list, as_seen, replaced_at, removed_at}
 use Rattle.token_model.specs.Answering.{Said, Replies, Asks, Answer, answered}
 use Rattle.token_model.specs.Worlds.{World, list_change, change_for, checked_by, checked_in, checks_of, without_checks, stepped, unchecked, with_view, value_of, reveal_to_call, reveal_to_task, answer_at, result_at, Move, Goes, Refuses, finished, finish_refused, happens, after}
@@ -93,10 +94,13 @@ charges-ended w app (Some User) is = alike refl (checking-stays So app w.checks 
 
 -- no task that is built checks a PIN, and no result of it sets one
 pub unchecked-task : (t : Task) → checked_by t ≡ None
-unchecked-task (Encrypts operation input) = refl
+unchecked-task (Ciphers part operation input) = refl
 
 silent-task : (app : ℕ) (q : Question) (t : Task) → ends app (checked_by t) (is_right (value_of t)) ++ sets q (value_of t) ≡ []
-silent-task app q (Encrypts operation input) = refl
+silent-task app q (Ciphers part operation input) = none (value_of (Ciphers part operation input)) where
+  none : (outcome : Outcome) → sets q outcome ≡ []
+  none (Output bytes) = refl
+  none BadPadding = refl
 
 -- a question checks where none did before
 asks-check : (app : ℕ) (old new : Option Question) (x : Said) → Leaves old x new → ((q : Question) → x ≡ Asks q → old ≡ None) → checks_of app (pending_check old) ++ checks_of app (checked_in x) ≡ checks_of app (pending_check new)

@@ -11,8 +11,9 @@ use Rattle.attrs.specs.Masking.{mask as mask_object}
 use Rattle.precede.specs.declared.row.Row.{Row}
 use Rattle.precede.specs.Row.{code_of}
 use Rattle.sessions.specs.declared.Session.{Session}
-use Rattle.sessions.specs.Sessions.{session_at, with_work}
-use Rattle.ops.specs.Operations.{Operation, Operations}
+use Rattle.sessions.specs.Sessions.{session_at}
+use Rattle.ops.specs.declared.place.Place.{Place}
+use Rattle.ops.specs.Operations.{Operation, Operations, with_operation as in_sessions}
 use Rattle.lists.specs.Places.{first_place}
 use Rattle.token_model.specs.Views.{View, TokenObject, SessionObject, Task, Question, mask, mask_question}
 use Rattle.token_model.specs.Changes.{Change, Stays, mask_change}
@@ -90,9 +91,9 @@ answered v = record v { question = None }
 abbrev pub session_of : View → ℕ → Option (Session Operations)
 session_of v s = session_at v.sessions.sessions s
 
--- the operations of a session
-abbrev pub with_operations : View → ℕ → Operations → View
-with_operations v s ops = record v { sessions = with_work v.sessions s ops }
+-- an operation stands at a place of a session, or none
+abbrev pub with_operation : View → ℕ → Place → Option Operation → View
+with_operation v s place o = record v { sessions = in_sessions v.sessions s place o }
 
 -- ---- objects
 

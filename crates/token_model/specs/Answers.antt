@@ -8,16 +8,18 @@ pub mod DestroyObject
 pub mod GetObjectSize
 pub mod GetAttributeValue
 pub mod SetAttributeValue
-pub mod EncryptInit
-pub mod Encrypt
+pub mod CipherInit
+pub mod Cipher
 use Rattle.std.specs.Prelude.{ℕ, Bool, true, false, List, if◌then◌else◌, Option, Some, None}
 use Rattle.ck_types.specs.declared.rv.Rv.TheVariants.{FunctionFailed, FunctionNotSupported}
 use Rattle.ck_calls.specs.declared.call.Call.{Call}
 use Rattle.ck_calls.specs.declared.call.Call.TheVariants as call
 use Rattle.ck_calls.specs.declared.function.Function.{Function}
 use Rattle.ck_calls.specs.declared.function.Function.TheVariants as function
-use Rattle.mech.specs.declared.outcome.Outcome.{Outcome}
+use Rattle.aes_modes.specs.declared.direction.Direction.TheVariants.{Encipher, Decipher}
 use Rattle.precede.specs.declared.row.Row.TheVariants.{Busy}
+use Rattle.ops.specs.declared.place.Place.TheVariants as place
+use Rattle.token_model.specs.Outcomes.{Outcome}
 use Rattle.token_model.specs.Views.{View, Question}
 use Rattle.token_model.specs.Answering.{Answer, Reveal, refuses, refuses_by, answered, is_closed}
 use Rattle.token_model.specs.Answers.OpenSession.{open_session}
@@ -29,8 +31,8 @@ use Rattle.token_model.specs.Answers.DestroyObject.{destroy_object}
 use Rattle.token_model.specs.Answers.GetObjectSize.{get_object_size}
 use Rattle.token_model.specs.Answers.GetAttributeValue.{get_attribute_value}
 use Rattle.token_model.specs.Answers.SetAttributeValue.{set_attribute_value}
-use Rattle.token_model.specs.Answers.EncryptInit.{encrypt_init}
-use Rattle.token_model.specs.Answers.Encrypt.{encrypt, encrypted}
+use Rattle.token_model.specs.Answers.CipherInit.{cipher_init}
+use Rattle.token_model.specs.Answers.Cipher.{cipher_single, cipher_update, cipher_final, ciphered}
 
 -- a call with its random bytes
 unfoldable pub answer_to : View → Call → List ℕ → Reveal → Answer
@@ -44,8 +46,14 @@ answer_to v (call.DestroyObject session object) random reveal = destroy_object v
 answer_to v (call.GetObjectSize session object) random reveal = get_object_size v session object
 answer_to v (call.GetAttributeValue session object query) random reveal = get_attribute_value v session object query
 answer_to v (call.SetAttributeValue session object template) random reveal = set_attribute_value v session object template
-answer_to v (call.EncryptInit session mechanism key) random reveal = encrypt_init v session mechanism key
-answer_to v (call.Encrypt session input room) random reveal = encrypt v session input room
+answer_to v (call.EncryptInit session mechanism key) random reveal = cipher_init Encipher v session mechanism key
+answer_to v (call.Encrypt session input room) random reveal = cipher_single Encipher v session input room
+answer_to v (call.EncryptUpdate session input room) random reveal = cipher_update Encipher v session input room
+answer_to v (call.EncryptFinal session room) random reveal = cipher_final Encipher v session room
+answer_to v (call.DecryptInit session mechanism key) random reveal = cipher_init Decipher v session mechanism key
+answer_to v (call.Decrypt session input room) random reveal = cipher_single Decipher v session input room
+answer_to v (call.DecryptUpdate session input room) random reveal = cipher_update Decipher v session input room
+answer_to v (call.DecryptFinal session room) random reveal = cipher_final Decipher v session room
 answer_to v _ random reveal = refuses v FunctionNotSupported
 
 unfoldable pub answer : View → Call → List ℕ → Reveal → Answer
@@ -56,60 +64,60 @@ abbrev pub unasked : View → Answer
 unasked v = refuses (answered v) FunctionFailed
 
 -- the answer to the result of the pending question, by the call that asked it (PKCS #11 v3.1)
-abbrev pub answer_outcome : View → ℕ → Function → Outcome → Reveal → Answer
+abbrev pub answer_outcome : View → Question → Function → Outcome → Reveal → Answer
 -- 5.5, slots and tokens
-answer_outcome v session function.GetTokenInfo outcome reveal = unasked v
-answer_outcome v session function.GetMechanismList outcome reveal = unasked v
-answer_outcome v session function.GetMechanismInfo outcome reveal = unasked v
-answer_outcome v session function.InitToken outcome reveal = unasked v
-answer_outcome v session function.InitPin outcome reveal = unasked v
-answer_outcome v session function.SetPin outcome reveal = unasked v
+answer_outcome v q function.GetTokenInfo outcome reveal = unasked v
+answer_outcome v q function.GetMechanismList outcome reveal = unasked v
+answer_outcome v q function.GetMechanismInfo outcome reveal = unasked v
+answer_outcome v q function.InitToken outcome reveal = unasked v
+answer_outcome v q function.InitPin outcome reveal = unasked v
+answer_outcome v q function.SetPin outcome reveal = unasked v
 -- 5.6, sessions
-answer_outcome v session function.OpenSession outcome reveal = unasked v
-answer_outcome v session function.CloseSession outcome reveal = unasked v
-answer_outcome v session function.CloseAllSessions outcome reveal = unasked v
-answer_outcome v session function.GetSessionInfo outcome reveal = unasked v
-answer_outcome v session function.Login outcome reveal = unasked v
-answer_outcome v session function.Logout outcome reveal = unasked v
+answer_outcome v q function.OpenSession outcome reveal = unasked v
+answer_outcome v q function.CloseSession outcome reveal = unasked v
+answer_outcome v q function.CloseAllSessions outcome reveal = unasked v
+answer_outcome v q function.GetSessionInfo outcome reveal = unasked v
+answer_outcome v q function.Login outcome reveal = unasked v
+answer_outcome v q function.Logout outcome reveal = unasked v
 -- 5.7, objects
-answer_outcome v session function.CreateObject outcome reveal = unasked v
-answer_outcome v session function.CopyObject outcome reveal = unasked v
-answer_outcome v session function.DestroyObject outcome reveal = unasked v
-answer_outcome v session function.GetObjectSize outcome reveal = unasked v
-answer_outcome v session function.GetAttributeValue outcome reveal = unasked v
-answer_outcome v session function.SetAttributeValue outcome reveal = unasked v
-answer_outcome v session function.FindObjectsInit outcome reveal = unasked v
-answer_outcome v session function.FindObjects outcome reveal = unasked v
-answer_outcome v session function.FindObjectsFinal outcome reveal = unasked v
+answer_outcome v q function.CreateObject outcome reveal = unasked v
+answer_outcome v q function.CopyObject outcome reveal = unasked v
+answer_outcome v q function.DestroyObject outcome reveal = unasked v
+answer_outcome v q function.GetObjectSize outcome reveal = unasked v
+answer_outcome v q function.GetAttributeValue outcome reveal = unasked v
+answer_outcome v q function.SetAttributeValue outcome reveal = unasked v
+answer_outcome v q function.FindObjectsInit outcome reveal = unasked v
+answer_outcome v q function.FindObjects outcome reveal = unasked v
+answer_outcome v q function.FindObjectsFinal outcome reveal = unasked v
 -- 5.8, encryption
-answer_outcome v session function.EncryptInit outcome reveal = unasked v
-answer_outcome v session function.Encrypt outcome reveal = encrypted v session outcome
-answer_outcome v session function.EncryptUpdate outcome reveal = unasked v
-answer_outcome v session function.EncryptFinal outcome reveal = unasked v
+answer_outcome v q function.EncryptInit outcome reveal = unasked v
+answer_outcome v q function.Encrypt outcome reveal = ciphered v q.session place.Encrypt q.task outcome
+answer_outcome v q function.EncryptUpdate outcome reveal = ciphered v q.session place.Encrypt q.task outcome
+answer_outcome v q function.EncryptFinal outcome reveal = ciphered v q.session place.Encrypt q.task outcome
 -- 5.10, decryption
-answer_outcome v session function.DecryptInit outcome reveal = unasked v
-answer_outcome v session function.Decrypt outcome reveal = unasked v
-answer_outcome v session function.DecryptUpdate outcome reveal = unasked v
-answer_outcome v session function.DecryptFinal outcome reveal = unasked v
+answer_outcome v q function.DecryptInit outcome reveal = unasked v
+answer_outcome v q function.Decrypt outcome reveal = ciphered v q.session place.Decrypt q.task outcome
+answer_outcome v q function.DecryptUpdate outcome reveal = ciphered v q.session place.Decrypt q.task outcome
+answer_outcome v q function.DecryptFinal outcome reveal = ciphered v q.session place.Decrypt q.task outcome
 -- 5.13, signing and MACing
-answer_outcome v session function.SignInit outcome reveal = unasked v
-answer_outcome v session function.Sign outcome reveal = unasked v
-answer_outcome v session function.SignUpdate outcome reveal = unasked v
-answer_outcome v session function.SignFinal outcome reveal = unasked v
+answer_outcome v q function.SignInit outcome reveal = unasked v
+answer_outcome v q function.Sign outcome reveal = unasked v
+answer_outcome v q function.SignUpdate outcome reveal = unasked v
+answer_outcome v q function.SignFinal outcome reveal = unasked v
 -- 5.15, verifying
-answer_outcome v session function.VerifyInit outcome reveal = unasked v
-answer_outcome v session function.Verify outcome reveal = unasked v
-answer_outcome v session function.VerifyUpdate outcome reveal = unasked v
-answer_outcome v session function.VerifyFinal outcome reveal = unasked v
+answer_outcome v q function.VerifyInit outcome reveal = unasked v
+answer_outcome v q function.Verify outcome reveal = unasked v
+answer_outcome v q function.VerifyUpdate outcome reveal = unasked v
+answer_outcome v q function.VerifyFinal outcome reveal = unasked v
 -- 5.18 and 5.19, keys and random numbers
-answer_outcome v session function.GenerateKey outcome reveal = unasked v
-answer_outcome v session function.WrapKey outcome reveal = unasked v
-answer_outcome v session function.UnwrapKey outcome reveal = unasked v
-answer_outcome v session function.GenerateRandom outcome reveal = unasked v
+answer_outcome v q function.GenerateKey outcome reveal = unasked v
+answer_outcome v q function.WrapKey outcome reveal = unasked v
+answer_outcome v q function.UnwrapKey outcome reveal = unasked v
+answer_outcome v q function.GenerateRandom outcome reveal = unasked v
 
 abbrev pub answer_question : View → Option Question → Outcome → Reveal → Answer
 answer_question v None outcome reveal = refuses_by v Busy
-answer_question v (Some q) outcome reveal = answer_outcome v q.session q.function outcome reveal
+answer_question v (Some q) outcome reveal = answer_outcome v q q.function outcome reveal
 
 unfoldable pub answer_result : View → Outcome → Reveal → Answer
 answer_result v outcome reveal = answer_question v v.question outcome reveal

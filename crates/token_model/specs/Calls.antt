@@ -13,5 +13,5 @@ pub use Rattle.sessions.specs.Sessions.{state_of}
 pub use Rattle.ops.specs.Operations.{Operation, Operations}
 pub use Rattle.token_model.specs.Views.{View, TokenObject, SessionObject, seen_by}
 pub use Rattle.token_model.specs.Changes.{Stays, Insert, Replace, Remove, rewritten}
-pub use Rattle.token_model.specs.Answering.{Answer, Replies, replies, refuses, refuses_by, becomes, asks, answered, session_of, with_operations, place_of, object_at}
+pub use Rattle.token_model.specs.Answering.{Answer, Replies, replies, refuses, refuses_by, becomes, asks, answered, session_of, with_operation, place_of, object_at}
 pub use Rattle.token_model.specs.Checked.{checked, checked_by, reads, writes, state_in, flag_at, made_by, refuses_template}

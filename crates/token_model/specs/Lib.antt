@@ -1,4 +1,5 @@
 pub mod Events
+pub mod Outcomes
 pub mod Views
 pub mod Changes
 pub mod Answering

@@ -10,7 +10,7 @@ use Rattle.ck_calls.specs.Functions.{function_of}
 use Rattle.ck_calls.specs.declared.reply.Reply.{Reply}
 use Rattle.ck_calls.specs.declared.reply.Reply.TheVariants.{Code}
 use Rattle.guard.specs.Access.{is_public}
-use Rattle.mech.specs.declared.outcome.Outcome.{Outcome}
+use Rattle.token_model.specs.Outcomes.{Outcome}
 use Rattle.token_model.specs.declared.event.Event.{Event}
 use Rattle.token_model.specs.declared.event.Event.TheVariants.{Call, Finish, Gone}
 use Rattle.token_model.specs.Views.{View, Question, is_user_in, mask, left}

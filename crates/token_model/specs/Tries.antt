@@ -3,12 +3,11 @@
 use Rattle.std.specs.Prelude.{◌≡◌, ℕ, ◌==◌, Bool, true, false, List, [], ◌∷◌, ◌++◌, map, filter, Option, Some, None}
 use Rattle.ck_types.specs.declared.user_type.UserType.{UserType}
 use Rattle.ck_types.specs.declared.user_type.UserType.TheVariants.{So, User}
-use Rattle.mech.specs.declared.outcome.Outcome.{Outcome}
-use Rattle.mech.specs.declared.outcome.Outcome.TheVariants.{Data}
 use Rattle.pin_record.specs.Records.{PinState, TokenRecord}
 use Rattle.pin_record.specs.Charges.{Charges, Event as PinEvent, Begins, EndsRight, EndsOtherwise, is_same, spent, IsCharged}
 use Rattle.token_model.specs.declared.check.Check.{Check}
 use Rattle.token_model.specs.declared.event.Event.TheVariants.{Call, Finish, Gone}
+use Rattle.token_model.specs.Outcomes.{Outcome, Output, BadPadding}
 use Rattle.token_model.specs.Views.{PinSight, RecordSight, Question}
 use Rattle.token_model.specs.Worlds.{World, checked_by, checked_in, checks_of, value_of, answer_at, Move, Goes, Refuses, happens}
 
@@ -46,13 +45,15 @@ ends app None right = []
 ends app (Some who) true = EndsRight who app ∷ []
 ends app (Some who) false = EndsOtherwise who app ∷ []
 
--- an outcome says that a PIN was right: the output of a cipher says nothing of a PIN
+-- an outcome says that a PIN was right: that of a cipher says nothing of a PIN
 abbrev pub is_right : Outcome → Bool
-is_right (Data bytes) = false
+is_right (Output bytes) = false
+is_right BadPadding = false
 
--- a result sets a PIN anew, or initialises the token: the output of a cipher does neither
+-- a result sets a PIN anew, or initialises the token: that of a cipher does neither
 abbrev pub sets : Question → Outcome → List PinEvent
-sets q (Data bytes) = []
+sets q (Output bytes) = []
+sets q BadPadding = []
 
 abbrev pub events_of_result : ℕ → Option Question → List PinEvent
 events_of_result app None = []

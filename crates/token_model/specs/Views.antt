@@ -12,6 +12,7 @@ use Rattle.pin_record.specs.Verifiers.{PinVerifier}
 use Rattle.pin_record.specs.Records.{PinState, TokenRecord}
 use Rattle.sessions.specs.declared.Session.{Session}
 use Rattle.sessions.specs.Sessions.{SessionTable, state_of, no_sessions}
+use Rattle.streams.specs.declared.part.Part.{Part}
 use Rattle.ops.specs.Operations.{Operation, Operations, mask_operation}
 use Rattle.lists.specs.Places.{seen_place, kept_place, replaced}
 
@@ -65,9 +66,9 @@ seen_by login ts = filter (λ t. sees login t.object) ts
 
 -- ---- questions
 
--- what a call asks to have computed: the output of an operation for an input
+-- what a call asks to have computed: what an operation makes of data, as a piece or as the last
 pub data Task : Type 0 where
-  Encrypts : (operation : Operation) (input : List ℕ) → Task
+  Ciphers : (part : Part) (operation : Operation) (input : List ℕ) → Task
 
 -- the question of a call, by its function and session, which its result answers
 pub record Question : Type 0 where
@@ -136,7 +137,7 @@ abbrev pub mask_sessions : SessionTable Operations → SessionTable Operations
 mask_sessions t = record { sessions = map mask_session t.sessions; login = t.login; next_number = t.next_number }
 
 abbrev pub mask_task : Task → Task
-mask_task (Encrypts operation input) = Encrypts (mask_operation operation) input
+mask_task (Ciphers part operation input) = Ciphers part (mask_operation operation) input
 
 abbrev pub mask_question : Question → Question
 mask_question q = record { number = q.number; function = q.function; session = q.session; task = mask_task q.task }

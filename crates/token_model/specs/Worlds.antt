@@ -1,5 +1,5 @@
 -- All that a token is to all applications, and what an event makes of it.
-use Rattle.std.specs.Prelude.{ℕ, nat_lt, Bool, not, ◌==◌, length, List, [], ◌∷◌, ◌++◌, filter, unwrap_or, if◌then◌else◌, Option, Some, None}
+use Rattle.std.specs.Prelude.{ℕ, nat_lt, Bool, not, ◌==◌, length, List, [], ◌∷◌, ◌++◌, filter, if◌then◌else◌, Option, Some, None}
 use Rattle.std.specs.List.{list_any}
 use Rattle.ck_types.specs.declared.entry.Entry.{Entry}
 use Rattle.ck_types.specs.declared.rv.Rv.TheVariants.{HostMemory, DeviceError}
@@ -7,15 +7,17 @@ use Rattle.ck_types.specs.declared.user_type.UserType.{UserType}
 use Rattle.ck_calls.specs.declared.call.Call.{Call as CallType}
 use Rattle.ck_calls.specs.declared.reply.Reply.{Reply}
 use Rattle.ck_calls.specs.declared.reply.Reply.TheVariants.{Code}
-use Rattle.mech.specs.declared.outcome.Outcome.{Outcome}
-use Rattle.mech.specs.declared.outcome.Outcome.TheVariants.{Data}
-use Rattle.mech.specs.Values.{encrypted}
+use Rattle.mech.specs.declared.work.Work.{Work}
+use Rattle.mech.specs.declared.work.Work.TheVariants.{Cipher}
+use Rattle.mech.specs.Works.{outcome_of}
+use Rattle.ops.specs.Operations.{text_of}
+use Rattle.token_model.specs.Outcomes.{Outcome, told_of}
 use Rattle.token_model.specs.declared.check.Check.{Check}
 use Rattle.token_model.specs.declared.event.Event.{Event}
 use Rattle.token_model.specs.declared.event.Event.TheVariants.{Call, Finish, Gone}
 use Rattle.token_model.specs.declared.fault.Fault.{Fault}
 use Rattle.token_model.specs.declared.fault.Fault.TheVariants.{Memory, Device}
-use Rattle.token_model.specs.Views.{RecordSight, View, Task, Encrypts, Question, sees, left}
+use Rattle.token_model.specs.Views.{RecordSight, View, Task, Ciphers, Question, sees, left}
 use Rattle.token_model.specs.Changes.{Change, changed, recorded, seen, in_list, as_seen}
 use Rattle.token_model.specs.Answering.{Said, Replies, Asks, Answer, Reveal, reveals_nothing, answered}
 use Rattle.token_model.specs.Answers.{answer, answer_result}
@@ -53,7 +55,7 @@ change_for b w app a = as_seen (sees (w.views b).sessions.login) w.objects (list
 
 -- the PIN that a task checks
 abbrev pub checked_by : Task → Option UserType
-checked_by (Encrypts operation input) = None
+checked_by (Ciphers part operation input) = None
 
 abbrev pub checks_of : ℕ → Option UserType → List Check
 checks_of app None = []
@@ -89,16 +91,19 @@ with_view w app v = record w { in_session = seated app v w.in_session; views = �
 
 -- ---- results
 
--- the result of a question (its task on full views): the output of the mechanism
+-- the work of a task on full views, and its result: what the mechanism makes of it
+abbrev pub work_of : Task → Work
+work_of (Ciphers part operation input) = Cipher (text_of operation) part input
+
 abbrev pub value_of : Task → Outcome
-value_of (Encrypts operation input) = Data (encrypted operation.mechanism operation.parameter (unwrap_or operation.key []) input)
+value_of task = told_of (outcome_of (work_of task))
 
 -- what a call, and what a result, reveals from outside
 abbrev pub reveal_to_call : World → ℕ → CallType → Reveal
 reveal_to_call w app call = reveals_nothing
 
 abbrev pub reveal_to_task : World → ℕ → Task → Reveal
-reveal_to_task w app (Encrypts operation input) = reveals_nothing
+reveal_to_task w app (Ciphers part operation input) = reveals_nothing
 
 -- the answers to a call and to a result
 abbrev pub answer_at : World → ℕ → CallType → List ℕ → Answer

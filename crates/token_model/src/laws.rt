@@ -3,7 +3,7 @@
 ghost use Rattle.std.specs.Prelude.{◌≡◌, ℕ, ◌≤◌, List, [], None};
 ghost use Rattle.ck_calls.specs.declared.call.Call.{Call};
 ghost use Rattle.ck_types.specs.declared.user_type.UserType.{UserType as Who};
-ghost use Rattle.mech.specs.declared.outcome.Outcome.{Outcome};
+ghost use Rattle.token_model.specs.Outcomes.{Outcome};
 ghost use Rattle.pin_record.specs.Charges.{after as charged_after};
 ghost use Rattle.pin_record.specs.Records.{tries_limit, tries_of};
 ghost use Rattle.token_model.specs.Views.{View, mask};

@@ -4,7 +4,6 @@ use Rattle.std.proofs.Common.{zero, suc}
 use Rattle.std.specs.Option.{option_map}
 use Rattle.std.specs.List.{AllByRecursion, remove}
 use Rattle.ck_types.specs.declared.entry.Entry.{Entry}
-use Rattle.ck_types.specs.declared.mech_type.MechType.TheVariants.{AesEcb}
 use Rattle.ck_types.specs.declared.user_type.UserType.{UserType}
 use Rattle.guard.specs.Access.{is_public}
 use Rattle.pin_record.specs.Records.{TokenRecord}
@@ -14,13 +13,13 @@ use Rattle.handles.specs.Handles.{number_of}
 use Rattle.keep.specs.Contents.{Contents, Kept, with_object, with_record, after_reset}
 use Rattle.mech.specs.declared.job.Job.{Job}
 use Rattle.mech.specs.declared.work.Work.{Work}
-use Rattle.mech.specs.declared.work.Work.TheVariants.{EcbEncrypt}
+use Rattle.mech.specs.declared.work.Work.TheVariants.{Cipher}
 use Rattle.desk.specs.declared.own_object.OwnObject.{OwnObject}
 use Rattle.desk.specs.Desks.{DeskState}
-use Rattle.ops.specs.Operations.{started}
+use Rattle.ops.specs.Operations.{operation_of}
 use Rattle.token_store.specs.declared.out.Out.{Out}
 use Rattle.token_store.specs.declared.out.Out.TheVariants.{Reply as OutReply, Ask}
-use Rattle.token_model.specs.Views.{record_sight, sees, TokenObject, SessionObject, Task, Encrypts, Question, View}
+use Rattle.token_model.specs.Views.{record_sight, sees, TokenObject, SessionObject, Task, Ciphers, Question, View}
 use Rattle.token_model.specs.Changes.{Change, Stays, Insert, Replace, Remove, Records, Resets, in_list}
 use Rattle.token_model.specs.Answering.{Said, Replies, Asks, Answer}
 
@@ -39,7 +38,7 @@ abbrev pub session_object : OwnObject → SessionObject
 session_object e = record { object = e.object; handle = e.handle; session = e.session }
 
 abbrev pub task_of : Work → Task
-task_of (EcbEncrypt key input) = Encrypts (started AesEcb [] (Some key)) input
+task_of (Cipher stream part input) = Ciphers part (operation_of stream) input
 
 abbrev pub question_of : Job → Question
 question_of j = record { number = j.question; function = j.function; session = j.session; task = task_of j.work }

@@ -51,7 +51,31 @@ returns-in-EncryptInit g c = call-done g.K.Keep.terms c.args.app c.args.call (ca
 
 pub returns-in-Encrypt : goal.returns-in-Encrypt
 unfolding answer_to
-returns-in-Encrypt g c = call-asking g.K.Keep.terms c.args.app c.args.call (call.Encrypt c.in-Encrypt.session c.in-Encrypt.data c.in-Encrypt.room) c.args.random.now c.in-Encrypt.is c.args.store.now c.args.desk.now _ c.serve-in-Encrypt.result c.settle_asking.result refl c.settle_asking.ensures c.serve-in-Encrypt.ensures.asker c.serve-in-Encrypt.ensures.serves
+returns-in-Encrypt g c = call-asking g.K.Keep.terms c.args.app c.args.call (call.Encrypt c.in-Encrypt.session c.in-Encrypt.data c.in-Encrypt.room) c.args.random.now c.in-Encrypt.is c.args.store.now c.args.desk.now _ c.single.result c.settle_asking.result refl c.settle_asking.ensures c.single.ensures.asker c.single.ensures.serves
+
+pub returns-in-EncryptUpdate : goal.returns-in-EncryptUpdate
+unfolding answer_to
+returns-in-EncryptUpdate g c = call-asking g.K.Keep.terms c.args.app c.args.call (call.EncryptUpdate c.in-EncryptUpdate.session c.in-EncryptUpdate.part c.in-EncryptUpdate.room) c.args.random.now c.in-EncryptUpdate.is c.args.store.now c.args.desk.now _ c.update.result c.settle_asking-in-EncryptUpdate.result refl c.settle_asking-in-EncryptUpdate.ensures c.update.ensures.asker c.update.ensures.serves
+
+pub returns-in-EncryptFinal : goal.returns-in-EncryptFinal
+unfolding answer_to
+returns-in-EncryptFinal g c = call-asking g.K.Keep.terms c.args.app c.args.call (call.EncryptFinal c.in-EncryptFinal.session c.in-EncryptFinal.room) c.args.random.now c.in-EncryptFinal.is c.args.store.now c.args.desk.now _ c.last.result c.settle_asking-in-EncryptFinal.result refl c.settle_asking-in-EncryptFinal.ensures c.last.ensures.asker c.last.ensures.serves
+
+pub returns-in-DecryptInit : goal.returns-in-DecryptInit
+unfolding answer_to
+returns-in-DecryptInit g c = call-done g.K.Keep.terms c.args.app c.args.call (call.DecryptInit c.in-DecryptInit.session c.in-DecryptInit.mechanism c.in-DecryptInit.key) c.args.random.now c.in-DecryptInit.is 0 c.args.store.now _ c.args.desk.now _ c.serve-in-DecryptInit.result c.settle-in-DecryptInit.result (omega arith) c.settle-in-DecryptInit.ensures c.serve-in-DecryptInit.ensures
+
+pub returns-in-Decrypt : goal.returns-in-Decrypt
+unfolding answer_to
+returns-in-Decrypt g c = call-asking g.K.Keep.terms c.args.app c.args.call (call.Decrypt c.in-Decrypt.session c.in-Decrypt.encrypted_data c.in-Decrypt.room) c.args.random.now c.in-Decrypt.is c.args.store.now c.args.desk.now _ c.single-in-Decrypt.result c.settle_asking-in-Decrypt.result refl c.settle_asking-in-Decrypt.ensures c.single-in-Decrypt.ensures.asker c.single-in-Decrypt.ensures.serves
+
+pub returns-in-DecryptUpdate : goal.returns-in-DecryptUpdate
+unfolding answer_to
+returns-in-DecryptUpdate g c = call-asking g.K.Keep.terms c.args.app c.args.call (call.DecryptUpdate c.in-DecryptUpdate.session c.in-DecryptUpdate.encrypted_part c.in-DecryptUpdate.room) c.args.random.now c.in-DecryptUpdate.is c.args.store.now c.args.desk.now _ c.update-in-DecryptUpdate.result c.settle_asking-in-DecryptUpdate.result refl c.settle_asking-in-DecryptUpdate.ensures c.update-in-DecryptUpdate.ensures.asker c.update-in-DecryptUpdate.ensures.serves
+
+pub returns-in-DecryptFinal : goal.returns-in-DecryptFinal
+unfolding answer_to
+returns-in-DecryptFinal g c = call-asking g.K.Keep.terms c.args.app c.args.call (call.DecryptFinal c.in-DecryptFinal.session c.in-DecryptFinal.room) c.args.random.now c.in-DecryptFinal.is c.args.store.now c.args.desk.now _ c.last-in-DecryptFinal.result c.settle_asking-in-DecryptFinal.result refl c.settle_asking-in-DecryptFinal.ensures c.last-in-DecryptFinal.ensures.asker c.last-in-DecryptFinal.ensures.serves
 
 -- ---- calls that aren't served
 
@@ -66,14 +90,6 @@ returns-in-Login g c = call-refused g.K.Keep.terms c.args.app c.args.call c.args
 pub returns-in-FindObjectsInit : goal.returns-in-FindObjectsInit
 unfolding answer_to
 returns-in-FindObjectsInit g c = call-refused g.K.Keep.terms c.args.app c.args.call c.args.random.now FunctionNotSupported c.args.store.now c.args.desk.now c.code-in-FindObjectsInit.result (λ v. search rules) refl c.code-in-FindObjectsInit.ensures
-
-pub returns-in-EncryptUpdate : goal.returns-in-EncryptUpdate
-unfolding answer_to
-returns-in-EncryptUpdate g c = call-refused g.K.Keep.terms c.args.app c.args.call c.args.random.now FunctionNotSupported c.args.store.now c.args.desk.now c.code-in-EncryptUpdate.result (λ v. search rules) refl c.code-in-EncryptUpdate.ensures
-
-pub returns-in-DecryptInit : goal.returns-in-DecryptInit
-unfolding answer_to
-returns-in-DecryptInit g c = call-refused g.K.Keep.terms c.args.app c.args.call c.args.random.now FunctionNotSupported c.args.store.now c.args.desk.now c.code-in-DecryptInit.result (λ v. search rules) refl c.code-in-DecryptInit.ensures
 
 pub returns-in-SignInit : goal.returns-in-SignInit
 unfolding answer_to

@@ -1,45 +1,49 @@
-//! C_EncryptInit (PKCS #11 v3.1, 5.8).
+//! C_EncryptInit and C_DecryptInit (PKCS #11 v3.1, 5.8 and 5.10).
 
 ghost use Rattle.std.specs.Prelude.{◌≡◌, true, Some};
 ghost use Rattle.ck_types.specs.declared.attr_type.AttrType.TheVariants as attr;
 ghost use Rattle.attrs.specs.Masking.{is_secret_key};
 ghost use Rattle.attrs.specs.Objects.{attribute_of, class_of, key_type_of};
-ghost use Rattle.token_model.specs.Answers.EncryptInit.{cipher_at, encrypt_init, is_aes};
+ghost use Rattle.token_model.specs.Answers.CipherInit.{cipher_init, is_aes};
 ghost use Rattle.token_store.specs.Refusing.{IsDone};
 
+use crate::directions::{permission, place_for};
+use crate::parameter::{cipher_at, with_parameter};
 use aes_block::Key;
+use aes_modes::Direction;
 use attrs::Object;
 use ck_calls::{Mechanism, Reply};
-use ck_types::{AttrType, KeyType, MechType, ObjectClass, Rv};
-use desk::{Desk, Encryption};
+use ck_types::{KeyType, ObjectClass, Rv};
+use desk::Desk;
 use keep::Keep;
 use precede::Row;
 use std::alloc::Global;
+use streams::Stream;
 use token_store::{Refusal, Store, find};
 
-/// Begins an encryption under a copy of a key's value; without a mechanism the one that is under way ends.
+/// Begins an operation of a direction under a copy of a key's value; without a mechanism the one that is under way ends.
 pub fn serve<K: Keep>(
     alloc: Global,
     desk: &mut Desk,
     store: &mut Store<K>,
+    direction: Direction,
     session: u64,
     mechanism: Option<Mechanism>,
     key: u64,
 ) -> Result<Reply, Refusal>
-    ensures { IsDone K.terms 0 (λ v. encrypt_init v session mechanism key) store.old store.new desk.old result desk.new }
+    ensures { IsDone K.terms 0 (λ v. cipher_init direction v session mechanism key) store.old store.new desk.old result desk.new }
 {
+    let place = place_for(direction);
     let _ = desk.state(session).ok_or(Row::NoSession)?;
     let Some(mechanism) = mechanism else {
-        desk.set_encryption(session, None);
+        desk.set_operation(session, place, None);
         return Ok(Reply::Code(Rv::Ok));
     };
-    if desk.encryption(session).is_some() {
+    if desk.operation(session, place).is_some() {
         return Err(Refusal::Row(Row::OperationActive));
     }
-    let _ = cipher_at(mechanism.number).ok_or(Row::WrongMechanism)?;
-    if !mechanism.parameter.is_empty() {
-        return Err(Refusal::Row(Row::WrongParameter));
-    }
+    let cipher = cipher_at(mechanism.number).ok_or(Row::WrongMechanism)?;
+    let cipher = with_parameter(cipher, mechanism.parameter.as_slice()).ok_or(Row::WrongParameter)?;
     let found = find(alloc, desk, store, key)?.ok_or(Row::NoKey)?;
     if !is_secret_key(&found.object) {
         return Err(Refusal::Row(Row::NoKey));
@@ -47,23 +51,12 @@ pub fn serve<K: Keep>(
     if !is_aes(&found.object) {
         return Err(Refusal::Row(Row::WrongKeyType));
     }
-    if !found.object.flag(AttrType::Encrypt) {
+    if !found.object.flag(permission(direction)) {
         return Err(Refusal::Row(Row::KeyNotPermitted));
     }
-    let key = key_of(&found.object);
-    desk.set_encryption(session, Some(Encryption { key }));
+    let stream = Stream::new(cipher, direction, key_of(&found.object));
+    desk.set_operation(session, place, Some(stream));
     Ok(Reply::Code(Rv::Ok))
-}
-
-/// The mechanism of this number, if it enciphers data and is built.
-fn cipher_at(number: u64) -> Option<MechType>
-    ensures { result ≡ cipher_at number }
-{
-    if number == MechType::AesEcb.number() {
-        Some(MechType::AesEcb)
-    } else {
-        None
-    }
 }
 
 fn is_secret_key(object: &Object) -> bool
