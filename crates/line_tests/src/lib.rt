@@ -1,10 +1,14 @@
 //! Tests of `line`: frames in, frames out, over readers and writers that give and take little, and fail,
-//! and over a keeper that fails.
+//! over a keeper that fails, and with the calls of ciphers.
 #![tactic(auto)]
 
+#[cfg(test)]
+mod ciphers;
 #[cfg(test)]
 mod failures;
 #[cfg(test)]
 mod keepers;
+#[cfg(test)]
+mod long_texts;
 #[cfg(test)]
 mod tests;

@@ -290,7 +290,7 @@ fn a_reader_of_frames_answers_too_long_for_ever(rt: HostRuntime) -> Result<(), F
 }
 
 /// A line over all of the input at once, for a new token: how it ends, what it wrote, and the token after it.
-fn served(
+pub(crate) fn served(
     alloc: Global,
     input: &[u8],
 ) -> Result<(Result<u64, LineFault>, Vec<u8>, Token<ListKeep>), Fail> {

@@ -1,5 +1,4 @@
 mod bench;
-mod ciphers;
 mod failures;
 mod given;
 mod isolation;

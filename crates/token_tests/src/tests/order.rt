@@ -1,13 +1,17 @@
 //! Of two faults of a call the one is told that stands first in the call's table.
 
 mod cases;
+mod cipher_cases;
+mod given;
 
 use super::bench::Bench;
-use super::given::*;
 use super::steps::{Step, Told, call_of};
-use cases::{BEFORE, CASES, Case, ENCRYPTS, LEFT_OUT, SECONDS, WRITES};
+use crate::tests::given::*;
+use cases::{CASES, LEFT_OUT, SECONDS};
+use cipher_cases::{DECRYPTING_CASES, ENCRYPTING_CASES};
 use ck_calls::Function;
 use ck_types::Rv;
+use given::{BEFORE, BEGUN, Case, WRITES};
 use precede::{Row as Fault, rows};
 use std::alloc::Global;
 use std::process::Abort;
@@ -36,7 +40,9 @@ fn told_of(fault: Fault) -> Result<Told, Fail> {
         Fault::WrongKeyType => Told::Code(Rv::KeyTypeInconsistent),
         Fault::KeyNotPermitted => Told::Code(Rv::KeyFunctionNotPermitted),
         Fault::NoOperation => NO_OPERATION,
-        Fault::DataLength => Told::Code(Rv::DataLenRange),
+        Fault::DataTaken => OPERATION_ACTIVE,
+        Fault::DataLength | Fault::CounterEnd => Told::Code(Rv::DataLenRange),
+        Fault::EncryptedDataLength => Told::Code(Rv::EncryptedDataLenRange),
         Fault::NoBuffer => Told::Length(16),
         Fault::SmallBuffer => Told::BufferTooSmall(16),
         _ => return Err("no call that is built has this fault".into()),
@@ -54,7 +60,7 @@ fn prepare(rt: &impl Abort, bench: &mut Bench, fault: Fault) -> Result<(), Fail>
     const OBJECT: Step = Step::CreateObject(WRITES, SESSION_DATA);
     bench.play(rt, BEFORE)?;
     match fault {
-        Fault::SessionLimit => bench.fill(rt, (A, OPEN), 4, 64),
+        Fault::SessionLimit => bench.fill(rt, (A, OPEN), 9, 64),
         Fault::ObjectLimit => bench.fill(rt, (A, OBJECT), 6, 261),
         _ => Ok(()),
     }
@@ -67,13 +73,24 @@ fn expect_order(rt: &impl Abort, bench: &mut Bench, case: Case) -> Result<(), Fa
     bench.expect(rt, (first, second), (A, both, told_of(first)?))
 }
 
-#[test]
-fn of_two_faults_the_first_is_told(rt: HostRuntime) -> Result<(), Fail> {
-    for case in CASES {
-        let mut bench = bench_for(&rt, rt.alloc(), case.1)?;
-        expect_order(&rt, &mut bench, *case)?;
+/// Sees the order in each case, each on a bench of its own.
+fn expect_orders(rt: &impl Abort, alloc: Global, cases: &[Case]) -> Result<(), Fail> {
+    for case in cases {
+        let mut bench = bench_for(rt, alloc, case.1)?;
+        expect_order(rt, &mut bench, *case)?;
     }
     Ok(())
+}
+
+#[test]
+fn of_two_faults_the_first_is_told(rt: HostRuntime) -> Result<(), Fail> {
+    expect_orders(&rt, rt.alloc(), CASES)
+}
+
+#[test]
+fn of_two_faults_of_a_cipher_the_first_is_told(rt: HostRuntime) -> Result<(), Fail> {
+    expect_orders(&rt, rt.alloc(), ENCRYPTING_CASES)?;
+    expect_orders(&rt, rt.alloc(), DECRYPTING_CASES)
 }
 
 /// Sees that each call with its second fault is told that.
@@ -86,7 +103,7 @@ fn expect_seconds(rt: &impl Abort, bench: &mut Bench) -> Result<(), Fail> {
 
 /// Sees that each of them fails while a question is pending.
 fn expect_busy(rt: &impl Abort, bench: &mut Bench) -> Result<(), Fail> {
-    const ASKS: Step = Step::Encrypt(ENCRYPTS, TEXT, Some(16));
+    const ASKS: Step = Step::Encrypt(BEGUN, TEXT, Some(16));
     bench.expect(rt, "the question", (A, ASKS, Told::Nothing))?;
     for (fault, step) in SECONDS {
         bench.expect(rt, (Fault::Busy, fault), (A, *step, FAILED))?;
@@ -108,9 +125,11 @@ fn function_of(alloc: Global, step: Step) -> Result<Function, Fail> {
 
 /// Whether one of the cases has these faults of the function, or they are left out.
 fn has_case(alloc: Global, function: Function, first: Fault, second: Fault) -> Result<bool, Fail> {
-    for (one, other, _, both) in CASES {
-        if *one == first && *other == second && function_of(alloc, *both)? == function {
-            return Ok(true);
+    for cases in [CASES, ENCRYPTING_CASES, DECRYPTING_CASES] {
+        for (one, other, _, both) in cases {
+            if *one == first && *other == second && function_of(alloc, *both)? == function {
+                return Ok(true);
+            }
         }
     }
     Ok(LEFT_OUT.iter().any(|out| *out == (function, first, second)))

@@ -40,6 +40,12 @@ pub(super) enum Step {
     EncryptInit(u64, Option<GivenMechanism>, u64),
     /// In a session, of a text, with the room for the output.
     Encrypt(u64, &'static [u8], Option<u64>),
+    EncryptUpdate(u64, &'static [u8], Option<u64>),
+    EncryptFinal(u64, Option<u64>),
+    DecryptInit(u64, Option<GivenMechanism>, u64),
+    Decrypt(u64, &'static [u8], Option<u64>),
+    DecryptUpdate(u64, &'static [u8], Option<u64>),
+    DecryptFinal(u64, Option<u64>),
     /// The job of the application's question is run, and the question ends.
     Finish,
     /// The job of another application's question is run, and its result handed in as one's own.
@@ -70,7 +76,29 @@ pub(super) fn call_of(alloc: Global, step: Step) -> Result<Call, Fail> {
         Step::CloseSession(session) => Ok(Call::CloseSession { session }),
         Step::CloseAllSessions(slot) => Ok(Call::CloseAllSessions { slot }),
         Step::GetSessionInfo(session) => Ok(Call::GetSessionInfo { session }),
-        Step::EncryptInit(session, given, key) => encrypt_init(alloc, session, given, key),
+        Step::EncryptInit(..)
+        | Step::Encrypt(..)
+        | Step::EncryptUpdate(..)
+        | Step::EncryptFinal(..) => encrypting_call_of(alloc, step),
+        Step::DecryptInit(..)
+        | Step::Decrypt(..)
+        | Step::DecryptUpdate(..)
+        | Step::DecryptFinal(..) => decrypting_call_of(alloc, step),
+        _ => object_call_of(alloc, step),
+    }
+}
+
+/// The call of a step that encrypts.
+fn encrypting_call_of(alloc: Global, step: Step) -> Result<Call, Fail> {
+    match step {
+        Step::EncryptInit(session, given, key) => {
+            let mechanism = mechanism_of(alloc, given)?;
+            Ok(Call::EncryptInit {
+                session,
+                mechanism,
+                key,
+            })
+        }
         Step::Encrypt(session, text, room) => {
             let data = Bytes::from_slice(alloc, text)?;
             Ok(Call::Encrypt {
@@ -79,28 +107,59 @@ pub(super) fn call_of(alloc: Global, step: Step) -> Result<Call, Fail> {
                 room,
             })
         }
-        _ => object_call_of(alloc, step),
+        Step::EncryptUpdate(session, text, room) => {
+            let part = Bytes::from_slice(alloc, text)?;
+            Ok(Call::EncryptUpdate {
+                session,
+                part,
+                room,
+            })
+        }
+        Step::EncryptFinal(session, room) => Ok(Call::EncryptFinal { session, room }),
+        _ => Err("this encrypts nothing".into()),
     }
 }
 
-fn encrypt_init(
-    alloc: Global,
-    session: u64,
-    given: Option<GivenMechanism>,
-    key: u64,
-) -> Result<Call, Fail> {
-    let mechanism = match given {
-        Some((number, parameter)) => Some(Mechanism {
+/// The call of a step that decrypts.
+fn decrypting_call_of(alloc: Global, step: Step) -> Result<Call, Fail> {
+    match step {
+        Step::DecryptInit(session, given, key) => {
+            let mechanism = mechanism_of(alloc, given)?;
+            Ok(Call::DecryptInit {
+                session,
+                mechanism,
+                key,
+            })
+        }
+        Step::Decrypt(session, text, room) => {
+            let encrypted_data = Bytes::from_slice(alloc, text)?;
+            Ok(Call::Decrypt {
+                session,
+                encrypted_data,
+                room,
+            })
+        }
+        Step::DecryptUpdate(session, text, room) => {
+            let encrypted_part = Bytes::from_slice(alloc, text)?;
+            Ok(Call::DecryptUpdate {
+                session,
+                encrypted_part,
+                room,
+            })
+        }
+        Step::DecryptFinal(session, room) => Ok(Call::DecryptFinal { session, room }),
+        _ => Err("this decrypts nothing".into()),
+    }
+}
+
+fn mechanism_of(alloc: Global, given: Option<GivenMechanism>) -> Result<Option<Mechanism>, Fail> {
+    match given {
+        Some((number, parameter)) => Ok(Some(Mechanism {
             number,
             parameter: Bytes::from_slice(alloc, parameter)?,
-        }),
-        None => None,
-    };
-    Ok(Call::EncryptInit {
-        session,
-        mechanism,
-        key,
-    })
+        })),
+        None => Ok(None),
+    }
 }
 
 /// The call of a step on an object.

@@ -1,128 +1,20 @@
-//! The faults, two at a time, that the calls of each table are given.
+//! The faults, two at a time, that the calls of each table are given; those of ciphers stand in `cipher_cases`.
 
+use super::given::*;
 use crate::tests::given::*;
+use crate::tests::steps::Step;
 use crate::tests::steps::Step::{
-    CloseAllSessions, CloseSession, CopyObject, CreateObject, DestroyObject, Encrypt, EncryptInit,
+    CloseAllSessions, CloseSession, CopyObject, CreateObject, Decrypt, DecryptFinal, DecryptInit,
+    DecryptUpdate, DestroyObject, Encrypt, EncryptFinal, EncryptInit, EncryptUpdate,
     GetAttributeValue, GetObjectSize, GetSessionInfo, OpenSession, SetAttributeValue,
 };
-use crate::tests::steps::{Given, GivenMechanism, Row, Step, Told};
 use ck_calls::Function;
-use ck_types::AttrType;
 use precede::Row as Fault;
 use precede::Row::{
-    DataLength, DataTaken, EncryptedDataLength, KeyNotPermitted, NoBuffer, NoKey, NoMechanism,
-    NoObject, NoOperation, NoSession, NoSlot, NotCopyable, NotDestroyable, NotModifiable,
-    NotSerial, ObjectLimit, OperationActive, PrivateObject, SessionLimit, SmallBuffer, SoLoggedIn,
-    TemplateRefused, TokenObjectReadOnly, UnknownFlag, WrongKeyType, WrongMechanism,
-    WrongParameter,
+    DataLength, DataTaken, EncryptedDataLength, NoBuffer, NoObject, NoOperation, NoSession, NoSlot,
+    NotCopyable, NotDestroyable, NotModifiable, NotSerial, ObjectLimit, PrivateObject,
+    SessionLimit, SmallBuffer, SoLoggedIn, TemplateRefused, TokenObjectReadOnly, UnknownFlag,
 };
-
-/// The sessions: one that may write, one that may not, one with an operation, and none.
-pub(super) const WRITES: u64 = 1;
-
-const READS: u64 = 2;
-
-pub(super) const ENCRYPTS: u64 = 3;
-
-const NOWHERE: u64 = 9;
-
-/// The objects: an AES key, another that may not encrypt, a key of another type that may not encrypt, data
-/// that may be neither copied, changed nor destroyed, data without such bars, and none.
-const KEY: u64 = 1;
-
-const IDLE_KEY: u64 = 2;
-
-const GENERIC_KEY: u64 = 3;
-
-const BARRED: u64 = 4;
-
-const FREE: u64 = 5;
-
-const MISSING: u64 = 9;
-
-const GENERIC_SECRET: &[u8] = b"\x00\x00\x00\x00\x00\x00\x00\x10";
-
-const MAKES_IDLE_KEY: Given = &[
-    (AttrType::Class, SECRET_KEY),
-    (AttrType::KeyType, AES),
-    (AttrType::Value, KEY_BYTES),
-    (AttrType::Private, NO),
-    (AttrType::Token, YES),
-    (AttrType::Encrypt, NO),
-];
-
-const MAKES_GENERIC_KEY: Given = &[
-    (AttrType::Class, SECRET_KEY),
-    (AttrType::KeyType, GENERIC_SECRET),
-    (AttrType::Value, KEY_BYTES),
-    (AttrType::Private, NO),
-    (AttrType::Token, YES),
-    (AttrType::Encrypt, NO),
-];
-
-const MAKES_BARRED: Given = &[
-    (AttrType::Class, DATA),
-    (AttrType::Token, YES),
-    (AttrType::Private, NO),
-    (AttrType::Copyable, NO),
-    (AttrType::Modifiable, NO),
-    (AttrType::Destroyable, NO),
-];
-
-const PRIVATE_TOKEN_DATA: Given = &[
-    (AttrType::Class, DATA),
-    (AttrType::Token, YES),
-    (AttrType::Private, YES),
-];
-
-const OFF_TOKEN: Given = &[(AttrType::Token, NO)];
-
-const PRIVATE_OFF_TOKEN: Given = &[(AttrType::Token, NO), (AttrType::Private, YES)];
-
-const PRIVATE_ON_TOKEN: Given = &[(AttrType::Token, YES), (AttrType::Private, YES)];
-
-/// Templates with a flag of no byte, which no flag has.
-const REFUSED: Given = &[(AttrType::Copyable, b"")];
-
-const REFUSED_ON_TOKEN: Given = &[(AttrType::Token, YES), (AttrType::Copyable, b"")];
-
-const REFUSED_TOKEN_DATA: Given = &[
-    (AttrType::Class, DATA),
-    (AttrType::Token, YES),
-    (AttrType::Copyable, b""),
-];
-
-/// CKM_AES_ECB with a parameter, which it hasn't.
-const ECB_WITH_PARAMETER: Option<GivenMechanism> = Some((ECB_NUMBER, TEXT));
-
-/// CKM_AES_KEY_GEN, which enciphers nothing.
-const KEY_GENERATION: Option<GivenMechanism> = Some((0x1080, b""));
-
-const KEY_GENERATION_WITH_PARAMETER: Option<GivenMechanism> = Some((0x1080, TEXT));
-
-/// A text that is no whole number of blocks.
-const ODD_TEXT: &[u8] = b"fifteen bytes..";
-
-/// What each case begins with.
-pub(super) const BEFORE: &[Row] = &[
-    (A, OPEN, Told::Session(WRITES)),
-    (A, OPEN_READ_ONLY, Told::Session(READS)),
-    (A, OPEN, Told::Session(ENCRYPTS)),
-    (A, CreateObject(WRITES, TOKEN_KEY), Told::Object(KEY)),
-    (
-        A,
-        CreateObject(WRITES, MAKES_IDLE_KEY),
-        Told::Object(IDLE_KEY),
-    ),
-    (
-        A,
-        CreateObject(WRITES, MAKES_GENERIC_KEY),
-        Told::Object(GENERIC_KEY),
-    ),
-    (A, CreateObject(WRITES, MAKES_BARRED), Told::Object(BARRED)),
-    (A, CreateObject(WRITES, TOKEN_DATA), Told::Object(FREE)),
-    (A, EncryptInit(ENCRYPTS, ECB, KEY), OK),
-];
 
 /// Each call, with the fault that stands right after a pending question, and with that fault.
 pub(super) const SECONDS: &[(Fault, Step)] = &[
@@ -138,12 +30,15 @@ pub(super) const SECONDS: &[(Fault, Step)] = &[
     (NoSession, SetAttributeValue(NOWHERE, FREE, NOTHING)),
     (NoSession, EncryptInit(NOWHERE, ECB, KEY)),
     (NoSession, Encrypt(NOWHERE, TEXT, Some(16))),
+    (NoSession, EncryptUpdate(NOWHERE, TEXT, Some(16))),
+    (NoSession, EncryptFinal(NOWHERE, Some(16))),
+    (NoSession, DecryptInit(NOWHERE, ECB, KEY)),
+    (NoSession, Decrypt(NOWHERE, TEXT, Some(16))),
+    (NoSession, DecryptUpdate(NOWHERE, TEXT, Some(16))),
+    (NoSession, DecryptFinal(NOWHERE, Some(16))),
 ];
 
-/// Two faults of a call, the call with the second alone, and the call with both.
-pub(super) type Case = (Fault, Fault, Step, Step);
-
-/// Neighbours of the tables after the first two rows, and rows between which one can't hold.
+/// Neighbours of the tables of sessions and objects after the first two rows, and rows between which one can't hold.
 pub(super) const CASES: &[Case] = &[
     (NoSlot, NotSerial, OpenSession(0, 2), OpenSession(1, 2)),
     (NotSerial, UnknownFlag, OpenSession(0, 5), OpenSession(0, 1)),
@@ -256,73 +151,6 @@ pub(super) const CASES: &[Case] = &[
         SetAttributeValue(WRITES, FREE, REFUSED),
         SetAttributeValue(WRITES, BARRED, REFUSED),
     ),
-    (
-        NoSession,
-        NoMechanism,
-        EncryptInit(ENCRYPTS, None, KEY),
-        EncryptInit(NOWHERE, None, KEY),
-    ),
-    (
-        NoMechanism,
-        OperationActive,
-        EncryptInit(ENCRYPTS, ECB, KEY),
-        EncryptInit(ENCRYPTS, None, KEY),
-    ),
-    (
-        OperationActive,
-        WrongMechanism,
-        EncryptInit(WRITES, KEY_GENERATION, KEY),
-        EncryptInit(ENCRYPTS, KEY_GENERATION, KEY),
-    ),
-    (
-        WrongMechanism,
-        WrongParameter,
-        EncryptInit(WRITES, ECB_WITH_PARAMETER, KEY),
-        EncryptInit(WRITES, KEY_GENERATION_WITH_PARAMETER, KEY),
-    ),
-    (
-        WrongParameter,
-        NoKey,
-        EncryptInit(WRITES, ECB, MISSING),
-        EncryptInit(WRITES, ECB_WITH_PARAMETER, MISSING),
-    ),
-    // Data are no key, and have no key type.
-    (
-        NoKey,
-        WrongKeyType,
-        EncryptInit(WRITES, ECB, GENERIC_KEY),
-        EncryptInit(WRITES, ECB, FREE),
-    ),
-    (
-        WrongKeyType,
-        KeyNotPermitted,
-        EncryptInit(WRITES, ECB, IDLE_KEY),
-        EncryptInit(WRITES, ECB, GENERIC_KEY),
-    ),
-    (
-        NoSession,
-        NoOperation,
-        Encrypt(WRITES, TEXT, Some(16)),
-        Encrypt(NOWHERE, TEXT, Some(16)),
-    ),
-    (
-        NoOperation,
-        DataLength,
-        Encrypt(ENCRYPTS, ODD_TEXT, Some(16)),
-        Encrypt(WRITES, ODD_TEXT, Some(16)),
-    ),
-    (
-        DataLength,
-        NoBuffer,
-        Encrypt(ENCRYPTS, TEXT, None),
-        Encrypt(ENCRYPTS, ODD_TEXT, None),
-    ),
-    (
-        DataLength,
-        SmallBuffer,
-        Encrypt(ENCRYPTS, TEXT, Some(3)),
-        Encrypt(ENCRYPTS, ODD_TEXT, Some(3)),
-    ),
 ];
 
 /// The neighbours that can't both hold.
@@ -334,12 +162,24 @@ pub(super) const LEFT_OUT: &[(Function, Fault, Fault)] = &[
     (Function::CopyObject, NoObject, NotCopyable),
     (Function::DestroyObject, NoObject, TokenObjectReadOnly),
     (Function::SetAttributeValue, NoObject, TokenObjectReadOnly),
-    // No call gives an operation a part of its data yet, and none gives some where there is no operation.
+    // Where there is no operation, none has taken data.
     (Function::Encrypt, NoOperation, DataTaken),
-    (Function::Encrypt, DataTaken, DataLength),
-    // The row is C_Decrypt's, which has the same table.
+    (Function::Decrypt, NoOperation, DataTaken),
+    (Function::EncryptFinal, NoOperation, DataLength),
+    (Function::DecryptFinal, NoOperation, DataLength),
+    // The row of encrypted data is for decryptions, which have the same tables.
     (Function::Encrypt, DataLength, EncryptedDataLength),
     (Function::Encrypt, EncryptedDataLength, NoBuffer),
+    (Function::EncryptFinal, DataLength, EncryptedDataLength),
+    (Function::EncryptFinal, EncryptedDataLength, NoBuffer),
+    // A counter refuses the other lengths, and none at the last call.
+    (Function::Decrypt, DataLength, EncryptedDataLength),
+    (Function::DecryptFinal, DataLength, EncryptedDataLength),
     // A buffer that isn't there has no length.
     (Function::Encrypt, NoBuffer, SmallBuffer),
+    (Function::EncryptUpdate, NoBuffer, SmallBuffer),
+    (Function::EncryptFinal, NoBuffer, SmallBuffer),
+    (Function::Decrypt, NoBuffer, SmallBuffer),
+    (Function::DecryptUpdate, NoBuffer, SmallBuffer),
+    (Function::DecryptFinal, NoBuffer, SmallBuffer),
 ];

@@ -1,0 +1,188 @@
+//! What the scripts speak of: applications, keys, texts, mechanisms and codes.
+
+use super::steps::{Given, GivenMechanism, Row, Step, Told};
+use ck_types::{AttrType, Rv};
+
+pub(super) const A: u64 = 1;
+
+pub(super) const B: u64 = 2;
+
+/// Sessions that may write, and that may not.
+pub(super) const OPEN: Step = Step::OpenSession(6);
+
+pub(super) const OPEN_READ_ONLY: Step = Step::OpenSession(4);
+
+const NO: &[u8] = b"\x00";
+
+const YES: &[u8] = b"\x01";
+
+/// The numbers of a class and of key types, as their attributes have them.
+const SECRET_KEY: &[u8] = b"\x00\x00\x00\x00\x00\x00\x00\x04";
+
+const AES: &[u8] = b"\x00\x00\x00\x00\x00\x00\x00\x1f";
+
+const GENERIC_SECRET: &[u8] = b"\x00\x00\x00\x00\x00\x00\x00\x10";
+
+/// The key, the text and the ciphertext of FIPS 197, C.1.
+const KEY_BYTES: &[u8] = b"\x00\x01\x02\x03\x04\x05\x06\x07\x08\x09\x0a\x0b\x0c\x0d\x0e\x0f";
+
+pub(super) const TEXT: &[u8] = b"\x00\x11\x22\x33\x44\x55\x66\x77\x88\x99\xaa\xbb\xcc\xdd\xee\xff";
+
+pub(super) const CIPHERTEXT: Told = Told::Data(
+    b"\x69\xc4\xe0\xd8\x6a\x7b\x04\x30\xd8\xcd\xb7\x80\x70\xb4\xc5\x5a",
+);
+
+/// A public AES key of the token, sensitive and unextractable.
+pub(super) const TOKEN_KEY: Given = &[
+    (AttrType::Class, SECRET_KEY),
+    (AttrType::KeyType, AES),
+    (AttrType::Value, KEY_BYTES),
+    (AttrType::Private, NO),
+    (AttrType::Token, YES),
+];
+
+/// The keys that each script begins with: that of SP 800-38A, appendix F, that of FIPS 197, C.3, a secret that is no AES
+/// key, one that doesn't decrypt, and one that doesn't encrypt.
+pub(super) const KEY: u64 = 1;
+
+pub(super) const KEY_256: u64 = 2;
+
+pub(super) const SECRET: u64 = 3;
+
+pub(super) const NO_DECRYPTION: u64 = 4;
+
+pub(super) const NO_ENCRYPTION: u64 = 5;
+
+const MAKES_KEY: Given = &[
+    (AttrType::Class, SECRET_KEY),
+    (AttrType::KeyType, AES),
+    (
+        AttrType::Value,
+        b"\x2b\x7e\x15\x16\x28\xae\xd2\xa6\xab\xf7\x15\x88\x09\xcf\x4f\x3c",
+    ),
+    (AttrType::Private, NO),
+];
+
+const MAKES_KEY_256: Given = &[
+    (AttrType::Class, SECRET_KEY),
+    (AttrType::KeyType, AES),
+    (
+        AttrType::Value,
+        b"\x00\x01\x02\x03\x04\x05\x06\x07\x08\x09\x0a\x0b\x0c\x0d\x0e\x0f\
+\x10\x11\x12\x13\x14\x15\x16\x17\x18\x19\x1a\x1b\x1c\x1d\x1e\x1f",
+    ),
+    (AttrType::Private, NO),
+];
+
+const MAKES_SECRET: Given = &[
+    (AttrType::Class, SECRET_KEY),
+    (AttrType::KeyType, GENERIC_SECRET),
+    (AttrType::Value, KEY_BYTES),
+    (AttrType::Private, NO),
+];
+
+const MAKES_NO_DECRYPTION: Given = &[
+    (AttrType::Class, SECRET_KEY),
+    (AttrType::KeyType, AES),
+    (AttrType::Value, KEY_BYTES),
+    (AttrType::Private, NO),
+    (AttrType::Decrypt, NO),
+];
+
+const MAKES_NO_ENCRYPTION: Given = &[
+    (AttrType::Class, SECRET_KEY),
+    (AttrType::KeyType, AES),
+    (AttrType::Value, KEY_BYTES),
+    (AttrType::Private, NO),
+    (AttrType::Encrypt, NO),
+];
+
+/// What each script begins with.
+pub(super) const BEFORE: &[Row] = &[
+    (A, OPEN, Told::Session(1)),
+    (A, Step::CreateObject(1, MAKES_KEY), Told::Object(KEY)),
+    (
+        A,
+        Step::CreateObject(1, MAKES_KEY_256),
+        Told::Object(KEY_256),
+    ),
+    (A, Step::CreateObject(1, MAKES_SECRET), Told::Object(SECRET)),
+    (
+        A,
+        Step::CreateObject(1, MAKES_NO_DECRYPTION),
+        Told::Object(NO_DECRYPTION),
+    ),
+    (
+        A,
+        Step::CreateObject(1, MAKES_NO_ENCRYPTION),
+        Told::Object(NO_ENCRYPTION),
+    ),
+];
+
+/// The first block of the text of SP 800-38A, appendix F.
+pub(super) const BLOCK: &[u8] = b"\x6b\xc1\xbe\xe2\x2e\x40\x9f\x96\xe9\x3d\x7e\x11\x73\x93\x17\x2a";
+
+/// That block by CBC and by CTR with 128 bits (F.2.1 and F.5.1).
+pub(super) const CHAINED: &[u8] =
+    b"\x76\x49\xab\xac\x81\x19\xb2\x46\xce\xe9\x8e\x9b\x12\xe9\x19\x7d";
+
+pub(super) const COUNTED: &[u8] =
+    b"\x87\x4d\x61\x91\xb6\x20\xe3\x26\x1b\xef\x68\x64\x99\x0d\xb6\xce";
+
+/// No byte and that block, by CBC with padding.
+pub(super) const PADDED_NOTHING: &[u8] =
+    b"\xc8\x4a\xf0\xb6\x13\x43\x5d\x5d\x91\x82\x80\x1a\x9b\xd9\x32\x0b";
+
+pub(super) const PADDED_BLOCK: &[u8] =
+    b"\x76\x49\xab\xac\x81\x19\xb2\x46\xce\xe9\x8e\x9b\x12\xe9\x19\x7d\
+\x89\x64\xe0\xb1\x49\xc1\x0b\x7b\x68\x2e\x6e\x39\xaa\xeb\x73\x1c";
+
+/// The initialization vector of that appendix.
+pub(super) const IV: &[u8] = b"\x00\x01\x02\x03\x04\x05\x06\x07\x08\x09\x0a\x0b\x0c\x0d\x0e\x0f";
+
+/// CKM_AES_ECB, CKM_AES_CBC, CKM_AES_CBC_PAD and CKM_AES_CTR.
+pub(super) const ECB_NUMBER: u64 = 0x1081;
+
+pub(super) const CBC_NUMBER: u64 = 0x1082;
+
+pub(super) const CBC_PAD_NUMBER: u64 = 0x1085;
+
+pub(super) const CTR_NUMBER: u64 = 0x1086;
+
+pub(super) const ECB: Option<GivenMechanism> = Some((ECB_NUMBER, b""));
+
+pub(super) const CBC: Option<GivenMechanism> = Some((CBC_NUMBER, IV));
+
+pub(super) const CBC_PAD: Option<GivenMechanism> = Some((CBC_PAD_NUMBER, IV));
+
+/// With 128 counter bits and the first counter of F.5.1, and with two bits from 1 on.
+pub(super) const CTR: Option<GivenMechanism> = Some((
+    CTR_NUMBER,
+    b"\x00\x00\x00\x00\x00\x00\x00\x80\xf0\xf1\xf2\xf3\xf4\xf5\xf6\xf7\xf8\xf9\xfa\xfb\xfc\xfd\xfe\xff",
+));
+
+pub(super) const TWO_BITS: Option<GivenMechanism> = Some((
+    CTR_NUMBER,
+    b"\x00\x00\x00\x00\x00\x00\x00\x02\x00\x00\x00\x00\x00\x00\x00\x00\x00\x00\x00\x00\x00\x00\x00\x01",
+));
+
+/// Data of no byte.
+pub(super) const NO_BYTES: Told = Told::Data(b"");
+
+pub(super) const OK: Told = Told::Code(Rv::Ok);
+
+pub(super) const FAILED: Told = Told::Code(Rv::FunctionFailed);
+
+pub(super) const NO_SESSION: Told = Told::Code(Rv::SessionHandleInvalid);
+
+pub(super) const NO_OPERATION: Told = Told::Code(Rv::OperationNotInitialized);
+
+pub(super) const OPERATION_ACTIVE: Told = Told::Code(Rv::OperationActive);
+
+pub(super) const NO_KEY: Told = Told::Code(Rv::KeyHandleInvalid);
+
+pub(super) const WRONG_LENGTH: Told = Told::Code(Rv::DataLenRange);
+
+pub(super) const WRONG_ENCRYPTED_LENGTH: Told = Told::Code(Rv::EncryptedDataLenRange);
+
+pub(super) const WRONG_PADDING: Told = Told::Code(Rv::EncryptedDataInvalid);

@@ -1,0 +1,173 @@
+//! What the cases speak of: sessions, objects, templates and mechanisms.
+
+use crate::tests::given::*;
+use crate::tests::steps::Step::{
+    CreateObject, DecryptInit, DecryptUpdate, EncryptInit, EncryptUpdate,
+};
+use crate::tests::steps::{Given, GivenMechanism, Row, Step, Told};
+use ck_types::AttrType;
+use precede::Row as Fault;
+
+/// Two faults of a call, the call with the second alone, and the call with both.
+pub(super) type Case = (Fault, Fault, Step, Step);
+
+/// The sessions: one that may write, one that may not, and none.
+pub(super) const WRITES: u64 = 1;
+
+pub(super) const READS: u64 = 2;
+
+pub(super) const NOWHERE: u64 = 99;
+
+/// Sessions that encrypt and decrypt at once: by CKM_AES_ECB without data and with fifteen bytes taken, by CKM_AES_CTR with
+/// two counter bits without data and with a byte taken, and by CKM_AES_CBC_PAD without data; and one that decrypts by it,
+/// with a block taken.
+pub(super) const BEGUN: u64 = 3;
+
+pub(super) const TAKEN: u64 = 4;
+
+pub(super) const COUNTS: u64 = 5;
+
+pub(super) const COUNTED: u64 = 6;
+
+pub(super) const PADS: u64 = 7;
+
+pub(super) const PADDED: u64 = 8;
+
+/// The objects: an AES key, another that may neither encrypt nor decrypt, a key of another type that may do neither, data
+/// that may be neither copied, changed nor destroyed, data without such bars, and none.
+pub(super) const KEY: u64 = 1;
+
+pub(super) const IDLE_KEY: u64 = 2;
+
+pub(super) const GENERIC_KEY: u64 = 3;
+
+pub(super) const BARRED: u64 = 4;
+
+pub(super) const FREE: u64 = 5;
+
+pub(super) const MISSING: u64 = 9;
+
+const GENERIC_SECRET: &[u8] = b"\x00\x00\x00\x00\x00\x00\x00\x10";
+
+const MAKES_IDLE_KEY: Given = &[
+    (AttrType::Class, SECRET_KEY),
+    (AttrType::KeyType, AES),
+    (AttrType::Value, KEY_BYTES),
+    (AttrType::Private, NO),
+    (AttrType::Token, YES),
+    (AttrType::Encrypt, NO),
+    (AttrType::Decrypt, NO),
+];
+
+const MAKES_GENERIC_KEY: Given = &[
+    (AttrType::Class, SECRET_KEY),
+    (AttrType::KeyType, GENERIC_SECRET),
+    (AttrType::Value, KEY_BYTES),
+    (AttrType::Private, NO),
+    (AttrType::Token, YES),
+    (AttrType::Encrypt, NO),
+    (AttrType::Decrypt, NO),
+];
+
+const MAKES_BARRED: Given = &[
+    (AttrType::Class, DATA),
+    (AttrType::Token, YES),
+    (AttrType::Private, NO),
+    (AttrType::Copyable, NO),
+    (AttrType::Modifiable, NO),
+    (AttrType::Destroyable, NO),
+];
+
+pub(super) const PRIVATE_TOKEN_DATA: Given = &[
+    (AttrType::Class, DATA),
+    (AttrType::Token, YES),
+    (AttrType::Private, YES),
+];
+
+pub(super) const OFF_TOKEN: Given = &[(AttrType::Token, NO)];
+
+pub(super) const PRIVATE_OFF_TOKEN: Given = &[(AttrType::Token, NO), (AttrType::Private, YES)];
+
+pub(super) const PRIVATE_ON_TOKEN: Given = &[(AttrType::Token, YES), (AttrType::Private, YES)];
+
+/// Templates with a flag of no byte, which no flag has.
+pub(super) const REFUSED: Given = &[(AttrType::Copyable, b"")];
+
+pub(super) const REFUSED_ON_TOKEN: Given = &[(AttrType::Token, YES), (AttrType::Copyable, b"")];
+
+pub(super) const REFUSED_TOKEN_DATA: Given = &[
+    (AttrType::Class, DATA),
+    (AttrType::Token, YES),
+    (AttrType::Copyable, b""),
+];
+
+/// CKM_AES_ECB with a parameter, which it hasn't.
+pub(super) const ECB_WITH_PARAMETER: Option<GivenMechanism> = Some((ECB_NUMBER, TEXT));
+
+/// CKM_AES_KEY_GEN, which enciphers nothing.
+pub(super) const KEY_GENERATION: Option<GivenMechanism> = Some((0x1080, b""));
+
+pub(super) const KEY_GENERATION_WITH_PARAMETER: Option<GivenMechanism> = Some((0x1080, TEXT));
+
+/// CKM_AES_CTR with two bits that count from one on, and a text that is longer than its keystream.
+pub(super) const TWO_BITS: Option<GivenMechanism> = Some((
+    0x1086,
+    b"\x00\x00\x00\x00\x00\x00\x00\x02\x00\x00\x00\x00\x00\x00\x00\x00\x00\x00\x00\x00\x00\x00\x00\x01",
+));
+
+pub(super) const LONG_TEXT: &[u8] = &[0; 49];
+
+/// CKM_AES_CBC_PAD.
+pub(super) const PADDING: Option<GivenMechanism> = Some((0x1085, TEXT));
+
+/// A text that is no whole number of blocks.
+pub(super) const ODD_TEXT: &[u8] = b"fifteen bytes..";
+
+/// What each case begins with.
+pub(super) const BEFORE: &[Row] = &[
+    (A, OPEN, Told::Session(WRITES)),
+    (A, OPEN_READ_ONLY, Told::Session(READS)),
+    (A, OPEN, Told::Session(BEGUN)),
+    (A, OPEN, Told::Session(TAKEN)),
+    (A, OPEN, Told::Session(COUNTS)),
+    (A, OPEN, Told::Session(COUNTED)),
+    (A, OPEN, Told::Session(PADS)),
+    (A, OPEN, Told::Session(PADDED)),
+    (A, CreateObject(WRITES, TOKEN_KEY), Told::Object(KEY)),
+    (
+        A,
+        CreateObject(WRITES, MAKES_IDLE_KEY),
+        Told::Object(IDLE_KEY),
+    ),
+    (
+        A,
+        CreateObject(WRITES, MAKES_GENERIC_KEY),
+        Told::Object(GENERIC_KEY),
+    ),
+    (A, CreateObject(WRITES, MAKES_BARRED), Told::Object(BARRED)),
+    (A, CreateObject(WRITES, TOKEN_DATA), Told::Object(FREE)),
+    (A, EncryptInit(BEGUN, ECB, KEY), OK),
+    (A, DecryptInit(BEGUN, ECB, KEY), OK),
+    (A, EncryptInit(TAKEN, ECB, KEY), OK),
+    (A, EncryptUpdate(TAKEN, ODD_TEXT, Some(0)), Told::Data(b"")),
+    (A, DecryptInit(TAKEN, ECB, KEY), OK),
+    (A, DecryptUpdate(TAKEN, ODD_TEXT, Some(0)), Told::Data(b"")),
+    (A, EncryptInit(COUNTS, TWO_BITS, KEY), OK),
+    (A, DecryptInit(COUNTS, TWO_BITS, KEY), OK),
+    (A, EncryptInit(COUNTED, TWO_BITS, KEY), OK),
+    (
+        A,
+        EncryptUpdate(COUNTED, b"\x00", Some(1)),
+        Told::Data(b"\x73"),
+    ),
+    (A, DecryptInit(COUNTED, TWO_BITS, KEY), OK),
+    (
+        A,
+        DecryptUpdate(COUNTED, b"\x00", Some(1)),
+        Told::Data(b"\x73"),
+    ),
+    (A, EncryptInit(PADS, PADDING, KEY), OK),
+    (A, DecryptInit(PADS, PADDING, KEY), OK),
+    (A, DecryptInit(PADDED, PADDING, KEY), OK),
+    (A, DecryptUpdate(PADDED, TEXT, Some(0)), Told::Data(b"")),
+];
