@@ -75,7 +75,7 @@ fn add(alloc: Global, stream: &mut Vec<u8>, call: &Call) -> io::Result<()> {
 }
 
 // The template of an AES key of 16 bytes.
-fn template(alloc: Global) -> io::Result<Template> {
+pub(crate) fn template(alloc: Global) -> io::Result<Template> {
     let mut template = Template::new(alloc);
     let class = ObjectClass::SecretKey.number().to_be_bytes();
     let key_type = KeyType::Aes.number().to_be_bytes();

@@ -19,6 +19,11 @@
 //! prints the exclusive or of the blocks that were made, or the last block, in place of times: they
 //! are the same on each machine, so that the gate can run it.
 //!
+//! With the argument `pieces` it gives 64 MiB a row to a token, by CBC and by CTR, both ways: as pieces of 65,536 bytes of one
+//! operation (C_EncryptUpdate, C_DecryptUpdate), beside operations of one call each (C_Encrypt, C_Decrypt). With `small` there
+//! are two calls a row. With the argument `memory` it gives a token 1 GiB by C_EncryptUpdate, and prints what memory the
+//! system says it has resident before, amid and after.
+//!
 //! OpenSSL measures the same ciphers, in processor time too, without the AES instructions of the
 //! processor where the bits that announce these and the carry-less product are masked. Its ECB is
 //! blocks apart, its CBC a chain:
@@ -31,6 +36,7 @@
 
 mod events;
 mod frames;
+mod pieces;
 mod reading;
 mod run;
 mod texts;
@@ -38,6 +44,7 @@ mod texts;
 use aes_modes::Direction;
 use events::events;
 use frames::{cipher, frames};
+use pieces::{print_memory, print_pieces};
 use reading::reading;
 use run::{Report, blocks_apart, chain, chain_back, keys_for_a_block, keys_kept};
 use std::alloc::Global;
@@ -113,13 +120,21 @@ const THROUGH: &[(&str, u32, u32, usize)] = &[
 /// The lengths of keys in bytes.
 const KEY_SIZES: &[usize] = &[16, 24, 32];
 
-// Whether the argument is `small`: there is that one or none.
-fn is_small(rt: &(impl Env + Alloc)) -> io::Result<bool> {
+/// What is asked for, by the one argument or by none.
+enum Wanted {
+    All(Scale),
+    Pieces,
+    Memory,
+}
+
+fn read_word(rt: &(impl Env + Alloc)) -> io::Result<Wanted> {
     let mut words = env::args(rt)?;
     words.next();
     match words.next() {
-        None => Ok(false),
-        Some(word) if word.as_str() == "small" => Ok(true),
+        None => Ok(Wanted::All(FULL)),
+        Some(word) if word.as_str() == "small" => Ok(Wanted::All(SMALL)),
+        Some(word) if word.as_str() == "pieces" => Ok(Wanted::Pieces),
+        Some(word) if word.as_str() == "memory" => Ok(Wanted::Memory),
         Some(_) => Err(io::Error::from(io::ErrorKind::InvalidInput)),
     }
 }
@@ -183,7 +198,14 @@ fn print_head(rt: &impl Print, report: Report) -> io::Result<()> {
 }
 
 fn main(rt: HostRuntime) -> io::Result<()> {
-    let scale = if is_small(&rt)? { SMALL } else { FULL };
+    let scale = match read_word(&rt)? {
+        Wanted::All(scale) => scale,
+        Wanted::Pieces => {
+            print_head(&rt, Report::Times)?;
+            return print_pieces(&rt, rt.alloc(), Report::Times);
+        }
+        Wanted::Memory => return print_memory(&rt, rt.alloc()),
+    };
     print_head(&rt, scale.report)?;
     for size in KEY_SIZES {
         print_ciphers(&rt, rt.alloc(), *size, scale)?;
@@ -192,5 +214,8 @@ fn main(rt: HostRuntime) -> io::Result<()> {
     derivation(&rt, scale.rounds)?.print(&rt, 8, scale.report)?;
     print_readings(&rt, rt.alloc(), scale)?;
     print_lines(&rt, rt.alloc(), scale)?;
+    if let Report::Sums = scale.report {
+        print_pieces(&rt, rt.alloc(), Report::Sums)?;
+    }
     events(&rt, rt.alloc(), scale.events)?.print(&rt, 0, scale.report)
 }

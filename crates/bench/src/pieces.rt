@@ -1,0 +1,297 @@
+// Data enciphered and deciphered through a token, in pieces beside single calls, and what memory it takes.
+
+use crate::frames::template;
+use crate::run::{Report, Run, Unit};
+use aes_modes::Direction;
+use ck_calls::{Call, Mechanism, Output, Reply, need};
+use ck_types::{Bytes, MechType};
+use keep::ListKeep;
+use pin_record::Record;
+use std::alloc::Global;
+use std::rt::Files;
+use std::time::CpuClock;
+use std::{fs, io};
+use token::{Out, Token};
+
+/// The application, its session, and the handle of its key.
+const APP: u64 = 1;
+
+const SESSION: u64 = 1;
+
+const OBJECT: u64 = 1;
+
+/// The parameter of CTR: 128 bits count. Its last 16 bytes are that of CBC.
+const PARAMETER: [u8; 24] = [
+    0, 0, 0, 0, 0, 0, 0, 128, 0xf0, 0xf0, 0xf0, 0xf0, 0xf0, 0xf0, 0xf0, 0xf0, 0xf0, 0xf0, 0xf0,
+    0xf0, 0xf0, 0xf0, 0xf0, 0xf0,
+];
+
+/// A mechanism and a direction.
+#[derive(Clone, Copy)]
+struct Cipher {
+    mechanism: MechType,
+    direction: Direction,
+}
+
+/// How data is given.
+#[derive(Clone, Copy)]
+enum Way {
+    /// As pieces of one operation.
+    Piece,
+    /// By one call, with an operation for each.
+    Call,
+}
+
+const CBC: Cipher = Cipher {
+    mechanism: MechType::AesCbc,
+    direction: Direction::Encipher,
+};
+
+const CBC_BACK: Cipher = Cipher {
+    mechanism: MechType::AesCbc,
+    direction: Direction::Decipher,
+};
+
+const CTR: Cipher = Cipher {
+    mechanism: MechType::AesCtr,
+    direction: Direction::Encipher,
+};
+
+const CTR_BACK: Cipher = Cipher {
+    mechanism: MechType::AesCtr,
+    direction: Direction::Decipher,
+};
+
+/// The rows: what is done, how data is given, and its length.
+const ROWS: &[(&str, Cipher, Way, u32)] = &[
+    ("CBC, 64,000 a call", CBC, Way::Call, 64_000),
+    ("CBC, 1,048,528 a call", CBC, Way::Call, 1_048_528),
+    ("CBC, 65,536 a piece", CBC, Way::Piece, 65_536),
+    ("CBC back, 64,000 a call", CBC_BACK, Way::Call, 64_000),
+    ("CBC back, 1,048,528 a call", CBC_BACK, Way::Call, 1_048_528),
+    ("CBC back, 65,536 a piece", CBC_BACK, Way::Piece, 65_536),
+    ("CTR, 64,000 a call", CTR, Way::Call, 64_000),
+    ("CTR, 1,048,528 a call", CTR, Way::Call, 1_048_528),
+    ("CTR, 65,536 a piece", CTR, Way::Piece, 65_536),
+    ("CTR back, 64,000 a call", CTR_BACK, Way::Call, 64_000),
+    ("CTR back, 1,048,528 a call", CTR_BACK, Way::Call, 1_048_528),
+    ("CTR back, 65,536 a piece", CTR_BACK, Way::Piece, 65_536),
+];
+
+/// The bytes of a row.
+const ROW_LEN: u32 = 67_108_864;
+
+/// The length of a piece, and the pieces of half a GiB.
+const PIECE_LEN: u32 = 65_536;
+
+const HALF: u32 = 8192;
+
+fn failed() -> io::Error {
+    io::Error::from(io::ErrorKind::Other)
+}
+
+// One call, and the end of its question where it asks one.
+fn reply_to(alloc: Global, token: &mut Token<ListKeep>, call: Call) -> io::Result<Reply> {
+    let random = vec![in alloc; 0u8; need(&call)]?;
+    match token.call(alloc, APP, call, &random) {
+        Out::Reply(reply) => Ok(reply),
+        Out::Ask(job) => Ok(token.finish(alloc, APP, job.run(alloc))),
+    }
+}
+
+// What a call gives.
+fn given_by(alloc: Global, token: &mut Token<ListKeep>, call: Call) -> io::Result<Bytes> {
+    match reply_to(alloc, token, call)? {
+        Reply::Output(Output::Data(bytes)) => Ok(bytes),
+        _ => Err(failed()),
+    }
+}
+
+// A token with a session, which has a key.
+fn opened(alloc: Global) -> io::Result<Token<ListKeep>> {
+    let Ok(mut token) = Token::new(alloc, ListKeep::new(alloc, Record::new())) else {
+        return Err(failed());
+    };
+    let _ = reply_to(alloc, &mut token, Call::OpenSession { slot: 0, flags: 6 })?;
+    let create = Call::CreateObject {
+        session: SESSION,
+        template: template(alloc)?,
+    };
+    let _ = reply_to(alloc, &mut token, create)?;
+    Ok(token)
+}
+
+impl Cipher {
+    fn mechanism(self, alloc: Global) -> io::Result<Mechanism> {
+        let (_, block) = PARAMETER.split_at(8);
+        let parameter = match self.mechanism {
+            MechType::AesCtr => &PARAMETER[..],
+            _ => block,
+        };
+        Ok(Mechanism {
+            number: self.mechanism.number(),
+            parameter: Bytes::from_slice(alloc, parameter)?,
+        })
+    }
+
+    fn init(self, alloc: Global) -> io::Result<Call> {
+        let mechanism = Some(self.mechanism(alloc)?);
+        Ok(match self.direction {
+            Direction::Encipher => Call::EncryptInit {
+                session: SESSION,
+                mechanism,
+                key: OBJECT,
+            },
+            Direction::Decipher => Call::DecryptInit {
+                session: SESSION,
+                mechanism,
+                key: OBJECT,
+            },
+        })
+    }
+
+    fn single(self, data: Bytes, room: Option<u64>) -> Call {
+        match self.direction {
+            Direction::Encipher => Call::Encrypt {
+                session: SESSION,
+                data,
+                room,
+            },
+            Direction::Decipher => Call::Decrypt {
+                session: SESSION,
+                encrypted_data: data,
+                room,
+            },
+        }
+    }
+
+    fn update(self, data: Bytes, room: Option<u64>) -> Call {
+        match self.direction {
+            Direction::Encipher => Call::EncryptUpdate {
+                session: SESSION,
+                part: data,
+                room,
+            },
+            Direction::Decipher => Call::DecryptUpdate {
+                session: SESSION,
+                encrypted_part: data,
+                room,
+            },
+        }
+    }
+
+    // Begins an operation.
+    fn begin(self, alloc: Global, token: &mut Token<ListKeep>) -> io::Result<()> {
+        let _ = reply_to(alloc, token, self.init(alloc)?)?;
+        Ok(())
+    }
+
+    // Gives a text in this way, and tells the length and the last byte of what comes.
+    fn give(
+        self,
+        alloc: Global,
+        token: &mut Token<ListKeep>,
+        way: Way,
+        text: &[u8],
+    ) -> io::Result<(u64, u8)> {
+        let data = Bytes::from_slice(alloc, text)?;
+        let room = Some(text.len() as u64);
+        let call = match way {
+            Way::Piece => self.update(data, room),
+            Way::Call => {
+                self.begin(alloc, token)?;
+                self.single(data, room)
+            }
+        };
+        let bytes = given_by(alloc, token, call)?;
+        let slice = bytes.as_slice();
+        Ok((slice.len() as u64, slice.last().copied().unwrap_or(0)))
+    }
+
+    // Gives a text so many times, and adds up the lengths and the last bytes of what comes.
+    fn give_all(
+        self,
+        alloc: Global,
+        token: &mut Token<ListKeep>,
+        way: Way,
+        text: &[u8],
+        count: u32,
+    ) -> io::Result<u128> {
+        let mut given = 0u64;
+        let mut lasts = 0u64;
+        for _ in 0..count {
+            let (len, last) = self.give(alloc, token, way, text)?;
+            given = given.wrapping_add(len);
+            lasts = lasts.wrapping_add(u64::from(last));
+        }
+        Ok(u128::from(given) << 64 | u128::from(lasts))
+    }
+}
+
+// A row.
+fn row(
+    rt: &impl CpuClock,
+    alloc: Global,
+    what: &'static str,
+    cipher: Cipher,
+    way: Way,
+    len: u32,
+    count: u32,
+) -> io::Result<Run> {
+    let text = vec![in alloc; 0x5a_u8; len as usize]?;
+    let mut token = opened(alloc)?;
+    let start = rt.thread_cpu_time()?;
+    if let Way::Piece = way {
+        cipher.begin(alloc, &mut token)?;
+    }
+    let sum = cipher.give_all(alloc, &mut token, way, &text, count)?;
+    Ok(Run {
+        what,
+        unit: Unit::Bytes(len),
+        count,
+        sum: sum.to_be_bytes(),
+        time: rt.thread_cpu_time()?.saturating_sub(start),
+    })
+}
+
+/// Prints a row for each mechanism, direction and way.
+pub(crate) fn print_pieces(
+    rt: &(impl CpuClock + Print),
+    alloc: Global,
+    report: Report,
+) -> io::Result<()> {
+    for (what, cipher, way, len) in ROWS {
+        let count = match report {
+            Report::Sums => 2,
+            Report::Times => ROW_LEN / (*len).max(1),
+        };
+        row(rt, alloc, what, *cipher, *way, *len, count)?.print(rt, 16, report)?;
+    }
+    Ok(())
+}
+
+// Prints what the system says that this process has resident.
+fn print_resident<R: Files + Alloc + Print>(rt: &R, after: u64) -> io::Result<()> {
+    let status = fs::read_to_string(rt, "/proc/self/status")?;
+    for line in status.as_str().lines() {
+        if let Some(resident) = line.strip_prefix("VmRSS:") {
+            println!(rt; "after {after:>10} bytes resident {resident}")?;
+        }
+    }
+    Ok(())
+}
+
+/// Prints the memory that is resident before, amid and after a GiB of C_EncryptUpdate.
+pub(crate) fn print_memory<R: Files + Alloc + Print>(rt: &R, alloc: Global) -> io::Result<()> {
+    let text = vec![in alloc; 0x5a_u8; PIECE_LEN as usize]?;
+    let mut token = opened(alloc)?;
+    CBC.begin(alloc, &mut token)?;
+    let mut given = 0u64;
+    print_resident(rt, given)?;
+    for _ in 0..2 {
+        let sum = CBC.give_all(alloc, &mut token, Way::Piece, &text, HALF)?;
+        given = given.wrapping_add((sum >> 64) as u64);
+        print_resident(rt, given)?;
+    }
+    Ok(())
+}
