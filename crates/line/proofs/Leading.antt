@@ -8,9 +8,9 @@ use Rattle.ck_calls.specs.Need.{random_bytes}
 use Rattle.keep.specs.Keeping.{Terms}
 use Rattle.wire.specs.declared.fault.WireFault.{WireFault}
 use Rattle.wire.specs.declared.fault.WireFault.TheVariants as faults
-use Rattle.token_model.specs.Worlds.{World, after, set_apart}
-use Rattle.token.specs.Applications.{HasJobs}
-use Rattle.token.specs.Applications.{TokenState, Shows}
+use Rattle.views.specs.Refusals.{set_apart}
+use Rattle.token_model.specs.Worlds.{World, after}
+use Rattle.token.specs.Applications.{HasJobs, TokenState, Shows}
 use Rattle.token.specs.Runs.{MayLeave, AccountsFor}
 use Rattle.token.proofs.Accounts.{accounts-none, accounts-more, accounts-plain}
 use Rattle.line.specs.Words.{taken}

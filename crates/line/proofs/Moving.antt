@@ -6,16 +6,17 @@ use Rattle.std.proofs.lemmas.Bool.{cases_eq, eq-eqb, ne_eqb}
 use Rattle.std.proofs.lemmas.List.{append-nil}
 use Rattle.ck_calls.specs.declared.call.Call.{Call as CallType}
 use Rattle.ck_calls.specs.declared.reply.Reply.{Reply}
-use Rattle.token_model.specs.declared.fault.Fault.{Fault}
+use Rattle.views.specs.declared.fault.Fault.{Fault}
 use Rattle.token_model.specs.declared.event.Event.TheVariants.{Call, Finish}
 use Rattle.token_store.specs.declared.out.Out.TheVariants.{Reply as OutReply}
-use Rattle.token_model.specs.Views.{Question}
-use Rattle.token_model.specs.Answering.{Said, Replies, Asks}
-use Rattle.token_model.specs.Worlds.{World, value_of, Move, Goes, Refuses, event_of, reveal_to_call, reveal_to_task, answer_at, result_at, change_for, set_apart, called, says_called, told, refused, finish_refused, finished, happens, reply_to, after, replies}
+use Rattle.views.specs.Views.{Question}
+use Rattle.views.specs.Answering.{Said, Replies, Asks}
+use Rattle.views.specs.Refusals.{set_apart}
+use Rattle.token_model.specs.Worlds.{World, value_of, Move, Goes, Refuses, event_of, reveal_to_call, reveal_to_task, answer_at, result_at, change_for, called, says_called, told, refused, finish_refused, finished, happens, reply_to, after, replies}
 use Rattle.token.specs.Applications.{move_of, moved, HasJobs}
 use Rattle.token.specs.Runs.{Lasting, LeavesBy, LeftBy, LeftAfter, call_change}
 use Rattle.line.specs.Lines.{Act, Calls, Finishes, act_of, Moved}
-use Rattle.token_model.proofs.Proper.{over-result}
+use Rattle.answers.proofs.Proper.{over-result}
 use Rattle.token_model.proofs.Tries.{seen-question}
 use Rattle.line.proofs.Questions.{left_by, leaves-answer}
 

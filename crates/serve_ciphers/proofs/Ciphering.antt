@@ -26,10 +26,10 @@ use Rattle.sessions.specs.Sessions.{session_at}
 use Rattle.desk.specs.Desks.{DeskState}
 use Rattle.ops.specs.declared.place.Place.{Place}
 use Rattle.ops.specs.Operations.{Operation, Operations, operation_in, operation_of, placed_in, with_operation as in_sessions}
-use Rattle.token_model.specs.Views.{View, Ciphers}
-use Rattle.token_model.specs.Answering.{Said, Replies, Answer, becomes, unless, session_of, object_at, with_operation}
-use Rattle.token_model.specs.Answers.CipherInit.{permission, place_for, cipher_at, with_parameter, is_aes, ends, begins, cipher_init}
-use Rattle.token_model.specs.Answers.Cipher.{single_function, update_function, final_function, has_taken, cipher_single, cipher_update, cipher_final}
+use Rattle.views.specs.Views.{View, Ciphers}
+use Rattle.views.specs.Answering.{Said, Replies, Answer, becomes, unless, session_of, object_at, with_operation}
+use Rattle.answers.specs.CipherInit.{permission, place_for, cipher_at, with_parameter, is_aes, ends, begins, cipher_init}
+use Rattle.answers.specs.Cipher.{single_function, update_function, final_function, has_taken, cipher_single, cipher_update, cipher_final}
 use Rattle.token_store.specs.Shown.{view_of, Fits, Gives}
 use Rattle.serve_ciphers.specs.Steps.{refused_row, asks_within}
 

@@ -16,8 +16,8 @@ use Rattle.mech.specs.declared.outcome.Outcome.TheVariants.{Piece, Rest, BadPadd
 use Rattle.ops.specs.declared.place.Place.{Place}
 use Rattle.ops.specs.declared.place.Place.TheVariants.{Encrypt, Decrypt}
 use Rattle.ops.specs.Operations.{Operation, operation_of}
-use Rattle.token_model.specs.Views.{View, Task}
-use Rattle.token_model.specs.Answering.{Answer, replies, asks}
+use Rattle.views.specs.Views.{View, Task}
+use Rattle.views.specs.Answering.{Answer, replies, asks}
 
 -- the row of data that is refused: for its length, or since the mechanism has no counter for each block
 abbrev pub refused_row : Direction → ModeFault → Row

@@ -4,7 +4,7 @@ ghost use Rattle.std.specs.Prelude.{◌≡◌, true, Some};
 ghost use Rattle.ck_types.specs.declared.attr_type.AttrType.TheVariants as attr;
 ghost use Rattle.attrs.specs.Masking.{is_secret_key};
 ghost use Rattle.attrs.specs.Objects.{attribute_of, class_of, key_type_of};
-ghost use Rattle.token_model.specs.Answers.CipherInit.{cipher_init, is_aes};
+ghost use Rattle.answers.specs.CipherInit.{cipher_init, is_aes};
 ghost use Rattle.token_store.specs.Refusing.{IsDone};
 
 use crate::directions::{permission, place_for};

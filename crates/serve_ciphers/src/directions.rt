@@ -1,8 +1,8 @@
 //! What differs between enciphering and deciphering.
 
 ghost use Rattle.std.specs.Prelude.{◌≡◌};
-ghost use Rattle.token_model.specs.Answers.Cipher.{final_function, single_function, update_function};
-ghost use Rattle.token_model.specs.Answers.CipherInit.{permission, place_for};
+ghost use Rattle.answers.specs.Cipher.{final_function, single_function, update_function};
+ghost use Rattle.answers.specs.CipherInit.{permission, place_for};
 ghost use Rattle.serve_ciphers.specs.Steps.{refused_row};
 
 use aes_modes::{Direction, ModeFault};

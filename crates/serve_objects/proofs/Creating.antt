@@ -26,9 +26,9 @@ use Rattle.sessions.specs.declared.Session.{Session}
 use Rattle.sessions.specs.Sessions.{state_of}
 use Rattle.desk.specs.Desks.{DeskState, SameDesk}
 use Rattle.ops.specs.Operations.{Operations}
-use Rattle.token_model.specs.Views.{TokenObject, SessionObject, View, sees}
-use Rattle.token_model.specs.Answering.{Replies, Answer, unless, replies, session_of}
-use Rattle.token_model.specs.Answers.CreateObject.{adds_token_object, adds_session_object, adds, create_object}
+use Rattle.views.specs.Views.{TokenObject, SessionObject, View, sees}
+use Rattle.views.specs.Answering.{Replies, Answer, unless, replies, session_of}
+use Rattle.answers.specs.CreateObject.{adds_token_object, adds_session_object, adds, create_object}
 use Rattle.token_store.specs.Shown.{sees_kept, token_object, session_object, view_of, IsNoted, Fits, Gives}
 use Rattle.lists.proofs.ListLemmas.{find-passes, find-push_fails, filter-push_passes, All-push, map-push, length-map}
 

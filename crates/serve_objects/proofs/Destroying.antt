@@ -18,10 +18,10 @@ use Rattle.sessions.specs.declared.Session.{Session}
 use Rattle.desk.specs.Desks.{DeskState}
 use Rattle.ops.specs.Operations.{Operations}
 use Rattle.lists.specs.Places.{first_place, kept_place}
-use Rattle.token_model.specs.Views.{TokenObject, SessionObject, View, sees}
-use Rattle.token_model.specs.Changes.{Stays}
-use Rattle.token_model.specs.Answering.{Replies, session_of, object_at, place_of}
-use Rattle.token_model.specs.Answers.DestroyObject.{destroy_object, destroyed}
+use Rattle.views.specs.Views.{TokenObject, SessionObject, View, sees}
+use Rattle.views.specs.Changes.{Stays}
+use Rattle.views.specs.Answering.{Replies, session_of, object_at, place_of}
+use Rattle.answers.specs.DestroyObject.{destroy_object, destroyed}
 use Rattle.token_store.specs.Shown.{sees_kept, token_object, session_object, view_of, IsNoted, Fits, Gives}
 use Rattle.token_store.specs.Found.{IsAt}
 use Rattle.lists.proofs.ListLemmas.{filter-map, map-remove, find-filter_none, find-filter_some, place-none, place-some, kept-hidden, kept-seen, filter-kept, kept_place-map}

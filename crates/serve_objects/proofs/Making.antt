@@ -13,11 +13,11 @@ use Rattle.templates.specs.Made.{object_made, given_value, Answers as IsAnswered
 use Rattle.sessions.specs.declared.Session.{Session}
 use Rattle.sessions.specs.Sessions.{state_of}
 use Rattle.ops.specs.Operations.{Operations}
-use Rattle.token_model.specs.Views.{View}
-use Rattle.token_model.specs.Answering.{session_of, object_at, place_of}
-use Rattle.token_model.specs.Answers.CreateObject.{create_object}
-use Rattle.token_model.specs.Answers.CopyObject.{copy_object}
-use Rattle.token_model.specs.Answers.SetAttributeValue.{puts, set_attribute_value}
+use Rattle.views.specs.Views.{View}
+use Rattle.views.specs.Answering.{session_of, object_at, place_of}
+use Rattle.answers.specs.CreateObject.{create_object}
+use Rattle.answers.specs.CopyObject.{copy_object}
+use Rattle.answers.specs.SetAttributeValue.{puts, set_attribute_value}
 use Rattle.serve_objects.specs.Adding.{adds_where}
 
 pub made-object : (fault : Option Rv) (made o : List Entry) → IsAnswered (Ok o) fault made → (fault ≡ None) × (made ≡ o)

@@ -23,11 +23,10 @@ use Rattle.desk.specs.Desks.{DeskState, replaced_own}
 use Rattle.ops.specs.Operations.{Operations}
 use Rattle.token_store.specs.declared.finding.Found.{Found}
 use Rattle.lists.specs.Places.{first_place, kept_place, seen_place}
-use Rattle.token_model.specs.Views.{SessionObject, View, sees}
-use Rattle.token_model.specs.Changes.{Stays, Replace}
-use Rattle.token_model.specs.Changes.{seen as seen_after, replaced_at as replaced_seen}
-use Rattle.token_model.specs.Answering.{Replies, replies, session_of, object_at, place_of}
-use Rattle.token_model.specs.Answers.SetAttributeValue.{rewritten_own, puts, set_attribute_value}
+use Rattle.views.specs.Views.{SessionObject, View, sees}
+use Rattle.views.specs.Changes.{Stays, Replace, seen as seen_after, replaced_at as replaced_seen}
+use Rattle.views.specs.Answering.{Replies, replies, session_of, object_at, place_of}
+use Rattle.answers.specs.SetAttributeValue.{rewritten_own, puts, set_attribute_value}
 use Rattle.token_store.specs.Shown.{sees_kept, session_object, view_of, rekept, IsAsPublic, Changes, Fits, Gives}
 use Rattle.token_store.specs.Found.{IsAt}
 use Rattle.lists.proofs.ListLemmas.{find-filter_none, place-none, kept-hidden, kept-seen, kept_place-map}

@@ -1,7 +1,7 @@
 //! C_CreateObject (PKCS #11 v3.1, 5.7).
 
 ghost use Rattle.std.specs.Prelude.{◌<◌, ◌≤◌, ◌^◌, length};
-ghost use Rattle.token_model.specs.Answers.CreateObject.{create_object};
+ghost use Rattle.answers.specs.CreateObject.{create_object};
 ghost use Rattle.token_store.specs.Refusing.{IsDone};
 
 use crate::adding::add_object;

@@ -1,7 +1,7 @@
 //! C_GetAttributeValue (PKCS #11 v3.1, 5.7).
 
 ghost use Rattle.std.specs.Prelude.{◌≡◌, ◌∷◌, [], IfOk};
-ghost use Rattle.token_model.specs.Answers.GetAttributeValue.{attribute_told, attributes_told, code_of_all, get_attribute_value, has_code, unavailable};
+ghost use Rattle.answers.specs.GetAttributeValue.{attribute_told, attributes_told, code_of_all, get_attribute_value, has_code, unavailable};
 ghost use Rattle.token_store.specs.Refusing.{IsDone};
 
 use attrs::{Object, find_attribute};

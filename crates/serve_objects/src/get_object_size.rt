@@ -2,7 +2,7 @@
 
 ghost use Rattle.std.specs.Prelude.{◌≡◌, length};
 ghost use Rattle.attrs.specs.Stored.{stored_form};
-ghost use Rattle.token_model.specs.Answers.GetObjectSize.{get_object_size, object_size};
+ghost use Rattle.answers.specs.GetObjectSize.{get_object_size, object_size};
 ghost use Rattle.token_store.specs.Refusing.{IsDone};
 
 use attrs::{Object, size};

@@ -17,11 +17,11 @@ use Rattle.sessions.specs.declared.Session.{Session}
 use Rattle.sessions.specs.Sessions.{login_among, state_of}
 use Rattle.desk.specs.Desks.{DeskState, closed as desk_closed, all_closed as desk_all_closed, handles_for}
 use Rattle.ops.specs.Operations.{Operations}
-use Rattle.token_model.specs.Views.{TokenObject, SessionObject, View, sees, seen_by}
-use Rattle.token_model.specs.Changes.{Stays}
-use Rattle.token_model.specs.Answering.{Replies, session_of}
-use Rattle.token_model.specs.Answers.CloseSession.{close_session, close_all_sessions}
-use Rattle.token_model.specs.Answers.OpenSession.{is_slot}
+use Rattle.views.specs.Views.{TokenObject, SessionObject, View, sees, seen_by}
+use Rattle.views.specs.Changes.{Stays}
+use Rattle.views.specs.Answering.{Replies, session_of}
+use Rattle.answers.specs.CloseSession.{close_session, close_all_sessions}
+use Rattle.answers.specs.OpenSession.{is_slot}
 use Rattle.token_store.specs.Shown.{sees_kept, token_object, session_object, view_of, IsNoted, Fits, Gives}
 use Rattle.token_store.proofs.Seeing.{IsLess, less-none}
 use Rattle.lists.proofs.ListLemmas.{filter-map, filter-less}

@@ -1,8 +1,8 @@
 //! C_OpenSession (PKCS #11 v3.1, 5.6).
 
 ghost use Rattle.std.specs.Prelude.{◌<◌, ◌^◌};
-ghost use Rattle.token_model.specs.Answering.{Replies};
-ghost use Rattle.token_model.specs.Answers.OpenSession.{open_session};
+ghost use Rattle.views.specs.Answering.{Replies};
+ghost use Rattle.answers.specs.OpenSession.{open_session};
 ghost use Rattle.token_store.specs.Refusing.{AtDesk};
 
 use crate::SLOT;

@@ -4,9 +4,9 @@ use Rattle.ck_types.specs.declared.rv.Rv.TheVariants.{DeviceError, HostMemory}
 use Rattle.ck_calls.specs.declared.reply.Reply.{Reply}
 use Rattle.ck_calls.specs.declared.reply.Reply.TheVariants.{Code}
 use Rattle.keep.specs.Keeping.{Rises}
-use Rattle.token_model.specs.declared.fault.Fault.{Fault}
-use Rattle.token_model.specs.declared.fault.Fault.TheVariants.{Memory, Device}
-use Rattle.token_model.specs.Worlds.{set_apart}
+use Rattle.views.specs.declared.fault.Fault.{Fault}
+use Rattle.views.specs.declared.fault.Fault.TheVariants.{Memory, Device}
+use Rattle.views.specs.Refusals.{set_apart}
 use Rattle.token.specs.Runs.{blames, AccountsFor}
 
 blames-append : (xs ys : List Reply) → blames (xs ++ ys) ≡ blames xs + blames ys

@@ -8,23 +8,23 @@ use Rattle.ck_calls.specs.declared.call.Call.{Call}
 use Rattle.ck_calls.specs.declared.reply.Reply.TheVariants.{Code}
 use Rattle.keep.specs.Contents.{Contents}
 use Rattle.keep.specs.Keeping.{Terms}
-use Rattle.token_model.specs.declared.fault.Fault.{Fault}
-use Rattle.token_model.specs.declared.fault.Fault.TheVariants.{Memory, Device}
+use Rattle.views.specs.declared.fault.Fault.{Fault}
+use Rattle.views.specs.declared.fault.Fault.TheVariants.{Memory, Device}
 use Rattle.desk.specs.Desks.{DeskState, SameDesk}
 use Rattle.token_model.specs.declared.check.Check.{Check}
 use Rattle.token_store.specs.declared.out.Out.{Out}
 use Rattle.token_store.specs.declared.out.Out.TheVariants.{Reply as OutReply}
-use Rattle.token_model.specs.Views.{View, sees}
-use Rattle.token_model.specs.Changes.{Change, Stays, in_list}
-use Rattle.token_model.specs.Answering.{Said, Replies, Answer, reveals_nothing}
-use Rattle.token_model.specs.Answers.{answer}
-use Rattle.token_model.specs.Worlds.{World, answer_at, apart, refusal, list_change, called, says_called}
+use Rattle.views.specs.Views.{View, sees}
+use Rattle.views.specs.Changes.{Change, Stays, in_list}
+use Rattle.views.specs.Answering.{Said, Replies, Answer, reveals_nothing}
+use Rattle.answers.specs.Answers.{answer}
+use Rattle.views.specs.Refusals.{apart, refusal}
+use Rattle.token_model.specs.Worlds.{World, answer_at, list_change, called, says_called}
 use Rattle.token_store.specs.Shown.{view_of, objects_of, said_of, Changes}
-use Rattle.token.specs.Applications.{desk_at, told_as}
+use Rattle.token.specs.Applications.{desk_at, told_as, TokenState, Shows}
 use Rattle.token_store.specs.Stores.{StoreState, Serves}
-use Rattle.token.specs.Applications.{TokenState, Shows}
 use Rattle.token.specs.Runs.{Lasting, lasting_of, lasting_in, MayLeave, LeavesBy, call_change}
-use Rattle.token_model.proofs.Proper.{plain-answer}
+use Rattle.answers.proofs.Proper.{plain-answer}
 use Rattle.token_store.proofs.Changing.{objects-changed, record-changed}
 use Rattle.token.proofs.Steps.{state, fits-given, depicts-given, fits-all, depicts-same}
 

@@ -12,13 +12,13 @@ use Rattle.keep.specs.Keeping.{Terms}
 use Rattle.precede.specs.declared.row.Row.TheVariants.{Busy}
 use Rattle.mech.specs.declared.job.Job.{Job}
 use Rattle.desk.specs.Desks.{DeskState, is_busy}
-use Rattle.token_model.specs.declared.fault.Fault.{Fault}
-use Rattle.token_model.specs.declared.fault.Fault.TheVariants as faults
-use Rattle.token_model.specs.Views.{View}
-use Rattle.token_model.specs.Answering.{Said, Replies, Answer, Reveal, reveals_nothing, refuses, refuses_by, is_closed}
-use Rattle.token_model.specs.Answers.{answer, answer_to, may_change_objects}
-use Rattle.token_model.specs.Worlds.{set_apart}
-use Rattle.token_model.proofs.Proper.{proper-answer_to}
+use Rattle.views.specs.declared.fault.Fault.{Fault}
+use Rattle.views.specs.declared.fault.Fault.TheVariants as faults
+use Rattle.views.specs.Views.{View}
+use Rattle.views.specs.Answering.{Said, Replies, Answer, Reveal, reveals_nothing, refuses, refuses_by, is_closed}
+use Rattle.answers.specs.Answers.{answer, answer_to, may_change_objects}
+use Rattle.views.specs.Refusals.{set_apart}
+use Rattle.answers.proofs.Proper.{proper-answer_to}
 use Rattle.token_store.specs.declared.out.Out.{Out}
 use Rattle.token_store.specs.declared.out.Out.TheVariants.{Reply as OutReply}
 use Rattle.token_store.specs.declared.refusal.Refusal.{Refusal}

@@ -9,24 +9,24 @@ use Rattle.std.proofs.lemmas.Bool.Decides.{nat_tests}
 use Rattle.std.proofs.lemmas.Bool.{cases_eq, eq-eqb, ne_eqb}
 use Rattle.ck_calls.specs.declared.call.Call.{Call}
 use Rattle.ck_calls.specs.declared.reply.Reply.{Reply}
-use Rattle.token_model.specs.declared.fault.Fault.{Fault}
+use Rattle.views.specs.declared.fault.Fault.{Fault}
 use Rattle.mech.specs.declared.job.Job.{Job}
 use Rattle.keep.specs.Keeping.{Terms}
 use Rattle.desk.specs.Desks.{DeskState}
 use Rattle.token_model.specs.declared.check.Check.{Check}
 use Rattle.token_store.specs.Stores.{StoreState}
-use Rattle.token.specs.Applications.{Shows}
+use Rattle.token.specs.Applications.{Shows, desk_at, asked_by, is_answer, HasNumbers, IsOther, move_of, moved, jobs_of, HasJobs, IsOpen, TakesJob}
 use Rattle.token_model.specs.declared.event.Event.TheVariants.{Call as EventCall, Finish, Gone}
 use Rattle.token_store.specs.declared.out.Out.TheVariants.{Reply as OutReply}
-use Rattle.token_model.specs.Views.{Question}
-use Rattle.token_model.specs.Answering.{Replies, Asks}
-use Rattle.token_model.specs.Worlds.{World, Move, Goes, Refuses, value_of, reveal_to_call, reveal_to_task, answer_at, result_at, change_for, set_apart, called, says_called, goes, happens, told, reply_to}
+use Rattle.views.specs.Views.{Question}
+use Rattle.views.specs.Answering.{Replies, Asks}
+use Rattle.views.specs.Refusals.{set_apart}
+use Rattle.token_model.specs.Worlds.{World, Move, Goes, Refuses, value_of, reveal_to_call, reveal_to_task, answer_at, result_at, change_for, called, says_called, goes, happens, told, reply_to}
 use Rattle.token_store.specs.Shown.{question_of}
-use Rattle.token.specs.Applications.{desk_at, asked_by, is_answer, HasNumbers, IsOther, move_of, moved, jobs_of, HasJobs, IsOpen, TakesJob}
 use Rattle.token.specs.Runs.{Lasting, LeavesBy, LeftBy, IsStep, call_change}
 use Rattle.lists.proofs.ListLemmas.{map-push}
-use Rattle.token_model.proofs.Blind.{Leaves}
-use Rattle.token_model.proofs.Proper.{leaves-answer, none-asked, over-result}
+use Rattle.views.proofs.Blind.{Leaves}
+use Rattle.answers.proofs.Proper.{leaves-answer, none-asked, over-result}
 use Rattle.token_model.proofs.Tries.{seen-question}
 
 -- ---- the jobs of one application

@@ -20,16 +20,17 @@ use Rattle.ops.specs.declared.place.Place.{Place}
 use Rattle.ops.specs.declared.place.Place.TheVariants.{Encrypt, Decrypt}
 use Rattle.ops.specs.Operations.{with_operation}
 use Rattle.desk.specs.Desks.{DeskState, SameDesk}
-use Rattle.token_model.specs.Outcomes.{Outcome, told_of}
-use Rattle.token_model.specs.declared.fault.Fault.{Fault}
-use Rattle.token_model.specs.declared.fault.Fault.TheVariants.{Memory, Device}
-use Rattle.token_model.specs.Views.{View, Question}
-use Rattle.token_model.specs.Changes.{Stays}
-use Rattle.token_model.specs.Answering.{Said, Replies, Answer, Reveal, reveals_nothing, refuses, answered}
-use Rattle.token_model.specs.Answers.{answer_outcome, answer_question, answer_result}
-use Rattle.token_model.specs.Answers.Cipher.{ciphered_reply, operation_after, ciphered}
-use Rattle.token_model.specs.Worlds.{apart, set_apart, value_of}
-use Rattle.token_model.proofs.Proper.{plain-result, still-result}
+use Rattle.views.specs.Outcomes.{Outcome, told_of}
+use Rattle.views.specs.declared.fault.Fault.{Fault}
+use Rattle.views.specs.declared.fault.Fault.TheVariants.{Memory, Device}
+use Rattle.views.specs.Views.{View, Question}
+use Rattle.views.specs.Changes.{Stays}
+use Rattle.views.specs.Answering.{Said, Replies, Answer, Reveal, reveals_nothing, refuses, answered}
+use Rattle.answers.specs.Answers.{answer_outcome, answer_question, answer_result}
+use Rattle.answers.specs.Cipher.{ciphered_reply, operation_after, ciphered}
+use Rattle.views.specs.Refusals.{apart, set_apart}
+use Rattle.token_model.specs.Worlds.{value_of}
+use Rattle.answers.proofs.Proper.{plain-result, still-result}
 use Rattle.token_store.specs.Shown.{view_of, question_of, task_of, over, Fits, Gives}
 use Rattle.token_store.specs.Stores.{StoreState, Has, Serves}
 use Rattle.token_store.proofs.Gaves.{gave-quiet}

@@ -8,26 +8,26 @@ use Rattle.ck_calls.specs.declared.reply.Reply.{Reply}
 use Rattle.keep.specs.Contents.{Contents}
 use Rattle.keep.specs.Keeping.{Terms}
 use Rattle.pin_record.specs.Records.{tries_limit, tries_of}
-use Rattle.token_model.specs.declared.fault.Fault.{Fault}
-use Rattle.token_model.specs.declared.fault.Fault.TheVariants.{Memory, Device}
+use Rattle.views.specs.declared.fault.Fault.{Fault}
+use Rattle.views.specs.declared.fault.Fault.TheVariants.{Memory, Device}
 use Rattle.mech.specs.declared.job.Job.{Job}
-use Rattle.token_model.specs.Outcomes.{Outcome}
+use Rattle.views.specs.Outcomes.{Outcome}
 use Rattle.desk.specs.Desks.{DeskState, SameDesk, empty_desk}
 use Rattle.token_model.specs.declared.check.Check.{Check}
 use Rattle.token_model.specs.declared.event.Event.TheVariants.{Finish, Gone}
 use Rattle.token_store.specs.declared.out.Out.TheVariants.{Reply as OutReply}
-use Rattle.token_model.specs.Views.{Question, Task, Ciphers, View, sees}
-use Rattle.token_model.specs.Changes.{Change, Stays, in_list}
-use Rattle.token_model.specs.Answering.{Said, Replies, Answer, reveals_nothing, answered}
-use Rattle.token_model.specs.Answers.{answer_result}
-use Rattle.token_model.specs.Worlds.{World, Goes, Refuses, value_of, reveal_to_task, result_at, apart, refusal, set_apart, list_change, without_checks, stepped, unchecked, finished, finish_tells, finish_refusal, goes, happens, told, reply_to}
+use Rattle.views.specs.Views.{Question, Task, Ciphers, View, sees, stored_record}
+use Rattle.views.specs.Changes.{Change, Stays, in_list}
+use Rattle.views.specs.Answering.{Said, Replies, Answer, reveals_nothing, answered}
+use Rattle.answers.specs.Answers.{answer_result}
+use Rattle.views.specs.Refusals.{apart, refusal, set_apart}
+use Rattle.token_model.specs.Worlds.{World, Goes, Refuses, value_of, reveal_to_task, result_at, list_change, without_checks, stepped, unchecked, finished, finish_tells, finish_refusal, goes, happens, told, reply_to}
 use Rattle.token_store.specs.Shown.{objects_of, view_of, question_of, over, Changes}
-use Rattle.token.specs.Applications.{desk_at, told_result, moved, move_of, IsOpen, HasNumbers, HasJobs, opening, answer_by, answer_to_job, asked_by_job, by_job, taken_by, says_by}
+use Rattle.token.specs.Applications.{desk_at, told_result, moved, move_of, IsOpen, HasNumbers, HasJobs, opening, answer_by, answer_to_job, asked_by_job, by_job, taken_by, says_by, TokenState, Shows}
 use Rattle.token_store.specs.Stores.{StoreState, Has, Serves}
-use Rattle.token.specs.Applications.{TokenState, Shows}
 use Rattle.token.specs.Runs.{Lasting, lasting_of, lasting_in, MayLeave, LeavesBy, LeftBy, IsTakenBy, result_change}
-use Rattle.token_model.specs.Tries.{IsSound, stored_record}
-use Rattle.token_model.proofs.Proper.{plain-result}
+use Rattle.token_model.specs.Tries.{IsSound}
+use Rattle.answers.proofs.Proper.{plain-result}
 use Rattle.token_model.proofs.Tries.{sound-start}
 use Rattle.token_store.proofs.Changing.{objects-changed, record-changed}
 use Rattle.token.proofs.Steps.{state, fits-given, depicts-given, depicts-put, fits-put, fits-empty, depicts-gone, depicts-opening}

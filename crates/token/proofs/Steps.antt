@@ -8,17 +8,17 @@ use Rattle.ck_types.specs.declared.user_type.UserType.{UserType}
 use Rattle.ck_calls.specs.declared.call.Call.{Call}
 use Rattle.keep.specs.Contents.{Contents, Kept}
 use Rattle.keep.specs.Keeping.{Terms}
-use Rattle.token_model.specs.declared.fault.Fault.{Fault}
+use Rattle.views.specs.declared.fault.Fault.{Fault}
 use Rattle.desk.specs.Desks.{DeskState, SameDesk, empty_desk}
 use Rattle.token_model.specs.declared.check.Check.{Check}
 use Rattle.token_model.specs.declared.event.Event.TheVariants.{Gone}
 use Rattle.token_store.specs.declared.out.Out.{Out}
-use Rattle.token_model.specs.Views.{record_sight, TokenObject, View, sees, without_handle, fresh, left}
-use Rattle.token_model.specs.Changes.{Change, seen, in_list, as_seen}
-use Rattle.token_model.specs.Answering.{Said, Replies, Asks, Answer, reveals_nothing}
-use Rattle.token_model.specs.Answers.{answer}
+use Rattle.views.specs.Views.{record_sight, TokenObject, View, sees, without_handle, fresh, left}
+use Rattle.views.specs.Changes.{Change, seen, in_list, as_seen}
+use Rattle.views.specs.Answering.{Said, Replies, Asks, Answer, reveals_nothing, pin_checked_in}
+use Rattle.answers.specs.Answers.{answer}
 use Rattle.token_store.specs.Stores.{StoreState, Serves}
-use Rattle.token_model.specs.Worlds.{World, has_session, seated, list_change, change_for, checks_of, checked_in, without_checks, stepped, unchecked, with_view, goes}
+use Rattle.token_model.specs.Worlds.{World, has_session, seated, list_change, change_for, checks_of, without_checks, stepped, unchecked, with_view, goes}
 use Rattle.token_store.specs.Shown.{objects_of, sees_kept, token_object, view_of, IsNoted, Fits, Gives, said_of}
 use Rattle.token.specs.Applications.{State, desk_at, Depicts, opening, AllFit}
 use Rattle.lists.proofs.ListLemmas.{map-map, filter-map, filter-less, any-none, any-less}
@@ -38,7 +38,7 @@ pub fits-same : (c : Contents) (d d' : DeskState) → SameDesk d d' → Fits c d
 fits-same c d d' same fits = rw same fits
 
 -- no question checks a PIN yet
-none-checked : (app : ℕ) (s : Said) → checks_of app (checked_in s) ≡ []
+none-checked : (app : ℕ) (s : Said) → checks_of app (pin_checked_in s) ≡ []
 none-checked app (Replies reply) = refl
 none-checked app (Asks q) = ap (checks_of app) (unchecked-task q.task)
 

@@ -6,8 +6,8 @@ use Rattle.std.specs.Map.{lookup}
 use Rattle.std.specs.Option.{option_map}
 use Rattle.keep.specs.Contents.{Contents}
 use Rattle.keep.specs.Keeping.{Terms}
-use Rattle.token_model.specs.declared.fault.Fault.{Fault}
-use Rattle.token_model.specs.declared.fault.Fault.TheVariants.{Memory, Device}
+use Rattle.views.specs.declared.fault.Fault.{Fault}
+use Rattle.views.specs.declared.fault.Fault.TheVariants.{Memory, Device}
 use Rattle.mech.specs.declared.job.Job.{Job}
 use Rattle.desk.specs.Desks.{DeskState, SameDesk, empty_desk}
 use Rattle.ck_calls.specs.declared.reply.Reply.{Reply}
@@ -16,10 +16,11 @@ use Rattle.token_model.specs.declared.event.Event.{Event}
 use Rattle.token_store.specs.declared.out.Out.{Out}
 use Rattle.token_store.specs.declared.out.Out.TheVariants.{Reply as OutReply}
 use Rattle.token_model.specs.declared.check.Check.{Check}
-use Rattle.token_model.specs.Views.{record_sight, Question, View, fresh}
-use Rattle.token_model.specs.Answering.{Said, Replies, Answer, Reveal, reveals_nothing}
-use Rattle.token_model.specs.Answers.{answer_result}
-use Rattle.token_model.specs.Worlds.{World, has_session, is_in_session, Move, Goes, Refuses, value_of, reveal_to_task, refusal, apart, stepped, unchecked, finish_refused}
+use Rattle.views.specs.Views.{record_sight, Question, View, fresh}
+use Rattle.views.specs.Answering.{Said, Replies, Answer, Reveal, reveals_nothing}
+use Rattle.answers.specs.Answers.{answer_result}
+use Rattle.views.specs.Refusals.{refusal, apart}
+use Rattle.token_model.specs.Worlds.{World, has_session, is_in_session, Move, Goes, Refuses, value_of, reveal_to_task, stepped, unchecked, finish_refused}
 use Rattle.token_store.specs.Shown.{objects_of, view_of, Fits, Gives, said_of, question_of, over}
 use Rattle.token_store.specs.Stores.{StoreState, Has}
 

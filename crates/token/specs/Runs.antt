@@ -7,15 +7,16 @@ use Rattle.ck_calls.specs.declared.call.Call.{Call as CallType}
 use Rattle.ck_calls.specs.declared.reply.Reply.{Reply}
 use Rattle.keep.specs.Contents.{Contents}
 use Rattle.keep.specs.Keeping.{Terms}
-use Rattle.token_model.specs.declared.fault.Fault.{Fault}
-use Rattle.token_model.specs.declared.fault.Fault.TheVariants.{Memory, Device}
+use Rattle.views.specs.declared.fault.Fault.{Fault}
+use Rattle.views.specs.declared.fault.Fault.TheVariants.{Memory, Device}
 use Rattle.mech.specs.declared.job.Job.{Job}
 use Rattle.token_model.specs.declared.event.Event.{Event}
 use Rattle.token_model.specs.declared.event.Event.TheVariants.{Call, Finish, Gone}
-use Rattle.token_model.specs.Views.{RecordSight, record_sight, Question}
-use Rattle.token_model.specs.Changes.{Change, Stays}
-use Rattle.token_model.specs.Answering.{Replies}
-use Rattle.token_model.specs.Worlds.{World, Move, Goes, Refuses, set_apart, event_of, answer_at, result_at, list_change, called, goes, happens, reply_to, after, replies}
+use Rattle.views.specs.Views.{RecordSight, record_sight, Question}
+use Rattle.views.specs.Changes.{Change, Stays}
+use Rattle.views.specs.Answering.{Replies}
+use Rattle.views.specs.Refusals.{set_apart}
+use Rattle.token_model.specs.Worlds.{World, Move, Goes, Refuses, event_of, answer_at, result_at, list_change, called, goes, happens, reply_to, after, replies}
 use Rattle.token_model.specs.Traces.{NotSetApart, IsTold}
 use Rattle.token_model.specs.Tries.{IsSound, spent_in}
 use Rattle.token_store.specs.Shown.{objects_of}

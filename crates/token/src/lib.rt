@@ -7,8 +7,8 @@
 //!
 //! # What is promised
 //!
-//! An application is answered from what it sees of the token (`token_model/specs/Views.antt`) and by nothing else: by
-//! `token_model/specs/Answers`, a definition for each call. Each event makes of all that the token is to all applications
+//! An application is answered from what it sees of the token (`views/specs/Views.antt`) and by nothing else: by
+//! `answers/specs`, a definition for each call. Each event makes of all that the token is to all applications
 //! (`token_model/specs/Worlds.antt`) what its answer says, or it is refused and changes nothing but that a question is
 //! over (`Token::{call, finish, gone, run}`). Of a whole run that gives: an application that met no refusal
 //! was told what its own trace tells, whatever the others do (`IsRun`, and the laws of `laws`, which speak

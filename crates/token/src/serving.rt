@@ -1,14 +1,13 @@
 //! One call of an application, at its desk: the one place where a call finds the function that serves it.
 
-ghost use Rattle.std.specs.Prelude.{◌≡◌, ◌<◌, ◌^◌, false, length};
-ghost use Rattle.std.specs.Prelude.{Ok};
+ghost use Rattle.std.specs.Prelude.{◌≡◌, ◌<◌, ◌^◌, false, length, Ok};
 ghost use Rattle.ck_calls.specs.declared.reply.Reply.TheVariants.{Code};
 ghost use Rattle.token_store.specs.declared.out.Out.TheVariants.{Reply as OutReply};
 ghost use Rattle.ck_calls.specs.Need.{random_bytes};
 ghost use Rattle.desk.specs.Desks.{is_busy};
 ghost use Rattle.keep.specs.Contents.{Contents};
-ghost use Rattle.token_model.specs.Answering.{Replies, reveals_nothing};
-ghost use Rattle.token_model.specs.Answers.{answer, answer_to};
+ghost use Rattle.views.specs.Answering.{Replies, reveals_nothing};
+ghost use Rattle.answers.specs.Answers.{answer, answer_to};
 ghost use Rattle.mech.specs.declared.job.Job.{Job as Asked};
 ghost use Rattle.mech.specs.Works.{outcome_of};
 ghost use Rattle.token_store.specs.Refusing.{IsServed};
@@ -29,7 +28,7 @@ use serve_objects::{
 };
 use serve_sessions::{close_session, get_session_info, open_session};
 use std::alloc::Global;
-use token_model::Fault;
+use views::Fault;
 use token_store::{Out, Store, settle, settle_asking};
 
 /// A reply that is a code alone.

@@ -15,15 +15,16 @@ ghost use Rattle.keep.specs.Keeping.{Counted, Rises, Stays};
 ghost use Rattle.token_model.specs.declared.event.Event.TheVariants.{Finish, Gone};
 ghost use Rattle.token_store.specs.declared.out.Out.TheVariants.{Reply as OutReply};
 ghost use Rattle.token_model.specs.Events.{HasRandom};
-ghost use Rattle.token_model.specs.declared.fault.Fault.TheVariants.{Device};
-ghost use Rattle.token_model.specs.Answering.{reveals_nothing};
-ghost use Rattle.token_model.specs.Answers.{answer};
-ghost use Rattle.token_model.specs.Worlds.{World, apart, called, goes, happens, refusal, reply_to, says_called, set_apart, without_checks};
-ghost use Rattle.token_model.specs.Tries.{IsSound, stored_record};
+ghost use Rattle.views.specs.declared.fault.Fault.TheVariants.{Device};
+ghost use Rattle.views.specs.Answering.{reveals_nothing};
+ghost use Rattle.answers.specs.Answers.{answer};
+ghost use Rattle.views.specs.Refusals.{apart, refusal, set_apart};
+ghost use Rattle.token_model.specs.Worlds.{World, called, goes, happens, reply_to, says_called, without_checks};
+ghost use Rattle.views.specs.Views.{stored_record};
+ghost use Rattle.token_model.specs.Tries.{IsSound};
 ghost use Rattle.token_store.specs.Shown.{IsFor, over, said_of};
-ghost use Rattle.token.specs.Applications.{FinishesAtDesk, HasJobs, HasNumbers, IsOpen, IsOther, TakesJob, desk_at, is_answer, move_of, opening, told_as, told_result};
+ghost use Rattle.token.specs.Applications.{FinishesAtDesk, HasJobs, HasNumbers, IsOpen, IsOther, TakesJob, desk_at, is_answer, move_of, opening, told_as, told_result, Shows};
 ghost use Rattle.token_store.specs.Stores.{Served};
-ghost use Rattle.token.specs.Applications.{Shows};
 ghost use Rattle.token.specs.Runs.{AccountsFor, Advances, IsRun, IsStep, IsTakenBy, Lasting, LeavesBy, LeftBy, MayLeave, call_change};
 
 use crate::ran::Ran;
@@ -36,8 +37,9 @@ use mech::{Done, Job};
 use std::alloc::{AllocError, Global};
 use std::collections::BTreeMap;
 use std::marker::Model;
-use token_model::{Check, Event, Fault};
+use token_model::{Check, Event};
 use token_store::{Out, Store};
+use views::Fault;
 
 /// A token with one slot, over a keeper, for several applications, each of which is a number.
 #[derive(Drop)]

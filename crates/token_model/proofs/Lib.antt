@@ -1,11 +1,4 @@
-pub mod Masks
-pub mod Blind
-pub mod Checks
-pub mod Templates
-pub mod Sizes
-pub mod Telling
 pub mod Seen
-pub mod Proper
 pub mod Told
 pub mod RunLaws
 pub mod UnderWay

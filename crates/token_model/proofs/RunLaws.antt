@@ -11,15 +11,15 @@ use Rattle.ck_calls.specs.Functions.{function_of}
 use Rattle.guard.specs.Access.{is_public}
 use Rattle.token_model.specs.declared.event.Event.{Event}
 use Rattle.token_model.specs.declared.event.Event.TheVariants.{Call, Finish, Gone}
-use Rattle.token_model.specs.declared.fault.Fault.{Fault}
+use Rattle.views.specs.declared.fault.Fault.{Fault}
 use Rattle.lists.specs.Places.{seen_place}
-use Rattle.token_model.specs.Views.{sees, is_user_in, Question, Task, Ciphers, View, mask}
-use Rattle.token_model.specs.Changes.{Change, Stays, Insert, Replace, Remove, Records, Resets, is_still, as_seen, replaced_at, removed_at}
-use Rattle.token_model.specs.Answering.{Answer}
-use Rattle.token_model.specs.Answers.{answer, answer_result, is_pin_function, may_change_objects}
+use Rattle.views.specs.Views.{sees, is_user_in, Question, Task, Ciphers, View, mask}
+use Rattle.views.specs.Changes.{Change, Stays, Insert, Replace, Remove, Records, Resets, is_still, as_seen, replaced_at, removed_at}
+use Rattle.views.specs.Answering.{Answer}
+use Rattle.answers.specs.Answers.{answer, answer_result, is_pin_function, may_change_objects}
 use Rattle.token_model.specs.Worlds.{World, answer_at, result_at, value_of, reveal_to_call, reveal_to_task, Move, Goes, Refuses, event_of, list_change, refused, happens, after, finished, finish_tells, finish_refusal, finish_refused, told, reply_to, replies}
 use Rattle.token_model.specs.Traces.{trace, replies_told, view_told, replies_to, NotSetApart, app_of, private_at, is_private, is_quiet_call, is_private_result, is_pin_event, is_pin_question, IsQuiet, IsQuietMove, AllQuiet, own_moves}
-use Rattle.token_model.proofs.Proper.{still-answer, still-result}
+use Rattle.answers.proofs.Proper.{still-answer, still-result}
 use Rattle.token_model.proofs.Told.{told-trace, seen-trace, replies_to-append, told-other}
 
 pub agreeing-replies : (app : ℕ) (v w : World) (ms ns : List Move) → mask (v.views app) ≡ mask (w.views app) → trace app v ms ≡ trace app w ns → NotSetApart app (replies v ms) → NotSetApart app (replies w ns) → replies_to app (replies v ms) ≡ replies_to app (replies w ns)

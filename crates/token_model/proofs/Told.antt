@@ -5,20 +5,21 @@ use Rattle.std.proofs.lemmas.Bool.{cases_eq, eq-eqb, ne_eqb}
 use Rattle.ck_types.specs.declared.rv.Rv.TheVariants.{HostMemory, DeviceError}
 use Rattle.ck_calls.specs.declared.call.Call.{Call as CallType}
 use Rattle.ck_calls.specs.declared.reply.Reply.{Reply}
-use Rattle.token_model.specs.Outcomes.{Outcome}
+use Rattle.views.specs.Outcomes.{Outcome}
 use Rattle.ck_calls.specs.declared.reply.Reply.TheVariants.{Code}
-use Rattle.token_model.specs.declared.fault.Fault.{Fault}
-use Rattle.token_model.specs.declared.fault.Fault.TheVariants.{Memory, Device}
+use Rattle.views.specs.declared.fault.Fault.{Fault}
+use Rattle.views.specs.declared.fault.Fault.TheVariants.{Memory, Device}
 use Rattle.token_model.specs.declared.event.Event.TheVariants.{Call, Finish, Gone}
-use Rattle.token_model.specs.Views.{Question, View, mask}
-use Rattle.token_model.specs.Changes.{Change, mask_change, seen, is_seen}
-use Rattle.token_model.specs.Answering.{Said, Replies, Asks, mask_said, Answer, Reveal, mask_reveal, shown}
-use Rattle.token_model.specs.Answers.{answer, answer_result}
-use Rattle.token_model.specs.Worlds.{World, answer_at, result_at, value_of, reveal_to_call, reveal_to_task, Move, Goes, Refuses, refusal, change_for, happens, after, told, finish_tells, finish_refusal, finish_refused, finished, reply_to, replies}
+use Rattle.views.specs.Views.{Question, View, mask}
+use Rattle.views.specs.Changes.{Change, mask_change, seen, is_seen}
+use Rattle.views.specs.Answering.{Said, Replies, Asks, mask_said, Answer, Reveal, mask_reveal, shown}
+use Rattle.answers.specs.Answers.{answer, answer_result}
+use Rattle.views.specs.Refusals.{refusal}
+use Rattle.token_model.specs.Worlds.{World, answer_at, result_at, value_of, reveal_to_call, reveal_to_task, Move, Goes, Refuses, change_for, happens, after, told, finish_tells, finish_refusal, finish_refused, finished, reply_to, replies}
 use Rattle.token_model.specs.Traces.{Moment, Sees, saw, got, saw_result, moments, trace, said, replies_told, view_told, replies_to, NotSetApart, IsTold}
-use Rattle.token_model.proofs.Masks.{seen-mask, left-mask}
-use Rattle.token_model.proofs.Seen.{unseen-view}
-use Rattle.token_model.proofs.Proper.{shown-answer, shown-result}
+use Rattle.views.proofs.Masks.{seen-mask, left-mask}
+use Rattle.views.proofs.Seen.{unseen-view}
+use Rattle.answers.proofs.Proper.{shown-answer, shown-result}
 
 -- what others change comes as it is seen
 replies_told-saw : (v : View) (change : Change) (ms : List Moment) → replies_told (mask v) (saw v change ++ ms) ≡ replies_told (mask (seen change v)) ms

@@ -9,18 +9,17 @@ use Rattle.ck_calls.specs.declared.call.Call.{Call as CallType}
 use Rattle.lists.specs.Places.{seen_place}
 use Rattle.lists.proofs.PlaceLemmas.{append_nil}
 use Rattle.pin_record.specs.Records.{TokenRecord, charged, tries_limit, tries_of, verifier_of}
-use Rattle.pin_record.specs.Charges.{Charges, Event as PinEvent, Begins, opened, with_checks, with_stored, checks_of as checks_in, is_under_way, may_begin, spent_after, spent, IsCharged}
-use Rattle.pin_record.specs.Charges.{happens as pin_happens, after as pin_after}
+use Rattle.pin_record.specs.Charges.{Charges, Event as PinEvent, Begins, opened, with_checks, with_stored, checks_of as checks_in, is_under_way, may_begin, spent_after, spent, IsCharged, happens as pin_happens, after as pin_after}
 use Rattle.pin_record.proofs.Counting.{goes_on, ten, starts}
 use Rattle.token_model.specs.declared.event.Event.TheVariants.{Call, Finish, Gone}
-use Rattle.token_model.specs.Outcomes.{Outcome, Output, BadPadding}
-use Rattle.token_model.specs.Views.{RecordSight, Question, Task, Ciphers, View, sees, left}
-use Rattle.token_model.specs.Changes.{Change, Stays, Insert, Replace, Remove, Records, Resets, recorded, seen, in_list, as_seen, replaced_at, removed_at}
-use Rattle.token_model.specs.Answering.{Said, Replies, Asks, Answer, answered}
-use Rattle.token_model.specs.Worlds.{World, list_change, change_for, checked_by, checked_in, checks_of, without_checks, stepped, unchecked, with_view, value_of, reveal_to_call, reveal_to_task, answer_at, result_at, Move, Goes, Refuses, finished, finish_refused, happens, after}
-use Rattle.token_model.specs.Tries.{stored_record, checking, charges_of, pending_check, begins, ends, is_right, sets, events_of_result, events_of, events_in, checks_by, IsSound, spent_in}
-use Rattle.token_model.proofs.Blind.{Leaves, Charged}
-use Rattle.token_model.proofs.Proper.{fair-answer, none-asked, still-result, over-result, unasking-result, record-result}
+use Rattle.views.specs.Outcomes.{Outcome, Output, BadPadding}
+use Rattle.views.specs.Views.{RecordSight, Question, Task, Ciphers, View, sees, left, stored_record}
+use Rattle.views.specs.Changes.{Change, Stays, Insert, Replace, Remove, Records, Resets, recorded, seen, in_list, as_seen, replaced_at, removed_at}
+use Rattle.views.specs.Answering.{Said, Replies, Asks, Answer, answered, pin_checked_by, pin_checked_in}
+use Rattle.token_model.specs.Worlds.{World, list_change, change_for, checks_of, without_checks, stepped, unchecked, with_view, value_of, reveal_to_call, reveal_to_task, answer_at, result_at, Move, Goes, Refuses, finished, finish_refused, happens, after}
+use Rattle.token_model.specs.Tries.{checking, charges_of, pending_check, begins, ends, is_right, sets, events_of_result, events_of, events_in, checks_by, IsSound, spent_in}
+use Rattle.views.proofs.Blind.{Leaves, Charged}
+use Rattle.answers.proofs.Proper.{fair-answer, none-asked, still-result, over-result, unasking-result, record-result}
 use Rattle.token_model.proofs.UnderWay.{by-own, by-other, checking-begun, over-own, over-other, checking-over, under_way-is, checking-stays}
 
 -- ---- a change and the record
@@ -93,20 +92,20 @@ charges-ended w app (Some User) is = alike refl (checking-stays So app w.checks 
 -- ---- questions
 
 -- no task that is built checks a PIN, and no result of it sets one
-pub unchecked-task : (t : Task) → checked_by t ≡ None
+pub unchecked-task : (t : Task) → pin_checked_by t ≡ None
 unchecked-task (Ciphers part operation input) = refl
 
-silent-task : (app : ℕ) (q : Question) (t : Task) → ends app (checked_by t) (is_right (value_of t)) ++ sets q (value_of t) ≡ []
+silent-task : (app : ℕ) (q : Question) (t : Task) → ends app (pin_checked_by t) (is_right (value_of t)) ++ sets q (value_of t) ≡ []
 silent-task app q (Ciphers part operation input) = none (value_of (Ciphers part operation input)) where
   none : (outcome : Outcome) → sets q outcome ≡ []
   none (Output bytes) = refl
   none BadPadding = refl
 
 -- a question checks where none did before
-asks-check : (app : ℕ) (old new : Option Question) (x : Said) → Leaves old x new → ((q : Question) → x ≡ Asks q → old ≡ None) → checks_of app (pending_check old) ++ checks_of app (checked_in x) ≡ checks_of app (pending_check new)
+asks-check : (app : ℕ) (old new : Option Question) (x : Said) → Leaves old x new → ((q : Question) → x ≡ Asks q → old ≡ None) → checks_of app (pending_check old) ++ checks_of app (pin_checked_in x) ≡ checks_of app (pending_check new)
 asks-check app old new (Replies reply) leaves none = append_nil (checks_of app (pending_check old)) ∙ ap (λ o. checks_of app (pending_check o)) (sym leaves)
 asks-check app old new (Asks q) leaves none =
-    ap (λ o. checks_of app (pending_check o) ++ checks_of app (checked_by q.task)) (none q refl) ∙ ap (λ o. checks_of app (pending_check o)) (sym leaves)
+    ap (λ o. checks_of app (pending_check o) ++ checks_of app (pin_checked_by q.task)) (none q refl) ∙ ap (λ o. checks_of app (pending_check o)) (sym leaves)
 
 -- ---- a call
 
@@ -116,16 +115,16 @@ module _ (s : UserType → ℕ) (w : World) (sound : IsSound s w) where
   record-left app a shows = shows ∙ ap (recorded a.change) (sound.records app) ∙ sym (recorded-in_list (sees (w.views app).sessions.login) w.objects a.change w.token_record)
 
   -- one that asks has no check under way
-  asked-free : (app : ℕ) (call : CallType) (random : List ℕ) (who : UserType) (x : Said) → (answer_at w app call random).says ≡ x → checked_in x ≡ Some who → is_under_way (checking who w.checks) app ≡ false
+  asked-free : (app : ℕ) (call : CallType) (random : List ℕ) (who : UserType) (x : Said) → (answer_at w app call random).says ≡ x → pin_checked_in x ≡ Some who → is_under_way (checking who w.checks) app ≡ false
   asked-free app call random who (Replies reply) says is = let k : None ≡ Some who = is in cc
   asked-free app call random who (Asks q) says is =
       under_way-is who app w.checks None (sound.checks app ∙ ap (λ o. checks_of app (pending_check o)) (none-asked (w.views app) call random (reveal_to_call w app call) q says))
 
-  charges-called : (app : ℕ) (call : CallType) (random : List ℕ) → charges_of (stepped w app (answer_at w app call random)) ≡ pin_after (charges_of w) (begins app (checked_in (answer_at w app call random).says))
+  charges-called : (app : ℕ) (call : CallType) (random : List ℕ) → charges_of (stepped w app (answer_at w app call random)) ≡ pin_after (charges_of w) (begins app (pin_checked_in (answer_at w app call random).says))
   charges-called app call random =
       let a = answer_at w app call random in
       let f = fair-answer (w.views app) call random (reveal_to_call w app call) in
-      let o = checked_in a.says in
+      let o = pin_checked_in a.says in
       charges-begun w app o (recorded (list_change w app a) w.token_record)
       (subst (λ r. Charged o w.token_record r) (record-left app a f.shows) (subst (λ r. Charged o r a.view.token_record) (sound.records app) f.charges))
       (λ who is. asked-free app call random who a.says refl is)
@@ -136,11 +135,11 @@ module _ (s : UserType → ℕ) (w : World) (sound : IsSound s w) where
   still-record app a still = recorded-in_list (sees (w.views app).sessions.login) w.objects a.change w.token_record ∙ ap (λ c. recorded c w.token_record) still
 
   -- one of a task that checks no PIN, where it sets none
-  charges-plain : (app : ℕ) (q : Question) → (w.views app).question ≡ Some q → checked_by q.task ≡ None → events_of_result app (Some q) ≡ [] → charges_of (unchecked (stepped w app (result_at w app q)) app) ≡ pin_after (charges_of w) (events_of_result app (Some q))
+  charges-plain : (app : ℕ) (q : Question) → (w.views app).question ≡ Some q → pin_checked_by q.task ≡ None → events_of_result app (Some q) ≡ [] → charges_of (unchecked (stepped w app (result_at w app q)) app) ≡ pin_after (charges_of w) (events_of_result app (Some q))
   charges-plain app q asked unchecks silent =
       let a = result_at w app q in
       let none : checks_by app w.checks ≡ [] = sound.checks app ∙ ap (λ o. checks_of app (pending_check o)) asked ∙ ap (checks_of app) unchecks in
-      let same : w.checks ++ checks_of app (checked_in a.says) ≡ w.checks = ap (λ o. w.checks ++ checks_of app o) (unasking-result (w.views app) (value_of q.task) (reveal_to_task w app q.task)) ∙ append_nil w.checks in
+      let same : w.checks ++ checks_of app (pin_checked_in a.says) ≡ w.checks = ap (λ o. w.checks ++ checks_of app o) (unasking-result (w.views app) (value_of q.task) (reveal_to_task w app q.task)) ∙ append_nil w.checks in
       alike (ap stored_record (still-record app a (still-result (w.views app) (value_of q.task) (reveal_to_task w app q.task))))
       (ap (λ cs. checking So (without_checks app cs)) same ∙ checking-stays So app w.checks (under_way-is So app w.checks None none))
       (ap (λ cs. checking User (without_checks app cs)) same ∙ checking-stays User app w.checks (under_way-is User app w.checks None none))
@@ -155,7 +154,7 @@ module _ (s : UserType → ℕ) (w : World) (sound : IsSound s w) where
 
   charges-refused : (app : ℕ) (q : Option Question) → checks_by app w.checks ≡ checks_of app (pending_check q) → charges_of (finish_refused w app q) ≡ pin_after (charges_of w) (ends app (pending_check q) false)
   charges-refused app None is = refl
-  charges-refused app (Some q) is = charges-ended w app (checked_by q.task) is
+  charges-refused app (Some q) is = charges-ended w app (pin_checked_by q.task) is
 
   -- ---- each move
 
@@ -208,10 +207,10 @@ module _ (s : UserType → ℕ) (w : World) (sound : IsSound s w) where
       let reveal = reveal_to_call w app call in
       elim (cases_eq b app) [
         | inl is ↦ rw (eq-eqb b app is) (rw is (
-            by-own app w.checks (checked_in a.says) ∙ ap (λ cs. cs ++ checks_of app (checked_in a.says)) (sound.checks app)
+            by-own app w.checks (pin_checked_in a.says) ∙ ap (λ cs. cs ++ checks_of app (pin_checked_in a.says)) (sound.checks app)
             ∙ asks-check app (w.views app).question a.view.question a.says (fair-answer (w.views app) call random reveal).asks (λ q says. none-asked (w.views app) call random reveal q says)))
         | inr differ ↦ rw (ne_eqb b app differ) (
-            by-other app b w.checks (checked_in a.says) differ ∙ sound.checks b ∙ ap (λ o. checks_of b (pending_check o)) (sym (seen-question (change_for b w app a) (w.views b))))
+            by-other app b w.checks (pin_checked_in a.says) differ ∙ sound.checks b ∙ ap (λ o. checks_of b (pending_check o)) (sym (seen-question (change_for b w app a) (w.views b))))
       ]
 
   checks-over : (app : ℕ) (v : View) → v.question ≡ None → (b : ℕ) → checks_by b (without_checks app w.checks) ≡ checks_of b (pending_check ((with_view w app v).views b).question)
@@ -224,11 +223,11 @@ module _ (s : UserType → ℕ) (w : World) (sound : IsSound s w) where
   checks-finished app None b = sound.checks b
   checks-finished app (Some q) b =
       let a = result_at w app q in
-      let cs = w.checks ++ checks_of app (checked_in a.says) in
+      let cs = w.checks ++ checks_of app (pin_checked_in a.says) in
       elim (cases_eq b app) [
         | inl is ↦ rw (eq-eqb b app is, over-result (w.views app) (value_of q.task) (reveal_to_task w app q.task)) (rw is (over-own app cs))
         | inr differ ↦ rw (ne_eqb b app differ) (
-            over-other app b cs differ ∙ by-other app b w.checks (checked_in a.says) differ ∙ sound.checks b ∙ ap (λ o. checks_of b (pending_check o)) (sym (seen-question (change_for b w app a) (w.views b))))
+            over-other app b cs differ ∙ by-other app b w.checks (pin_checked_in a.says) differ ∙ sound.checks b ∙ ap (λ o. checks_of b (pending_check o)) (sym (seen-question (change_for b w app a) (w.views b))))
       ]
 
   checks-refused : (app : ℕ) (q : Option Question) (b : ℕ) → checks_by b (finish_refused w app q).checks ≡ checks_of b (pending_check ((finish_refused w app q).views b).question)

@@ -1,11 +1,4 @@
 pub mod Events
-pub mod Outcomes
-pub mod Views
-pub mod Changes
-pub mod Answering
-pub mod Checked
-pub mod Calls
-pub mod Answers
 pub mod Worlds
 pub mod Traces
 pub mod Tries

@@ -10,13 +10,13 @@ use Rattle.ck_calls.specs.Functions.{function_of}
 use Rattle.ck_calls.specs.declared.reply.Reply.{Reply}
 use Rattle.ck_calls.specs.declared.reply.Reply.TheVariants.{Code}
 use Rattle.guard.specs.Access.{is_public}
-use Rattle.token_model.specs.Outcomes.{Outcome}
+use Rattle.views.specs.Outcomes.{Outcome}
 use Rattle.token_model.specs.declared.event.Event.{Event}
 use Rattle.token_model.specs.declared.event.Event.TheVariants.{Call, Finish, Gone}
-use Rattle.token_model.specs.Views.{View, Question, is_user_in, mask, left}
-use Rattle.token_model.specs.Changes.{Change, Stays, Insert, Replace, Remove, Records, Resets, mask_change, seen, is_seen, is_still}
-use Rattle.token_model.specs.Answering.{Said, Replies, Asks, Answer, Reveal, mask_reveal}
-use Rattle.token_model.specs.Answers.{answer, answer_result, is_pin_function, may_change_objects}
+use Rattle.views.specs.Views.{View, Question, is_user_in, mask, left}
+use Rattle.views.specs.Changes.{Change, Stays, Insert, Replace, Remove, Records, Resets, mask_change, seen, is_seen, is_still}
+use Rattle.views.specs.Answering.{Said, Replies, Asks, Answer, Reveal, mask_reveal}
+use Rattle.answers.specs.Answers.{answer, answer_result, is_pin_function, may_change_objects}
 use Rattle.token_model.specs.Worlds.{World, Move, Goes, Refuses, event_of, value_of, reveal_to_call, reveal_to_task, answer_at, result_at, list_change, change_for, happens, after, replies}
 
 -- what an application does, what it gets, that it goes, and what it sees of others

@@ -7,17 +7,12 @@ use Rattle.pin_record.specs.Records.{PinState, TokenRecord}
 use Rattle.pin_record.specs.Charges.{Charges, Event as PinEvent, Begins, EndsRight, EndsOtherwise, is_same, spent, IsCharged}
 use Rattle.token_model.specs.declared.check.Check.{Check}
 use Rattle.token_model.specs.declared.event.Event.TheVariants.{Call, Finish, Gone}
-use Rattle.token_model.specs.Outcomes.{Outcome, Output, BadPadding}
-use Rattle.token_model.specs.Views.{PinSight, RecordSight, Question}
-use Rattle.token_model.specs.Worlds.{World, checked_by, checked_in, checks_of, value_of, answer_at, Move, Goes, Refuses, happens}
+use Rattle.views.specs.Outcomes.{Outcome, Output, BadPadding}
+use Rattle.views.specs.Views.{Question, stored_record}
+use Rattle.views.specs.Answering.{pin_checked_by, pin_checked_in}
+use Rattle.token_model.specs.Worlds.{World, checks_of, value_of, answer_at, Move, Goes, Refuses, happens}
 
 -- ---- what is stored, and under way
-
-abbrev pub stored_pin : PinSight → PinState
-stored_pin p = record { verifier = p.verifier; tries = p.tries }
-
-abbrev pub stored_record : RecordSight → TokenRecord
-stored_record r = record { label = r.label; so = stored_pin r.so; user = stored_pin r.user }
 
 -- the applications that check a PIN
 abbrev pub checking : UserType → List Check → List ℕ
@@ -32,7 +27,7 @@ charges_of w = record { stored = stored_record w.token_record; so_checks = check
 -- the PIN that a pending question checks
 abbrev pub pending_check : Option Question → Option UserType
 pending_check None = None
-pending_check (Some q) = checked_by q.task
+pending_check (Some q) = pin_checked_by q.task
 
 -- a check begins
 abbrev pub begins : ℕ → Option UserType → List PinEvent
@@ -57,12 +52,12 @@ sets q BadPadding = []
 
 abbrev pub events_of_result : ℕ → Option Question → List PinEvent
 events_of_result app None = []
-events_of_result app (Some q) = ends app (checked_by q.task) (is_right (value_of q.task)) ++ sets q (value_of q.task)
+events_of_result app (Some q) = ends app (pin_checked_by q.task) (is_right (value_of q.task)) ++ sets q (value_of q.task)
 
 -- A check begins with the question that asks it. It ends with its result, or else where that is refused or its
 -- application goes.
 abbrev pub events_of : World → Move → List PinEvent
-events_of w (Goes (Call app call random)) = begins app (checked_in (answer_at w app call random.items).says)
+events_of w (Goes (Call app call random)) = begins app (pin_checked_in (answer_at w app call random.items).says)
 events_of w (Goes (Finish app)) = events_of_result app (w.views app).question
 events_of w (Goes (Gone app)) = ends app (pending_check (w.views app).question) false
 events_of w (Refuses (Call app call random) fault) = []

@@ -2,25 +2,23 @@
 use Rattle.std.specs.Prelude.{ℕ, nat_lt, Bool, not, ◌==◌, length, List, [], ◌∷◌, ◌++◌, filter, if◌then◌else◌, Option, Some, None}
 use Rattle.std.specs.List.{list_any}
 use Rattle.ck_types.specs.declared.entry.Entry.{Entry}
-use Rattle.ck_types.specs.declared.rv.Rv.TheVariants.{HostMemory, DeviceError}
 use Rattle.ck_types.specs.declared.user_type.UserType.{UserType}
 use Rattle.ck_calls.specs.declared.call.Call.{Call as CallType}
 use Rattle.ck_calls.specs.declared.reply.Reply.{Reply}
-use Rattle.ck_calls.specs.declared.reply.Reply.TheVariants.{Code}
 use Rattle.mech.specs.declared.work.Work.{Work}
 use Rattle.mech.specs.declared.work.Work.TheVariants.{Cipher}
 use Rattle.mech.specs.Works.{outcome_of}
 use Rattle.ops.specs.Operations.{text_of}
-use Rattle.token_model.specs.Outcomes.{Outcome, told_of}
+use Rattle.views.specs.Outcomes.{Outcome, told_of}
 use Rattle.token_model.specs.declared.check.Check.{Check}
 use Rattle.token_model.specs.declared.event.Event.{Event}
 use Rattle.token_model.specs.declared.event.Event.TheVariants.{Call, Finish, Gone}
-use Rattle.token_model.specs.declared.fault.Fault.{Fault}
-use Rattle.token_model.specs.declared.fault.Fault.TheVariants.{Memory, Device}
-use Rattle.token_model.specs.Views.{RecordSight, View, Task, Ciphers, Question, sees, left}
-use Rattle.token_model.specs.Changes.{Change, changed, recorded, seen, in_list, as_seen}
-use Rattle.token_model.specs.Answering.{Said, Replies, Asks, Answer, Reveal, reveals_nothing, answered}
-use Rattle.token_model.specs.Answers.{answer, answer_result}
+use Rattle.views.specs.declared.fault.Fault.{Fault}
+use Rattle.views.specs.Views.{RecordSight, View, Task, Ciphers, Question, sees, left}
+use Rattle.views.specs.Changes.{Change, changed, recorded, seen, in_list, as_seen}
+use Rattle.views.specs.Answering.{Said, Replies, Asks, Answer, Reveal, reveals_nothing, answered, pin_checked_in}
+use Rattle.views.specs.Refusals.{refusal}
+use Rattle.answers.specs.Answers.{answer, answer_result}
 
 -- The token's record, the token objects with their values, the checks that are under way, the applications that have a
 -- session, and the full view of each application. One that isn't there has the fresh view.
@@ -53,18 +51,9 @@ list_change w app a = in_list (sees (w.views app).sessions.login) w.objects a.ch
 abbrev pub change_for : ℕ → World → ℕ → Answer → Change
 change_for b w app a = as_seen (sees (w.views b).sessions.login) w.objects (list_change w app a)
 
--- the PIN that a task checks
-abbrev pub checked_by : Task → Option UserType
-checked_by (Ciphers part operation input) = None
-
 abbrev pub checks_of : ℕ → Option UserType → List Check
 checks_of app None = []
 checks_of app (Some user) = record { user = user; app = app } ∷ []
-
--- the PIN that a question which is asked begins to check
-abbrev pub checked_in : Said → Option UserType
-checked_in (Replies reply) = None
-checked_in (Asks q) = checked_by q.task
 
 -- a check ends with its question, and with its application
 abbrev pub without_checks : ℕ → List Check → List Check
@@ -76,7 +65,7 @@ stepped w app a =
     record {
       token_record = recorded (list_change w app a) w.token_record;
       objects = changed (list_change w app a) w.objects;
-      checks = w.checks ++ checks_of app (checked_in a.says);
+      checks = w.checks ++ checks_of app (pin_checked_in a.says);
       in_session = seated app a.view w.in_session;
       views = λ b. if b == app then a.view else seen (change_for b w app a) (w.views b);
     }
@@ -118,20 +107,6 @@ result_at w app q = answer_result (w.views app) (value_of q.task) (reveal_to_tas
 pub data Move : Type 0 where
   Goes : (event : Event) → Move
   Refuses : (event : Event) (fault : Fault) → Move
-
-abbrev pub refusal : Fault → Reply
-refusal Memory = Code HostMemory
-refusal Device = Code DeviceError
-
--- the replies that are refusals set apart, each with its fault: no other reply has these codes
-abbrev pub set_apart : Reply → Option Fault
-set_apart (Code HostMemory) = Some Memory
-set_apart (Code DeviceError) = Some Device
-set_apart _ = None
-
-abbrev pub apart : Said → Option Fault
-apart (Replies reply) = set_apart reply
-apart (Asks q) = None
 
 abbrev pub event_of : Move → Event
 event_of (Goes event) = event

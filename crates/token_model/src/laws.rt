@@ -1,26 +1,16 @@
-//! Laws of the definitions alone: of answers, and of any two worlds and runs.
+//! Laws of the definitions alone: of answers, and of any worlds and runs.
 
 ghost use Rattle.std.specs.Prelude.{◌≡◌, ℕ, ◌≤◌, List, [], None};
-ghost use Rattle.ck_calls.specs.declared.call.Call.{Call};
 ghost use Rattle.ck_types.specs.declared.user_type.UserType.{UserType as Who};
-ghost use Rattle.token_model.specs.Outcomes.{Outcome};
 ghost use Rattle.pin_record.specs.Charges.{after as charged_after};
 ghost use Rattle.pin_record.specs.Records.{tries_limit, tries_of};
-ghost use Rattle.token_model.specs.Views.{View, mask};
-ghost use Rattle.token_model.specs.Changes.{Change, seen};
-ghost use Rattle.token_model.specs.Answering.{Reveal, mask_reveal, shown};
-ghost use Rattle.token_model.specs.Answers.{answer, answer_result};
+ghost use Rattle.views.specs.Views.{View, stored_record, mask};
+ghost use Rattle.views.specs.Changes.{Change, seen};
 ghost use Rattle.token_model.specs.Worlds.{World, Move, event_of, happens, after, replies};
 ghost use Rattle.token_model.specs.Traces.{saw, trace, replies_to, NotSetApart, IsTold, IsQuiet, AllQuiet, own_moves};
-ghost use Rattle.token_model.specs.Tries.{stored_record, charges_of, events_in, IsSound, spent_in};
+ghost use Rattle.token_model.specs.Tries.{charges_of, events_in, IsSound, spent_in};
 
-/// What is shown of an answer depends on what is shown of the view, and of what comes in from outside,
-/// alone: no value that is kept back, of a masked key, of a key in use or of a PIN's verifier, is in a
-/// reply, in the view after it or in what others see.
-pub fn blind_answers()
-    ensures calls { (v : View) (call : Call) (random : List ℕ) (r : Reveal) → shown (answer (mask v) call random (mask_reveal r)) ≡ shown (answer v call random r) }
-    ensures results { (v : View) (outcome : Outcome) (r : Reveal) → shown (answer_result (mask v) outcome (mask_reveal r)) ≡ shown (answer_result v outcome r) }
-{}
+pub use answers::laws::blind_answers;
 
 /// A change by others comes to an application just where it alters what the application sees.
 pub fn seen_changes()

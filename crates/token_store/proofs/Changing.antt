@@ -13,8 +13,8 @@ use Rattle.handles.specs.Handles.{number_of}
 use Rattle.keep.specs.Contents.{Contents, Kept}
 use Rattle.desk.specs.Desks.{DeskState}
 use Rattle.lists.specs.Places.{seen_place, replaced}
-use Rattle.token_model.specs.Views.{View, TokenObject, sees, without_handle, record_sight}
-use Rattle.token_model.specs.Changes.{Change, Stays, Insert, Replace, Remove, Records, Resets, changed, recorded, rewritten, seen, as_seen, replaced_at, removed_at}
+use Rattle.views.specs.Views.{View, TokenObject, sees, without_handle, record_sight}
+use Rattle.views.specs.Changes.{Change, Stays, Insert, Replace, Remove, Records, Resets, changed, recorded, rewritten, seen, as_seen, replaced_at, removed_at}
 use Rattle.token_store.specs.Shown.{objects_of, sees_kept, token_object, view_of, IsNoted, Fits, rekept, IsAsPublic, Changes}
 use Rattle.lists.proofs.ListLemmas.{map-push, map-remove}
 use Rattle.lists.proofs.PlaceLemmas.{append_nil, filter-push, taken_out, filter-remove, seen_place-map}

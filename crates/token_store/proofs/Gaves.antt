@@ -7,10 +7,10 @@ use Rattle.keep.specs.Contents.{Contents}
 use Rattle.keep.specs.Keeping.{Terms}
 use Rattle.keep.specs.declared.keep.KeepFault.{KeepFault}
 use Rattle.desk.specs.Desks.{DeskState}
-use Rattle.token_model.specs.Views.{sees}
-use Rattle.token_model.specs.Changes.{Stays, in_list}
+use Rattle.views.specs.Views.{sees}
+use Rattle.views.specs.Changes.{Stays, in_list}
 use Rattle.ck_calls.specs.declared.reply.Reply.{Reply}
-use Rattle.token_model.specs.Answering.{Said, Replies, Answer, replies}
+use Rattle.views.specs.Answering.{Said, Replies, Answer, replies}
 use Rattle.token_store.specs.declared.out.Out.{Out}
 use Rattle.token_store.specs.declared.out.Out.TheVariants.{Reply as OutReply, Ask}
 use Rattle.token_store.specs.Shown.{objects_of, view_of, IsReply, IsFor, Fits, Gives}

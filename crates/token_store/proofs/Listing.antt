@@ -7,15 +7,14 @@ use Rattle.ck_types.specs.declared.entry.Entry.{Entry}
 use Rattle.handles.specs.declared.Handle.{Handle}
 use Rattle.handles.specs.Handles.{number_of, object_of, IsTable}
 use Rattle.handles.proofs.HandleLemmas.{number_of-object_of, object_of-number_of}
-use Rattle.keep.specs.Contents.{Contents, Kept, IdsRise, IsSound}
-use Rattle.keep.specs.Contents.{object_at as kept_at}
+use Rattle.keep.specs.Contents.{Contents, Kept, IdsRise, IsSound, object_at as kept_at}
 use Rattle.desk.specs.declared.own_object.OwnObject.{OwnObject}
 use Rattle.desk.specs.Desks.{DeskState, own_at}
-use Rattle.token_model.specs.Views.{TokenObject, SessionObject, sees}
+use Rattle.views.specs.Views.{TokenObject, SessionObject, sees}
 use Rattle.token_store.specs.declared.finding.Found.{Found}
 use Rattle.token_store.specs.Found.{IsAt, IsFound, IsOwn}
 use Rattle.lists.specs.Places.{first_place}
-use Rattle.token_model.specs.Answering.{is_handle, first_object, object_at, place_of}
+use Rattle.views.specs.Answering.{is_handle, first_object, object_at, place_of}
 use Rattle.token_store.specs.Shown.{sees_kept, token_object, session_object, view_of}
 use Rattle.lists.proofs.ListLemmas.{find-map, find-same, find-never, find-filter_none, find-filter_some, place-map, place-same, place-none}
 

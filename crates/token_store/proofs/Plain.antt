@@ -15,12 +15,12 @@ use Rattle.templates.specs.declared.fault.MakeFault.{MakeFault}
 use Rattle.templates.specs.declared.fault.MakeFault.TheVariants as make_faults
 use Rattle.templates.specs.Made.{Answers as IsAnswered}
 use Rattle.desk.specs.Desks.{DeskState, SameDesk}
-use Rattle.token_model.specs.declared.fault.Fault.{Fault}
-use Rattle.token_model.specs.Views.{View}
-use Rattle.token_model.specs.Answering.{Said, Answer}
-use Rattle.token_model.specs.Worlds.{apart, set_apart}
-use Rattle.token_model.proofs.Checks.{plain-row}
-use Rattle.token_model.proofs.Templates.{IsPlainFault}
+use Rattle.views.specs.declared.fault.Fault.{Fault}
+use Rattle.views.specs.Views.{View}
+use Rattle.views.specs.Answering.{Said, Answer}
+use Rattle.views.specs.Refusals.{apart, set_apart}
+use Rattle.views.proofs.Checks.{plain-row}
+use Rattle.views.proofs.Blind.{IsPlainFault}
 use Rattle.token_store.specs.declared.out.Out.{Out}
 use Rattle.token_store.specs.declared.out.Out.TheVariants.{Reply as OutReply}
 use Rattle.token_store.specs.declared.refusal.Refusal.{Refusal}

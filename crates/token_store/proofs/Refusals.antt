@@ -11,10 +11,10 @@ use Rattle.keep.specs.Keeping.{Counted, Rises, Terms}
 use Rattle.keep.specs.declared.keep.KeepFault.{KeepFault}
 use Rattle.keep.specs.declared.keep.KeepFault.TheVariants as keep_faults
 use Rattle.desk.specs.Desks.{DeskState, SameDesk}
-use Rattle.token_model.specs.declared.fault.Fault.TheVariants as faults
-use Rattle.token_model.specs.Views.{View}
-use Rattle.token_model.specs.Changes.{Stays}
-use Rattle.token_model.specs.Answering.{Said, Replies, Answer}
+use Rattle.views.specs.declared.fault.Fault.TheVariants as faults
+use Rattle.views.specs.Views.{View}
+use Rattle.views.specs.Changes.{Stays}
+use Rattle.views.specs.Answering.{Said, Replies, Answer}
 use Rattle.token_store.specs.declared.out.Out.{Out}
 use Rattle.token_store.specs.declared.out.Out.TheVariants.{Reply as OutReply}
 use Rattle.token_store.specs.declared.refusal.Refusal.{Refusal}

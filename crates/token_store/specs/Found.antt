@@ -2,12 +2,11 @@
 use Rattle.std.specs.Prelude.{◌≡◌, ℕ, true, List, Option, Some, None}
 use Rattle.ck_types.specs.declared.entry.Entry.{Entry}
 use Rattle.handles.specs.Handles.{object_of}
-use Rattle.keep.specs.Contents.{Contents}
-use Rattle.keep.specs.Contents.{object_at as kept_at}
+use Rattle.keep.specs.Contents.{Contents, object_at as kept_at}
 use Rattle.desk.specs.Desks.{DeskState}
 use Rattle.token_store.specs.declared.finding.Found.{Found}
-use Rattle.token_model.specs.Views.{sees}
-use Rattle.token_model.specs.Answering.{object_at, place_of}
+use Rattle.views.specs.Views.{sees}
+use Rattle.views.specs.Answering.{object_at, place_of}
 use Rattle.token_store.specs.Shown.{view_of}
 
 -- it is a token object of an id, or a session object

@@ -11,11 +11,11 @@ use Rattle.templates.specs.declared.fault.MakeFault.{MakeFault}
 use Rattle.templates.specs.declared.fault.MakeFault.TheVariants as make_faults
 use Rattle.precede.specs.Row.{code_of}
 use Rattle.desk.specs.Desks.{DeskState, SameDesk}
-use Rattle.token_model.specs.declared.fault.Fault.{Fault}
-use Rattle.token_model.specs.declared.fault.Fault.TheVariants as faults
-use Rattle.token_model.specs.Views.{View}
-use Rattle.token_model.specs.Answering.{Said, Replies, Answer, refuses, refuses_by}
-use Rattle.token_model.specs.Worlds.{apart, set_apart}
+use Rattle.views.specs.declared.fault.Fault.{Fault}
+use Rattle.views.specs.declared.fault.Fault.TheVariants as faults
+use Rattle.views.specs.Views.{View}
+use Rattle.views.specs.Answering.{Said, Replies, Answer, refuses, refuses_by}
+use Rattle.views.specs.Refusals.{apart, set_apart}
 use Rattle.token_store.specs.declared.out.Out.{Out}
 use Rattle.token_store.specs.declared.out.Out.TheVariants.{Reply as OutReply}
 use Rattle.token_store.specs.declared.refusal.Refusal.{Refusal}

@@ -19,9 +19,9 @@ use Rattle.desk.specs.Desks.{DeskState}
 use Rattle.ops.specs.Operations.{operation_of}
 use Rattle.token_store.specs.declared.out.Out.{Out}
 use Rattle.token_store.specs.declared.out.Out.TheVariants.{Reply as OutReply, Ask}
-use Rattle.token_model.specs.Views.{record_sight, sees, TokenObject, SessionObject, Task, Ciphers, Question, View}
-use Rattle.token_model.specs.Changes.{Change, Stays, Insert, Replace, Remove, Records, Resets, in_list}
-use Rattle.token_model.specs.Answering.{Said, Replies, Asks, Answer}
+use Rattle.views.specs.Views.{record_sight, sees, TokenObject, SessionObject, Task, Ciphers, Question, View}
+use Rattle.views.specs.Changes.{Change, Stays, Insert, Replace, Remove, Records, Resets, in_list}
+use Rattle.views.specs.Answering.{Said, Replies, Asks, Answer}
 
 -- ---- one desk
 

@@ -4,10 +4,9 @@ use Rattle.ck_types.specs.declared.user_type.UserType.{UserType}
 use Rattle.keep.specs.Contents.{Contents, ids_of, IsSound}
 use Rattle.keep.specs.Keeping.{Terms}
 use Rattle.desk.specs.Desks.{DeskState, SameDesk}
-use Rattle.token_model.specs.Views.{View}
-use Rattle.token_model.specs.Changes.{Change, Stays, in_list}
-use Rattle.token_model.specs.Views.{sees}
-use Rattle.token_model.specs.Answering.{Said, Answer}
+use Rattle.views.specs.Views.{View, sees}
+use Rattle.views.specs.Changes.{Change, Stays, in_list}
+use Rattle.views.specs.Answering.{Said, Answer}
 use Rattle.token_store.specs.Shown.{view_of, objects_of, Changes, Gives, Fits}
 
 pub record StoreState (K : Type 0) : Type 0 where

@@ -5,7 +5,7 @@ ghost use Rattle.handles.specs.Handles.{IsTable};
 ghost use Rattle.keep.specs.Contents.{Contents, IsTokenObject};
 ghost use Rattle.keep.specs.Keeping.{Counted, HasCause, Stays};
 ghost use Rattle.desk.specs.Desks.{own_at};
-ghost use Rattle.token_model.specs.Views.{sees};
+ghost use Rattle.views.specs.Views.{sees};
 ghost use Rattle.token_store.specs.Shown.{Fits};
 ghost use Rattle.token_store.specs.Stores.{Has};
 ghost use Rattle.token_store.specs.Found.{IsFound, IsOwn};

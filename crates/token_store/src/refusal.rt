@@ -12,7 +12,7 @@ use keep::KeepFault;
 use precede::Row;
 use std::alloc::AllocError;
 use templates::MakeFault;
-use token_model::Fault;
+use views::Fault;
 
 /// Why a call is refused.
 #[derive(Clone, Copy, Debug, PartialEq, Eq)]

@@ -8,9 +8,9 @@ use Rattle.streams.specs.declared.part.Part.TheVariants.{Update, Update}
 use Rattle.streams.specs.Lengths.{wanted}
 use Rattle.sessions.specs.Sessions.{session_at}
 use Rattle.ops.specs.Operations.{operation_in, operation_of}
-use Rattle.token_model.specs.Views.{Ciphers}
-use Rattle.token_model.specs.Answers.CipherInit.{place_for, ends}
-use Rattle.token_model.specs.Answers.Cipher.{has_taken, update_function}
+use Rattle.views.specs.Views.{Ciphers}
+use Rattle.answers.specs.CipherInit.{place_for, ends}
+use Rattle.answers.specs.Cipher.{has_taken, update_function}
 use Rattle.token_store.specs.Shown.{view_of}
 use Rattle.serve_ciphers.specs.Steps.{refused_row, asks_within}
 use Rattle.serve_ciphers.proofs.Ciphering.{seated-at, tested, update-asks, gives-is, gives-with}

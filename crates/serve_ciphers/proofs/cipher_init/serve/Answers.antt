@@ -5,7 +5,7 @@ use Rattle.attrs.specs.Masking.{is_secret_key}
 use Rattle.attrs.specs.Objects.{flag, class_of, key_type_of}
 use Rattle.sessions.specs.Sessions.{session_at}
 use Rattle.ops.specs.Operations.{operation_in, started}
-use Rattle.token_model.specs.Answers.CipherInit.{permission, place_for, is_aes, begins, cipher_init}
+use Rattle.answers.specs.CipherInit.{permission, place_for, is_aes, begins, cipher_init}
 use Rattle.token_store.specs.Found.{IsFound}
 use Rattle.token_store.specs.Shown.{view_of}
 use Rattle.token_store.proofs.Gaves.{gave-is, gave-quiet}

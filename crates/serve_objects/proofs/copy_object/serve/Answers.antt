@@ -1,7 +1,7 @@
 use Rattle.std.proofs.Common.{◌≡◌, rules, not, arith, sym, ◌∙◌, ap, subst}
 use Rattle.token_store.specs.Found.{IsFound}
 use Rattle.token_store.specs.Shown.{view_of}
-use Rattle.token_model.proofs.Templates.{fault-plain}
+use Rattle.answers.proofs.Templates.{fault-plain}
 use Rattle.token_store.proofs.Plain.{plain-made}
 use Rattle.token_store.proofs.Refusals.{does-is, does-after}
 use Rattle.token_store.proofs.Seated.{seated}

@@ -1,6 +1,6 @@
 use Rattle.std.proofs.Common.{rules}
 use Rattle.token_store.specs.Shown.{view_of}
-use Rattle.token_model.proofs.Templates.{fault-plain}
+use Rattle.answers.proofs.Templates.{fault-plain}
 use Rattle.token_store.proofs.Plain.{plain-made}
 use Rattle.token_store.proofs.Refusals.{does-is}
 use Rattle.token_store.proofs.Seated.{seated}

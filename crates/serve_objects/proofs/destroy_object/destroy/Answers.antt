@@ -1,8 +1,8 @@
 use Rattle.std.proofs.Common.{refl, subst, inl, inr}
 use Rattle.keep.specs.Contents.{without_object}
 use Rattle.token_store.specs.Found.{IsAt}
-use Rattle.token_model.specs.Answering.{Answer, place_of}
-use Rattle.token_model.specs.Answers.DestroyObject.{destroyed}
+use Rattle.views.specs.Answering.{Answer, place_of}
+use Rattle.answers.specs.DestroyObject.{destroyed}
 use Rattle.token_store.specs.Shown.{view_of}
 use Rattle.token_store.proofs.Gaves.{gave-change, gave-quiet}
 use Rattle.token_store.proofs.Plain.{plain-fault}

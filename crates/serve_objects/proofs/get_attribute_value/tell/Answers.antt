@@ -1,5 +1,5 @@
 use Rattle.std.proofs.Common.{◌∙◌, ap}
-use Rattle.token_model.proofs.Telling.{codes-more, values-more}
+use Rattle.answers.proofs.Telling.{codes-more, values-more}
 use Rattle.serve_objects.proofs.get_attribute_value.tell.Goals as goal
 
 pub loop-asked-preserved : goal.loop-asked-preserved

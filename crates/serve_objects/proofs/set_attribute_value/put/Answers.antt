@@ -1,8 +1,8 @@
 use Rattle.std.proofs.Common.{refl, subst, inl, inr}
 use Rattle.keep.specs.Contents.{with_replacement}
 use Rattle.token_store.specs.Found.{IsAt}
-use Rattle.token_model.specs.Answering.{Answer, place_of}
-use Rattle.token_model.specs.Answers.SetAttributeValue.{puts}
+use Rattle.views.specs.Answering.{Answer, place_of}
+use Rattle.answers.specs.SetAttributeValue.{puts}
 use Rattle.token_store.specs.Shown.{view_of}
 use Rattle.token_store.proofs.Gaves.{gave-change, gave-quiet}
 use Rattle.token_store.proofs.Plain.{plain-fault}

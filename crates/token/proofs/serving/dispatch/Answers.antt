@@ -1,7 +1,7 @@
 use Rattle.std.proofs.Common.{refl, rules, arith}
 use Rattle.ck_calls.specs.declared.call.Call.TheVariants as call
 use Rattle.ck_types.specs.declared.rv.Rv.TheVariants.{FunctionNotSupported}
-use Rattle.token_model.specs.Answers.{answer_to}
+use Rattle.answers.specs.Answers.{answer_to}
 use Rattle.token.proofs.Dispatching.{call-done, call-at-desk, call-asking, call-refused}
 use Rattle.token.proofs.serving.dispatch.Goals as goal
 

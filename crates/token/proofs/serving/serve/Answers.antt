@@ -1,5 +1,5 @@
 use Rattle.std.proofs.Common.{refl, rules, sym, ◌∙◌}
-use Rattle.token_model.specs.Answering.{reveals_nothing}
+use Rattle.views.specs.Answering.{reveals_nothing}
 use Rattle.token_store.proofs.Gaves.{gave-reply}
 use Rattle.token.proofs.Dispatching.{answer-is, busy-is, serves-is}
 use Rattle.token.proofs.serving.serve.Goals as goal

@@ -1,0 +1,4 @@
+pub mod Templates
+pub mod Sizes
+pub mod Telling
+pub mod Proper

@@ -1,0 +1,111 @@
+-- The calls that encipher and decipher.
+use Rattle.std.specs.Option.{option_map}
+use Rattle.std.proofs.Common.{length, ◌≡◌, ℕ, true, List, [], Option, Some, None, refl, ◌∙◌, ap}
+use Rattle.ck_calls.specs.declared.function.Function.{Function}
+use Rattle.ck_calls.specs.declared.reply.Output.TheVariants as output
+use Rattle.ck_calls.specs.declared.reply.Reply.TheVariants as replied
+use Rattle.aes_modes.specs.declared.direction.Direction.{Direction}
+use Rattle.streams.specs.declared.part.Part.{Part}
+use Rattle.streams.specs.declared.part.Part.TheVariants.{Update, Last}
+use Rattle.streams.specs.Lengths.{wanted}
+use Rattle.precede.specs.declared.row.Row.TheVariants.{NoSession, DataTaken, DataLength, CounterEnd, EncryptedDataLength, NoBuffer, SmallBuffer}
+use Rattle.ops.specs.declared.place.Place.{Place}
+use Rattle.ops.specs.Operations.{Operation, mask_operation, text_of, operation_in}
+use Rattle.views.specs.Outcomes.{Outcome, Output, BadPadding}
+use Rattle.views.specs.Views.{Task, Ciphers, mask_task}
+use Rattle.views.specs.Refusals.{set_apart}
+use Rattle.views.specs.Answering.{asks, answered, with_operation}
+use Rattle.answers.specs.CipherInit.{ends, place_for}
+use Rattle.answers.specs.Cipher.{single_function, update_function, final_function, operation_or, refused, cipher_row, cipher_says, ciphers, cipher, cipher_single, cipher_update, cipher_final, ciphered_reply, operation_after, ciphered}
+use Rattle.answers.proofs.Proper.CipherInit.{with_operation-mask, operation-mask, blind-ends}
+use Rattle.views.proofs.Checks.{Row, View, mask, shown, replies, session_of, tokens-twice, own-twice, sessions-twice, IsProper, IsFair, blind-reply, blind-becomes, fair, blind-row, fair-row, blind-checked_by, fair-checked_by, row-session}
+
+-- the length that is wanted is known without the key
+wanted-mask : (o : Option Operation) (part : Part) (n : ℕ) → wanted part (text_of (operation_or (option_map mask_operation o))) n ≡ wanted part (text_of (operation_or o)) n
+wanted-mask None part n = refl
+wanted-mask (Some o) Update n = refl
+wanted-mask (Some o) Last n = refl
+
+-- and so is what is refused
+refused-mask : (o : Operation) (part : Part) (input : List ℕ) → refused (mask_operation o) part input ≡ refused o part input
+refused-mask o Update input = refl
+refused-mask o Last input = refl
+
+module _ (d : Direction) (v : View) (s : ℕ) (part : Part) (input : List ℕ) where
+  abbrev place : Place
+  place = place_for d
+
+  row-mask : (o : Option Operation) (room : Option ℕ) (row : Row) → cipher_row d (mask v) s (option_map mask_operation o) part input room row ≡ cipher_row d v s o part input room row
+  row-mask None room NoSession = row-session v s
+  row-mask (Some o) room NoSession = row-session v s
+  row-mask (Some o) room DataLength = rw (refused-mask o part input) refl
+  row-mask (Some o) room EncryptedDataLength = rw (refused-mask o part input) refl
+  row-mask (Some o) room SmallBuffer = rw (wanted-mask (Some o) part (length input)) refl
+  row-mask None room _ = refl
+  row-mask (Some o) room _ = refl
+
+  blind-says : (n : ℕ) (row : Row) → shown (cipher_says (mask v) s place n row) ≡ shown (cipher_says v s place n row)
+  blind-says n DataTaken = blind-ends v s place DataTaken
+  blind-says n CounterEnd = blind-ends v s place CounterEnd
+  blind-says n DataLength = blind-ends v s place DataLength
+  blind-says n EncryptedDataLength = blind-ends v s place EncryptedDataLength
+  blind-says n NoBuffer = blind-reply v (replied.Output (output.Length n))
+  blind-says n SmallBuffer = blind-reply v (replied.BufferTooSmall n)
+  blind-says n row = blind-row v row
+
+  -- a question is shown without the value of its key
+  blind-asks : (f : Function) (o : Option Operation) → shown (asks (mask v) f s (Ciphers part (operation_or (option_map mask_operation o)) input)) ≡ shown (asks v f s (Ciphers part (operation_or o) input))
+  blind-asks f None = rw (tokens-twice v.tokens, own-twice v.own, sessions-twice v.sessions.sessions) refl
+  blind-asks f (Some o) = rw (tokens-twice v.tokens, own-twice v.own, sessions-twice v.sessions.sessions) refl
+
+  blind-ciphers : (f : Function) (o : Option Operation) (room : Option ℕ) → shown (ciphers f d part (mask v) s (option_map mask_operation o) input room) ≡ shown (ciphers f d part v s o input room)
+  blind-ciphers f o room =
+      let n : ℕ = wanted part (text_of (operation_or o)) (length input) in
+      let a = asks (mask v) f s (Ciphers part (operation_or (option_map mask_operation o)) input) in
+      rw (wanted-mask o part (length input)) (blind-checked_by f (cipher_row d (mask v) s (option_map mask_operation o) part input room) (cipher_row d v s o part input room) (cipher_says (mask v) s place n) (cipher_says v s place n) a (asks v f s (Ciphers part (operation_or o) input))
+      (row-mask o room) (blind-says n) (blind-asks f o))
+
+  fair-says : (n : ℕ) (row : Row) → IsFair true v (cipher_says v s place n row)
+  fair-says n DataTaken = fair v {a = ends v s place DataTaken} refl refl refl refl refl
+  fair-says n CounterEnd = fair v {a = ends v s place CounterEnd} refl refl refl refl refl
+  fair-says n DataLength = fair v {a = ends v s place DataLength} refl refl refl refl refl
+  fair-says n EncryptedDataLength = fair v {a = ends v s place EncryptedDataLength} refl refl refl refl refl
+  fair-says n NoBuffer = fair v {a = replies v (replied.Output (output.Length n))} refl refl refl refl refl
+  fair-says n SmallBuffer = fair v {a = replies v (replied.BufferTooSmall n)} refl refl refl refl refl
+  fair-says n row = fair-row v row
+
+proper-cipher : (f : Function) (d : Direction) (part : Part) (s : ℕ) (input : List ℕ) (room : Option ℕ) → IsProper (λ v r. cipher f d part v s input room) true
+proper-cipher f d part s input room = record {
+  blind = λ v r. ap (λ o. shown (ciphers f d part (mask v) s o input room)) (operation-mask v s (place_for d)) ∙ blind-ciphers d v s part input f (operation_in (session_of v s) (place_for d)) room;
+  fair = λ v r.
+      let o = operation_in (session_of v s) (place_for d) in
+      let a = asks v f s (Ciphers part (operation_or o) input) in
+      fair-checked_by f v (cipher_row d v s o part input room) (cipher_says v s (place_for d) (wanted part (text_of (operation_or o)) (length input))) a (fair-says d v s part input (wanted part (text_of (operation_or o)) (length input))) (fair v {a = a} refl refl refl refl refl);
+}
+
+pub proper-single : (d : Direction) (s : ℕ) (input : List ℕ) (room : Option ℕ) → IsProper (λ v r. cipher_single d v s input room) true
+proper-single d s input room = proper-cipher (single_function d) d Last s input room
+
+pub proper-update : (d : Direction) (s : ℕ) (input : List ℕ) (room : Option ℕ) → IsProper (λ v r. cipher_update d v s input room) true
+proper-update d s input room = proper-cipher (update_function d) d Update s input room
+
+pub proper-final : (d : Direction) (s : ℕ) (room : Option ℕ) → IsProper (λ v r. cipher_final d v s room) true
+proper-final d s room = proper-cipher (final_function d) d Last s [] room
+
+-- ---- the result
+
+-- an operation goes on without its key being seen
+after-mask : (task : Task) (outcome : Outcome) → option_map mask_operation (operation_after (mask_task task) outcome) ≡ option_map mask_operation (operation_after task outcome)
+after-mask (Ciphers Update o input) (Output bytes) = refl
+after-mask (Ciphers Update o input) BadPadding = refl
+after-mask (Ciphers Last o input) outcome = refl
+
+pub blind-ciphered : (v : View) (s : ℕ) (place : Place) (task : Task) (outcome : Outcome) → shown (ciphered (mask v) s place (mask_task task) outcome) ≡ shown (ciphered v s place task outcome)
+blind-ciphered v s place task outcome =
+    let o = operation_after (mask_task task) outcome in
+    let p = operation_after task outcome in
+    blind-becomes (ciphered_reply outcome) (with_operation (answered (mask v)) s place o) (with_operation (answered v) s place p) (with_operation-mask (answered v) s place o p (after-mask task outcome))
+
+pub plain-ciphered : (outcome : Outcome) → set_apart (ciphered_reply outcome) ≡ None
+plain-ciphered (Output bytes) = refl
+plain-ciphered BadPadding = refl

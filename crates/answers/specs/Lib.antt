@@ -1,0 +1,13 @@
+pub mod Calls
+pub mod OpenSession
+pub mod CloseSession
+pub mod GetSessionInfo
+pub mod CreateObject
+pub mod CopyObject
+pub mod DestroyObject
+pub mod GetObjectSize
+pub mod GetAttributeValue
+pub mod SetAttributeValue
+pub mod CipherInit
+pub mod Cipher
+pub mod Answers

@@ -1,0 +1,4 @@
+pub mod Masks
+pub mod Blind
+pub mod Checks
+pub mod Seen

@@ -1,0 +1,123 @@
+-- Masking: twice is once, and what a view says of itself but for what is kept back.
+use Rattle.std.proofs.Common.{◌≡◌, ℕ, zero, suc, Bool, true, false, cond, not, List, [], ◌∷◌, ◌++◌, map, length, Option, Some, None, refl, sym, ◌∙◌, ap, arith}
+use Rattle.std.specs.Prelude.{find, filter, ◌==◌, is_none, is_some}
+use Rattle.std.specs.Option.{option_map}
+use Rattle.std.specs.List.{remove}
+use Rattle.ck_types.specs.declared.entry.Entry.{Entry}
+use Rattle.ck_types.specs.declared.user_type.UserType.{UserType}
+use Rattle.attrs.specs.Masking.{mask as mask_object}
+use Rattle.attrs.specs.MaskingLaws.{mask-mask}
+use Rattle.guard.specs.AccessLaws.{is_visible-mask}
+use Rattle.sessions.specs.declared.Session.{Session}
+use Rattle.sessions.specs.Sessions.{state_of, session_at, busy_at, login_among}
+use Rattle.ops.specs.Operations.{Operation, Operations, mask_operation}
+use Rattle.views.specs.Views.{TokenObject, SessionObject, Question, Task, Ciphers, View, sees, seen_by, without_handle, left, mask_token_object, mask_session_object, mask_operations, mask_session, mask_task, mask_question, mask}
+use Rattle.views.specs.Changes.{Change, Stays, Insert, Replace, Remove, Records, Resets, mask_change, seen, rewritten}
+use Rattle.views.specs.Answering.{session_of, object_at, first_object, is_handle, place_of}
+use Rattle.lists.proofs.ListLemmas.{map-push, map-map, map-same, map-twice, map-remove, find-map, filter-map, filter-equal, place-map}
+
+-- ---- twice
+
+token-object-twice : (t : TokenObject) → mask_token_object (mask_token_object t) ≡ mask_token_object t
+token-object-twice t = ap (λ o. record { object = o; handle = t.handle }) (mask-mask t.object)
+
+pub tokens-twice : (ts : List TokenObject) → map mask_token_object (map mask_token_object ts) ≡ map mask_token_object ts
+tokens-twice ts = map-twice mask_token_object ts token-object-twice
+
+session-object-twice : (e : SessionObject) → mask_session_object (mask_session_object e) ≡ mask_session_object e
+session-object-twice e = ap (λ o. record { object = o; handle = e.handle; session = e.session }) (mask-mask e.object)
+
+pub own-twice : (es : List SessionObject) → map mask_session_object (map mask_session_object es) ≡ map mask_session_object es
+own-twice es = map-twice mask_session_object es session-object-twice
+
+pub operation-twice : (o : Option Operation) → option_map mask_operation (option_map mask_operation o) ≡ option_map mask_operation o
+operation-twice None = refl
+operation-twice (Some o) = refl
+
+pub operations-twice : (ops : Operations) → mask_operations (mask_operations ops) ≡ mask_operations ops
+operations-twice ops = rw (operation-twice ops.encrypt, operation-twice ops.decrypt, operation-twice ops.sign, operation-twice ops.verify) refl
+
+session-twice : (s : Session Operations) → mask_session (mask_session s) ≡ mask_session s
+session-twice s = ap (λ ops. record { number = s.number; read_write = s.read_write; work = ops }) (operations-twice s.work)
+
+pub sessions-twice : (ss : List (Session Operations)) → map mask_session (map mask_session ss) ≡ map mask_session ss
+sessions-twice ss = map-twice mask_session ss session-twice
+
+task-twice : (t : Task) → mask_task (mask_task t) ≡ mask_task t
+task-twice (Ciphers part operation input) = refl
+
+question-masked : (q : Question) → mask_question (mask_question q) ≡ mask_question q
+question-masked q = let f : Task → Question = λ t. record { number = q.number; function = q.function; session = q.session; task = t } in ap f (task-twice q.task)
+
+pub question-twice : (q : Option Question) → option_map mask_question (option_map mask_question q) ≡ option_map mask_question q
+question-twice None = refl
+question-twice (Some q) = ap Some (question-masked q)
+
+pub mask-twice : (v : View) → mask (mask v) ≡ mask v
+mask-twice v = rw (tokens-twice v.tokens, own-twice v.own, sessions-twice v.sessions.sessions, question-twice v.question) refl
+
+-- ---- what is found in a masked view
+
+pub session-mask : (v : View) (s : ℕ) → session_of (mask v) s ≡ option_map mask_session (session_of v s)
+session-mask v s = find-map (λ (x : Session Operations). x.number == s) mask_session v.sessions.sessions
+
+pub object-mask : (v : View) (handle : ℕ) → object_at (mask v) handle ≡ option_map mask_object (object_at v handle)
+object-mask v handle =
+    ap (λ o. first_object o (find (λ e. e.handle == handle) (map mask_session_object v.own))) (find-map (λ (t : TokenObject). is_handle t.handle handle) mask_token_object v.tokens)
+    ∙ ap (λ o. first_object (option_map mask_token_object (find (λ t. is_handle t.handle handle) v.tokens)) o) (find-map (λ (e : SessionObject). e.handle == handle) mask_session_object v.own)
+    ∙ both (find (λ t. is_handle t.handle handle) v.tokens) (find (λ e. e.handle == handle) v.own) where
+      both : (a : Option TokenObject) (b : Option SessionObject) → first_object (option_map mask_token_object a) (option_map mask_session_object b) ≡ option_map mask_object (first_object a b)
+      both (Some t) b = refl
+      both None (Some e) = refl
+      both None None = refl
+
+pub place-mask : (v : View) (handle : ℕ) → place_of (mask v).tokens handle ≡ place_of v.tokens handle
+place-mask v handle = place-map (λ (t : TokenObject). is_handle t.handle handle) mask_token_object v.tokens
+
+-- ---- what stays where access changes
+
+pub seen-tokens : (login : Option UserType) (ts : List TokenObject) → seen_by login (map mask_token_object ts) ≡ map mask_token_object (seen_by login ts)
+seen-tokens login ts =
+    filter-map (λ (t : TokenObject). sees login t.object) mask_token_object ts
+    ∙ ap (map mask_token_object) (filter-equal (λ (t : TokenObject). sees login (mask_object t.object)) (λ t. sees login t.object) ts (λ t. is_visible-mask (state_of login true) t.object))
+
+pub login-among : (ss : List (Session Operations)) (login : Option UserType) → login_among (map mask_session ss) login ≡ login_among ss login
+login-among [] login = refl
+login-among (s ∷ ss) login = refl
+
+-- ---- operations
+
+pub busy-mask : (number : ℕ) (ops others : Operations) → mask_operations ops ≡ mask_operations others → (ss : List (Session Operations)) → map mask_session (map (busy_at number ops) (map mask_session ss)) ≡ map mask_session (map (busy_at number others) ss)
+busy-mask number ops others same [] = refl
+busy-mask number ops others same (s ∷ ss) = step (s.number == number) (busy-mask number ops others same ss) where
+  step : (b : Bool) → map mask_session (map (busy_at number ops) (map mask_session ss)) ≡ map mask_session (map (busy_at number others) ss) → mask_session (cond b (record (mask_session s) { work = ops }) (mask_session s)) ∷ map mask_session (map (busy_at number ops) (map mask_session ss)) ≡ mask_session (cond b (record s { work = others }) s) ∷ map mask_session (map (busy_at number others) ss)
+  step true h = ap (λ w. record { number = s.number; read_write = s.read_write; work = w } ∷ map mask_session (map (busy_at number ops) (map mask_session ss))) same ∙ ap (λ xs. record { number = s.number; read_write = s.read_write; work = mask_operations others } ∷ xs) h
+  step false h = ap (λ x. x ∷ map mask_session (map (busy_at number ops) (map mask_session ss))) (session-twice s) ∙ ap (λ xs. mask_session s ∷ xs) h
+
+-- ---- what others change, and going, are seen as they are
+
+rewritten-mask : (ts : List TokenObject) (place : ℕ) (o : List Entry) → rewritten (map mask_token_object ts) place (mask_object o) ≡ map mask_token_object (rewritten ts place o)
+rewritten-mask [] place o = refl
+rewritten-mask (t ∷ ts) zero o = refl
+rewritten-mask (t ∷ ts) (suc place) o = ap (λ xs. mask_token_object t ∷ xs) (rewritten-mask ts place o)
+
+pub seen-mask : (v : View) (change : Change) → seen (mask_change change) (mask v) ≡ mask (seen change v)
+seen-mask v Stays = refl
+seen-mask v (Insert o) = rw (map-push mask_token_object v.tokens (without_handle o)) refl
+seen-mask v (Replace place o) = let f : List TokenObject → View = λ ts. record (mask v) { tokens = ts } in ap f (rewritten-mask v.tokens place o)
+seen-mask v (Remove place) = let f : List TokenObject → View = λ ts. record (mask v) { tokens = ts } in ap f (sym (map-remove mask_token_object v.tokens place))
+seen-mask v (Records r) = refl
+seen-mask v (Resets r) = refl
+
+abbrev public_objects : List TokenObject → List (List Entry)
+public_objects ts = filter (sees None) (map (λ t. t.object) ts)
+
+left-objects : (ts : List TokenObject) → map without_handle (public_objects (map mask_token_object ts)) ≡ map mask_token_object (map without_handle (public_objects ts))
+left-objects [] = refl
+left-objects (t ∷ ts) = ap (λ b. map without_handle (cond b (mask_object t.object ∷ public_objects (map mask_token_object ts)) (public_objects (map mask_token_object ts)))) (is_visible-mask (state_of None true) t.object) ∙ step (sees None t.object) (left-objects ts) where
+  step : (b : Bool) → map without_handle (public_objects (map mask_token_object ts)) ≡ map mask_token_object (map without_handle (public_objects ts)) → map without_handle (cond b (mask_object t.object ∷ public_objects (map mask_token_object ts)) (public_objects (map mask_token_object ts))) ≡ map mask_token_object (map without_handle (cond b (t.object ∷ public_objects ts) (public_objects ts)))
+  step true h = ap (λ xs. without_handle (mask_object t.object) ∷ xs) h
+  step false h = h
+
+pub left-mask : (v : View) → left (mask v) ≡ mask (left v)
+left-mask v = rw (left-objects v.tokens) refl

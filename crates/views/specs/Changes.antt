@@ -1,0 +1,118 @@
+-- What one application does that others may see: a change of the token objects, or of the token's record.
+use Rattle.std.specs.Prelude.{ℕ, ◌==◌, nat_eq, Bool, true, false, ◌&&◌, not, List, [], ◌∷◌, ◌++◌, Option, Some, None, if◌then◌else◌}
+use Rattle.std.specs.Bool.{beq}
+use Rattle.std.specs.Cmp.Lexicographic.{pointwise}
+use Rattle.std.specs.List.{remove}
+use Rattle.std.specs.Option.{option_eq}
+use Rattle.std.specs.Str.{bytes_eq}
+use Rattle.ck_types.specs.declared.entry.Entry.{Entry}
+use Rattle.attrs.specs.Masking.{mask as mask_object}
+use Rattle.attrs.specs.Sameness.{same_object}
+use Rattle.lists.specs.Places.{seen_place, kept_place, replaced, updated}
+use Rattle.views.specs.Views.{PinSight, RecordSight, View, TokenObject, without_handle, mask_record, mask}
+
+pub data Change : Type 0 where
+  Stays : Change
+  Insert : (object : List Entry) → Change
+  Replace : (place : ℕ) (object : List Entry) → Change
+  Remove : (place : ℕ) → Change
+  -- a new record
+  Records : (token_record : RecordSight) → Change
+  -- no objects, and a new record
+  Resets : (token_record : RecordSight) → Change
+
+abbrev pub is_still : Change → Bool
+is_still Stays = true
+is_still (Insert o) = false
+is_still (Replace place o) = false
+is_still (Remove place) = false
+is_still (Records r) = false
+is_still (Resets r) = false
+
+abbrev pub mask_change : Change → Change
+mask_change Stays = Stays
+mask_change (Insert o) = Insert (mask_object o)
+mask_change (Replace place o) = Replace place (mask_object o)
+mask_change (Remove place) = Remove place
+mask_change (Records r) = Records (mask_record r)
+mask_change (Resets r) = Resets (mask_record r)
+
+-- the list of the token objects after it
+abbrev pub changed : Change → List (List Entry) → List (List Entry)
+changed Stays objects = objects
+changed (Insert o) objects = objects ++ o ∷ []
+changed (Replace place o) objects = replaced objects place o
+changed (Remove place) objects = remove objects place
+changed (Records r) objects = objects
+changed (Resets r) objects = []
+
+-- and the record
+abbrev pub recorded : Change → RecordSight → RecordSight
+recorded Stays r = r
+recorded (Insert o) r = r
+recorded (Replace place o) r = r
+recorded (Remove place) r = r
+recorded (Records new) r = new
+recorded (Resets new) r = new
+
+-- another object stands at a place, under the handle that was there
+abbrev pub rewritten : List TokenObject → ℕ → List Entry → List TokenObject
+rewritten ts place o = updated ts place (λ t. record { object = o; handle = t.handle })
+
+-- what the view of another application becomes
+abbrev pub seen : Change → View → View
+seen Stays v = v
+seen (Insert o) v = record v { tokens = v.tokens ++ without_handle o ∷ [] }
+seen (Replace place o) v = record v { tokens = rewritten v.tokens place o }
+seen (Remove place) v = record v { tokens = remove v.tokens place }
+seen (Records r) v = record v { token_record = r }
+seen (Resets r) v = record v { token_record = r; tokens = [] }
+
+-- ---- whether a change alters what an application sees
+
+-- a PIN and a record, but for verifiers, which no view shows
+abbrev pub same_pin : PinSight → PinSight → Bool
+same_pin p q = beq p.is_set q.is_set && (p.tries == q.tries)
+
+abbrev pub same_record : RecordSight → RecordSight → Bool
+same_record r s = bytes_eq r.label s.label && (same_pin r.so s.so && same_pin r.user s.user)
+
+abbrev pub same_token_object : TokenObject → TokenObject → Bool
+same_token_object t u = same_object t.object u.object && option_eq nat_eq t.handle u.handle
+
+-- the record and the token objects of two views, which are all that others change
+abbrev pub same_shared : View → View → Bool
+same_shared u v = same_record u.token_record v.token_record && pointwise same_token_object u.tokens v.tokens
+
+-- it alters the view
+unfoldable pub is_seen : View → Change → Bool
+is_seen v change = not (same_shared (mask v) (mask (seen change v)))
+
+-- ---- places, which one application counts among the objects that it sees
+
+-- a change at a place among the objects that are seen, as one of the list
+abbrev pub in_list : (List Entry → Bool) → List (List Entry) → Change → Change
+in_list sees objects Stays = Stays
+in_list sees objects (Insert o) = Insert o
+in_list sees objects (Replace place o) = Replace (kept_place sees objects place) o
+in_list sees objects (Remove place) = Remove (kept_place sees objects place)
+in_list sees objects (Records r) = Records r
+in_list sees objects (Resets r) = Resets r
+
+abbrev pub replaced_at : List Entry → Option ℕ → Change
+replaced_at o None = Stays
+replaced_at o (Some place) = Replace place o
+
+abbrev pub removed_at : Option ℕ → Change
+removed_at None = Stays
+removed_at (Some place) = Remove place
+
+-- A change of the list as one sees it. A change of an object that isn't seen isn't. What an object is changed
+-- into is seen where the object was, since CKA_PRIVATE never changes.
+abbrev pub as_seen : (List Entry → Bool) → List (List Entry) → Change → Change
+as_seen sees objects Stays = Stays
+as_seen sees objects (Insert o) = if sees o then Insert o else Stays
+as_seen sees objects (Replace place o) = replaced_at o (seen_place sees objects place)
+as_seen sees objects (Remove place) = removed_at (seen_place sees objects place)
+as_seen sees objects (Records r) = Records r
+as_seen sees objects (Resets r) = Resets r

@@ -1,0 +1,6 @@
+pub mod Outcomes
+pub mod Views
+pub mod Changes
+pub mod Answering
+pub mod Refusals
+pub mod Checked

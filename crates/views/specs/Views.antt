@@ -1,0 +1,163 @@
+-- What one application sees of the token. The full view has the values of keys that are masked or in use, and
+-- what PINs are checked against; the view has none of them.
+use Rattle.std.specs.Prelude.{ℕ, Bool, true, List, [], ◌∷◌, ◌++◌, map, filter, Option, Some, None, is_some, if◌then◌else◌}
+use Rattle.std.specs.Option.{option_map}
+use Rattle.std.specs.List.{remove}
+use Rattle.ck_types.specs.declared.entry.Entry.{Entry}
+use Rattle.ck_types.specs.declared.user_type.UserType.{UserType}
+use Rattle.ck_calls.specs.declared.function.Function.{Function}
+use Rattle.attrs.specs.Masking.{mask as mask_object}
+use Rattle.guard.specs.Access.{is_user, is_visible}
+use Rattle.pin_record.specs.Verifiers.{PinVerifier}
+use Rattle.pin_record.specs.Records.{PinState, TokenRecord}
+use Rattle.sessions.specs.declared.Session.{Session}
+use Rattle.sessions.specs.Sessions.{SessionTable, state_of, no_sessions}
+use Rattle.streams.specs.declared.part.Part.{Part}
+use Rattle.ops.specs.Operations.{Operation, Operations, mask_operation}
+use Rattle.lists.specs.Places.{seen_place, kept_place, replaced}
+
+-- ---- the token's record
+
+-- a PIN: whether it is set, what it is checked against, which may be left out, and its tries
+pub record PinSight : Type 0 where
+  pub is_set : Bool
+  pub verifier : Option PinVerifier
+  pub tries : ℕ
+
+-- the token's label and its PINs; the token is initialised where the SO's PIN is set
+pub record RecordSight : Type 0 where
+  pub label : List ℕ
+  pub so : PinSight
+  pub user : PinSight
+
+abbrev pub pin_sight : PinState → PinSight
+pin_sight p = record { is_set = is_some p.verifier; verifier = p.verifier; tries = p.tries }
+
+abbrev pub record_sight : TokenRecord → RecordSight
+record_sight r = record { label = r.label; so = pin_sight r.so; user = pin_sight r.user }
+
+-- and a record as it is stored
+abbrev pub stored_pin : PinSight → PinState
+stored_pin p = record { verifier = p.verifier; tries = p.tries }
+
+abbrev pub stored_record : RecordSight → TokenRecord
+stored_record r = record { label = r.label; so = stored_pin r.so; user = stored_pin r.user }
+
+-- ---- objects
+
+-- the user is logged in
+abbrev pub is_user_in : Option UserType → Bool
+is_user_in login = is_user (state_of login true)
+
+-- the objects that an application sees by who is logged in (PKCS #11 v3.1, 4.4 and 5.6)
+abbrev pub sees : Option UserType → List Entry → Bool
+sees login o = is_visible (state_of login true) o
+
+-- a token object, with the application's handle if it has one
+pub record TokenObject : Type 0 where
+  pub object : List Entry
+  pub handle : Option ℕ
+
+-- a session object, with its handle and the session that made it
+pub record SessionObject : Type 0 where
+  pub object : List Entry
+  pub handle : ℕ
+  pub session : ℕ
+
+abbrev pub without_handle : List Entry → TokenObject
+without_handle o = record { object = o; handle = None }
+
+-- the token objects of a list that are seen
+abbrev pub seen_by : Option UserType → List TokenObject → List TokenObject
+seen_by login ts = filter (λ t. sees login t.object) ts
+
+-- ---- questions
+
+-- what a call asks to have computed: what an operation makes of data, as a piece or as the last
+pub data Task : Type 0 where
+  Ciphers : (part : Part) (operation : Operation) (input : List ℕ) → Task
+
+-- the question of a call, by its function and session, which its result answers
+pub record Question : Type 0 where
+  pub number : ℕ
+  pub function : Function
+  pub session : ℕ
+  pub task : Task
+
+-- ---- views
+
+pub record View : Type 0 where
+  pub token_record : RecordSight
+  -- the token objects that are seen, in the order of their creation
+  pub tokens : List TokenObject
+  pub own : List SessionObject
+  pub sessions : SessionTable Operations
+  pub question : Option Question
+  pub next_handle : ℕ
+  pub next_question : ℕ
+
+-- the full view of an application that isn't there
+abbrev pub fresh : RecordSight → List (List Entry) → View
+fresh token_record objects =
+    record {
+      token_record = token_record;
+      tokens = map without_handle (filter (sees None) objects);
+      own = [];
+      sessions = no_sessions;
+      question = None;
+      next_handle = 1;
+      next_question = 1;
+    }
+
+-- what the view becomes where the application goes
+abbrev pub left : View → View
+left v = fresh v.token_record (map (λ t. t.object) v.tokens)
+
+-- ---- what is kept back
+
+abbrev pub mask_pin : PinSight → PinSight
+mask_pin p = record { is_set = p.is_set; verifier = None; tries = p.tries }
+
+abbrev pub mask_record : RecordSight → RecordSight
+mask_record r = record { label = r.label; so = mask_pin r.so; user = mask_pin r.user }
+
+abbrev pub mask_token_object : TokenObject → TokenObject
+mask_token_object t = record { object = mask_object t.object; handle = t.handle }
+
+abbrev pub mask_session_object : SessionObject → SessionObject
+mask_session_object e = record { object = mask_object e.object; handle = e.handle; session = e.session }
+
+abbrev pub mask_operations : Operations → Operations
+mask_operations ops =
+    record {
+      encrypt = option_map mask_operation ops.encrypt;
+      decrypt = option_map mask_operation ops.decrypt;
+      sign = option_map mask_operation ops.sign;
+      verify = option_map mask_operation ops.verify;
+      find = ops.find;
+    }
+
+abbrev pub mask_session : Session Operations → Session Operations
+mask_session s = record { number = s.number; read_write = s.read_write; work = mask_operations s.work }
+
+abbrev pub mask_sessions : SessionTable Operations → SessionTable Operations
+mask_sessions t = record { sessions = map mask_session t.sessions; login = t.login; next_number = t.next_number }
+
+abbrev pub mask_task : Task → Task
+mask_task (Ciphers part operation input) = Ciphers part (mask_operation operation) input
+
+abbrev pub mask_question : Question → Question
+mask_question q = record { number = q.number; function = q.function; session = q.session; task = mask_task q.task }
+
+-- the view of a full view
+abbrev pub mask : View → View
+mask v =
+    record {
+      token_record = mask_record v.token_record;
+      tokens = map mask_token_object v.tokens;
+      own = map mask_session_object v.own;
+      sessions = mask_sessions v.sessions;
+      question = option_map mask_question v.question;
+      next_handle = v.next_handle;
+      next_question = v.next_question;
+    }
