@@ -1,5 +1,5 @@
 -- C_SetAttributeValue (PKCS #11 v3.1, 5.7).
-use Rattle.std.specs.Prelude.{ℕ, Bool, false, ◌==◌, ◌&&◌, not, List, [], ◌∷◌, if◌then◌else◌, Option, Some, None, is_some, is_none}
+use Rattle.std.specs.Prelude.{ℕ, Bool, false, ◌==◌, ◌&&◌, not, List, [], Option, Some, None, is_some, is_none}
 use Rattle.std.specs.Option.{unwrap_or}
 use Rattle.ck_types.specs.declared.attr_type.AttrType.TheVariants as attr
 use Rattle.ck_calls.specs.declared.function.Function.TheVariants.{SetAttributeValue}

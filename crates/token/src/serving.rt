@@ -28,8 +28,8 @@ use serve_objects::{
 };
 use serve_sessions::{close_session, get_session_info, open_session};
 use std::alloc::Global;
-use views::Fault;
 use token_store::{Out, Store, settle, settle_asking};
+use views::Fault;
 
 /// A reply that is a code alone.
 fn code(rv: Rv) -> Result<Out, Fault>

@@ -1,11 +1,10 @@
 -- Laws of runs.
 use Rattle.std.proofs.Common.{◌≡◌, ◌≢◌, ℕ, zero, suc, Bool, true, false, cond, not, List, [], ◌∷◌, ◌++◌, Option, Some, None, refl, sym, ◌∙◌, ap, inl, inr}
 use Rattle.std.specs.Prelude.{◌||◌, ◌&&◌}
-use Rattle.std.proofs.lemmas.Bool.{cases_Bool, eq-eqb, ne_eqb}
+use Rattle.std.proofs.lemmas.Bool.{eq-eqb, ne_eqb}
 use Rattle.std.specs.Option.{option_map}
 use Rattle.ck_types.specs.declared.entry.Entry.{Entry}
 use Rattle.ck_types.specs.declared.user_type.UserType.{UserType}
-use Rattle.ck_calls.specs.declared.call.Call.{Call as CallType}
 use Rattle.ck_calls.specs.declared.function.Function.{Function}
 use Rattle.ck_calls.specs.Functions.{function_of}
 use Rattle.guard.specs.Access.{is_public}
@@ -16,9 +15,9 @@ use Rattle.lists.specs.Places.{seen_place}
 use Rattle.views.specs.Views.{sees, is_user_in, Question, Task, Ciphers, View, mask}
 use Rattle.views.specs.Changes.{Change, Stays, Insert, Replace, Remove, Records, Resets, is_still, as_seen, replaced_at, removed_at}
 use Rattle.views.specs.Answering.{Answer}
-use Rattle.answers.specs.Answers.{answer, answer_result, is_pin_function, may_change_objects}
+use Rattle.answers.specs.Answers.{answer_result, is_pin_function, may_change_objects}
 use Rattle.token_model.specs.Worlds.{World, answer_at, result_at, value_of, reveal_to_call, reveal_to_task, Move, Goes, Refuses, event_of, list_change, refused, happens, after, finished, finish_tells, finish_refusal, finish_refused, told, reply_to, replies}
-use Rattle.token_model.specs.Traces.{trace, replies_told, view_told, replies_to, NotSetApart, app_of, private_at, is_private, is_quiet_call, is_private_result, is_pin_event, is_pin_question, IsQuiet, IsQuietMove, AllQuiet, own_moves}
+use Rattle.token_model.specs.Traces.{trace, replies_told, view_told, replies_to, NotSetApart, app_of, private_at, is_private, is_quiet_call, is_pin_event, IsQuiet, IsQuietMove, AllQuiet, own_moves}
 use Rattle.answers.proofs.Proper.{still-answer, still-result}
 use Rattle.token_model.proofs.Told.{told-trace, seen-trace, replies_to-append, told-other}
 

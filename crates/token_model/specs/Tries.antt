@@ -3,7 +3,6 @@
 use Rattle.std.specs.Prelude.{◌≡◌, ℕ, ◌==◌, Bool, true, false, List, [], ◌∷◌, ◌++◌, map, filter, Option, Some, None}
 use Rattle.ck_types.specs.declared.user_type.UserType.{UserType}
 use Rattle.ck_types.specs.declared.user_type.UserType.TheVariants.{So, User}
-use Rattle.pin_record.specs.Records.{PinState, TokenRecord}
 use Rattle.pin_record.specs.Charges.{Charges, Event as PinEvent, Begins, EndsRight, EndsOtherwise, is_same, spent, IsCharged}
 use Rattle.token_model.specs.declared.check.Check.{Check}
 use Rattle.token_model.specs.declared.event.Event.TheVariants.{Call, Finish, Gone}

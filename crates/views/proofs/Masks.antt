@@ -1,20 +1,19 @@
 -- Masking: twice is once, and what a view says of itself but for what is kept back.
-use Rattle.std.proofs.Common.{◌≡◌, ℕ, zero, suc, Bool, true, false, cond, not, List, [], ◌∷◌, ◌++◌, map, length, Option, Some, None, refl, sym, ◌∙◌, ap, arith}
-use Rattle.std.specs.Prelude.{find, filter, ◌==◌, is_none, is_some}
+use Rattle.std.proofs.Common.{◌≡◌, ℕ, zero, suc, Bool, true, false, cond, List, [], ◌∷◌, map, Option, Some, None, refl, sym, ◌∙◌, ap}
+use Rattle.std.specs.Prelude.{find, filter, ◌==◌}
 use Rattle.std.specs.Option.{option_map}
-use Rattle.std.specs.List.{remove}
 use Rattle.ck_types.specs.declared.entry.Entry.{Entry}
 use Rattle.ck_types.specs.declared.user_type.UserType.{UserType}
 use Rattle.attrs.specs.Masking.{mask as mask_object}
 use Rattle.attrs.specs.MaskingLaws.{mask-mask}
 use Rattle.guard.specs.AccessLaws.{is_visible-mask}
 use Rattle.sessions.specs.declared.Session.{Session}
-use Rattle.sessions.specs.Sessions.{state_of, session_at, busy_at, login_among}
+use Rattle.sessions.specs.Sessions.{state_of, busy_at, login_among}
 use Rattle.ops.specs.Operations.{Operation, Operations, mask_operation}
 use Rattle.views.specs.Views.{TokenObject, SessionObject, Question, Task, Ciphers, View, sees, seen_by, without_handle, left, mask_token_object, mask_session_object, mask_operations, mask_session, mask_task, mask_question, mask}
 use Rattle.views.specs.Changes.{Change, Stays, Insert, Replace, Remove, Records, Resets, mask_change, seen, rewritten}
 use Rattle.views.specs.Answering.{session_of, object_at, first_object, is_handle, place_of}
-use Rattle.lists.proofs.ListLemmas.{map-push, map-map, map-same, map-twice, map-remove, find-map, filter-map, filter-equal, place-map}
+use Rattle.lists.proofs.ListLemmas.{map-push, map-twice, map-remove, find-map, filter-map, filter-equal, place-map}
 
 -- ---- twice
 

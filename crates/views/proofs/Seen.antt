@@ -1,5 +1,5 @@
 -- A change by others alters what an application sees just where `is_seen` says so.
-use Rattle.std.proofs.Common.{◌≡◌, ℕ, Bool, true, false, cond, List, [], ◌∷◌, map, Option, Some, None, refl, sym, ◌∙◌, ap}
+use Rattle.std.proofs.Common.{◌≡◌, ℕ, true, false, List, map, Option, Some, None, refl, sym, ◌∙◌, ap}
 use Rattle.std.specs.Prelude.{◌==◌, ◌&&◌, nat_eq}
 use Rattle.std.specs.Bool.{Decides, beq}
 use Rattle.std.specs.Cmp.{booleans_Decides}
@@ -11,7 +11,7 @@ use Rattle.std.proofs.lemmas.Bool.Decides.{Decides-eqb, Decides-and, Decides-lik
 use Rattle.std.proofs.lemmas.Slice.Eq.{bytes_eq-Decides, slice_eq-Decides}
 use Rattle.attrs.specs.Sameness.{same_object, same_object-Decides}
 use Rattle.views.specs.Views.{PinSight, RecordSight, TokenObject, View, mask_pin, mask_record, mask_token_object, mask}
-use Rattle.views.specs.Changes.{Change, Stays, Insert, Replace, Remove, Records, Resets, mask_change, seen, same_pin, same_record, same_token_object, same_shared, is_seen}
+use Rattle.views.specs.Changes.{Change, Stays, Insert, Replace, Remove, Records, Resets, seen, same_pin, same_record, same_token_object, same_shared, is_seen}
 
 -- ---- the same is equal
 

@@ -1,5 +1,5 @@
 -- What answers are made of.
-use Rattle.std.specs.Prelude.{ℕ, ◌+◌, ◌^◌, Bool, true, false, ◌||◌, ◌==◌, nat_le, List, [], ◌∷◌, find, is_some, is_none, if◌then◌else◌, Option, Some, None}
+use Rattle.std.specs.Prelude.{ℕ, ◌+◌, ◌^◌, Bool, false, ◌||◌, ◌==◌, nat_le, List, [], ◌∷◌, find, is_some, if◌then◌else◌, Option, Some, None}
 use Rattle.std.specs.Option.{option_map}
 use Rattle.ck_types.specs.declared.entry.Entry.{Entry}
 use Rattle.ck_types.specs.declared.rv.Rv.{Rv}

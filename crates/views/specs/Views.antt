@@ -1,8 +1,7 @@
 -- What one application sees of the token. The full view has the values of keys that are masked or in use, and
 -- what PINs are checked against; the view has none of them.
-use Rattle.std.specs.Prelude.{ℕ, Bool, true, List, [], ◌∷◌, ◌++◌, map, filter, Option, Some, None, is_some, if◌then◌else◌}
+use Rattle.std.specs.Prelude.{ℕ, Bool, true, List, [], map, filter, Option, None, is_some}
 use Rattle.std.specs.Option.{option_map}
-use Rattle.std.specs.List.{remove}
 use Rattle.ck_types.specs.declared.entry.Entry.{Entry}
 use Rattle.ck_types.specs.declared.user_type.UserType.{UserType}
 use Rattle.ck_calls.specs.declared.function.Function.{Function}
@@ -14,7 +13,6 @@ use Rattle.sessions.specs.declared.Session.{Session}
 use Rattle.sessions.specs.Sessions.{SessionTable, state_of, no_sessions}
 use Rattle.streams.specs.declared.part.Part.{Part}
 use Rattle.ops.specs.Operations.{Operation, Operations, mask_operation}
-use Rattle.lists.specs.Places.{seen_place, kept_place, replaced}
 
 -- ---- the token's record
 

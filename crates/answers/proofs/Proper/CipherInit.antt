@@ -1,5 +1,5 @@
 -- C_EncryptInit and C_DecryptInit.
-use Rattle.std.proofs.Common.{◌≡◌, ℕ, Bool, true, not, List, [], Option, Some, None, refl, ◌∙◌, ap, arith}
+use Rattle.std.proofs.Common.{◌≡◌, ℕ, true, not, List, [], Option, Some, None, refl, ◌∙◌, ap, arith}
 use Rattle.std.specs.Prelude.{is_some}
 use Rattle.std.specs.Option.{unwrap_or, option_map}
 use Rattle.ck_types.specs.declared.attr_type.AttrType.TheVariants as attr
@@ -18,7 +18,7 @@ use Rattle.precede.specs.Row.{code_of}
 use Rattle.sessions.specs.declared.Session.{Session}
 use Rattle.ops.specs.declared.place.Place.{Place}
 use Rattle.ops.specs.declared.place.Place.TheVariants.{Encrypt, Decrypt, Sign, Verify}
-use Rattle.ops.specs.Operations.{Operation, Operations, mask_operation, operation_at, operation_in, placed, placed_in, started}
+use Rattle.ops.specs.Operations.{Operation, Operations, mask_operation, operation_in, placed, placed_in, started}
 use Rattle.views.specs.Views.{mask_operations, mask_sessions}
 use Rattle.views.specs.Answering.{with_operation}
 use Rattle.views.specs.Checked.{flag_at}

@@ -1,6 +1,5 @@
 -- C_CopyObject.
 use Rattle.std.proofs.Common.{◌≡◌, ℕ, false, not, List, [], Option, Some, None, refl, ◌∙◌, ap, arith}
-use Rattle.std.specs.Prelude.{is_none}
 use Rattle.std.specs.Option.{unwrap_or, option_map}
 use Rattle.ck_types.specs.declared.attr_type.AttrType.TheVariants as attr
 use Rattle.ck_types.specs.declared.rv.Rv.{Rv}
@@ -16,7 +15,7 @@ use Rattle.answers.specs.CreateObject.{makes_row, makes_says, adds}
 use Rattle.answers.specs.CopyObject.{copy_row, copies, copies_of, copy_object}
 use Rattle.answers.proofs.Templates.{fault-plain}
 use Rattle.answers.proofs.Proper.CreateObject.{blind-adds, makes-mask, makes-told, makes-fair, fair-adds}
-use Rattle.views.proofs.Checks.{Entry, mask_object, Row, View, mask, shown, session_of, object_at, object-mask, IsProper, IsFair, blind-checked_by, fair-checked_by, row-session, none-masked, flag-masked, state-mask}
+use Rattle.views.proofs.Checks.{Entry, mask_object, Row, View, mask, shown, object_at, object-mask, IsProper, IsFair, blind-checked_by, fair-checked_by, row-session, none-masked, flag-masked, state-mask}
 
 copy-mask : (x y : List Entry) → mask_object x ≡ mask_object y → (v : View) (s : ℕ) (o : Option (List Entry)) (fault : Option Rv) (row : Row) → copy_row (mask v) s (option_map mask_object o) fault x row ≡ copy_row v s o fault y row
 copy-mask x y same v s o fault NoSession = row-session v s
