@@ -1,12 +1,12 @@
 //! The tests of `token`'s calls that encrypt and decrypt, at once and in pieces: scripts of what applications do and are
-//! told, on one bench (`tests/bench.rt`), which plays each by calls one after the other and in one list of events.
+//! told (`scripts`), each by calls one after the other and in one list of events.
 //!
 //! ```text
 //! const ROWS: &[Row] = &[
 //!     (A, EncryptInit(1, CBC, KEY), OK),
 //!     (A, Encrypt(1, BLOCK, Some(16)), Told::Data(CHAINED)),
 //! ];
-//! play_and_run(&rt, rt.alloc(), ROWS)
+//! play_and_run(rt.alloc(), ROWS)
 //! ```
 #![tactic(auto)]
 

@@ -1,7 +1,5 @@
 mod begun;
-mod bench;
 mod given;
 mod long_texts;
 mod pieces;
 mod single_calls;
-mod steps;

@@ -1,73 +1,36 @@
 //! A keeper that fails at its n-th call: one reply of the line has the code of the failure.
 
 use crate::tests::token_over;
-use ck_calls::Call;
-use ck_types::{AttrType, Bytes, Entry, Rv, Template};
+use ck_types::Rv;
 use failing_keep::{FailingKeep, Failure};
 use keep::ListKeep;
 use line::{Watched, Words, serve_one};
 use pin_record::Record;
+use scripts::given::*;
+use scripts::{Step, call_of};
 use std::alloc::Global;
 use std::process::Abort;
 use std::test::*;
 use wire::{FrameReader, write_call};
 
-/// A public data object of the token.
-const TEMPLATE: &[(AttrType, &[u8])] = &[
-    (AttrType::Class, &[0; 8]),
-    (AttrType::Token, &[1]),
-    (AttrType::Private, &[0]),
+/// A session, a token object, its size, and its end.
+const STEPS: &[Step] = &[
+    OPEN,
+    Step::CreateObject(1, TOKEN_DATA),
+    Step::GetObjectSize(1, 1),
+    Step::DestroyObject(1, 1),
 ];
 
-/// How often the calls below, and the token's making before them, ask the keeper for what may be refused.
+/// How often these calls, and the token's making before them, ask the keeper for what may be refused.
 const CALLS: u64 = 5;
 
-fn template(alloc: Global) -> Result<Template, Fail> {
-    let mut template = Template::new(alloc);
-    for (attribute, value) in TEMPLATE {
-        template.push(Entry {
-            number: attribute.number(),
-            value: Bytes::from_slice(alloc, value)?,
-        })?;
-    }
-    Ok(template)
-}
-
-fn add(alloc: Global, frames: &mut Vec<u8>, call: &Call) -> Result<(), Fail> {
-    let frame = write_call(alloc, call)?;
-    frames.extend_from_slice(&frame)?;
-    Ok(())
-}
-
-/// The frames of four calls: a session, a token object, its size, and its end.
+/// The frames of the steps.
 fn input(alloc: Global) -> Result<Vec<u8>, Fail> {
     let mut frames = Vec::new(alloc);
-    add(alloc, &mut frames, &Call::OpenSession { slot: 0, flags: 6 })?;
-    let template = template(alloc)?;
-    add(
-        alloc,
-        &mut frames,
-        &Call::CreateObject {
-            session: 1,
-            template,
-        },
-    )?;
-    add(
-        alloc,
-        &mut frames,
-        &Call::GetObjectSize {
-            session: 1,
-            object: 1,
-        },
-    )?;
-    add(
-        alloc,
-        &mut frames,
-        &Call::DestroyObject {
-            session: 1,
-            object: 1,
-        },
-    )?;
+    for step in STEPS {
+        let call = call_of(alloc, *step)?;
+        frames.extend_from_slice(&write_call(alloc, &call)?)?;
+    }
     Ok(frames)
 }
 

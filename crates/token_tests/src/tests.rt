@@ -1,10 +1,7 @@
-mod bench;
 mod failures;
-mod given;
 mod isolation;
 mod objects;
 mod order;
 mod runs;
 mod session_calls;
-mod steps;
 mod stores;

@@ -1,13 +1,13 @@
 //! How operations begin and end: C_EncryptInit and C_DecryptInit.
 
-use super::bench::play_and_run;
 use super::given::*;
-use super::steps::Step::{
+use ck_types::Rv;
+use scripts::Step::{
     CloseSession, CreateObject, Decrypt, DecryptInit, DestroyObject, Encrypt, EncryptInit,
     EncryptUpdate,
 };
-use super::steps::{GivenMechanism, Row, Told};
-use ck_types::Rv;
+use scripts::given::*;
+use scripts::{GivenMechanism, Row, Told};
 use std::test::*;
 
 #[test]
@@ -30,7 +30,7 @@ fn an_init_without_a_mechanism_ends_its_own_operation(rt: HostRuntime) -> Result
         (A, Decrypt(1, BLOCK, Some(16)), NO_OPERATION),
         (A, Encrypt(1, BLOCK, Some(16)), Told::Data(COUNTED)),
     ];
-    play_and_run(&rt, rt.alloc(), ROWS)
+    play_and_run(rt.alloc(), ROWS)
 }
 
 /// CKM_AES_KEY_WRAP and CKM_AES_CMAC, which encipher no texts.
@@ -84,7 +84,7 @@ fn an_encryption_that_may_not_begin_has_its_code(rt: HostRuntime) -> Result<(), 
         (A, EncryptInit(1, CBC_PAD, NO_DECRYPTION), OK),
         (A, EncryptInit(1, CBC_PAD, NO_DECRYPTION), OPERATION_ACTIVE),
     ];
-    play_and_run(&rt, rt.alloc(), ROWS)
+    play_and_run(rt.alloc(), ROWS)
 }
 
 #[test]
@@ -106,7 +106,7 @@ fn a_decryption_that_may_not_begin_has_its_code(rt: HostRuntime) -> Result<(), F
         (A, DecryptInit(1, CBC_PAD, NO_ENCRYPTION), OK),
         (A, DecryptInit(1, CBC_PAD, NO_ENCRYPTION), OPERATION_ACTIVE),
     ];
-    play_and_run(&rt, rt.alloc(), ROWS)
+    play_and_run(rt.alloc(), ROWS)
 }
 
 #[test]
@@ -130,7 +130,7 @@ fn an_operation_runs_on_after_its_key_was_destroyed(rt: HostRuntime) -> Result<(
         (A, Encrypt(1, TEXT, Some(16)), CIPHERTEXT),
         (A, EncryptInit(1, ECB, 6), NO_KEY),
     ];
-    play_and_run(&rt, rt.alloc(), ROWS)
+    play_and_run(rt.alloc(), ROWS)
 }
 
 #[test]
@@ -145,5 +145,5 @@ fn an_operation_ends_with_its_session(rt: HostRuntime) -> Result<(), Fail> {
         (A, OPEN_READ_ONLY, Told::Session(3)),
         (A, Encrypt(3, BLOCK, Some(16)), NO_OPERATION),
     ];
-    play_and_run(&rt, rt.alloc(), ROWS)
+    play_and_run(rt.alloc(), ROWS)
 }

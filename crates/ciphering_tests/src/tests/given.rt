@@ -1,45 +1,10 @@
-//! What the scripts speak of: applications, keys, texts, mechanisms and codes.
+//! What the scripts speak of beside what all do: keys, texts, mechanisms and codes; and how each is played.
 
-use super::steps::{Given, GivenMechanism, Row, Step, Told};
 use ck_types::{AttrType, Rv};
-
-pub(super) const A: u64 = 1;
-
-pub(super) const B: u64 = 2;
-
-/// Sessions that may write, and that may not.
-pub(super) const OPEN: Step = Step::OpenSession(6);
-
-pub(super) const OPEN_READ_ONLY: Step = Step::OpenSession(4);
-
-const NO: &[u8] = b"\x00";
-
-const YES: &[u8] = b"\x01";
-
-/// The numbers of a class and of key types, as their attributes have them.
-const SECRET_KEY: &[u8] = b"\x00\x00\x00\x00\x00\x00\x00\x04";
-
-const AES: &[u8] = b"\x00\x00\x00\x00\x00\x00\x00\x1f";
-
-const GENERIC_SECRET: &[u8] = b"\x00\x00\x00\x00\x00\x00\x00\x10";
-
-/// The key, the text and the ciphertext of FIPS 197, C.1.
-const KEY_BYTES: &[u8] = b"\x00\x01\x02\x03\x04\x05\x06\x07\x08\x09\x0a\x0b\x0c\x0d\x0e\x0f";
-
-pub(super) const TEXT: &[u8] = b"\x00\x11\x22\x33\x44\x55\x66\x77\x88\x99\xaa\xbb\xcc\xdd\xee\xff";
-
-pub(super) const CIPHERTEXT: Told = Told::Data(
-    b"\x69\xc4\xe0\xd8\x6a\x7b\x04\x30\xd8\xcd\xb7\x80\x70\xb4\xc5\x5a",
-);
-
-/// A public AES key of the token, sensitive and unextractable.
-pub(super) const TOKEN_KEY: Given = &[
-    (AttrType::Class, SECRET_KEY),
-    (AttrType::KeyType, AES),
-    (AttrType::Value, KEY_BYTES),
-    (AttrType::Private, NO),
-    (AttrType::Token, YES),
-];
+use scripts::given::*;
+use scripts::{Given, GivenMechanism, Row, Step, Told};
+use std::alloc::Global;
+use std::test::*;
 
 /// The keys that each script begins with: that of SP 800-38A, appendix F, that of FIPS 197, C.3, a secret that is no AES
 /// key, one that doesn't decrypt, and one that doesn't encrypt.
@@ -137,52 +102,28 @@ pub(super) const PADDED_BLOCK: &[u8] =
     b"\x76\x49\xab\xac\x81\x19\xb2\x46\xce\xe9\x8e\x9b\x12\xe9\x19\x7d\
 \x89\x64\xe0\xb1\x49\xc1\x0b\x7b\x68\x2e\x6e\x39\xaa\xeb\x73\x1c";
 
-/// The initialization vector of that appendix.
-pub(super) const IV: &[u8] = b"\x00\x01\x02\x03\x04\x05\x06\x07\x08\x09\x0a\x0b\x0c\x0d\x0e\x0f";
-
-/// CKM_AES_ECB, CKM_AES_CBC, CKM_AES_CBC_PAD and CKM_AES_CTR.
-pub(super) const ECB_NUMBER: u64 = 0x1081;
-
-pub(super) const CBC_NUMBER: u64 = 0x1082;
-
-pub(super) const CBC_PAD_NUMBER: u64 = 0x1085;
-
-pub(super) const CTR_NUMBER: u64 = 0x1086;
-
-pub(super) const ECB: Option<GivenMechanism> = Some((ECB_NUMBER, b""));
-
-pub(super) const CBC: Option<GivenMechanism> = Some((CBC_NUMBER, IV));
-
-pub(super) const CBC_PAD: Option<GivenMechanism> = Some((CBC_PAD_NUMBER, IV));
-
-/// With 128 counter bits and the first counter of F.5.1, and with two bits from 1 on.
+/// With 128 counter bits and the first counter of F.5.1.
 pub(super) const CTR: Option<GivenMechanism> = Some((
     CTR_NUMBER,
     b"\x00\x00\x00\x00\x00\x00\x00\x80\xf0\xf1\xf2\xf3\xf4\xf5\xf6\xf7\xf8\xf9\xfa\xfb\xfc\xfd\xfe\xff",
 ));
 
-pub(super) const TWO_BITS: Option<GivenMechanism> = Some((
-    CTR_NUMBER,
-    b"\x00\x00\x00\x00\x00\x00\x00\x02\x00\x00\x00\x00\x00\x00\x00\x00\x00\x00\x00\x00\x00\x00\x00\x01",
-));
-
 /// Data of no byte.
 pub(super) const NO_BYTES: Told = Told::Data(b"");
-
-pub(super) const OK: Told = Told::Code(Rv::Ok);
-
-pub(super) const FAILED: Told = Told::Code(Rv::FunctionFailed);
-
-pub(super) const NO_SESSION: Told = Told::Code(Rv::SessionHandleInvalid);
-
-pub(super) const NO_OPERATION: Told = Told::Code(Rv::OperationNotInitialized);
-
-pub(super) const OPERATION_ACTIVE: Told = Told::Code(Rv::OperationActive);
-
-pub(super) const NO_KEY: Told = Told::Code(Rv::KeyHandleInvalid);
 
 pub(super) const WRONG_LENGTH: Told = Told::Code(Rv::DataLenRange);
 
 pub(super) const WRONG_ENCRYPTED_LENGTH: Told = Told::Code(Rv::EncryptedDataLenRange);
 
 pub(super) const WRONG_PADDING: Told = Told::Code(Rv::EncryptedDataInvalid);
+
+/// Sees that a token with the keys goes as the rows say, which leave no question pending: by calls one after the other, and
+/// in one list of events.
+pub(super) fn play_and_run(alloc: Global, rows: &[Row]) -> Result<(), Fail> {
+    scripts::play_and_run(alloc, BEFORE, rows)
+}
+
+/// The same for rows some of which leave a question pending until its own row.
+pub(super) fn play_and_run_questions(alloc: Global, rows: &[Row]) -> Result<(), Fail> {
+    scripts::play_and_run_questions(alloc, BEFORE, rows)
+}

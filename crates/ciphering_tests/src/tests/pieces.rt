@@ -1,12 +1,12 @@
 //! Ciphers over texts in pieces: C_EncryptUpdate and C_DecryptUpdate, C_EncryptFinal and C_DecryptFinal.
 
-use super::bench::{play_and_run, play_and_run_questions};
 use super::given::*;
-use super::steps::Step::{
+use scripts::Step::{
     CloseSession, CreateObject, Decrypt, DecryptFinal, DecryptInit, DecryptUpdate, DestroyObject,
     Encrypt, EncryptFinal, EncryptInit, EncryptUpdate, Finish, Goes,
 };
-use super::steps::{Row, Told};
+use scripts::given::*;
+use scripts::{Row, Told};
 use std::test::*;
 
 /// The block of SP 800-38A in two parts, and the first bytes of what CTR makes of it.
@@ -60,7 +60,7 @@ fn a_block_comes_once_all_of_its_bytes_were_given(rt: HostRuntime) -> Result<(),
             Told::Data(b"\x89\x64\xe0\xb1\x49\xc1\x0b\x7b\x68\x2e\x6e\x39\xaa\xeb\x73\x1c"),
         ),
     ];
-    play_and_run(&rt, rt.alloc(), ROWS)
+    play_and_run(rt.alloc(), ROWS)
 }
 
 #[test]
@@ -87,7 +87,7 @@ fn a_text_that_ends_within_a_block_is_refused_and_ends(rt: HostRuntime) -> Resul
         (A, DecryptFinal(1, Some(16)), WRONG_ENCRYPTED_LENGTH),
         (A, DecryptUpdate(1, SECOND_15, Some(16)), NO_OPERATION),
     ];
-    play_and_run(&rt, rt.alloc(), ROWS)
+    play_and_run(rt.alloc(), ROWS)
 }
 
 #[test]
@@ -100,7 +100,7 @@ fn what_is_no_padding_ends_at_the_last_call(rt: HostRuntime) -> Result<(), Fail>
         (A, DecryptFinal(1, Some(16)), NO_OPERATION),
         (A, DecryptUpdate(1, CHAINED, Some(16)), NO_OPERATION),
     ];
-    play_and_run(&rt, rt.alloc(), ROWS)
+    play_and_run(rt.alloc(), ROWS)
 }
 
 #[test]
@@ -137,7 +137,7 @@ fn a_buffer_that_is_absent_or_small_takes_nothing(rt: HostRuntime) -> Result<(),
         (A, DecryptFinal(1, Some(0)), NO_BYTES),
         (A, DecryptFinal(1, None), NO_OPERATION),
     ];
-    play_and_run(&rt, rt.alloc(), ROWS)
+    play_and_run(rt.alloc(), ROWS)
 }
 
 #[test]
@@ -159,7 +159,7 @@ fn a_single_call_after_data_was_taken_is_refused_and_ends(rt: HostRuntime) -> Re
         (A, Decrypt(1, COUNTED, Some(16)), Told::Data(BLOCK)),
         (A, Decrypt(1, COUNTED, Some(16)), NO_OPERATION),
     ];
-    play_and_run(&rt, rt.alloc(), ROWS)
+    play_and_run(rt.alloc(), ROWS)
 }
 
 #[test]
@@ -179,7 +179,7 @@ fn the_end_of_a_counter_ends_an_operation_in_pieces(rt: HostRuntime) -> Result<(
         (A, EncryptUpdate(1, &[0; 49], Some(0)), WRONG_LENGTH),
         (A, EncryptFinal(1, Some(0)), NO_OPERATION),
     ];
-    play_and_run(&rt, rt.alloc(), ROWS)
+    play_and_run(rt.alloc(), ROWS)
 }
 
 #[test]
@@ -204,7 +204,7 @@ fn an_encryption_and_a_decryption_of_a_session_go_on_apart(rt: HostRuntime) -> R
         (A, DecryptFinal(1, Some(16)), NO_OPERATION),
         (A, Encrypt(1, BLOCK, Some(16)), Told::Data(CHAINED)),
     ];
-    play_and_run(&rt, rt.alloc(), ROWS)
+    play_and_run(rt.alloc(), ROWS)
 }
 
 #[test]
@@ -229,7 +229,7 @@ fn operations_of_two_sessions_go_on_apart(rt: HostRuntime) -> Result<(), Fail> {
         ),
         (A, EncryptFinal(2, Some(0)), NO_BYTES),
     ];
-    play_and_run(&rt, rt.alloc(), ROWS)
+    play_and_run(rt.alloc(), ROWS)
 }
 
 #[test]
@@ -255,7 +255,7 @@ fn an_operation_runs_on_though_its_key_goes_between_updates(rt: HostRuntime) -> 
         (A, DecryptFinal(1, Some(16)), NO_BYTES),
         (A, DecryptInit(1, CBC_PAD, KEY), NO_KEY),
     ];
-    play_and_run(&rt, rt.alloc(), ROWS)
+    play_and_run(rt.alloc(), ROWS)
 }
 
 #[test]
@@ -284,5 +284,5 @@ fn a_pending_update_holds_its_operation_for_others_to_wait(rt: HostRuntime) -> R
         (A, Finish, Told::Nothing),
         (A, EncryptFinal(1, Some(0)), NO_SESSION),
     ];
-    play_and_run_questions(&rt, rt.alloc(), ROWS)
+    play_and_run_questions(rt.alloc(), ROWS)
 }

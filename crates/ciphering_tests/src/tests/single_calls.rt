@@ -1,9 +1,9 @@
 //! Texts in single calls: C_Encrypt and C_Decrypt.
 
-use super::bench::play_and_run;
 use super::given::*;
-use super::steps::Step::{Decrypt, DecryptInit, Encrypt, EncryptInit};
-use super::steps::{GivenMechanism, Row, Told};
+use scripts::Step::{Decrypt, DecryptInit, Encrypt, EncryptInit};
+use scripts::given::*;
+use scripts::{GivenMechanism, Row, Told};
 use std::test::*;
 
 #[test]
@@ -32,7 +32,7 @@ fn each_mechanism_gives_its_known_answer_both_ways(rt: HostRuntime) -> Result<()
         (A, DecryptInit(1, CTR, KEY), OK),
         (A, Decrypt(1, COUNTED, Some(16)), Told::Data(BLOCK)),
     ];
-    play_and_run(&rt, rt.alloc(), ROWS)
+    play_and_run(rt.alloc(), ROWS)
 }
 
 /// CKM_AES_CBC_PAD with initialization vectors that turn a byte of the padding of no text: its last byte to 0, to 17 and
@@ -76,7 +76,7 @@ fn what_is_no_padding_ends_a_decryption(rt: HostRuntime) -> Result<(), Fail> {
             Told::Data(&[16; 15]),
         ),
     ];
-    play_and_run(&rt, rt.alloc(), ROWS)
+    play_and_run(rt.alloc(), ROWS)
 }
 
 #[test]
@@ -101,7 +101,7 @@ fn a_length_that_is_refused_ends_an_operation(rt: HostRuntime) -> Result<(), Fai
         (A, Decrypt(1, &[0; 31], None), WRONG_ENCRYPTED_LENGTH),
         (A, Decrypt(1, PADDED_NOTHING, Some(16)), NO_OPERATION),
     ];
-    play_and_run(&rt, rt.alloc(), ROWS)
+    play_and_run(rt.alloc(), ROWS)
 }
 
 #[test]
@@ -116,7 +116,7 @@ fn texts_of_no_byte_have_no_blocks(rt: HostRuntime) -> Result<(), Fail> {
         (A, Decrypt(1, b"", Some(0)), NO_BYTES),
         (A, Decrypt(1, b"", Some(0)), NO_OPERATION),
     ];
-    play_and_run(&rt, rt.alloc(), ROWS)
+    play_and_run(rt.alloc(), ROWS)
 }
 
 /// The keystream of the three blocks that two bits count from 1 on.
@@ -148,7 +148,7 @@ fn the_end_of_a_counter_ends_an_operation_both_ways(rt: HostRuntime) -> Result<(
         (A, Encrypt(1, &[0; 17], Some(3)), WRONG_LENGTH),
         (A, Encrypt(1, BLOCK, Some(16)), NO_OPERATION),
     ];
-    play_and_run(&rt, rt.alloc(), ROWS)
+    play_and_run(rt.alloc(), ROWS)
 }
 
 #[test]
@@ -179,5 +179,5 @@ fn a_buffer_that_is_absent_or_small_ends_nothing(rt: HostRuntime) -> Result<(), 
         (A, Decrypt(1, COUNTED, Some(16)), Told::Data(BLOCK)),
         (A, Decrypt(1, COUNTED, None), NO_OPERATION),
     ];
-    play_and_run(&rt, rt.alloc(), ROWS)
+    play_and_run(rt.alloc(), ROWS)
 }

@@ -1,14 +1,13 @@
 //! A keeper that fails at its n-th call: the event is refused by the code of the failure, and nothing has changed, so the
 //! same event then goes as if nothing had been.
 
-use super::bench::{BenchOver, expect_told, run_over};
-use super::given::*;
-use super::steps::{Asked, Row, Step, Told, Values, reply_of};
 use ck_calls::Reply;
 use ck_types::Rv;
 use failing_keep::{FailingKeep, Failure};
 use keep::{Keep, KeepFault, ListKeep};
 use pin_record::Record;
+use scripts::given::*;
+use scripts::{Asked, BenchOver, Row, Step, Told, Values, expect_told, reply_of, run_over};
 use std::alloc::Global;
 use std::process::Abort;
 use std::test::*;
@@ -72,7 +71,7 @@ fn refused_row(
             refused = Some(place);
             got = bench.told(app, step)?;
         }
-        expect_told(rt, place, (app, step), &wanted, &got);
+        expect_told(place, (app, step), &wanted, &got)?;
     }
     Ok(refused)
 }
@@ -96,7 +95,7 @@ fn expect_refusals(rt: &impl Abort, alloc: Global, failure: Failure) -> Result<(
         match refused_row(rt, alloc, n, failure)? {
             Some(place) => {
                 let rows = rows_with_refusal(alloc, place, failure)?;
-                run_over(rt, alloc, failing(alloc, n, failure), &rows)?;
+                run_over(alloc, failing(alloc, n, failure), &rows)?;
             }
             None => panic!(rt; "the failure of call {n} was not told"),
         }

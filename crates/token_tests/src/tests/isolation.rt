@@ -1,10 +1,9 @@
 //! Applications beside one another.
 
-use super::bench::{Bench, play};
-use super::given::*;
-use super::steps::{Given, Row, Step, Told};
 use ck_calls::Reply;
 use ck_types::AttrType;
+use scripts::given::*;
+use scripts::{Bench, Given, Row, Step, Told, play};
 use std::alloc::Global;
 use std::process::Abort;
 use std::test::*;
@@ -21,7 +20,7 @@ fn a_new_application_has_no_handle_for_the_objects_of_others(rt: HostRuntime) ->
         (B, Step::CreateObject(1, SESSION_DATA), Told::Object(1)),
         (A, Step::DestroyObject(1, 1), OK),
     ];
-    play(&rt, rt.alloc(), ROWS)
+    play(rt.alloc(), ROWS)
 }
 
 #[test]
@@ -35,7 +34,7 @@ fn a_done_of_another_application_changes_nothing(rt: HostRuntime) -> Result<(), 
         (B, Step::FinishOf(A), FAILED),
         (A, OPEN, FAILED),
     ];
-    play(&rt, rt.alloc(), ROWS)
+    play(rt.alloc(), ROWS)
 }
 
 #[test]
@@ -65,7 +64,7 @@ fn nothing_is_told_of_an_object_without_its_session_and_handle(
             NO_OBJECT,
         ),
     ];
-    play(&rt, rt.alloc(), ROWS)
+    play(rt.alloc(), ROWS)
 }
 
 /// The key of the token, but for its value.
@@ -101,20 +100,20 @@ const ASKED: &[Step] = &[
 ];
 
 /// A bench with a sensitive and unextractable key of A.
-fn with_key(rt: &impl Abort, alloc: Global, key: Given) -> Result<Bench, Fail> {
+fn with_key(alloc: Global, key: Given) -> Result<Bench, Fail> {
     let mut bench = Bench::new(alloc)?;
-    open_with_key(rt, &mut bench, key)?;
+    open_with_key(&mut bench, key)?;
     Ok(bench)
 }
 
-fn open_with_key(rt: &impl Abort, bench: &mut Bench, key: Given) -> Result<(), Fail> {
-    bench.expect(rt, 1, (A, OPEN, Told::Session(1)))?;
-    bench.expect(rt, 2, (A, Step::CreateObject(1, key), Told::Object(1)))
+fn open_with_key(bench: &mut Bench, key: Given) -> Result<(), Fail> {
+    bench.expect(1, (A, OPEN, Told::Session(1)))?;
+    bench.expect(2, (A, Step::CreateObject(1, key), Told::Object(1)))
 }
 
 /// A bench with such a key, after B has made token objects, so that other ids are given next, and has
 /// other sessions and objects.
-fn with_key_beside_others(rt: &impl Abort, alloc: Global, key: Given) -> Result<Bench, Fail> {
+fn with_key_beside_others(alloc: Global, key: Given) -> Result<Bench, Fail> {
     let mut bench = Bench::new(alloc)?;
     const ROWS: &[Row] = &[
         (B, OPEN, Told::Session(1)),
@@ -124,14 +123,14 @@ fn with_key_beside_others(rt: &impl Abort, alloc: Global, key: Given) -> Result<
         (B, Step::CreateObject(1, SESSION_DATA), Told::Object(2)),
         (B, Step::CreateObject(2, SESSION_DATA), Told::Object(3)),
     ];
-    bench.play(rt, ROWS)?;
-    open_with_key(rt, &mut bench, key)?;
+    bench.play(ROWS)?;
+    open_with_key(&mut bench, key)?;
     Ok(bench)
 }
 
 /// What A is told of a text that is enciphered.
-fn ciphertext(rt: &impl Abort, bench: &mut Bench) -> Result<Option<Reply>, Fail> {
-    bench.expect(rt, 0, (A, Step::Encrypt(1, TEXT, Some(16)), Told::Nothing))?;
+fn ciphertext(bench: &mut Bench) -> Result<Option<Reply>, Fail> {
+    bench.expect(0, (A, Step::Encrypt(1, TEXT, Some(16)), Told::Nothing))?;
     bench.told(A, Step::Finish)
 }
 
@@ -145,17 +144,17 @@ fn expect_same(rt: &impl Abort, one: &mut Bench, other: &mut Bench) -> Result<()
 }
 
 /// Whether both encipher a text alike.
-fn encipher_alike(rt: &impl Abort, one: &mut Bench, other: &mut Bench) -> Result<bool, Fail> {
-    Ok(ciphertext(rt, one)? == ciphertext(rt, other)?)
+fn encipher_alike(one: &mut Bench, other: &mut Bench) -> Result<bool, Fail> {
+    Ok(ciphertext(one)? == ciphertext(other)?)
 }
 
 #[test]
 fn what_an_application_cannot_see_is_in_none_of_its_replies(rt: HostRuntime) -> Result<(), Fail> {
-    let mut one = with_key(&rt, rt.alloc(), TOKEN_KEY)?;
-    let mut other = with_key_beside_others(&rt, rt.alloc(), OTHER_KEY)?;
+    let mut one = with_key(rt.alloc(), TOKEN_KEY)?;
+    let mut other = with_key_beside_others(rt.alloc(), OTHER_KEY)?;
     expect_same(&rt, &mut one, &mut other)?;
     // The keys do differ, which a result that is asked for shows.
-    let alike = encipher_alike(&rt, &mut one, &mut other)?;
+    let alike = encipher_alike(&mut one, &mut other)?;
     assert!(rt; !alike);
     Ok(())
 }

@@ -1,11 +1,9 @@
 //! Objects: C_CreateObject, C_CopyObject, C_DestroyObject, C_GetObjectSize, C_GetAttributeValue and
 //! C_SetAttributeValue.
 
-use super::bench::{Bench, play};
-use super::given::*;
-use super::steps::{Given, Row, Step, Told};
 use ck_types::{AttrType, Rv};
-use std::process::Abort;
+use scripts::given::*;
+use scripts::{Bench, Given, Row, Step, Told, play};
 use std::test::*;
 
 /// A value of 17 bytes, which no AES key has.
@@ -141,7 +139,7 @@ fn a_template_that_makes_nothing_has_its_code(rt: HostRuntime) -> Result<(), Fai
         ),
         (A, Step::CopyObject(1, 1, PRIVATE), NOT_LOGGED_IN),
     ];
-    play(&rt, rt.alloc(), ROWS)
+    play(rt.alloc(), ROWS)
 }
 
 #[test]
@@ -161,7 +159,7 @@ fn a_copy_is_an_object_of_its_own(rt: HostRuntime) -> Result<(), Fail> {
         (A, Step::SetAttributeValue(1, 3, NEW_LABEL), NO_OBJECT),
         (A, Step::SetAttributeValue(1, 2, NEW_LABEL), OK),
     ];
-    play(&rt, rt.alloc(), ROWS)
+    play(rt.alloc(), ROWS)
 }
 
 #[test]
@@ -196,7 +194,7 @@ fn a_changed_object_stays_under_its_handle(rt: HostRuntime) -> Result<(), Fail> 
         (A, Step::DestroyObject(1, 1), OK),
         (A, Step::SetAttributeValue(1, 1, NEW_LABEL), NO_OBJECT),
     ];
-    play(&rt, rt.alloc(), ROWS)
+    play(rt.alloc(), ROWS)
 }
 
 #[test]
@@ -211,21 +209,17 @@ fn an_object_forbids_what_it_says(rt: HostRuntime) -> Result<(), Fail> {
         (A, Step::SetAttributeValue(1, 3, NEW_LABEL), PROHIBITED),
         (A, Step::SetAttributeValue(1, 2, NEW_LABEL), OK),
     ];
-    play(&rt, rt.alloc(), ROWS)
+    play(rt.alloc(), ROWS)
 }
 
 #[test]
 fn an_application_has_at_most_256_session_objects(rt: HostRuntime) -> Result<(), Fail> {
-    let mut bench = Bench::new(rt.alloc())?;
-    fill_with_objects(&rt, &mut bench)
-}
-
-fn fill_with_objects(rt: &impl Abort, bench: &mut Bench) -> Result<(), Fail> {
     const CREATE: Step = Step::CreateObject(1, SESSION_DATA);
     const AFTER: &[Row] = &[(A, CREATE, OBJECT_LIMIT), (A, CREATE, OBJECT_LIMIT)];
-    bench.play(rt, &[(A, OPEN_READ_ONLY, Told::Session(1))])?;
-    bench.fill(rt, (A, CREATE), 1, 256)?;
-    bench.play(rt, AFTER)
+    let mut bench = Bench::new(rt.alloc())?;
+    bench.expect(0, (A, OPEN_READ_ONLY, Told::Session(1)))?;
+    bench.fill((A, CREATE), 1, 256)?;
+    bench.play(AFTER)
 }
 
 #[test]
@@ -241,7 +235,7 @@ fn the_size_of_an_object_is_the_length_of_its_stored_form(rt: HostRuntime) -> Re
         (A, Step::CreateObject(1, LABELLED_KEY), Told::Object(4)),
         (A, Step::GetObjectSize(1, 4), Told::ObjectSize(311)),
     ];
-    play(&rt, rt.alloc(), ROWS)
+    play(rt.alloc(), ROWS)
 }
 
 /// The objects that are asked, and what is told of each attribute that is asked for.
@@ -324,5 +318,5 @@ const ASKED: &[Row] = &[
 
 #[test]
 fn each_attribute_that_is_asked_for_is_answered(rt: HostRuntime) -> Result<(), Fail> {
-    play(&rt, rt.alloc(), ASKED)
+    play(rt.alloc(), ASKED)
 }

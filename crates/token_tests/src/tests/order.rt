@@ -4,15 +4,14 @@ mod cases;
 mod cipher_cases;
 mod given;
 
-use super::bench::Bench;
-use super::steps::{Step, Told, call_of};
-use crate::tests::given::*;
 use cases::{CASES, LEFT_OUT, SECONDS};
 use cipher_cases::{DECRYPTING_CASES, ENCRYPTING_CASES};
 use ck_calls::Function;
 use ck_types::Rv;
 use given::{BEFORE, BEGUN, Case, WRITES};
 use precede::{Row as Fault, rows};
+use scripts::given::*;
+use scripts::{Bench, Step, Told, call_of};
 use std::alloc::Global;
 use std::process::Abort;
 use std::test::*;
@@ -50,72 +49,72 @@ fn told_of(fault: Fault) -> Result<Told, Fail> {
 }
 
 /// A bench on which the fault can hold.
-fn bench_for(rt: &impl Abort, alloc: Global, fault: Fault) -> Result<Bench, Fail> {
+fn bench_for(alloc: Global, fault: Fault) -> Result<Bench, Fail> {
     let mut bench = Bench::new(alloc)?;
-    prepare(rt, &mut bench, fault)?;
+    prepare(&mut bench, fault)?;
     Ok(bench)
 }
 
-fn prepare(rt: &impl Abort, bench: &mut Bench, fault: Fault) -> Result<(), Fail> {
+fn prepare(bench: &mut Bench, fault: Fault) -> Result<(), Fail> {
     const OBJECT: Step = Step::CreateObject(WRITES, SESSION_DATA);
-    bench.play(rt, BEFORE)?;
+    bench.play(BEFORE)?;
     match fault {
-        Fault::SessionLimit => bench.fill(rt, (A, OPEN), 9, 64),
-        Fault::ObjectLimit => bench.fill(rt, (A, OBJECT), 6, 261),
+        Fault::SessionLimit => bench.fill((A, OPEN), 9, 64),
+        Fault::ObjectLimit => bench.fill((A, OBJECT), 6, 261),
         _ => Ok(()),
     }
 }
 
 /// Sees that the second fault is told where it holds alone, and the first where both do.
-fn expect_order(rt: &impl Abort, bench: &mut Bench, case: Case) -> Result<(), Fail> {
+fn expect_order(bench: &mut Bench, case: Case) -> Result<(), Fail> {
     let (first, second, alone, both) = case;
-    bench.expect(rt, second, (A, alone, told_of(second)?))?;
-    bench.expect(rt, (first, second), (A, both, told_of(first)?))
+    bench.expect(second, (A, alone, told_of(second)?))?;
+    bench.expect((first, second), (A, both, told_of(first)?))
 }
 
 /// Sees the order in each case, each on a bench of its own.
-fn expect_orders(rt: &impl Abort, alloc: Global, cases: &[Case]) -> Result<(), Fail> {
+fn expect_orders(alloc: Global, cases: &[Case]) -> Result<(), Fail> {
     for case in cases {
-        let mut bench = bench_for(rt, alloc, case.1)?;
-        expect_order(rt, &mut bench, *case)?;
+        let mut bench = bench_for(alloc, case.1)?;
+        expect_order(&mut bench, *case)?;
     }
     Ok(())
 }
 
 #[test]
 fn of_two_faults_the_first_is_told(rt: HostRuntime) -> Result<(), Fail> {
-    expect_orders(&rt, rt.alloc(), CASES)
+    expect_orders(rt.alloc(), CASES)
 }
 
 #[test]
 fn of_two_faults_of_a_cipher_the_first_is_told(rt: HostRuntime) -> Result<(), Fail> {
-    expect_orders(&rt, rt.alloc(), ENCRYPTING_CASES)?;
-    expect_orders(&rt, rt.alloc(), DECRYPTING_CASES)
+    expect_orders(rt.alloc(), ENCRYPTING_CASES)?;
+    expect_orders(rt.alloc(), DECRYPTING_CASES)
 }
 
 /// Sees that each call with its second fault is told that.
-fn expect_seconds(rt: &impl Abort, bench: &mut Bench) -> Result<(), Fail> {
+fn expect_seconds(bench: &mut Bench) -> Result<(), Fail> {
     for (fault, step) in SECONDS {
-        bench.expect(rt, fault, (A, *step, told_of(*fault)?))?;
+        bench.expect(fault, (A, *step, told_of(*fault)?))?;
     }
     Ok(())
 }
 
 /// Sees that each of them fails while a question is pending.
-fn expect_busy(rt: &impl Abort, bench: &mut Bench) -> Result<(), Fail> {
+fn expect_busy(bench: &mut Bench) -> Result<(), Fail> {
     const ASKS: Step = Step::Encrypt(BEGUN, TEXT, Some(16));
-    bench.expect(rt, "the question", (A, ASKS, Told::Nothing))?;
+    bench.expect("the question", (A, ASKS, Told::Nothing))?;
     for (fault, step) in SECONDS {
-        bench.expect(rt, (Fault::Busy, fault), (A, *step, FAILED))?;
+        bench.expect((Fault::Busy, fault), (A, *step, FAILED))?;
     }
-    bench.expect(rt, "its result", (A, Step::Finish, CIPHERTEXT))
+    bench.expect("its result", (A, Step::Finish, CIPHERTEXT))
 }
 
 #[test]
 fn a_pending_question_comes_before_every_fault(rt: HostRuntime) -> Result<(), Fail> {
-    let mut bench = bench_for(&rt, rt.alloc(), Fault::Busy)?;
-    expect_seconds(&rt, &mut bench)?;
-    expect_busy(&rt, &mut bench)
+    let mut bench = bench_for(rt.alloc(), Fault::Busy)?;
+    expect_seconds(&mut bench)?;
+    expect_busy(&mut bench)
 }
 
 fn function_of(alloc: Global, step: Step) -> Result<Function, Fail> {

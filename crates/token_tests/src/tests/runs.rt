@@ -1,8 +1,7 @@
 //! Whole lists of events.
 
-use super::bench::{play, run};
-use super::given::*;
-use super::steps::{Row, Step, Told};
+use scripts::given::*;
+use scripts::{Row, Step, Told, play, run};
 use std::test::*;
 
 /// A job waits while others call; a result without a question is passed over; an application that goes
@@ -26,10 +25,10 @@ const ROWS: &[Row] = &[
 
 #[test]
 fn a_run_gives_each_reply_to_its_application(rt: HostRuntime) -> Result<(), Fail> {
-    run(&rt, rt.alloc(), ROWS)
+    run(rt.alloc(), ROWS)
 }
 
 #[test]
 fn events_in_turn_give_what_a_run_gives(rt: HostRuntime) -> Result<(), Fail> {
-    play(&rt, rt.alloc(), ROWS)
+    play(rt.alloc(), ROWS)
 }

@@ -1,11 +1,9 @@
 //! Sessions: C_OpenSession, C_CloseSession, C_CloseAllSessions and C_GetSessionInfo.
 
-use super::bench::{Bench, play};
-use super::given::*;
-use super::steps::{Row, Step, Told};
 use ck_calls::SessionInfo;
 use ck_types::{Rv, SessionState};
-use std::process::Abort;
+use scripts::given::*;
+use scripts::{Bench, Row, Step, Told, play};
 use std::test::*;
 
 #[test]
@@ -21,7 +19,7 @@ fn a_number_is_never_used_again(rt: HostRuntime) -> Result<(), Fail> {
         (A, Step::DestroyObject(1, 1), NO_OBJECT),
         (A, Step::CreateObject(1, TOKEN_DATA), Told::Object(2)),
     ];
-    play(&rt, rt.alloc(), ROWS)
+    play(rt.alloc(), ROWS)
 }
 
 #[test]
@@ -34,7 +32,7 @@ fn an_application_that_goes_has_nothing_when_it_comes_again(rt: HostRuntime) -> 
         (A, OPEN, Told::Session(1)),
         (A, Step::DestroyObject(1, 1), NO_OBJECT),
     ];
-    play(&rt, rt.alloc(), ROWS)
+    play(rt.alloc(), ROWS)
 }
 
 #[test]
@@ -51,7 +49,7 @@ fn session_objects_go_with_the_session_that_made_them(rt: HostRuntime) -> Result
         (A, Step::CloseAllSessions(0), OK),
         (A, Step::CloseSession(2), NO_SESSION),
     ];
-    play(&rt, rt.alloc(), ROWS)
+    play(rt.alloc(), ROWS)
 }
 
 #[test]
@@ -67,23 +65,19 @@ fn what_a_session_may_not_do_has_its_code(rt: HostRuntime) -> Result<(), Fail> {
         (A, Step::CreateObject(1, TOKEN_DATA), READ_ONLY_SESSION),
         (A, Step::CreateObject(1, PRIVATE_DATA), NOT_LOGGED_IN),
     ];
-    play(&rt, rt.alloc(), ROWS)
+    play(rt.alloc(), ROWS)
 }
 
 #[test]
 fn an_application_has_at_most_64_sessions(rt: HostRuntime) -> Result<(), Fail> {
-    let mut bench = Bench::new(rt.alloc())?;
-    fill_with_sessions(&rt, &mut bench)
-}
-
-fn fill_with_sessions(rt: &impl Abort, bench: &mut Bench) -> Result<(), Fail> {
-    bench.fill(rt, (A, OPEN), 1, 64)?;
-    const ROWS: &[Row] = &[
+    const AFTER: &[Row] = &[
         (A, OPEN, SESSION_LIMIT),
         (A, OPEN, SESSION_LIMIT),
         (B, OPEN, Told::Session(1)),
     ];
-    bench.play(rt, ROWS)
+    let mut bench = Bench::new(rt.alloc())?;
+    bench.fill((A, OPEN), 1, 64)?;
+    bench.play(AFTER)
 }
 
 #[test]
@@ -97,5 +91,5 @@ fn a_session_tells_its_state(rt: HostRuntime) -> Result<(), Fail> {
         (A, OPEN_READ_ONLY, Told::Session(1)),
         (A, Step::GetSessionInfo(1), Told::SessionInfo(INFO)),
     ];
-    play(&rt, rt.alloc(), ROWS)
+    play(rt.alloc(), ROWS)
 }

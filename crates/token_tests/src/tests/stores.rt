@@ -1,13 +1,11 @@
 //! The store of a token that has stopped.
 
-use super::bench::Bench;
-use super::given::*;
-use super::steps::{Row, Step, Told};
 use ck_types::Label;
 use keep::ListKeep;
 use pin_record::{Record, Verifier};
+use scripts::given::*;
+use scripts::{Bench, Row, Step, Told};
 use std::alloc::Global;
-use std::process::Abort;
 use std::test::*;
 use token_store::Store;
 
@@ -17,9 +15,9 @@ const ROWS: &[Row] = &[
     (A, Step::CreateObject(1, TOKEN_KEY), Told::Object(1)),
 ];
 
-fn store_of_one(rt: &impl Abort, alloc: Global) -> Result<Store<ListKeep>, Fail> {
+fn store_of_one(alloc: Global) -> Result<Store<ListKeep>, Fail> {
     let mut bench = Bench::new(alloc)?;
-    bench.play(rt, ROWS)?;
+    bench.play(ROWS)?;
     match Store::adopt(alloc, bench.into_keep()) {
         Ok(store) => Ok(store),
         Err(_) => Err("the keeper refused".into()),
@@ -35,7 +33,7 @@ fn has(alloc: Global, store: &mut Store<ListKeep>, record: Record) -> Result<(bo
 #[test]
 fn a_record_is_set_beside_objects_and_a_reset_takes_them(rt: HostRuntime) -> Result<(), Fail> {
     let alloc = rt.alloc();
-    let mut store = store_of_one(&rt, alloc)?;
+    let mut store = store_of_one(alloc)?;
     let record = Record::initialized(Label::BLANK, Verifier::made(b"so-pin", [7; 16]), 0);
     store.set_record(record)?;
     let set = has(alloc, &mut store, record)?;

@@ -1,13 +1,6 @@
 //! The faults, two at a time, that the calls of each table are given; those of ciphers stand in `cipher_cases`.
 
 use super::given::*;
-use crate::tests::given::*;
-use crate::tests::steps::Step;
-use crate::tests::steps::Step::{
-    CloseAllSessions, CloseSession, CopyObject, CreateObject, Decrypt, DecryptFinal, DecryptInit,
-    DecryptUpdate, DestroyObject, Encrypt, EncryptFinal, EncryptInit, EncryptUpdate,
-    GetAttributeValue, GetObjectSize, GetSessionInfo, OpenSession, SetAttributeValue,
-};
 use ck_calls::Function;
 use precede::Row as Fault;
 use precede::Row::{
@@ -15,6 +8,13 @@ use precede::Row::{
     NotCopyable, NotDestroyable, NotModifiable, NotSerial, ObjectLimit, PrivateObject,
     SessionLimit, SmallBuffer, SoLoggedIn, TemplateRefused, TokenObjectReadOnly, UnknownFlag,
 };
+use scripts::Step;
+use scripts::Step::{
+    CloseAllSessions, CloseSession, CopyObject, CreateObject, Decrypt, DecryptFinal, DecryptInit,
+    DecryptUpdate, DestroyObject, Encrypt, EncryptFinal, EncryptInit, EncryptUpdate,
+    GetAttributeValue, GetObjectSize, GetSessionInfo, OpenSession, SetAttributeValue,
+};
+use scripts::given::*;
 
 /// Each call, with the fault that stands right after a pending question, and with that fault.
 pub(super) const SECONDS: &[(Fault, Step)] = &[

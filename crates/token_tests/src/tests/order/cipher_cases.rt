@@ -1,16 +1,16 @@
 //! The faults, two at a time, that the calls of ciphers are given.
 
 use super::given::*;
-use crate::tests::given::*;
-use crate::tests::steps::Step::{
-    Decrypt, DecryptFinal, DecryptInit, DecryptUpdate, Encrypt, EncryptFinal, EncryptInit,
-    EncryptUpdate,
-};
 use precede::Row::{
     CounterEnd, DataLength, DataTaken, EncryptedDataLength, KeyNotPermitted, NoBuffer, NoKey,
     NoMechanism, NoOperation, NoSession, OperationActive, SmallBuffer, WrongKeyType,
     WrongMechanism, WrongParameter,
 };
+use scripts::Step::{
+    Decrypt, DecryptFinal, DecryptInit, DecryptUpdate, Encrypt, EncryptFinal, EncryptInit,
+    EncryptUpdate,
+};
+use scripts::given::*;
 
 /// Neighbours of the tables of C_EncryptInit, C_Encrypt, C_EncryptUpdate and C_EncryptFinal after the first two rows, and
 /// rows between which one can't hold.

@@ -1,12 +1,10 @@
 //! What the cases speak of: sessions, objects, templates and mechanisms.
 
-use crate::tests::given::*;
-use crate::tests::steps::Step::{
-    CreateObject, DecryptInit, DecryptUpdate, EncryptInit, EncryptUpdate,
-};
-use crate::tests::steps::{Given, GivenMechanism, Row, Step, Told};
 use ck_types::AttrType;
 use precede::Row as Fault;
+use scripts::Step::{CreateObject, DecryptInit, DecryptUpdate, EncryptInit, EncryptUpdate};
+use scripts::given::*;
+use scripts::{Given, GivenMechanism, Row, Step, Told};
 
 /// Two faults of a call, the call with the second alone, and the call with both.
 pub(super) type Case = (Fault, Fault, Step, Step);
@@ -46,8 +44,6 @@ pub(super) const BARRED: u64 = 4;
 pub(super) const FREE: u64 = 5;
 
 pub(super) const MISSING: u64 = 9;
-
-const GENERIC_SECRET: &[u8] = b"\x00\x00\x00\x00\x00\x00\x00\x10";
 
 const MAKES_IDLE_KEY: Given = &[
     (AttrType::Class, SECRET_KEY),
@@ -109,16 +105,11 @@ pub(super) const KEY_GENERATION: Option<GivenMechanism> = Some((0x1080, b""));
 
 pub(super) const KEY_GENERATION_WITH_PARAMETER: Option<GivenMechanism> = Some((0x1080, TEXT));
 
-/// CKM_AES_CTR with two bits that count from one on, and a text that is longer than its keystream.
-pub(super) const TWO_BITS: Option<GivenMechanism> = Some((
-    0x1086,
-    b"\x00\x00\x00\x00\x00\x00\x00\x02\x00\x00\x00\x00\x00\x00\x00\x00\x00\x00\x00\x00\x00\x00\x00\x01",
-));
-
+/// A text that is longer than the keystream of `TWO_BITS`.
 pub(super) const LONG_TEXT: &[u8] = &[0; 49];
 
 /// CKM_AES_CBC_PAD.
-pub(super) const PADDING: Option<GivenMechanism> = Some((0x1085, TEXT));
+pub(super) const PADDING: Option<GivenMechanism> = Some((CBC_PAD_NUMBER, TEXT));
 
 /// A text that is no whole number of blocks.
 pub(super) const ODD_TEXT: &[u8] = b"fifteen bytes..";

@@ -1,0 +1,150 @@
+//! A bench for scripts: a token that takes the steps of rows one after the other.
+
+use crate::calls::call_of;
+use crate::random::random_for;
+use crate::replies::reply_of;
+use crate::steps::{Row, Step, Told};
+use ck_calls::{Call, Reply};
+use keep::{Keep, ListKeep};
+use pin_record::Record;
+use std::alloc::Global;
+use std::fmt::Debug;
+use std::test::Fail;
+use token::{Job, Out, Token};
+
+/// A token over a keeper, with the jobs of the pending questions.
+#[derive(Drop)]
+pub struct BenchOver<K: Keep> {
+    alloc: Global,
+    token: Token<K>,
+    out: Vec<(u64, Job)>,
+}
+
+/// A token over a list.
+pub type Bench = BenchOver<ListKeep>;
+
+impl BenchOver<ListKeep> {
+    pub fn new(alloc: Global) -> Result<Bench, Fail> {
+        BenchOver::over(alloc, ListKeep::new(alloc, Record::new()))
+    }
+}
+
+impl<K: Keep> BenchOver<K> {
+    pub fn over(alloc: Global, keep: K) -> Result<BenchOver<K>, Fail> {
+        match Token::new(alloc, keep) {
+            Ok(token) => Ok(BenchOver {
+                alloc,
+                token,
+                out: Vec::new(alloc),
+            }),
+            Err(_) => Err("the keeper refused".into()),
+        }
+    }
+
+    /// The token's keeper, once the token has stopped.
+    pub fn into_keep(self) -> K {
+        let BenchOver { token, .. } = self;
+        token.into_keep()
+    }
+
+    /// Sees that each row goes as it says.
+    pub fn play(&mut self, rows: &[Row]) -> Result<(), Fail> {
+        for (number, row) in rows.iter().enumerate() {
+            self.expect(number, *row)?;
+        }
+        Ok(())
+    }
+
+    /// Sees that a step, again and again, is told the numbers from `first` to `last`, of sessions or objects.
+    pub fn fill(&mut self, (app, step): (u64, Step), first: u64, last: u64) -> Result<(), Fail> {
+        for number in first..=last {
+            let told = match step {
+                Step::OpenSession(..) => Told::Session(number),
+                _ => Told::Object(number),
+            };
+            self.expect(number, (app, step, told))?;
+        }
+        Ok(())
+    }
+
+    /// Sees that a row goes as it says. A question is finished at once, if the row says what comes of it.
+    pub fn expect(&mut self, place: impl Debug + Drop, row: Row) -> Result<(), Fail> {
+        let (app, step, told) = row;
+        let wanted = reply_of(self.alloc, told)?;
+        let got = self.told_at_last(app, step, wanted.is_some())?;
+        expect_told(place, (app, step), &wanted, &got)
+    }
+
+    /// What the application is told, at once or, if it is to be told something, of the question's result.
+    fn told_at_last(&mut self, app: u64, step: Step, is_told: bool) -> Result<Option<Reply>, Fail> {
+        match self.told(app, step)? {
+            None if is_told => self.told(app, Step::Finish),
+            told => Ok(told),
+        }
+    }
+
+    /// What the application is told at once.
+    pub fn told(&mut self, app: u64, step: Step) -> Result<Option<Reply>, Fail> {
+        match step {
+            Step::Finish => Ok(self.finish(app, app)),
+            Step::FinishOf(asker) => Ok(self.finish(app, asker)),
+            Step::Goes => {
+                let _ = take_job(&mut self.out, app);
+                self.token.gone(app);
+                Ok(None)
+            }
+            _ => {
+                let call = call_of(self.alloc, step)?;
+                self.call(app, call)
+            }
+        }
+    }
+
+    fn call(&mut self, app: u64, call: Call) -> Result<Option<Reply>, Fail> {
+        let random = random_for(self.alloc, &call)?;
+        let out = self.token.call(self.alloc, app, call, &random);
+        self.take_out(app, out)
+    }
+
+    fn take_out(&mut self, app: u64, out: Out) -> Result<Option<Reply>, Fail> {
+        match out {
+            Out::Reply(reply) => Ok(Some(reply)),
+            Out::Ask(job) => {
+                self.out.push((app, job))?;
+                Ok(None)
+            }
+        }
+    }
+
+    /// What an application is told of the result of the asker's question.
+    fn finish(&mut self, app: u64, asker: u64) -> Option<Reply> {
+        let job = take_job(&mut self.out, asker)?;
+        let done = job.run(self.alloc);
+        Some(self.token.finish(self.alloc, app, done))
+    }
+}
+
+fn take_job(out: &mut Vec<(u64, Job)>, asker: u64) -> Option<Job> {
+    let place = out.iter().position(|job| asker == job.0)?;
+    Some(out.remove(place).1)
+}
+
+/// Sees that the step at a place was told what is wanted.
+pub fn expect_told(
+    place: impl Debug + Drop,
+    (app, step): (u64, Step),
+    wanted: &Option<Reply>,
+    got: &Option<Reply>,
+) -> Result<(), Fail> {
+    if got == wanted {
+        return Ok(());
+    }
+    Err(Fail::new(format_args!(
+        "row {place:?}: wanted {wanted:?}, got {got:?}, where {app} makes {step:?}"
+    )))
+}
+
+/// Sees that a new token goes as the rows say by calls one after the other.
+pub fn play(alloc: Global, rows: &[Row]) -> Result<(), Fail> {
+    Bench::new(alloc)?.play(rows)
+}

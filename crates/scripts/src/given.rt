@@ -1,0 +1,138 @@
+//! What the scripts of several chapters speak of: applications, values, templates and codes.
+
+use crate::steps::{Given, GivenMechanism, Step, Told};
+use ck_types::{AttrType, Rv};
+
+pub const A: u64 = 1;
+
+pub const B: u64 = 2;
+
+/// The flags of a read-only session, and of one that may write.
+pub const READ_ONLY: u64 = 4;
+
+pub const READ_WRITE: u64 = 6;
+
+pub const OPEN: Step = Step::OpenSession(0, READ_WRITE);
+
+pub const OPEN_READ_ONLY: Step = Step::OpenSession(0, READ_ONLY);
+
+/// The key, the text and the ciphertext of FIPS 197, C.1.
+pub const KEY_BYTES: &[u8] = b"\x00\x01\x02\x03\x04\x05\x06\x07\x08\x09\x0a\x0b\x0c\x0d\x0e\x0f";
+
+pub const TEXT: &[u8] = b"\x00\x11\x22\x33\x44\x55\x66\x77\x88\x99\xaa\xbb\xcc\xdd\xee\xff";
+
+pub const CIPHERTEXT: Told = Told::Data(
+    b"\x69\xc4\xe0\xd8\x6a\x7b\x04\x30\xd8\xcd\xb7\x80\x70\xb4\xc5\x5a",
+);
+
+/// CKM_AES_ECB, CKM_AES_CBC, CKM_AES_CBC_PAD and CKM_AES_CTR.
+pub const ECB_NUMBER: u64 = 0x1081;
+
+pub const CBC_NUMBER: u64 = 0x1082;
+
+pub const CBC_PAD_NUMBER: u64 = 0x1085;
+
+pub const CTR_NUMBER: u64 = 0x1086;
+
+pub const ECB: Option<GivenMechanism> = Some((ECB_NUMBER, b""));
+
+/// The initialization vector of SP 800-38A, appendix F.
+const IV: &[u8] = b"\x00\x01\x02\x03\x04\x05\x06\x07\x08\x09\x0a\x0b\x0c\x0d\x0e\x0f";
+
+pub const CBC: Option<GivenMechanism> = Some((CBC_NUMBER, IV));
+
+pub const CBC_PAD: Option<GivenMechanism> = Some((CBC_PAD_NUMBER, IV));
+
+/// CKM_AES_CTR with two bits that count from one on.
+pub const TWO_BITS: Option<GivenMechanism> = Some((
+    CTR_NUMBER,
+    b"\x00\x00\x00\x00\x00\x00\x00\x02\x00\x00\x00\x00\x00\x00\x00\x00\x00\x00\x00\x00\x00\x00\x00\x01",
+));
+
+pub const NO: &[u8] = b"\x00";
+
+pub const YES: &[u8] = b"\x01";
+
+/// The numbers of classes and key types, as their attributes have them.
+pub const DATA: &[u8] = b"\x00\x00\x00\x00\x00\x00\x00\x00";
+
+pub const SECRET_KEY: &[u8] = b"\x00\x00\x00\x00\x00\x00\x00\x04";
+
+pub const AES: &[u8] = b"\x00\x00\x00\x00\x00\x00\x00\x1f";
+
+pub const GENERIC_SECRET: &[u8] = b"\x00\x00\x00\x00\x00\x00\x00\x10";
+
+/// The numbers of attributes.
+pub const LABEL: u64 = 0x3;
+
+pub const UNIQUE_ID: u64 = 0x4;
+
+pub const VALUE: u64 = 0x11;
+
+pub const VALUE_LEN: u64 = 0x161;
+
+/// Data objects: of a session, of the token, private, and with all that may be read.
+pub const SESSION_DATA: Given = &[
+    (AttrType::Class, DATA),
+    (AttrType::Token, NO),
+    (AttrType::Private, NO),
+];
+
+pub const TOKEN_DATA: Given = &[
+    (AttrType::Class, DATA),
+    (AttrType::Token, YES),
+    (AttrType::Private, NO),
+];
+
+pub const PRIVATE_DATA: Given = &[
+    (AttrType::Class, DATA),
+    (AttrType::Token, NO),
+    (AttrType::Private, YES),
+];
+
+pub const LABELLED_DATA: Given = &[
+    (AttrType::Class, DATA),
+    (AttrType::Label, b"k1"),
+    (AttrType::Value, b"bytes"),
+];
+
+/// A public AES key of the token, sensitive and unextractable.
+pub const TOKEN_KEY: Given = &[
+    (AttrType::Class, SECRET_KEY),
+    (AttrType::KeyType, AES),
+    (AttrType::Value, KEY_BYTES),
+    (AttrType::Private, NO),
+    (AttrType::Token, YES),
+];
+
+pub const NOTHING: Given = &[];
+
+pub const NEW_LABEL: Given = &[(AttrType::Label, b"k1")];
+
+pub const ON_TOKEN: Given = &[(AttrType::Token, YES)];
+
+pub const OK: Told = Told::Code(Rv::Ok);
+
+pub const FAILED: Told = Told::Code(Rv::FunctionFailed);
+
+pub const NO_SESSION: Told = Told::Code(Rv::SessionHandleInvalid);
+
+pub const NO_SLOT: Told = Told::Code(Rv::SlotIdInvalid);
+
+pub const SESSION_LIMIT: Told = Told::Code(Rv::SessionCount);
+
+pub const READ_ONLY_SESSION: Told = Told::Code(Rv::SessionReadOnly);
+
+pub const NOT_LOGGED_IN: Told = Told::Code(Rv::UserNotLoggedIn);
+
+pub const NO_OBJECT: Told = Told::Code(Rv::ObjectHandleInvalid);
+
+pub const OBJECT_LIMIT: Told = Told::Code(Rv::DeviceMemory);
+
+pub const PROHIBITED: Told = Told::Code(Rv::ActionProhibited);
+
+pub const NO_OPERATION: Told = Told::Code(Rv::OperationNotInitialized);
+
+pub const OPERATION_ACTIVE: Told = Told::Code(Rv::OperationActive);
+
+pub const NO_KEY: Told = Told::Code(Rv::KeyHandleInvalid);

@@ -1,0 +1,34 @@
+//! Scripts for tests of the token: tables of rows, each of which says what an application does and what it is told, and
+//! what plays them. A row that goes otherwise ends the test, which prints the row's number, what was wanted, what was told,
+//! and the step.
+//!
+//! - `given` names what many scripts speak of: applications, keys, texts, templates and codes.
+//! - `Row`, `Step` and `Told` are the vocabulary; `call_of` and `reply_of` make a call and a reply of them.
+//! - `Bench` is a token that takes steps one after the other. `play` plays rows on a new one, `run` gives them to a new
+//!   token as one list of events, and `play_and_run` does both.
+//! - `expect_long_chain` and `expect_each_mechanism` give long texts to a `Server` at once and in pieces, there and back.
+//!
+//! ```text
+//! const ROWS: &[Row] = &[
+//!     (A, OPEN, Told::Session(1)),
+//!     (A, Step::CreateObject(1, TOKEN_KEY), Told::Object(1)),
+//! ];
+//! play(rt.alloc(), ROWS)
+//! ```
+#![tactic(auto)]
+
+mod bench;
+mod calls;
+pub mod given;
+mod random;
+mod replies;
+mod runs;
+mod steps;
+mod texts;
+
+pub use bench::{Bench, BenchOver, expect_told, play};
+pub use calls::call_of;
+pub use replies::reply_of;
+pub use runs::{play_and_run, play_and_run_questions, run, run_over};
+pub use steps::{Asked, Given, GivenMechanism, Row, Step, Told, Values};
+pub use texts::{NewToken, Server, add_output, expect_each_mechanism, expect_long_chain};

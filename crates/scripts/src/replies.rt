@@ -1,0 +1,41 @@
+//! The replies that applications are told.
+
+use crate::steps::{Told, Values};
+use ck_calls::{AttributeValue, Output, Reply};
+use ck_types::{Bytes, Items};
+use std::alloc::Global;
+use std::test::Fail;
+
+/// The reply that an application is told, if it is told anything.
+pub fn reply_of(alloc: Global, told: Told) -> Result<Option<Reply>, Fail> {
+    match told {
+        Told::Nothing => Ok(None),
+        Told::Code(code) => Ok(Some(Reply::Code(code))),
+        Told::Session(session) => Ok(Some(Reply::Session(session))),
+        Told::SessionInfo(info) => Ok(Some(Reply::SessionInfo(info))),
+        Told::Object(object) => Ok(Some(Reply::Object(object))),
+        Told::ObjectSize(size) => Ok(Some(Reply::ObjectSize(size))),
+        Told::AttributeValues(code, told) => {
+            let values = values_of(alloc, told)?;
+            Ok(Some(Reply::AttributeValues { code, values }))
+        }
+        Told::Length(len) => Ok(Some(Reply::Output(Output::Length(len)))),
+        Told::Data(bytes) => {
+            let data = Bytes::from_slice(alloc, bytes)?;
+            Ok(Some(Reply::Output(Output::Data(data))))
+        }
+        Told::BufferTooSmall(len) => Ok(Some(Reply::BufferTooSmall(len))),
+    }
+}
+
+fn values_of(alloc: Global, told: Values) -> Result<Items<AttributeValue>, Fail> {
+    let mut values = Items::new(alloc);
+    for (len, bytes) in told {
+        let value = match bytes {
+            Some(bytes) => Some(Bytes::from_slice(alloc, bytes)?),
+            None => None,
+        };
+        values.push(AttributeValue { len: *len, value })?;
+    }
+    Ok(values)
+}

@@ -1,0 +1,66 @@
+//! What the rows of a script say: steps of applications, and what these are told.
+
+use ck_calls::SessionInfo;
+use ck_types::{AttrType, Rv};
+
+/// A row of a script: the application, what it does, and what it is told.
+pub type Row = (u64, Step, Told);
+
+/// What a template says.
+pub type Given = &'static [(AttrType, &'static [u8])];
+
+/// The attributes that are asked for, each with the room for its value.
+pub type Asked = &'static [(u64, Option<u64>)];
+
+/// What is told of each attribute: its length and its value.
+pub type Values = &'static [(u64, Option<&'static [u8]>)];
+
+/// The number of a mechanism, and its parameter.
+pub type GivenMechanism = (u64, &'static [u8]);
+
+/// What an application does. The steps up to `Finish` are calls.
+#[derive(Clone, Copy, Debug)]
+pub enum Step {
+    /// In a slot, with flags.
+    OpenSession(u64, u64),
+    CloseSession(u64),
+    CloseAllSessions(u64),
+    GetSessionInfo(u64),
+    CreateObject(u64, Given),
+    CopyObject(u64, u64, Given),
+    DestroyObject(u64, u64),
+    GetObjectSize(u64, u64),
+    GetAttributeValue(u64, u64, Asked),
+    SetAttributeValue(u64, u64, Given),
+    /// In a session, by a mechanism if there is one, under a key.
+    EncryptInit(u64, Option<GivenMechanism>, u64),
+    /// In a session, of a text, with the room for the output.
+    Encrypt(u64, &'static [u8], Option<u64>),
+    EncryptUpdate(u64, &'static [u8], Option<u64>),
+    EncryptFinal(u64, Option<u64>),
+    DecryptInit(u64, Option<GivenMechanism>, u64),
+    Decrypt(u64, &'static [u8], Option<u64>),
+    DecryptUpdate(u64, &'static [u8], Option<u64>),
+    DecryptFinal(u64, Option<u64>),
+    /// The job of the application's question is run, and the question ends.
+    Finish,
+    /// The job of another application's question is run, and its result handed in as one's own.
+    FinishOf(u64),
+    Goes,
+}
+
+/// What an application is told.
+#[derive(Clone, Copy)]
+pub enum Told {
+    /// Nothing yet: its question is pending, or there is nothing to be told.
+    Nothing,
+    Code(Rv),
+    Session(u64),
+    SessionInfo(SessionInfo),
+    Object(u64),
+    ObjectSize(u64),
+    AttributeValues(Rv, Values),
+    Length(u64),
+    Data(&'static [u8]),
+    BufferTooSmall(u64),
+}
