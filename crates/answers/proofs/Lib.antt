@@ -1,4 +1,5 @@
 pub mod Templates
 pub mod Sizes
 pub mod Telling
+pub mod Over
 pub mod Proper

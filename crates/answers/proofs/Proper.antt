@@ -1,7 +1,14 @@
 -- Every answer is proper: one line for each call.
+mod GetTokenInfo
+mod Pins
+mod InitToken
+mod InitPin
+mod SetPin
 mod OpenSession
 mod CloseSession
 mod GetSessionInfo
+mod Login
+mod Logout
 mod CreateObject
 mod CopyObject
 mod DestroyObject
@@ -21,19 +28,28 @@ use Rattle.ops.specs.declared.place.Place.{Place}
 use Rattle.ops.specs.declared.place.Place.TheVariants as place
 use Rattle.views.specs.Outcomes.{Outcome}
 use Rattle.precede.specs.declared.row.Row.TheVariants.{Busy}
-use Rattle.views.specs.Views.{View, Question, Task, mask, mask_question}
+use Rattle.streams.specs.declared.part.Part.{Part}
+use Rattle.ops.specs.Operations.{Operation, mask_operation}
+use Rattle.views.specs.Views.{View, Question, Task, Ciphers, ChecksPin, MakesPin, ChangesPin, InitsToken, ResetsToken, mask, mask_question, mask_task}
 use Rattle.ck_calls.specs.declared.function.Function.{Function}
 use Rattle.ck_calls.specs.declared.function.Function.TheVariants as function
 use Rattle.views.proofs.Masks.{mask-twice}
-use Rattle.views.specs.Changes.{Stays}
+use Rattle.views.specs.Changes.{Stays, recorded}
 use Rattle.views.specs.Answering.{Said, Replies, Asks, Answer, Reveal, shown, mask_reveal, refuses, refuses_by, answered, is_closed, pin_checked_in}
 use Rattle.answers.specs.Cipher.{ciphered}
-use Rattle.answers.specs.Answers.{answer, answer_to, answer_outcome, answer_question, answer_result, may_change_objects}
+use Rattle.answers.specs.Answers.{answer, answer_to, place_asked, ciphered_at, answer_outcome, answer_question, answer_result, is_pin_task, is_still_function}
 use Rattle.views.specs.Refusals.{apart}
 use Rattle.views.proofs.Blind.{IsProper, IsFair, Leaves, blind-row, blind-refusal, fair, fair-row, fair-refusal}
+use Rattle.answers.proofs.Proper.GetTokenInfo.{proper-get_token_info}
+use Rattle.answers.proofs.Over.{IsOver, over-refused}
+use Rattle.answers.proofs.Proper.InitToken.{proper-init_token, blind-init_token, blind-reset_token, over-init_token, over-reset_token}
+use Rattle.answers.proofs.Proper.InitPin.{proper-init_pin, blind-init_pin, over-init_pin}
+use Rattle.answers.proofs.Proper.SetPin.{proper-set_pin, blind-set_pin, over-set_pin}
+use Rattle.answers.proofs.Proper.Login.{proper-login, blind-login, over-login}
 use Rattle.answers.proofs.Proper.OpenSession.{proper-open_session}
 use Rattle.answers.proofs.Proper.CloseSession.{proper-close_session, proper-close_all_sessions}
 use Rattle.answers.proofs.Proper.GetSessionInfo.{proper-get_session_info}
+use Rattle.answers.proofs.Proper.Logout.{proper-logout}
 use Rattle.answers.proofs.Proper.CreateObject.{proper-create_object}
 use Rattle.answers.proofs.Proper.CopyObject.{proper-copy_object}
 use Rattle.answers.proofs.Proper.DestroyObject.{proper-destroy_object}
@@ -50,12 +66,18 @@ use Rattle.answers.proofs.Proper.Cipher.{proper-single, proper-update, proper-fi
 proper-refused : {quiet : Bool} → IsProper (λ v r. refuses v FunctionNotSupported) quiet
 proper-refused = record { blind = λ v r. blind-refusal v FunctionNotSupported; fair = λ v r. fair-refusal v FunctionNotSupported refl }
 
-pub proper-answer_to : (c : Call) (random : List ℕ) → IsProper (λ v r. answer_to v c random r) (not (may_change_objects (function_of c)))
+pub proper-answer_to : (c : Call) (random : List ℕ) → IsProper (λ v r. answer_to v c random r) (is_still_function (function_of c))
 unfolding answer_to
+proper-answer_to (call.GetTokenInfo slot) random = proper-get_token_info slot
+proper-answer_to (call.InitToken slot pin label) random = proper-init_token slot pin label random
+proper-answer_to (call.InitPin session pin) random = proper-init_pin session pin random
+proper-answer_to (call.SetPin session pin new_pin) random = proper-set_pin session pin new_pin random
 proper-answer_to (call.OpenSession slot flags) random = proper-open_session slot flags
 proper-answer_to (call.CloseSession session) random = proper-close_session session
 proper-answer_to (call.CloseAllSessions slot) random = proper-close_all_sessions slot
 proper-answer_to (call.GetSessionInfo session) random = proper-get_session_info session
+proper-answer_to (call.Login session user pin) random = proper-login session user pin
+proper-answer_to (call.Logout session) random = proper-logout session
 proper-answer_to (call.CreateObject session template) random = proper-create_object session template random
 proper-answer_to (call.CopyObject session object template) random = proper-copy_object session object template random
 proper-answer_to (call.DestroyObject session object) random = proper-destroy_object session object
@@ -85,15 +107,15 @@ pub shown-answer : (v : View) (c : Call) (random : List ℕ) (r : Reveal) → sh
 unfolding answer
 shown-answer v c random r = blind-row v Busy _ (is_closed v) _ _ (closed-mask v) ((proper-answer_to c random).blind v r)
 
-pub fair-answer : (v : View) (c : Call) (random : List ℕ) (r : Reveal) → IsFair (not (may_change_objects (function_of c))) v (answer v c random r)
+pub fair-answer : (v : View) (c : Call) (random : List ℕ) (r : Reveal) → IsFair (is_still_function (function_of c)) v (answer v c random r)
 unfolding answer
 fair-answer v c random r = fair-row v Busy (is_closed v) refl ((proper-answer_to c random).fair v r)
 
 pub plain-answer : (v : View) (c : Call) (random : List ℕ) (r : Reveal) → apart (answer v c random r).says ≡ None
 plain-answer v c random r = (fair-answer v c random r).plain
 
-pub still-answer : (v : View) (c : Call) (random : List ℕ) (r : Reveal) → may_change_objects (function_of c) ≡ false → (answer v c random r).change ≡ Stays
-still-answer v c random r quiet = (fair-answer v c random r).still (ap not quiet)
+pub still-answer : (v : View) (c : Call) (random : List ℕ) (r : Reveal) → is_still_function (function_of c) ≡ true → (answer v c random r).change ≡ Stays
+still-answer v c random r quiet = (fair-answer v c random r).still quiet
 
 pub leaves-answer : (v : View) (c : Call) (random : List ℕ) (r : Reveal) → Leaves v.question (answer v c random r).says (answer v c random r).view.question
 leaves-answer v c random r = (fair-answer v c random r).asks
@@ -106,60 +128,70 @@ none-asked v c random r q is = none v.question refl where
   none None e = e
   none (Some p) e = let k : Replies (Code FunctionFailed) ≡ Asks q = rw e at is in cc
 
+-- while one is pending, nothing is done
+pub busy-answer : (v : View) (c : Call) (random : List ℕ) (r : Reveal) (q : Question) → v.question ≡ Some q → (answer v c random r).view ≡ v
+unfolding answer is_closed
+busy-answer v c random r q is = rw is refl
+
 -- ---- results
 
 shown-answered : (v : View) → shown (refuses (answered (mask v)) FunctionFailed) ≡ shown (refuses (answered v) FunctionFailed)
 shown-answered v = ap (λ u. record { says = Replies (Code FunctionFailed); view = u; change = Stays }) (mask-twice (answered v))
 
-blind-outcome : (v : View) (q : Question) (f : Function) (outcome : Outcome) (r : Reveal) → shown (answer_outcome (mask v) (mask_question q) f outcome (mask_reveal r)) ≡ shown (answer_outcome v q f outcome r)
-blind-outcome v q function.Encrypt outcome r = blind-ciphered v q.session place.Encrypt q.task outcome
-blind-outcome v q function.EncryptUpdate outcome r = blind-ciphered v q.session place.Encrypt q.task outcome
-blind-outcome v q function.EncryptFinal outcome r = blind-ciphered v q.session place.Encrypt q.task outcome
-blind-outcome v q function.Decrypt outcome r = blind-ciphered v q.session place.Decrypt q.task outcome
-blind-outcome v q function.DecryptUpdate outcome r = blind-ciphered v q.session place.Decrypt q.task outcome
-blind-outcome v q function.DecryptFinal outcome r = blind-ciphered v q.session place.Decrypt q.task outcome
-blind-outcome v q _ outcome r = shown-answered v
+blind-ciphered_at : (v : View) (q : Question) (p : Option Place) (part : Part) (o : Operation) (input : List ℕ) (outcome : Outcome) → shown (ciphered_at (mask v) (mask_question q) p part (mask_operation o) input outcome) ≡ shown (ciphered_at v q p part o input outcome)
+blind-ciphered_at v q None part o input outcome = shown-answered v
+blind-ciphered_at v q (Some p) part o input outcome = blind-ciphered v q.session p part o input outcome
+
+blind-outcome : (v : View) (q : Question) (t : Task) (outcome : Outcome) (r : Reveal) → shown (answer_outcome (mask v) (mask_question q) (mask_task t) outcome (mask_reveal r)) ≡ shown (answer_outcome v q t outcome r)
+blind-outcome v q (Ciphers part o input) outcome r = blind-ciphered_at v q (place_asked q.function) part o input outcome
+blind-outcome v q (ChecksPin who verifier pin) outcome r = blind-login (answered v) who outcome r
+blind-outcome v q (MakesPin pin salt) outcome r = blind-init_pin (answered v) pin salt outcome r
+blind-outcome v q (ChangesPin who verifier pin new_pin salt) outcome r = blind-set_pin (answered v) who new_pin salt outcome r
+blind-outcome v q (InitsToken label pin salt) outcome r = blind-init_token (answered v) label pin salt outcome r
+blind-outcome v q (ResetsToken label verifier pin) outcome r = blind-reset_token (answered v) label outcome r
 
 pub shown-result : (v : View) (outcome : Outcome) (r : Reveal) → shown (answer_result (mask v) outcome (mask_reveal r)) ≡ shown (answer_result v outcome r)
 unfolding answer_result
 shown-result v outcome r = out v.question where
   out : (q : Option Question) → shown (answer_question (mask v) (option_map mask_question q) outcome (mask_reveal r)) ≡ shown (answer_question v q outcome r)
   out None = blind-refusal v FunctionFailed
-  out (Some q) = blind-outcome v q q.function outcome r
+  out (Some q) = blind-outcome v q q.task outcome r
 
--- what every result is: a reply that is no refusal set apart and asks nothing; it changes nothing that others see, ends its
--- question, and leaves the record
-pub record IsOver (v : View) (a : Answer) : Type 0 where
-  pub plain : apart a.says ≡ None
-  pub unasking : pin_checked_in a.says ≡ None
-  pub still : a.change ≡ Stays
-  pub over : a.view.question ≡ None
-  pub kept : a.view.token_record ≡ v.token_record
+over-ciphered_at : (v : View) (q : Question) (p : Option Place) (part : Part) (o : Operation) (input : List ℕ) (outcome : Outcome) → IsOver v (ciphered_at v q p part o input outcome)
+over-ciphered_at v q None part o input outcome = over-refused v FunctionFailed refl
+over-ciphered_at v q (Some p) part o input outcome = record { plain = plain-ciphered outcome; unasking = refl; over = refl; shows = refl }
 
-over-refused : (v : View) → IsOver v (refuses (answered v) FunctionFailed)
-over-refused v = record { plain = refl; unasking = refl; still = refl; over = refl; kept = refl }
-
-over-ciphered : (v : View) (s : ℕ) (p : Place) (task : Task) (outcome : Outcome) → IsOver v (ciphered v s p task outcome)
-over-ciphered v s p task outcome = record { plain = plain-ciphered outcome; unasking = refl; still = refl; over = refl; kept = refl }
-
-over-outcome : (v : View) (q : Question) (f : Function) (outcome : Outcome) (r : Reveal) → IsOver v (answer_outcome v q f outcome r)
-over-outcome v q function.Encrypt outcome r = over-ciphered v q.session place.Encrypt q.task outcome
-over-outcome v q function.EncryptUpdate outcome r = over-ciphered v q.session place.Encrypt q.task outcome
-over-outcome v q function.EncryptFinal outcome r = over-ciphered v q.session place.Encrypt q.task outcome
-over-outcome v q function.Decrypt outcome r = over-ciphered v q.session place.Decrypt q.task outcome
-over-outcome v q function.DecryptUpdate outcome r = over-ciphered v q.session place.Decrypt q.task outcome
-over-outcome v q function.DecryptFinal outcome r = over-ciphered v q.session place.Decrypt q.task outcome
-over-outcome v q _ outcome r = over-refused v
+over-outcome : (v : View) (q : Question) (t : Task) (outcome : Outcome) (r : Reveal) → IsOver v (answer_outcome v q t outcome r)
+over-outcome v q (Ciphers part o input) outcome r = over-ciphered_at v q (place_asked q.function) part o input outcome
+over-outcome v q (ChecksPin who verifier pin) outcome r = over-login v who outcome r
+over-outcome v q (MakesPin pin salt) outcome r = over-init_pin v pin salt outcome r
+over-outcome v q (ChangesPin who verifier pin new_pin salt) outcome r = over-set_pin v who new_pin salt outcome r
+over-outcome v q (InitsToken label pin salt) outcome r = over-init_token v label pin salt outcome r
+over-outcome v q (ResetsToken label verifier pin) outcome r = over-reset_token v label outcome r
 
 over-answer : (v : View) (outcome : Outcome) (r : Reveal) → IsOver v (answer_result v outcome r)
 unfolding answer_result
 over-answer v outcome r = out v.question refl where
   out : (q : Option Question) → v.question ≡ q → IsOver v (answer_question v q outcome r)
-  out None e = record { plain = refl; unasking = refl; still = refl; over = e; kept = refl }
-  out (Some q) e = over-outcome v q q.function outcome r
+  out None e = record { plain = refl; unasking = refl; over = e; shows = refl }
+  out (Some q) e = over-outcome v q q.task outcome r
 
-pub still-result : (v : View) (outcome : Outcome) (r : Reveal) → (answer_result v outcome r).change ≡ Stays
-still-result v outcome r = (over-answer v outcome r).still
+-- a result of no PIN changes nothing that others see
+pub still-ciphered_at : (v : View) (q : Question) (p : Option Place) (part : Part) (o : Operation) (input : List ℕ) (outcome : Outcome) → (ciphered_at v q p part o input outcome).change ≡ Stays
+still-ciphered_at v q None part o input outcome = refl
+still-ciphered_at v q (Some p) part o input outcome = refl
+
+still-outcome : (v : View) (q : Question) (t : Task) (outcome : Outcome) (r : Reveal) → is_pin_task t ≡ false → (answer_outcome v q t outcome r).change ≡ Stays
+still-outcome v q (Ciphers part o input) outcome r quiet = still-ciphered_at v q (place_asked q.function) part o input outcome
+still-outcome v q _ outcome r quiet = let k : true ≡ false = quiet in cc
+
+-- the answer to a result is that to the pending question's
+pub result-is : (v : View) (q : Question) (outcome : Outcome) (r : Reveal) → v.question ≡ Some q → answer_result v outcome r ≡ answer_outcome v q q.task outcome r
+unfolding answer_result
+result-is v q outcome r asked = ap (λ o. answer_question v o outcome r) asked
+
+pub still-result : (v : View) (q : Question) (outcome : Outcome) (r : Reveal) → v.question ≡ Some q → is_pin_task q.task ≡ false → (answer_result v outcome r).change ≡ Stays
+still-result v q outcome r asked quiet = ap (λ (a : Answer). a.change) (result-is v q outcome r asked) ∙ still-outcome v q q.task outcome r quiet
 
 pub over-result : (v : View) (outcome : Outcome) (r : Reveal) → (answer_result v outcome r).view.question ≡ None
 over-result v outcome r = (over-answer v outcome r).over
@@ -170,5 +202,5 @@ plain-result v outcome r = (over-answer v outcome r).plain
 pub unasking-result : (v : View) (outcome : Outcome) (r : Reveal) → pin_checked_in (answer_result v outcome r).says ≡ None
 unasking-result v outcome r = (over-answer v outcome r).unasking
 
-pub record-result : (v : View) (outcome : Outcome) (r : Reveal) → (answer_result v outcome r).view.token_record ≡ v.token_record
-record-result v outcome r = (over-answer v outcome r).kept
+pub record-result : (v : View) (outcome : Outcome) (r : Reveal) → (answer_result v outcome r).view.token_record ≡ recorded (answer_result v outcome r).change v.token_record
+record-result v outcome r = (over-answer v outcome r).shows

@@ -1,5 +1,5 @@
 -- What an application is answered, from its view alone: one definition for each call.
-use Rattle.std.specs.Prelude.{ℕ, Bool, true, false, List, if◌then◌else◌, Option, Some, None}
+use Rattle.std.specs.Prelude.{◌&&◌, not, ℕ, Bool, true, false, List, if◌then◌else◌, Option, Some, None}
 use Rattle.ck_types.specs.declared.rv.Rv.TheVariants.{FunctionFailed, FunctionNotSupported}
 use Rattle.ck_calls.specs.declared.call.Call.{Call}
 use Rattle.ck_calls.specs.declared.call.Call.TheVariants as call
@@ -9,11 +9,20 @@ use Rattle.aes_modes.specs.declared.direction.Direction.TheVariants.{Encipher, D
 use Rattle.precede.specs.declared.row.Row.TheVariants.{Busy}
 use Rattle.ops.specs.declared.place.Place.TheVariants as place
 use Rattle.views.specs.Outcomes.{Outcome}
-use Rattle.views.specs.Views.{View, Question}
+use Rattle.ops.specs.declared.place.Place.{Place}
+use Rattle.ops.specs.Operations.{Operation}
+use Rattle.streams.specs.declared.part.Part.{Part}
+use Rattle.views.specs.Views.{View, Question, Task, Ciphers, ChecksPin, MakesPin, ChangesPin, InitsToken, ResetsToken}
 use Rattle.views.specs.Answering.{Answer, Reveal, refuses, refuses_by, answered, is_closed}
+use Rattle.answers.specs.GetTokenInfo.{get_token_info}
 use Rattle.answers.specs.OpenSession.{open_session}
 use Rattle.answers.specs.CloseSession.{close_session, close_all_sessions}
 use Rattle.answers.specs.GetSessionInfo.{get_session_info}
+use Rattle.answers.specs.InitToken.{init_token, init_token_result, reset_token_result}
+use Rattle.answers.specs.InitPin.{init_pin, init_pin_result}
+use Rattle.answers.specs.SetPin.{set_pin, set_pin_result}
+use Rattle.answers.specs.Login.{login, login_result}
+use Rattle.answers.specs.Logout.{logout}
 use Rattle.answers.specs.CreateObject.{create_object}
 use Rattle.answers.specs.CopyObject.{copy_object}
 use Rattle.answers.specs.DestroyObject.{destroy_object}
@@ -25,10 +34,16 @@ use Rattle.answers.specs.Cipher.{cipher_single, cipher_update, cipher_final, cip
 
 -- a call with its random bytes
 unfoldable pub answer_to : View → Call → List ℕ → Reveal → Answer
+answer_to v (call.GetTokenInfo slot) random reveal = get_token_info v slot
+answer_to v (call.InitToken slot pin label) random reveal = init_token v slot pin label random reveal
+answer_to v (call.InitPin session pin) random reveal = init_pin v session pin random
+answer_to v (call.SetPin session pin new_pin) random reveal = set_pin v session pin new_pin random
 answer_to v (call.OpenSession slot flags) random reveal = open_session v slot flags
 answer_to v (call.CloseSession session) random reveal = close_session v session
 answer_to v (call.CloseAllSessions slot) random reveal = close_all_sessions v slot
 answer_to v (call.GetSessionInfo session) random reveal = get_session_info v session
+answer_to v (call.Login session user pin) random reveal = login v session user pin
+answer_to v (call.Logout session) random reveal = logout v session
 answer_to v (call.CreateObject session template) random reveal = create_object v session template random
 answer_to v (call.CopyObject session object template) random reveal = copy_object v session object template random
 answer_to v (call.DestroyObject session object) random reveal = destroy_object v session object
@@ -48,65 +63,36 @@ answer_to v _ random reveal = refuses v FunctionNotSupported
 unfoldable pub answer : View → Call → List ℕ → Reveal → Answer
 answer v call random reveal = if is_closed v then refuses_by v Busy else answer_to v call random reveal
 
--- of a call that asks nothing, or isn't built: no question of it is ever pending
+-- a question that no call asks
 abbrev pub unasked : View → Answer
 unasked v = refuses (answered v) FunctionFailed
 
--- the answer to the result of the pending question, by the call that asked it (PKCS #11 v3.1)
-abbrev pub answer_outcome : View → Question → Function → Outcome → Reveal → Answer
--- 5.5, slots and tokens
-answer_outcome v q function.GetTokenInfo outcome reveal = unasked v
-answer_outcome v q function.GetMechanismList outcome reveal = unasked v
-answer_outcome v q function.GetMechanismInfo outcome reveal = unasked v
-answer_outcome v q function.InitToken outcome reveal = unasked v
-answer_outcome v q function.InitPin outcome reveal = unasked v
-answer_outcome v q function.SetPin outcome reveal = unasked v
--- 5.6, sessions
-answer_outcome v q function.OpenSession outcome reveal = unasked v
-answer_outcome v q function.CloseSession outcome reveal = unasked v
-answer_outcome v q function.CloseAllSessions outcome reveal = unasked v
-answer_outcome v q function.GetSessionInfo outcome reveal = unasked v
-answer_outcome v q function.Login outcome reveal = unasked v
-answer_outcome v q function.Logout outcome reveal = unasked v
--- 5.7, objects
-answer_outcome v q function.CreateObject outcome reveal = unasked v
-answer_outcome v q function.CopyObject outcome reveal = unasked v
-answer_outcome v q function.DestroyObject outcome reveal = unasked v
-answer_outcome v q function.GetObjectSize outcome reveal = unasked v
-answer_outcome v q function.GetAttributeValue outcome reveal = unasked v
-answer_outcome v q function.SetAttributeValue outcome reveal = unasked v
-answer_outcome v q function.FindObjectsInit outcome reveal = unasked v
-answer_outcome v q function.FindObjects outcome reveal = unasked v
-answer_outcome v q function.FindObjectsFinal outcome reveal = unasked v
--- 5.8, encryption
-answer_outcome v q function.EncryptInit outcome reveal = unasked v
-answer_outcome v q function.Encrypt outcome reveal = ciphered v q.session place.Encrypt q.task outcome
-answer_outcome v q function.EncryptUpdate outcome reveal = ciphered v q.session place.Encrypt q.task outcome
-answer_outcome v q function.EncryptFinal outcome reveal = ciphered v q.session place.Encrypt q.task outcome
--- 5.10, decryption
-answer_outcome v q function.DecryptInit outcome reveal = unasked v
-answer_outcome v q function.Decrypt outcome reveal = ciphered v q.session place.Decrypt q.task outcome
-answer_outcome v q function.DecryptUpdate outcome reveal = ciphered v q.session place.Decrypt q.task outcome
-answer_outcome v q function.DecryptFinal outcome reveal = ciphered v q.session place.Decrypt q.task outcome
--- 5.13, signing and MACing
-answer_outcome v q function.SignInit outcome reveal = unasked v
-answer_outcome v q function.Sign outcome reveal = unasked v
-answer_outcome v q function.SignUpdate outcome reveal = unasked v
-answer_outcome v q function.SignFinal outcome reveal = unasked v
--- 5.15, verifying
-answer_outcome v q function.VerifyInit outcome reveal = unasked v
-answer_outcome v q function.Verify outcome reveal = unasked v
-answer_outcome v q function.VerifyUpdate outcome reveal = unasked v
-answer_outcome v q function.VerifyFinal outcome reveal = unasked v
--- 5.18 and 5.19, keys and random numbers
-answer_outcome v q function.GenerateKey outcome reveal = unasked v
-answer_outcome v q function.WrapKey outcome reveal = unasked v
-answer_outcome v q function.UnwrapKey outcome reveal = unasked v
-answer_outcome v q function.GenerateRandom outcome reveal = unasked v
+-- the place of the operation whose data a call asks about
+abbrev pub place_asked : Function → Option Place
+place_asked function.Encrypt = Some place.Encrypt
+place_asked function.EncryptUpdate = Some place.Encrypt
+place_asked function.EncryptFinal = Some place.Encrypt
+place_asked function.Decrypt = Some place.Decrypt
+place_asked function.DecryptUpdate = Some place.Decrypt
+place_asked function.DecryptFinal = Some place.Decrypt
+place_asked _ = None
+
+abbrev pub ciphered_at : View → Question → Option Place → Part → Operation → List ℕ → Outcome → Answer
+ciphered_at v q None part o input outcome = unasked v
+ciphered_at v q (Some p) part o input outcome = ciphered v q.session p part o input outcome
+
+-- the answer to the result of the pending question, by its task
+abbrev pub answer_outcome : View → Question → Task → Outcome → Reveal → Answer
+answer_outcome v q (Ciphers part o input) outcome r = ciphered_at v q (place_asked q.function) part o input outcome
+answer_outcome v q (ChecksPin who verifier pin) outcome r = login_result (answered v) who outcome r
+answer_outcome v q (MakesPin pin salt) outcome r = init_pin_result (answered v) pin salt outcome r
+answer_outcome v q (ChangesPin who verifier pin new_pin salt) outcome r = set_pin_result (answered v) who new_pin salt outcome r
+answer_outcome v q (InitsToken label pin salt) outcome r = init_token_result (answered v) label pin salt outcome r
+answer_outcome v q (ResetsToken label verifier pin) outcome r = reset_token_result (answered v) label outcome r
 
 abbrev pub answer_question : View → Option Question → Outcome → Reveal → Answer
 answer_question v None outcome reveal = refuses_by v Busy
-answer_question v (Some q) outcome reveal = answer_outcome v q q.function outcome reveal
+answer_question v (Some q) outcome reveal = answer_outcome v q q.task outcome reveal
 
 unfoldable pub answer_result : View → Outcome → Reveal → Answer
 answer_result v outcome reveal = answer_question v v.question outcome reveal
@@ -119,6 +105,11 @@ is_pin_function function.InitPin = true
 is_pin_function function.InitToken = true
 is_pin_function _ = false
 
+-- and what they ask
+abbrev pub is_pin_task : Task → Bool
+is_pin_task (Ciphers part o input) = false
+is_pin_task _ = true
+
 -- the calls that may make, change or destroy an object
 abbrev pub may_change_objects : Function → Bool
 may_change_objects function.CreateObject = true
@@ -128,3 +119,7 @@ may_change_objects function.UnwrapKey = true
 may_change_objects function.SetAttributeValue = true
 may_change_objects function.DestroyObject = true
 may_change_objects _ = false
+
+-- and those that change nothing which others see, whatever is answered
+abbrev pub is_still_function : Function → Bool
+is_still_function f = not (is_pin_function f) && not (may_change_objects f)

@@ -2,7 +2,7 @@
 -- 5.10): a question, and its result.
 use Rattle.std.specs.Prelude.{ℕ, Bool, true, false, ◌==◌, ◌||◌, ◌&&◌, not, nat_lt, List, [], length, Option, Some, None, is_none}
 use Rattle.std.specs.Option.{unwrap_or}
-use Rattle.ck_types.specs.declared.rv.Rv.TheVariants.{EncryptedDataInvalid}
+use Rattle.ck_types.specs.declared.rv.Rv.TheVariants.{EncryptedDataInvalid, FunctionFailed}
 use Rattle.ck_calls.specs.declared.function.Function.{Function}
 use Rattle.ck_calls.specs.declared.function.Function.TheVariants as functions
 use Rattle.ck_calls.specs.declared.reply.Output.TheVariants as output
@@ -97,12 +97,16 @@ cipher_final d v s room = cipher (final_function d) d Last v s [] room
 abbrev pub ciphered_reply : Outcome → Reply
 ciphered_reply (Output bytes) = replied.Output (output.Data bytes)
 ciphered_reply BadPadding = replied.Code EncryptedDataInvalid
+ciphered_reply _ = replied.Code FunctionFailed
 
 -- a piece leaves the operation that has taken it, and the last data none
-abbrev pub operation_after : Task → Outcome → Option Operation
-operation_after (Ciphers Update o input) (Output bytes) = Some (further o input bytes)
-operation_after (Ciphers Update o input) BadPadding = None
-operation_after (Ciphers Last o input) outcome = None
+abbrev pub further_by : Operation → List ℕ → Outcome → Option Operation
+further_by o input (Output bytes) = Some (further o input bytes)
+further_by o input _ = None
 
-abbrev pub ciphered : View → ℕ → Place → Task → Outcome → Answer
-ciphered v s place task outcome = becomes (ciphered_reply outcome) (with_operation (answered v) s place (operation_after task outcome))
+abbrev pub operation_after : Part → Operation → List ℕ → Outcome → Option Operation
+operation_after Update o input outcome = further_by o input outcome
+operation_after Last o input outcome = None
+
+abbrev pub ciphered : View → ℕ → Place → Part → Operation → List ℕ → Outcome → Answer
+ciphered v s place part o input outcome = becomes (ciphered_reply outcome) (with_operation (answered v) s place (operation_after part o input outcome))

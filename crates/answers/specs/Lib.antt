@@ -1,4 +1,5 @@
 pub mod Calls
+pub mod Pins
 pub mod OpenSession
 pub mod CloseSession
 pub mod GetSessionInfo
@@ -10,4 +11,10 @@ pub mod GetAttributeValue
 pub mod SetAttributeValue
 pub mod CipherInit
 pub mod Cipher
+pub mod GetTokenInfo
+pub mod Login
+pub mod Logout
+pub mod InitToken
+pub mod InitPin
+pub mod SetPin
 pub mod Answers

@@ -6,7 +6,8 @@ use Rattle.ck_calls.specs.declared.reply.Reply.TheVariants.{Session as SessionRe
 use Rattle.precede.specs.declared.row.Row.TheVariants.{NoSlot, NotSerial, UnknownFlag, SoLoggedIn, SessionLimit}
 use Rattle.sessions.specs.Sessions.{with_session}
 use Rattle.ops.specs.Operations.{no_operations}
-use Rattle.answers.specs.Calls.{UserType, Row, View, Answer, becomes, checked}
+use Rattle.answers.specs.Pins.{is_so}
+use Rattle.answers.specs.Calls.{Row, View, Answer, becomes, checked}
 
 -- the only slot
 abbrev pub is_slot : ℕ → Bool
@@ -21,11 +22,6 @@ is_read_write flags = not (bit_and flags 2 == 0)
 
 abbrev pub has_other_flags : ℕ → Bool
 has_other_flags flags = not (bit_or flags 6 == 6)
-
-abbrev pub is_so : Option UserType → Bool
-is_so None = false
-is_so (Some So) = true
-is_so (Some User) = false
 
 abbrev pub open_row : View → ℕ → ℕ → Row → Bool
 open_row v slot flags NoSlot = not (is_slot slot)

@@ -1,14 +1,15 @@
 -- What a contract sees of a desk.
-use Rattle.std.specs.Prelude.{◌≡◌, ℕ, ◌+◌, ◌≤◌, ◌^◌, ◌==◌, ◌||◌, Bool, not, nat_le, is_some, List, [], ◌∷◌, ◌++◌, length, find, filter, Option, Some, None, if◌then◌else◌}
+use Rattle.std.specs.Prelude.{◌≡◌, ℕ, ◌+◌, ◌^◌, ◌==◌, ◌||◌, Bool, false, not, nat_le, is_some, List, [], find, filter, Option, Some, None, if◌then◌else◌}
 use Rattle.std.specs.Option.{option_map}
+use Rattle.std.specs.List.{AllByRecursion}
 use Rattle.ck_types.specs.declared.entry.Entry.{Entry}
 use Rattle.attrs.specs.Objects.{flag}
+use Rattle.guard.specs.Access.{is_user_in}
 use Rattle.ck_types.specs.declared.attr_type.AttrType.TheVariants.{Private}
 use Rattle.lists.specs.Places.{updated_where}
 use Rattle.mech.specs.declared.job.Job.{Job}
 use Rattle.handles.specs.Handles.{HandleTable, no_handles, public_handles}
-use Rattle.sessions.specs.declared.Session.{Session}
-use Rattle.sessions.specs.Sessions.{SessionTable, no_sessions, session_at, with_work, without_session, logged_out}
+use Rattle.sessions.specs.Sessions.{SessionTable, no_sessions, without_session, logged_out}
 use Rattle.desk.specs.declared.own_object.OwnObject.{OwnObject}
 use Rattle.ops.specs.Operations.{Operations, no_operations}
 
@@ -30,6 +31,10 @@ empty_desk = record { sessions = no_sessions; own = []; own_capacity = 0; handle
 -- the same but for the memory that is at hand
 abbrev pub SameDesk : DeskState → DeskState → Type 0
 SameDesk old new = new ≡ record old { own_capacity = new.own_capacity; handles = record old.handles { capacity = new.handles.capacity } }
+
+-- without the user no handle is of a private object; true of every desk
+abbrev pub IsDiscreet : DeskState → Type 0
+IsDiscreet d = is_user_in d.sessions.login ≡ false → AllByRecursion (λ h. h.private ≡ false) d.handles.entries
 
 -- no call is taken: a question is pending, or a next number is used up
 abbrev pub is_busy : DeskState → Bool

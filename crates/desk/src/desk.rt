@@ -1,14 +1,15 @@
 //! Desks.
 
-ghost use Rattle.std.specs.Prelude.{◌≡◌, ℕ, ◌+◌, ◌<◌, ◌^◌, ◌++◌, ◌∷◌, [], ◌==◌, not, filter, map, length, nat_le, is_some, Some, None, option_map, vec_capacity, IfOk, OnOk, OnErr, IsTrue};
+ghost use Rattle.std.specs.Prelude.{◌≡◌, ℕ, ◌+◌, ◌<◌, ◌^◌, ◌++◌, ◌∷◌, [], ◌==◌, not, filter, map, length, nat_lt, nat_le, is_some, Some, None, option_map, count_by, vec_capacity, IfOk, OnOk, OnErr, IsTrue, IsFalse, true};
 ghost use Rattle.std.specs.Option.{option_copied};
 ghost use Rattle.std.specs.List.{position};
 ghost use Rattle.ck_types.specs.declared.user_type.UserType.TheVariants.{So};
 ghost use Rattle.handles.specs.Handles.{object_of, number_of, with_handle, without_object, HasRoomFor};
 ghost use Rattle.handles.specs.Handles.{IsTable as IsHandleTable};
-ghost use Rattle.sessions.specs.Sessions.{session_at, state_of, with_session, with_work, IsTable};
+ghost use Rattle.sessions.specs.Sessions.{session_at, state_of, has_read_only, with_session, with_work, IsTable};
+ghost use Rattle.guard.specs.Access.{is_user_in};
 ghost use Rattle.ops.specs.Operations.{no_operations, operation_in, operation_of, with_operation};
-ghost use Rattle.desk.specs.Desks.{DeskState, SameDesk, empty_desk, is_busy, own_at, replaced_own, closed, all_closed, logged_out_desk, with_question};
+ghost use Rattle.desk.specs.Desks.{DeskState, SameDesk, IsDiscreet, empty_desk, is_busy, own_at, replaced_own, closed, all_closed, logged_out_desk, with_question};
 ghost use Rattle.attrs.specs.Objects.{flag};
 ghost use Rattle.ck_types.specs.declared.attr_type.AttrType.TheVariants.{Private};
 
@@ -40,11 +41,13 @@ pub struct Desk {
 
 impl Model for Desk {
     ghost use Rattle.std.specs.Prelude.{vec_capacity};
-    ghost use Rattle.desk.specs.Desks.{DeskState};
+    ghost use Rattle.desk.specs.Desks.{DeskState, IsDiscreet};
 
     ghost Value = { DeskState };
 
     ghost view = { λ d. record { sessions = d.sessions; own = d.own.items; own_capacity = vec_capacity d.own; handles = d.handles; question = d.question; next_question = d.next_question } };
+
+    ghost invariant = { λ d. IsDiscreet (record { sessions = d.sessions; own = d.own.items; own_capacity = vec_capacity d.own; handles = d.handles; question = d.question; next_question = d.next_question }) };
 }
 
 impl Desk {
@@ -75,6 +78,7 @@ impl Desk {
     pub fn logged_in(&self) -> Option<UserType>
         ensures login { result ≡ self.now.sessions.login }
         ensures table { IsTable self.now.sessions }
+        ensures discreet { IsDiscreet self.now }
     {
         self.sessions.logged_in()
     }
@@ -84,6 +88,34 @@ impl Desk {
         ensures { result ≡ nat_le 64 (length self.now.sessions.sessions) }
     {
         self.sessions.is_full()
+    }
+
+    /// Whether there is a session at all.
+    pub fn has_session(&self) -> bool
+        ensures { result ≡ nat_lt 0 (length self.now.sessions.sessions) }
+    {
+        self.sessions.count() > 0
+    }
+
+    /// How many sessions there are.
+    pub fn session_count(&self) -> usize
+        ensures { result ≡ length self.now.sessions.sessions }
+    {
+        self.sessions.count()
+    }
+
+    /// How many of them are read/write.
+    pub fn read_write_session_count(&self) -> usize
+        ensures { result ≡ count_by (λ s. s.read_write) self.now.sessions.sessions }
+    {
+        self.sessions.read_write_count()
+    }
+
+    /// Whether a session is read-only, so that the SO may not log in.
+    pub fn has_read_only_session(&self) -> bool
+        ensures { result ≡ has_read_only self.now.sessions.sessions }
+    {
+        self.sessions.has_read_only()
     }
 
     /// The state of a session (PKCS #11 v3.1, 3.3: `CK_STATE`), and none where there is no such session.
@@ -130,6 +162,16 @@ impl Desk {
         self.sessions.close_all();
         self.own.clear();
         self.handles.retire_private();
+    }
+
+    /// Logs in the user or the SO (C_Login, PKCS #11 v3.1, 5.6). No memory is taken.
+    pub fn login(&mut self, user: UserType)
+        requires open { 0 < length self.old.sessions.sessions }
+        requires public { self.old.sessions.login ≡ None }
+        requires access { user ≡ So → IsFalse (has_read_only self.old.sessions.sessions) }
+        ensures { self.new ≡ record self.old { sessions = record self.old.sessions { login = Some user } } }
+    {
+        self.sessions.login(user);
     }
 
     /// Logs out (C_Logout). No memory is taken.
@@ -227,10 +269,12 @@ impl Desk {
         self.handles.reserve(1)
     }
 
-    /// Gives a token object its handle, and notes whether the object is private. No memory is taken.
+    /// Gives a token object its handle, and notes whether the object is private, as it may be only where
+    /// the user is logged in. No memory is taken.
     pub fn give_handle(&mut self, id: u64, private: bool) -> u64
         requires below { self.old.handles.next_number < 2 ^ 63 }
         requires room { HasRoomFor self.old.handles 1 }
+        requires discreet { IsTrue private → is_user_in self.old.sessions.login ≡ true }
         ensures given { self.new ≡ record self.old { handles = with_handle self.old.handles id private } }
         ensures handle { number_of self.new.handles.entries id ≡ Some result }
     {

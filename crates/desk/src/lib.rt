@@ -1,7 +1,8 @@
 //! One application's part of a token: its sessions with their operations, its login, its session
 //! objects, its handles of token objects, and the pending question.
 //!
-//! A desk knows nothing of the token objects but their ids, and nothing of other applications. What its
+//! A desk knows nothing of the token objects but their ids and which of them are private, and nothing of
+//! other applications. It has a handle of a private one only where the user is logged in. What its
 //! numbers count, sessions, handles and questions, is its own, so that no application can tell from its
 //! numbers what others do.
 //!

@@ -2,6 +2,7 @@
 
 ghost use Rattle.std.specs.Prelude.{◌≡◌, IfErr, IfOk, IsTrue};
 ghost use Rattle.std.specs.Result.{ForErr, ForOk};
+ghost use Rattle.mech.specs.declared.work.Work.TheVariants.{Cipher, CheckPin, ChangePin, ResetToken};
 ghost use Rattle.mech.specs.Runnable.{is_runnable};
 ghost use Rattle.mech.specs.Works.{outcome_of};
 
@@ -10,10 +11,11 @@ use crate::outcome::Outcome;
 use crate::work::Work;
 use aes_modes::ModeFault;
 use ck_calls::Function;
-use ck_types::Bytes;
+use ck_types::{Bytes, Label, UserType};
+use pin_record::Verifier;
 use std::alloc::Global;
 use std::snapshot::Snapshot;
-use streams::Part;
+use streams::{Part, Stream};
 
 /// A job that was run. The job itself is for contracts alone, and takes no bytes.
 #[derive(Drop)]
@@ -62,17 +64,12 @@ impl Done {
     }
 }
 
-/// Does the work, or gives it back for want of memory.
-fn work_done(alloc: Global, work: Work) -> Result<Outcome, Work>
-    requires { IsTrue (is_runnable work) }
-    ensures value { IfOk result (λ o. o ≡ outcome_of work) }
-    ensures back { IfErr result (λ back. back ≡ work) }
+/// Does a cipher's work, or gives it back for want of memory.
+fn ciphered(alloc: Global, stream: Stream, part: Part, input: Bytes) -> Result<Outcome, Work>
+    requires { IsTrue (is_runnable (Cipher stream part input)) }
+    ensures value { IfOk result (λ o. o ≡ outcome_of (Cipher stream part input)) }
+    ensures back { IfErr result (λ back. back ≡ Cipher stream part input) }
 {
-    let Work::Cipher {
-        stream,
-        part,
-        input,
-    } = work;
     match part {
         Part::Update => {
             let mut further = stream.copied();
@@ -97,6 +94,81 @@ fn work_done(alloc: Global, work: Work) -> Result<Outcome, Work>
                 input,
             }),
         },
+    }
+}
+
+/// Checks a PIN against the verifier. No memory is taken.
+fn pin_checked(who: UserType, verifier: &Verifier, pin: &[u8]) -> Outcome
+    ensures { result ≡ outcome_of (CheckPin who verifier.now pin.now) }
+{
+    if verifier.accepts(pin) {
+        Outcome::RightPin(who)
+    } else {
+        Outcome::WrongPin
+    }
+}
+
+/// Checks a PIN against the verifier, and makes the new one's where it is right. No memory is taken.
+fn pin_changed(
+    who: UserType,
+    verifier: &Verifier,
+    pin: &[u8],
+    new_pin: &[u8],
+    salt: [u8; 16],
+) -> Outcome
+    ensures { result ≡ outcome_of (ChangePin who verifier.now pin.now new_pin.now salt) }
+{
+    if verifier.accepts(pin) {
+        Outcome::PinChanged {
+            who,
+            verifier: Verifier::made(new_pin, salt),
+        }
+    } else {
+        Outcome::WrongPin
+    }
+}
+
+/// Checks the SO's PIN against the verifier, for a token that is to have this label. No memory is taken.
+fn token_reset(label: Label, verifier: &Verifier, pin: &[u8]) -> Outcome
+    ensures { result ≡ outcome_of (ResetToken label verifier.now pin.now) }
+{
+    if verifier.accepts(pin) {
+        Outcome::TokenReset { label }
+    } else {
+        Outcome::WrongPin
+    }
+}
+
+/// Does the work, or gives it back for want of memory, which a cipher's work alone takes.
+fn work_done(alloc: Global, work: Work) -> Result<Outcome, Work>
+    requires { IsTrue (is_runnable work) }
+    ensures value { IfOk result (λ o. o ≡ outcome_of work) }
+    ensures back { IfErr result (λ back. back ≡ work) }
+{
+    match work {
+        Work::Cipher {
+            stream,
+            part,
+            input,
+        } => ciphered(alloc, stream, part, input),
+        Work::CheckPin { who, verifier, pin } => Ok(pin_checked(who, &verifier, pin.as_slice())),
+        Work::MakePin { pin, salt } => Ok(Outcome::PinMade(Verifier::made(pin.as_slice(), salt))),
+        Work::ChangePin {
+            who,
+            verifier,
+            pin,
+            new_pin,
+            salt,
+        } => Ok(pin_changed(who, &verifier, pin.as_slice(), new_pin.as_slice(), salt)),
+        Work::InitToken { label, pin, salt } => Ok(Outcome::TokenMade {
+            label,
+            verifier: Verifier::made(pin.as_slice(), salt),
+        }),
+        Work::ResetToken {
+            label,
+            verifier,
+            pin,
+        } => Ok(token_reset(label, &verifier, pin.as_slice())),
     }
 }
 

@@ -1,9 +1,14 @@
-//! The work of the mechanisms, which is done outside the token.
+//! The work of the mechanisms and of PINs, which is done outside the token.
 //!
-//! A call that needs work with a key becomes a question of the token, and a `Job` for anybody who has
-//! time: it holds all that its work needs, so `Job::run` waits for nobody. What comes back is a `Done`,
-//! which keeps that its outcome is what the definition of the mechanism makes of its job, or want of
+//! A call that needs work with a key or a PIN becomes a question of the token, and a `Job` for anybody
+//! who has time: it holds all that its work needs, so `Job::run` waits for nobody. What comes back is a
+//! `Done`, which keeps that its outcome is what the definition of the work makes of its job, or want of
 //! memory, with the work as it was.
+//!
+//! - A cipher's work is a piece or the last data of a stream (PKCS #11 v3.1, 5.8 and 5.10).
+//! - A PIN's work is to check a PIN against a verifier, to make a new one's verifier, or both (C_Login,
+//!   C_InitPIN, C_SetPIN and C_InitToken; 5.5 and 5.6). It takes no memory. Tries are counted elsewhere,
+//!   before the check and after it, and nothing is claimed of the time that a check takes.
 //!
 //! ```text
 //! let done = job.run(alloc);

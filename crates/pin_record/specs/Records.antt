@@ -1,5 +1,5 @@
 -- What a contract sees of a record.
-use Rattle.std.specs.Prelude.{◌≡◌, ℕ, ◌+◌, ◌≤◌, ◌==◌, ◌&&◌, ◌||◌, Bool, true, List, Option, Some, None, is_some, is_none, replicate, if◌then◌else◌}
+use Rattle.std.specs.Prelude.{◌≡◌, ℕ, ◌+◌, ◌≤◌, ◌==◌, ◌&&◌, ◌||◌, Bool, true, List, Option, Some, None, is_some, is_none, not, nat_lt, replicate, if◌then◌else◌}
 use Rattle.std.specs.Str.{bytes_eq}
 use Rattle.ck_types.specs.declared.user_type.UserType.{UserType}
 use Rattle.ck_types.specs.declared.user_type.UserType.TheVariants.{So, User}
@@ -50,6 +50,10 @@ verifier_of r who = (pin_of r who).verifier
 
 abbrev pub tries_of : TokenRecord → UserType → ℕ
 tries_of r who = (pin_of r who).tries
+
+-- a PIN is locked at ten tries
+abbrev pub is_locked : TokenRecord → UserType → Bool
+is_locked r who = not (nat_lt (tries_of r who) tries_limit)
 
 -- the token is initialised where it has an SO PIN
 abbrev pub is_initialized : TokenRecord → Bool

@@ -1,5 +1,6 @@
 -- What a PIN is checked against.
-use Rattle.std.specs.Prelude.{◌≡◌, ℕ, ◌==◌, ◌||◌, Bool, true, List, length}
+use Rattle.std.specs.Prelude.{◌≡◌, ℕ, ◌==◌, ◌||◌, Bool, true, List, [], length}
+use Rattle.std.specs.Str.{bytes_eq}
 use Rattle.hmac_sha2.specs.Pbkdf2.{pbkdf2}
 
 -- a salt, a number of rounds, and the key that PBKDF2 makes of the PIN by them
@@ -29,6 +30,10 @@ pub record IsVerifier (v : PinVerifier) : Type 0 where
 abbrev pub verifier_for : List ℕ → List ℕ → ℕ → PinVerifier
 verifier_for pin salt rounds = record { salt = salt; rounds = rounds; key = pbkdf2 pin salt rounds }
 
--- the PIN is the one that the verifier was made of, as far as its key tells
-abbrev pub Accepts : PinVerifier → List ℕ → Type 0
-Accepts v pin = v.key ≡ pbkdf2 pin v.salt v.rounds
+-- whether the PIN is the one that the verifier was made of, as far as its key tells
+abbrev pub accepts : PinVerifier → List ℕ → Bool
+accepts v pin = bytes_eq v.key (pbkdf2 pin v.salt v.rounds)
+
+-- what stands in the place of a verifier that is kept back
+abbrev pub hidden_verifier : PinVerifier
+hidden_verifier = record { salt = []; rounds = 0; key = [] }

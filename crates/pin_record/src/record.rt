@@ -2,7 +2,7 @@
 
 ghost use Rattle.std.specs.Prelude.{◌≡◌, ◌==◌, ◌<◌, ◌≤◌, Some, None, is_some, true, if◌then◌else◌};
 ghost use Rattle.std.specs.Option.{option_copied};
-ghost use Rattle.pin_record.specs.Records.{TokenRecord, is_coherent, is_initialized, initialized_record, new_record, pin_of, tries_limit, tries_of, verifier_of, with_pin, with_tries};
+ghost use Rattle.pin_record.specs.Records.{TokenRecord, is_coherent, is_initialized, is_locked, initialized_record, new_record, pin_of, tries_limit, tries_of, verifier_of, with_pin, with_tries};
 
 use crate::pin::{Pin, TRIES_LIMIT};
 use crate::verifier::Verifier;
@@ -122,9 +122,9 @@ impl Record {
 
     /// Whether the PIN is locked: whether its tries are `TRIES_LIMIT`.
     pub fn is_locked(&self, who: UserType) -> bool
-        ensures { result ≡ (tries_of self.now who == tries_limit) }
+        ensures { result ≡ is_locked self.now who }
     {
-        self.tries(who) == TRIES_LIMIT
+        self.tries(who) >= TRIES_LIMIT
     }
 
     /// The record with a new PIN, of which `under_way` checks are under way (C_InitPIN for the user,

@@ -1,8 +1,8 @@
 //! What a PIN is checked against.
 
-ghost use Rattle.std.specs.Prelude.{◌≡◌, ◌↔◌, ◌≤◌, IsTrue, Some, None, true, length, if◌then◌else◌};
+ghost use Rattle.std.specs.Prelude.{◌≡◌, ◌≤◌, Some, None, true, length, if◌then◌else◌};
 ghost use Rattle.hmac_sha2.specs.Pbkdf2.{pbkdf2};
-ghost use Rattle.pin_record.specs.Verifiers.{Accepts, PinVerifier, is_rounds, new_rounds, verifier_for};
+ghost use Rattle.pin_record.specs.Verifiers.{PinVerifier, accepts, is_rounds, new_rounds, verifier_for};
 
 use hmac_sha2::pbkdf2;
 use std::marker::Model;
@@ -84,7 +84,7 @@ impl Verifier {
     /// Whether the PIN is the verifier's: whether PBKDF2, with the verifier's salt and rounds, makes
     /// its key of the PIN. No memory is taken.
     pub fn accepts(&self, pin: &[u8]) -> bool
-        ensures { IsTrue result ↔ Accepts self.now pin.now }
+        ensures { result ≡ accepts self.now pin.now }
     {
         pbkdf2(pin, &self.salt, self.rounds) == self.key
     }

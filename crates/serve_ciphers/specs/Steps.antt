@@ -12,7 +12,7 @@ use Rattle.aes_modes.specs.declared.fault.ModeFault.TheVariants.{CounterEnd}
 use Rattle.precede.specs.declared.row.Row.{Row}
 use Rattle.precede.specs.declared.row.Row.TheVariants.{DataLength, EncryptedDataLength}
 use Rattle.mech.specs.declared.outcome.Outcome.{Outcome}
-use Rattle.mech.specs.declared.outcome.Outcome.TheVariants.{Piece, Rest, BadPadding}
+use Rattle.mech.specs.declared.outcome.Outcome.TheVariants.{Piece}
 use Rattle.ops.specs.declared.place.Place.{Place}
 use Rattle.ops.specs.declared.place.Place.TheVariants.{Encrypt, Decrypt}
 use Rattle.ops.specs.Operations.{Operation, operation_of}
@@ -34,8 +34,7 @@ asks_within f session task wanted room v =
 -- what work leaves of its operation
 abbrev pub operation_left : Outcome → Option Operation
 operation_left (Piece output stream) = Some (operation_of stream)
-operation_left (Rest output) = None
-operation_left BadPadding = None
+operation_left _ = None
 
 -- where the operation of a call stands whose question a mechanism answers; other calls have none
 abbrev pub place_of : Function → Option Place

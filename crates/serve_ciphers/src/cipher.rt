@@ -192,7 +192,8 @@ pub fn place_of(function: Function) -> Option<Place>
     }
 }
 
-/// The result of an operation's work. A piece leaves the operation that has taken it; else the operation ends.
+/// The result of an operation's work. A piece leaves the operation that has taken it; else the operation ends. What no
+/// cipher gives is `CKR_FUNCTION_FAILED`.
 pub fn finish(desk: &mut Desk, session: u64, place: Place, outcome: Outcome) -> Reply
     ensures reply { result ≡ ciphered_reply (told_of outcome) }
     ensures left { desk.new ≡ record desk.old { sessions = with_operation desk.old.sessions session place (operation_left outcome) } }
@@ -209,6 +210,15 @@ pub fn finish(desk: &mut Desk, session: u64, place: Place, outcome: Outcome) -> 
         Outcome::BadPadding => {
             desk.set_operation(session, place, None);
             Reply::Code(Rv::EncryptedDataInvalid)
+        }
+        Outcome::WrongPin
+        | Outcome::RightPin(_)
+        | Outcome::PinMade(_)
+        | Outcome::PinChanged { .. }
+        | Outcome::TokenMade { .. }
+        | Outcome::TokenReset { .. } => {
+            desk.set_operation(session, place, None);
+            Reply::Code(Rv::FunctionFailed)
         }
     }
 }

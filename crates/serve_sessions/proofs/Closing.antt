@@ -3,24 +3,27 @@ use Rattle.std.proofs.Common.{◌≡◌, ℕ, ◌≤◌, Bool, true, false, cond
 use Rattle.std.specs.Prelude.{find, filter, ◌==◌, ◌||◌, is_some, is_none}
 use Rattle.std.specs.Option.{option_map}
 use Rattle.std.specs.List.{AllByRecursion}
-use Rattle.std.proofs.lemmas.Bool.{false≢true, cases_Bool, cases_eq, eq-eqb, ne_eqb}
+use Rattle.std.proofs.lemmas.Bool.{cases_Bool, cases_eq, eq-eqb, ne_eqb}
 use Rattle.ck_types.specs.declared.entry.Entry.{Entry}
 use Rattle.ck_types.specs.declared.user_type.UserType.{UserType}
 use Rattle.ck_types.specs.declared.rv.Rv.TheVariants.{Ok}
 use Rattle.ck_calls.specs.declared.reply.Reply.TheVariants.{Code}
-use Rattle.guard.specs.Access.{is_public, is_user}
+use Rattle.guard.specs.Access.{is_public}
 use Rattle.lists.proofs.InOrderLemmas.{All-filter}
 use Rattle.handles.specs.declared.Handle.{Handle}
 use Rattle.handles.specs.Handles.{HandleTable, number_of, public_handles}
 use Rattle.keep.specs.Contents.{Contents, Kept}
 use Rattle.sessions.specs.declared.Session.{Session}
-use Rattle.sessions.specs.Sessions.{login_among, state_of}
-use Rattle.desk.specs.Desks.{DeskState, closed as desk_closed, all_closed as desk_all_closed, handles_for}
+use Rattle.sessions.specs.Sessions.{login_among}
+use Rattle.ck_types.specs.declared.attr_type.AttrType.TheVariants.{Private}
+use Rattle.attrs.specs.Objects.{flag}
+use Rattle.desk.specs.declared.own_object.OwnObject.{OwnObject}
+use Rattle.desk.specs.Desks.{DeskState, closed as desk_closed, all_closed as desk_all_closed, logged_out_desk, handles_for}
 use Rattle.ops.specs.Operations.{Operations}
-use Rattle.views.specs.Views.{TokenObject, SessionObject, View, sees, seen_by}
-use Rattle.views.specs.Changes.{Stays}
+use Rattle.views.specs.Views.{TokenObject, SessionObject, sees, seen_by}
 use Rattle.views.specs.Answering.{Replies, session_of}
 use Rattle.answers.specs.CloseSession.{close_session, close_all_sessions}
+use Rattle.answers.specs.Logout.{logout}
 use Rattle.answers.specs.OpenSession.{is_slot}
 use Rattle.token_store.specs.Shown.{sees_kept, token_object, session_object, view_of, IsNoted, Fits, Gives}
 use Rattle.token_store.proofs.Seeing.{IsLess, less-none}
@@ -101,6 +104,20 @@ gives-all-closed c d slot is fits =
     rw is (record {
       says = refl;
       view = rw (tokens-closed c d (desk_all_closed d) None refl fits.noted (less-none d.sessions.login)) refl;
+      changes = refl;
+      fits = fits-public c d.handles.entries fits;
+    })
+
+-- ---- and where nobody is logged in any more
+
+public-own : (es : List OwnObject) → map session_object (filter (λ e. not (flag e.object Private)) es) ≡ filter (λ e. not (flag e.object Private)) (map session_object es)
+public-own es = sym (filter-map (λ (e : SessionObject). not (flag e.object Private)) session_object es)
+
+pub gives-logged-out : (c : Contents) (d : DeskState) (s : ℕ) → is_none (session_of (view_of c d) s) ≡ false → is_none d.sessions.login ≡ false → Fits c d.handles.entries → Gives (logout (view_of c d) s) d.sessions.login c (Replies (Code Ok)) c (logged_out_desk d)
+gives-logged-out c d s there logged fits =
+    rw (there, logged) (record {
+      says = refl;
+      view = rw (tokens-closed c d (logged_out_desk d) None refl fits.noted (less-none d.sessions.login), public-own d.own) refl;
       changes = refl;
       fits = fits-public c d.handles.entries fits;
     })

@@ -1,16 +1,31 @@
-//! Calls on sessions (PKCS #11 v3.1, 5.6), each at the desk of its application alone: no store is asked.
+//! Calls on sessions and on the token with its PINs (PKCS #11 v3.1, 5.5 and 5.6).
 //!
-//! Each function answers by the rows of its call's table, and its one clause (`AtDesk`) says that the answer is the
-//! written one to what the application sees, whatever the store has, or that it was refused and nothing has changed.
+//! Each function answers by the rows of its call's table, and its one clause says that the answer is the written one to
+//! what the application sees, or that it was refused and nothing has changed: `AtDesk` where no store is asked, `IsDone`
+//! where one is, and `IsDoneAs` where the call asks a question and writes, or where its answer takes something from the
+//! store that the application doesn't see.
+//!
+//! A PIN is checked in two steps. `login::serve`, `set_pin::serve` and `init_token::serve` store the charge of the check and
+//! only then give its job. What its outcome does is said by `login::right`, `set_pin::changed`, `init_pin::made`,
+//! `init_token::made` and `init_token::reset`, for a desk whose question has ended; a wrong PIN changes nothing, since its
+//! charge is stored already.
 //!
 //! ```text
 //! settle(open_session::serve(desk, slot, flags))
+//! settle_asking(login::serve(app, desk, store, session, user_type, pin))
 //! ```
 #![tactic(auto)]
 
 pub mod close_session;
 pub mod get_session_info;
+pub mod get_token_info;
+pub mod init_pin;
+pub mod init_token;
+pub mod login;
+pub mod logout;
 pub mod open_session;
+mod recording;
+pub mod set_pin;
 
 /// The only slot.
 const SLOT: u64 = 0;

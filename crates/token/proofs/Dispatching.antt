@@ -1,5 +1,5 @@
 -- Which definition answers a call, and what is told of it.
-use Rattle.std.proofs.Common.{◌≡◌, ℕ, ◌^◌, ◌≤◌, arith, true, false, not, List, Option, Some, None, Result, Ok, Err, refl, sym, ◌∙◌, ap, subst}
+use Rattle.std.proofs.Common.{◌≡◌, ℕ, ◌^◌, ◌≤◌, arith, Bool, true, false, cond, not, List, Option, Some, None, Result, Ok, Err, refl, sym, ◌∙◌, ap, subst}
 use Rattle.std.specs.Prelude.{is_some, ◌||◌, nat_le, IfOk}
 use Rattle.std.specs.Option.{option_map}
 use Rattle.ck_calls.specs.declared.call.Call.{Call}
@@ -9,26 +9,31 @@ use Rattle.ck_calls.specs.declared.reply.Reply.TheVariants.{Code}
 use Rattle.ck_calls.specs.Functions.{function_of}
 use Rattle.keep.specs.Contents.{Contents}
 use Rattle.keep.specs.Keeping.{Terms}
-use Rattle.precede.specs.declared.row.Row.TheVariants.{Busy}
+use Rattle.precede.specs.declared.row.Row.TheVariants.{Busy, NoSession, NotSo, PinLength}
 use Rattle.mech.specs.declared.job.Job.{Job}
 use Rattle.desk.specs.Desks.{DeskState, is_busy}
 use Rattle.views.specs.declared.fault.Fault.{Fault}
 use Rattle.views.specs.declared.fault.Fault.TheVariants as faults
-use Rattle.views.specs.Views.{View}
-use Rattle.views.specs.Answering.{Said, Replies, Answer, Reveal, reveals_nothing, refuses, refuses_by, is_closed}
-use Rattle.answers.specs.Answers.{answer, answer_to, may_change_objects}
+use Rattle.ck_calls.specs.declared.function.Function.TheVariants as function
+use Rattle.views.specs.Views.{View, MakesPin}
+use Rattle.views.specs.Changes.{Stays}
+use Rattle.views.specs.Answering.{Said, Replies, Answer, Reveal, asks, refuses, refuses_by, is_closed}
+use Rattle.answers.specs.Answers.{answer, answer_to, is_still_function}
+use Rattle.answers.specs.InitPin.{init_pin_row, init_pin}
+use Rattle.token_model.specs.Worlds.{reveal_by_call}
 use Rattle.views.specs.Refusals.{set_apart}
 use Rattle.answers.proofs.Proper.{proper-answer_to}
 use Rattle.token_store.specs.declared.out.Out.{Out}
 use Rattle.token_store.specs.declared.out.Out.TheVariants.{Reply as OutReply}
 use Rattle.token_store.specs.declared.refusal.Refusal.{Refusal}
 use Rattle.token_store.specs.declared.refusal.Refusal.TheVariants as refusals
-use Rattle.token_store.specs.Refusing.{AtDesk, IsDone, IsServed, refused_as, settled}
+use Rattle.token_store.specs.Refusing.{AtDesk, IsDone, IsDoneAs, IsServed, settled}
 use Rattle.token_store.specs.Shown.{IsFor, question_of, said_of, view_of}
 use Rattle.token_store.specs.Stores.{StoreState, Serves}
 use Rattle.token_store.proofs.Gaves.{gave-reply}
-use Rattle.token_store.proofs.Plain.{plain-done, stays-settled, plain-at-desk, stays-at-desk}
-use Rattle.token_store.proofs.Refusals.{serves-done, serves-at-desk}
+use Rattle.token_store.proofs.Plain.{plain-at-desk, stays-at-desk}
+use Rattle.token_store.proofs.Refusals.{serves-at-desk}
+use Rattle.token_store.proofs.Serving.{blamed, served-as}
 
 closed-is : (c : Contents) (d : DeskState) → is_closed (view_of c d) ≡ is_busy d
 unfolding is_closed
@@ -67,55 +72,60 @@ for-out app (Err (refusals.Code code)) is = tt
 for-out app (Err refusals.Memory) is = tt
 for-out app (Err refusals.Device) is = tt
 
--- the device is blamed for a failed keeper alone
-blamed : {T : Type 0} (as_out : T → Out) (r : Result T Refusal) → settled as_out r ≡ Err faults.Device → r ≡ Err refusals.Device
-blamed as_out (Ok t) is = let k : Ok (as_out t) ≡ Err faults.Device = is in cc
-blamed as_out (Err (refusals.Row row)) is = let k : refused_as (refusals.Row row) ≡ Err faults.Device = is in cc
-blamed as_out (Err (refusals.Code code)) is = let k : refused_as (refusals.Code code) ≡ Err faults.Device = is in cc
-blamed as_out (Err refusals.Memory) is = let k : refused_as refusals.Memory ≡ Err faults.Device = is in cc
-blamed as_out (Err refusals.Device) is = refl
-
-module _ {K : Type 0} (terms : Terms K) (app : ℕ) (call x : Call) (random : List ℕ) (is : call ≡ x) where
+module _ {K : Type 0} (terms : Terms K) (app : ℕ) (in_use : Bool) (call x : Call) (random : List ℕ) (is : call ≡ x) where
   abbrev answers : View → Answer
-  answers v = answer_to v x random reveals_nothing
+  answers v = answer_to v x random (reveal_by_call x in_use)
 
   abbrev pub IsCallServed : StoreState K → StoreState K → DeskState → Result Out Fault → DeskState → Type 0
-  IsCallServed old new before out desk = IsServed terms (IsFor app) (λ v. answer_to v call random reveals_nothing) old new before out desk
+  IsCallServed old new before out desk = IsServed terms (IsFor app) (λ v. answer_to v call random (reveal_by_call call in_use)) old new before out desk
 
   -- a call at the desk and the store
   pub call-done : (writes : ℕ) (old new : StoreState K) (before desk : DeskState) (r : Result Reply Refusal) (out : Result Out Fault) → writes ≤ 1 → out ≡ settled OutReply r → IsDone terms writes answers old new before r desk → IsCallServed old new before out desk
-  call-done writes old new before desk r out few told done = rw (is, told) (record {
-    serves = λ sure c h fits. serves-done terms (answers (view_of c before)) c old new before desk r fits (done.serves sure c h fits);
-    says = for-reply app r;
-    counts = record { steady = done.counts.steady; doubt = done.counts.doubt; failures = done.counts.failures; tried = done.counts.tried; bounded = (let k = done.counts.bounded in omega (arith, few, k)) };
-    cause = λ device. done.cause (blamed OutReply r device);
-    plain = plain-done r done.plain;
-    stays = stays-settled OutReply before desk r done.stays;
-  })
+  call-done writes old new before desk r out few told done = rw (is, told) (served-as terms Replies OutReply (IsFor app) writes answers old new before desk r (λ t. refl) few (for-reply app r) done)
+
+  -- which may ask
+  pub call-checked : (old new : StoreState K) (before desk : DeskState) (r : Result Out Refusal) (out : Result Out Fault) → out ≡ settled (λ out. out) r → IfOk r (IsFor app) → IsDoneAs terms said_of 1 (λ c. answers) old new before r desk → IsCallServed old new before out desk
+  call-checked old new before desk r out told for done = rw (is, told) (served-as terms said_of (λ out. out) (IsFor app) 1 answers old new before desk r (λ t. refl) (omega arith) (for-out app r for) done)
 
   -- and at the desk alone
-  at-desk : {T : Type 0} (tell : T → Said) (as_out : T → Out) (store : StoreState K) (before desk : DeskState) (r : Result T Refusal) (out : Result Out Fault) → ((t : T) → said_of (as_out t) ≡ tell t) → may_change_objects (function_of x) ≡ false → out ≡ settled as_out r → IfOk (settled as_out r) (IsFor app)
+  at-desk : {T : Type 0} (tell : T → Said) (as_out : T → Out) (store : StoreState K) (before desk : DeskState) (r : Result T Refusal) (out : Result Out Fault) → ((t : T) → said_of (as_out t) ≡ tell t) → ((v : View) → (answers v).change ≡ Stays) → out ≡ settled as_out r → IfOk (settled as_out r) (IsFor app)
       → AtDesk tell answers before r desk → IsCallServed store store before out desk
   at-desk tell as_out store before desk r out same quiet told for does = rw (is, told) (record {
-    serves = λ sure c h fits. serves-at-desk terms tell as_out (answers (view_of c before)) c store before desk r same (((proper-answer_to x random).fair (view_of c before) reveals_nothing).still (ap not quiet)) h fits (does.serves c fits);
+    serves = λ sure c h fits. serves-at-desk terms tell as_out (answers (view_of c before)) c store before desk r same (quiet (view_of c before)) h fits (does.serves c fits);
     says = for;
     counts = record { steady = λ s. s; doubt = omega arith; failures = omega arith; tried = omega arith; bounded = omega arith };
     cause = λ device. absurd (does.cause (blamed as_out r device));
-    plain = plain-at-desk tell as_out answers before desk r same (λ v. ((proper-answer_to x random).fair v reveals_nothing).plain) does;
+    plain = plain-at-desk tell as_out answers before desk r same (λ v. ((proper-answer_to x random).fair v (reveal_by_call x in_use)).plain) does;
     stays = stays-at-desk tell as_out answers before desk r does;
   })
 
-  pub call-at-desk : (store : StoreState K) (before desk : DeskState) (r : Result Reply Refusal) (out : Result Out Fault) → may_change_objects (function_of x) ≡ false → out ≡ settled OutReply r → AtDesk Replies answers before r desk → IsCallServed store store before out desk
-  call-at-desk store before desk r out quiet told does = at-desk Replies OutReply store before desk r out (λ t. refl) quiet told (for-reply app r) does
+  still-call : is_still_function (function_of x) ≡ true → (v : View) → (answers v).change ≡ Stays
+  still-call quiet v = ((proper-answer_to x random).fair v (reveal_by_call x in_use)).still quiet
 
-  pub call-asking : (store : StoreState K) (before desk : DeskState) (r : Result Out Refusal) (out : Result Out Fault) → may_change_objects (function_of x) ≡ false → out ≡ settled (λ out. out) r → IfOk r (IsFor app) → AtDesk said_of answers before r desk → IsCallServed store store before out desk
-  call-asking store before desk r out quiet told for does = at-desk said_of (λ out. out) store before desk r out (λ t. refl) quiet told (for-out app r for) does
+  pub call-at-desk : (store : StoreState K) (before desk : DeskState) (r : Result Reply Refusal) (out : Result Out Fault) → is_still_function (function_of x) ≡ true → out ≡ settled OutReply r → AtDesk Replies answers before r desk → IsCallServed store store before out desk
+  call-at-desk store before desk r out quiet told does = at-desk Replies OutReply store before desk r out (λ t. refl) (still-call quiet) told (for-reply app r) does
+
+  pub call-asking : (store : StoreState K) (before desk : DeskState) (r : Result Out Refusal) (out : Result Out Fault) → is_still_function (function_of x) ≡ true → out ≡ settled (λ out. out) r → IfOk r (IsFor app) → AtDesk said_of answers before r desk → IsCallServed store store before out desk
+  call-asking store before desk r out quiet told for does = at-desk said_of (λ out. out) store before desk r out (λ t. refl) (still-call quiet) told (for-out app r for) does
+
+  -- one of a PIN that begins no check
+  pub call-unchecked : (store : StoreState K) (before desk : DeskState) (r : Result Out Refusal) (out : Result Out Fault) → ((v : View) → (answers v).change ≡ Stays) → out ≡ settled (λ out. out) r → IfOk r (IsFor app) → AtDesk said_of answers before r desk → IsCallServed store store before out desk
+  call-unchecked store before desk r out quiet told for does = at-desk said_of (λ out. out) store before desk r out (λ t. refl) quiet told (for-out app r for) does
+
+-- C_InitPIN changes nothing that others see before its end
+pub still-init_pin : (v : View) (s : ℕ) (pin random : List ℕ) → (init_pin v s pin random).change ≡ Stays
+still-init_pin v s pin random = still-rows (init_pin_row v s pin NoSession) (init_pin_row v s pin NotSo) (init_pin_row v s pin PinLength) where
+  still-rows : (a b d : Bool) → (cond a (refuses_by v NoSession) (cond b (refuses_by v NotSo) (cond d (refuses_by v PinLength) (asks v function.InitPin s (MakesPin pin random))))).change ≡ Stays
+  still-rows true b d = refl
+  still-rows false true d = refl
+  still-rows false false true = refl
+  still-rows false false false = refl
 
 -- a call that is answered a code, and does nothing
-pub call-refused : {K : Type 0} (terms : Terms K) (app : ℕ) (call : Call) (random : List ℕ) (code : Rv) (store : StoreState K) (desk : DeskState) (out : Result Out Fault) → ((v : View) → answer_to v call random reveals_nothing ≡ refuses v code) → set_apart (Code code) ≡ None → out ≡ Ok (OutReply (Code code))
-    → IsServed terms (IsFor app) (λ v. answer_to v call random reveals_nothing) store store desk out desk
-call-refused terms app call random code store desk out is plain told = rw told (record {
-  serves = λ sure c h fits. gave-reply terms (answer_to (view_of c desk) call random reveals_nothing) c store store desk (Code code) h (λ d may. may) fits (is (view_of c desk));
+pub call-refused : {K : Type 0} (terms : Terms K) (app : ℕ) (in_use : Bool) (call : Call) (random : List ℕ) (code : Rv) (store : StoreState K) (desk : DeskState) (out : Result Out Fault) → ((v : View) → answer_to v call random (reveal_by_call call in_use) ≡ refuses v code) → set_apart (Code code) ≡ None → out ≡ Ok (OutReply (Code code))
+    → IsServed terms (IsFor app) (λ v. answer_to v call random (reveal_by_call call in_use)) store store desk out desk
+call-refused terms app in_use call random code store desk out is plain told = rw told (record {
+  serves = λ sure c h fits. gave-reply terms (answer_to (view_of c desk) call random (reveal_by_call call in_use)) c store store desk (Code code) h (λ d may. may) fits (is (view_of c desk));
   says = tt;
   counts = record { steady = λ s. s; doubt = omega arith; failures = omega arith; tried = omega arith; bounded = omega arith };
   cause = λ device. (let k : Ok (OutReply (Code code)) ≡ Err faults.Device = device in cc);

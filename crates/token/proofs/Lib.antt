@@ -1,7 +1,9 @@
+pub mod Seats
 pub mod Steps
 pub mod Called
 pub mod Resulted
 pub mod Outcomes
+pub mod Endings
 pub mod Jobs
 pub mod Accounts
 pub mod Runs

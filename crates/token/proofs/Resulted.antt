@@ -1,5 +1,5 @@
 -- A result at one desk, and an application that goes, are the world's next step.
-use Rattle.std.proofs.Common.{◌≡◌, ◌≢◌, ◌⊎◌, ◌≤◌, ℕ, List, [], ◌∷◌, Option, Some, None, Result, Ok, Err, refl, sym, ◌∙◌, ap, inl, inr}
+use Rattle.std.proofs.Common.{◌≡◌, ◌≢◌, ◌⊎◌, ◌≤◌, ℕ, Bool, List, [], ◌∷◌, ◌++◌, Option, Some, None, Result, Ok, Err, refl, sym, ◌∙◌, ap, inl, inr}
 use Rattle.std.proofs.lemmas.Bool.{cases_eq}
 use Rattle.std.specs.Prelude.{option_to_list, map}
 use Rattle.std.specs.Option.{option_map}
@@ -16,25 +16,24 @@ use Rattle.desk.specs.Desks.{DeskState, SameDesk, empty_desk}
 use Rattle.token_model.specs.declared.check.Check.{Check}
 use Rattle.token_model.specs.declared.event.Event.TheVariants.{Finish, Gone}
 use Rattle.token_store.specs.declared.out.Out.TheVariants.{Reply as OutReply}
-use Rattle.views.specs.Views.{Question, Task, Ciphers, View, sees, stored_record}
+use Rattle.ck_types.specs.declared.entry.Entry.{Entry}
+use Rattle.views.specs.Views.{Question, View, sees}
 use Rattle.views.specs.Changes.{Change, Stays, in_list}
-use Rattle.views.specs.Answering.{Said, Replies, Answer, reveals_nothing, answered}
+use Rattle.views.specs.Answering.{Said, Replies, Answer, Reveal, answered}
 use Rattle.answers.specs.Answers.{answer_result}
 use Rattle.views.specs.Refusals.{apart, refusal, set_apart}
-use Rattle.token_model.specs.Worlds.{World, Goes, Refuses, value_of, reveal_to_task, result_at, list_change, without_checks, stepped, unchecked, finished, finish_tells, finish_refusal, goes, happens, told, reply_to}
+use Rattle.token_model.specs.Worlds.{World, Goes, Refuses, checks_of, others_checking, others_in_session, value_of, reveal_by_outcome, reveal_to_task, result_at, list_change, without_checks, stepped, unchecked, finished, finish_tells, finish_refusal, goes, happens, told, reply_to}
 use Rattle.token_store.specs.Shown.{objects_of, view_of, question_of, over, Changes}
-use Rattle.token.specs.Applications.{desk_at, told_result, moved, move_of, IsOpen, HasNumbers, HasJobs, opening, answer_by, answer_to_job, asked_by_job, by_job, taken_by, says_by, TokenState, Shows}
+use Rattle.token.specs.Applications.{desk_at, others_seated, reveal_by_job, told_result, moved, move_of, IsOpen, HasNumbers, HasJobs, opening, answer_by, answer_to_job, asked_by_job, by_job, taken_by, says_by, TokenState, Shows}
 use Rattle.token_store.specs.Stores.{StoreState, Has, Serves}
 use Rattle.token.specs.Runs.{Lasting, lasting_of, lasting_in, MayLeave, LeavesBy, LeftBy, IsTakenBy, result_change}
 use Rattle.token_model.specs.Tries.{IsSound}
-use Rattle.answers.proofs.Proper.{plain-result}
+use Rattle.answers.proofs.Proper.{plain-result, unasking-result}
+use Rattle.lists.proofs.PlaceLemmas.{append_nil}
+use Rattle.token.proofs.Seats.{seated-is}
 use Rattle.token_model.proofs.Tries.{sound-start}
 use Rattle.token_store.proofs.Changing.{objects-changed, record-changed}
 use Rattle.token.proofs.Steps.{state, fits-given, depicts-given, depicts-put, fits-put, fits-empty, depicts-gone, depicts-opening}
-
--- no result reveals anything yet
-reveals-nothing : (w : World) (app : ℕ) (t : Task) → reveal_to_task w app t ≡ reveals_nothing
-reveals-nothing w app (Ciphers part operation input) = refl
 
 -- ---- a result with the numbers of the pending question, by its own value
 
@@ -42,8 +41,11 @@ module _ {K : Type 0} (terms : Terms K) (old new : StoreState K) (ds ds' : List 
   abbrev outcome : Outcome
   outcome = value_of (question_of job).task
 
+  abbrev reveal : Reveal
+  reveal = reveal_by_job job (others_checking cs app) (others_seated ds app) s.contents
+
   abbrev given : Answer
-  given = answer_to_job job (view_of s.contents (desk_at ds app)) reveals_nothing
+  given = answer_to_job job (view_of s.contents (desk_at ds app)) reveal
 
   abbrev IsServed : Result Reply Fault → Type 0
   IsServed r = Serves terms Replies given s.contents old new (desk_at ds app) (over (desk_at ds app)) r (desk_at ds' app)
@@ -54,14 +56,21 @@ module _ {K : Type 0} (terms : Terms K) (old new : StoreState K) (ds ds' : List 
   abbrev after : TokenState K
   after = record { store = new; desks = ds'; checks = without_checks app cs }
 
+  -- what the result reveals of the world is what it reveals of the desks
+  reveal-is : reveal_to_task w app (question_of job).task ≡ reveal
+  reveal-is =
+      let r : List (List Entry) → List Check → Bool → Reveal = λ os xs b. reveal_by_outcome (question_of job).task outcome os (others_checking xs app) b in
+      ap (λ os. r os w.checks (others_in_session w app)) s.depicts.objects ∙ ap (λ xs. r (objects_of s.contents) xs (others_in_session w app)) s.depicts.checks
+      ∙ ap (r (objects_of s.contents) cs) (seated-is ds w.in_session app s.depicts.in_session)
+
   given-is : answer_by w app job ≡ given
-  given-is = ap (λ v. answer_to_job job v (reveal_to_task w app (question_of job).task)) (s.depicts.views app) ∙ ap (answer_to_job job (view_of s.contents (desk_at ds app))) (reveals-nothing w app (question_of job).task)
+  given-is = ap (λ v. answer_to_job job v (reveal_to_task w app (question_of job).task)) (s.depicts.views app) ∙ ap (answer_to_job job (view_of s.contents (desk_at ds app))) reveal-is
 
   change-is : list_change w app (answer_by w app job) ≡ in_list (sees (desk_at ds app).sessions.login) (objects_of s.contents) given.change
   change-is = ap (list_change w app) given-is ∙ rw (s.depicts.views app, s.depicts.objects) refl
 
   went : (reply : Reply) → Replies reply ≡ given.says → set_apart reply ≡ None
-  went reply is = ap apart is ∙ plain-result (asked_by_job job (view_of s.contents (desk_at ds app))) outcome reveals_nothing
+  went reply is = ap apart is ∙ plain-result (asked_by_job job (view_of s.contents (desk_at ds app))) outcome reveal
 
   takes : taken_by w app job None ≡ unchecked (stepped w app given) app
   takes = ap (λ a. unchecked (stepped w app a) app) given-is
@@ -84,7 +93,7 @@ module _ {K : Type 0} (terms : Terms K) (old new : StoreState K) (ds ds' : List 
           contents = m.contents;
           has = m.has;
           fits = fits-given given s.contents m.contents ds ds' app s.fits others (Replies reply) m.gives;
-          depicts = record { token_record = d.token_record; objects = d.objects; checks = ap (without_checks app) d.checks; in_session = d.in_session; views = d.views };
+          depicts = record { token_record = d.token_record; objects = d.objects; checks = ap (without_checks app) (d.checks ∙ ap (λ o. cs ++ checks_of app o) (unasking-result (asked_by_job job (view_of s.contents (desk_at ds app))) outcome reveal) ∙ append_nil cs); in_session = d.in_session; views = d.views };
         });
         says = rw e (m.gives.says ∙ ap (λ (a : Answer). a.says) (sym given-is));
         leaves = λ l may. rw e (elim (m.leaves may.0 may.1) [
@@ -167,5 +176,5 @@ module _ {K : Type 0} (terms : Terms K) where
   no-jobs store cs w s app = ap (λ v. map (λ q. (app, q)) (option_to_list v.question)) (sym (s.depicts.views app))
 
   -- the ten tries begin
-  pub sound-new : (store : StoreState K) (w : World) → Shows terms (record { store = store; desks = []; checks = [] }) w → ((who : UserType) → tries_of (stored_record w.token_record) who ≤ tries_limit) → IsSound (tries_of (stored_record w.token_record)) w
+  pub sound-new : (store : StoreState K) (w : World) → Shows terms (record { store = store; desks = []; checks = [] }) w → ((who : UserType) → tries_of (w.token_record) who ≤ tries_limit) → IsSound (tries_of (w.token_record)) w
   sound-new store w s few = sound-start w s.depicts.checks (λ app. ap (λ v. v.question) (s.depicts.views app)) (λ app. ap (λ v. v.token_record) (s.depicts.views app) ∙ sym s.depicts.token_record) few

@@ -13,17 +13,15 @@ use Rattle.desk.specs.Desks.{DeskState, SameDesk, empty_desk}
 use Rattle.token_model.specs.declared.check.Check.{Check}
 use Rattle.token_model.specs.declared.event.Event.TheVariants.{Gone}
 use Rattle.token_store.specs.declared.out.Out.{Out}
-use Rattle.views.specs.Views.{record_sight, TokenObject, View, sees, without_handle, fresh, left}
+use Rattle.views.specs.Views.{TokenObject, View, sees, without_handle, fresh, left}
 use Rattle.views.specs.Changes.{Change, seen, in_list, as_seen}
-use Rattle.views.specs.Answering.{Said, Replies, Asks, Answer, reveals_nothing, pin_checked_in}
+use Rattle.views.specs.Answering.{Said, Answer, Reveal, has_session, pin_checked_in}
 use Rattle.answers.specs.Answers.{answer}
 use Rattle.token_store.specs.Stores.{StoreState, Serves}
-use Rattle.token_model.specs.Worlds.{World, has_session, seated, list_change, change_for, checks_of, without_checks, stepped, unchecked, with_view, goes}
+use Rattle.token_model.specs.Worlds.{World, seated, list_change, change_for, checks_of, without_checks, stepped, unchecked, with_view, goes}
 use Rattle.token_store.specs.Shown.{objects_of, sees_kept, token_object, view_of, IsNoted, Fits, Gives, said_of}
 use Rattle.token.specs.Applications.{State, desk_at, Depicts, opening, AllFit}
 use Rattle.lists.proofs.ListLemmas.{map-map, filter-map, filter-less, any-none, any-less}
-use Rattle.lists.proofs.PlaceLemmas.{append_nil}
-use Rattle.token_model.proofs.Tries.{unchecked-task}
 use Rattle.token_store.proofs.Seeing.{less-none}
 use Rattle.token_store.proofs.Changing.{fits-changed, objects-changed, record-changed, view_of-changed}
 
@@ -36,11 +34,6 @@ view_of-same c d d' same = rw same refl
 
 pub fits-same : (c : Contents) (d d' : DeskState) → SameDesk d d' → Fits c d.handles.entries → Fits c d'.handles.entries
 fits-same c d d' same fits = rw same fits
-
--- no question checks a PIN yet
-none-checked : (app : ℕ) (s : Said) → checks_of app (pin_checked_in s) ≡ []
-none-checked app (Replies reply) = refl
-none-checked app (Asks q) = ap (checks_of app) (unchecked-task q.task)
 
 -- ---- which applications have a session
 
@@ -70,14 +63,14 @@ module _ (a : Answer) (c c' : Contents) (ds ds' : List (ℕ × DeskState)) (app 
     | inr differ ↦ fits-same c' (desk_at ds b) (desk_at ds' b) (others b differ) (fits-changed (in_list (sees (desk_at ds app).sessions.login) (objects_of c) a.change) c c' (desk_at ds b).handles.entries gives.changes (fits b))
   ]
 
-  pub depicts-given : (cs : List Check) (w : World) → Depicts (state c ds cs) w → Depicts (state c' ds' cs) (stepped w app a)
+  pub depicts-given : (cs : List Check) (w : World) → Depicts (state c ds cs) w → Depicts (state c' ds' (cs ++ checks_of app (pin_checked_in a.says))) (stepped w app a)
   depicts-given cs w s =
       let change : Change = in_list (sees (desk_at ds app).sessions.login) (objects_of c) a.change in
       let is : list_change w app a ≡ change = rw (s.views app, s.objects) refl in
       record {
         token_record = rw (is, s.token_record) (sym (record-changed change c c' gives.changes));
         objects = rw (is, s.objects) (sym (objects-changed change c c' gives.changes));
-        checks = ap (λ xs. w.checks ++ xs) (none-checked app a.says) ∙ append_nil w.checks ∙ s.checks;
+        checks = ap (λ xs. xs ++ checks_of app (pin_checked_in a.says)) s.checks;
         in_session = λ b. elim (cases_eq b app) [
           | inl same ↦ rw same (in-own app a.view w.in_session ∙ ap has_session (sym gives.view))
           | inr differ ↦ in-other app b a.view w.in_session differ ∙ s.in_session b ∙ session-same c c' (desk_at ds b) (desk_at ds' b) (others b differ)
@@ -135,7 +128,7 @@ fits-empty c = record { given = tt; noted = noted c.objects } where
   noted [] = tt
   noted (e ∷ es) = (tt, noted es)
 
-pub view_of-empty : (c : Contents) → view_of c empty_desk ≡ fresh (record_sight c.token_record) (objects_of c)
+pub view_of-empty : (c : Contents) → view_of c empty_desk ≡ fresh c.token_record (objects_of c)
 view_of-empty c =
     let f : List TokenObject → View = λ ts. record (view_of c empty_desk) { tokens = ts } in
     ap f (sym (ap (map without_handle) (filter-map (sees None) (λ (e : Kept). e.1) c.objects) ∙ map-map (λ (e : Kept). e.1) without_handle (filter (sees_kept None) c.objects)))
@@ -158,7 +151,7 @@ depicts-gone c ds ds' cs app w own others s =
     depicts-put c ds ds' cs app empty_desk (left (w.views app)) w (rw own refl) (view_of-left c (desk_at ds app) ∙ ap left (sym (s.views app))) (λ b differ. rw (others b differ) refl) s
 
 -- ---- a call at a desk that is the same but for the memory at hand
-pub served-same : {K : Type 0} (terms : Terms K) (call : Call) (random : List ℕ) (c : Contents) (old new : StoreState K) (d mid : DeskState) (r : Result Out Fault) (desk : DeskState) → SameDesk d mid
-    → Serves terms said_of (answer (view_of c mid) call random reveals_nothing) c old new mid mid r desk → Serves terms said_of (answer (view_of c d) call random reveals_nothing) c old new d d r desk
-served-same terms call random c old new d mid (Ok out) desk same s = rw same at s
-served-same terms call random c old new d mid (Err fault) desk same s = record { has = s.has; same = rw same at s.same; leaves = rw same at s.leaves }
+pub served-same : {K : Type 0} (terms : Terms K) (call : Call) (random : List ℕ) (reveal : Reveal) (c : Contents) (old new : StoreState K) (d mid : DeskState) (r : Result Out Fault) (desk : DeskState) → SameDesk d mid
+    → Serves terms said_of (answer (view_of c mid) call random reveal) c old new mid mid r desk → Serves terms said_of (answer (view_of c d) call random reveal) c old new d d r desk
+served-same terms call random reveal c old new d mid (Ok out) desk same s = rw same at s
+served-same terms call random reveal c old new d mid (Err fault) desk same s = record { has = s.has; same = rw same at s.same; leaves = rw same at s.leaves }

@@ -1,13 +1,15 @@
 -- What a token is to all applications: the desk of each, and the world that the token shows by them.
-use Rattle.std.specs.Prelude.{◌≡◌, ◌≢◌, ◌⊎◌, ℕ, ◌==◌, ◌&&◌, Bool, false, List, [], ◌∷◌, map, filter, unwrap_or, option_to_list, Option, Some, None, Result, Ok, Err}
+use Rattle.std.specs.Prelude.{◌≡◌, ◌≢◌, ◌⊎◌, ℕ, ◌==◌, ◌&&◌, Bool, false, not, nat_lt, length, List, [], ◌∷◌, ◌++◌, map, filter, unwrap_or, option_to_list, Option, Some, None, Result, Ok, Err, IfOk, IfErr, IsErrOf}
 use Rattle.std.specs.Ordering.{nat_cmp}
 use Rattle.std.specs.BTreeMap.{is_at}
-use Rattle.std.specs.Map.{lookup}
+use Rattle.std.specs.Map.{lookup, keys_of}
+use Rattle.std.specs.List.{list_any}
 use Rattle.std.specs.Option.{option_map}
+use Rattle.ck_types.specs.declared.user_type.UserType.{UserType}
 use Rattle.keep.specs.Contents.{Contents}
-use Rattle.keep.specs.Keeping.{Terms}
+use Rattle.keep.specs.Keeping.{Counted, Rises, Terms}
 use Rattle.views.specs.declared.fault.Fault.{Fault}
-use Rattle.views.specs.declared.fault.Fault.TheVariants.{Memory, Device}
+use Rattle.views.specs.declared.fault.Fault.TheVariants.{Device}
 use Rattle.mech.specs.declared.job.Job.{Job}
 use Rattle.desk.specs.Desks.{DeskState, SameDesk, empty_desk}
 use Rattle.ck_calls.specs.declared.reply.Reply.{Reply}
@@ -16,13 +18,13 @@ use Rattle.token_model.specs.declared.event.Event.{Event}
 use Rattle.token_store.specs.declared.out.Out.{Out}
 use Rattle.token_store.specs.declared.out.Out.TheVariants.{Reply as OutReply}
 use Rattle.token_model.specs.declared.check.Check.{Check}
-use Rattle.views.specs.Views.{record_sight, Question, View, fresh}
-use Rattle.views.specs.Answering.{Said, Replies, Answer, Reveal, reveals_nothing}
+use Rattle.views.specs.Views.{Question, View, fresh}
+use Rattle.views.specs.Answering.{Said, Replies, Answer, Reveal, has_session, pin_checked_in}
 use Rattle.answers.specs.Answers.{answer_result}
-use Rattle.views.specs.Refusals.{refusal, apart}
-use Rattle.token_model.specs.Worlds.{World, has_session, is_in_session, Move, Goes, Refuses, value_of, reveal_to_task, stepped, unchecked, finish_refused}
-use Rattle.token_store.specs.Shown.{objects_of, view_of, Fits, Gives, said_of, question_of, over}
-use Rattle.token_store.specs.Stores.{StoreState, Has}
+use Rattle.views.specs.Refusals.{refusal, apart, set_apart}
+use Rattle.token_model.specs.Worlds.{World, is_in_session, checks_of, others_checking, Move, Goes, Refuses, value_of, reveal_by_outcome, reveal_to_task, stepped, unchecked, finish_refused}
+use Rattle.token_store.specs.Shown.{objects_of, view_of, Fits, said_of, question_of, over}
+use Rattle.token_store.specs.Stores.{StoreState, Has, Serves}
 
 -- ---- all desks
 
@@ -37,9 +39,16 @@ desk_at ds app = unwrap_or (lookup (is_at (nat_cmp app)) ds) empty_desk
 abbrev pub view_at : State → ℕ → View
 view_at t app = view_of t.kept (desk_at t.desks app)
 
+-- an application has a session, and another one has
+abbrev pub has_session_at : List (ℕ × DeskState) → ℕ → Bool
+has_session_at ds app = nat_lt 0 (length (desk_at ds app).sessions.sessions)
+
+abbrev pub others_seated : List (ℕ × DeskState) → ℕ → Bool
+others_seated ds app = list_any (λ b. not (b == app) && has_session_at ds b) (keys_of ds)
+
 -- the state is the world's
 pub record Depicts (t : State) (w : World) : Type 0 where
-  pub token_record : w.token_record ≡ record_sight t.kept.token_record
+  pub token_record : w.token_record ≡ t.kept.token_record
   pub objects : w.objects ≡ objects_of t.kept
   pub checks : w.checks ≡ t.checks
   pub in_session : (app : ℕ) → is_in_session w app ≡ has_session (view_at t app)
@@ -49,11 +58,11 @@ pub record Depicts (t : State) (w : World) : Type 0 where
 abbrev pub opening : Contents → World
 opening c =
     record {
-      token_record = record_sight c.token_record;
+      token_record = c.token_record;
       objects = objects_of c;
       checks = [];
       in_session = [];
-      views = λ app. fresh (record_sight c.token_record) (objects_of c);
+      views = λ app. fresh c.token_record (objects_of c);
     }
 
 abbrev pub AllFit : Contents → List (ℕ × DeskState) → Type 0
@@ -71,16 +80,18 @@ asked_by_job job v = record v { question = option_map (by_job job) v.question }
 abbrev pub answer_to_job : Job → View → Reveal → Answer
 answer_to_job job v reveal = answer_result (asked_by_job job v) (value_of (question_of job).task) reveal
 
--- The answer to the result of the job is given, whatever is kept; or memory was refused, and the desk is without its
--- question. No keeper is asked, so none is to blame.
-abbrev pub Finishes : Answer → Contents → DeskState → Result Reply Fault → DeskState → Type 0
-Finishes a c old (Ok reply) new = Gives a old.sessions.login c (Replies reply) c new
-Finishes a c old (Err Memory) new = SameDesk (over old) new
-Finishes a c old (Err Device) new = ⊥
+-- what it reveals, by what is kept, by the checks under way, and by whether another application has a session
+abbrev pub reveal_by_job : Job → (UserType → ℕ) → Bool → Contents → Reveal
+reveal_by_job job under_way in_use c = reveal_by_outcome (question_of job).task (value_of (question_of job).task) (objects_of c) under_way in_use
 
-abbrev pub FinishesAtDesk : Job → DeskState → Result Reply Fault → DeskState → Type 0
-FinishesAtDesk job old result new =
-    (c : Contents) → Fits c old.handles.entries → Finishes (answer_to_job job (view_of c old) reveals_nothing) c old result new
+-- The answer to the result of the job is given, or it is refused, and the desk is without its question; at most one write
+-- is tried, and the device is to blame only where a failure of the keeper was counted.
+pub record Finishes {K : Type 0} (terms : Terms K) (job : Job) (reveal : Contents → Reveal) (old new : StoreState K) (before : DeskState) (result : Result Reply Fault) (desk : DeskState) : Type 0 where
+  pub serves : terms.doubt new.keep ≡ 0 → (c : Contents) → Has terms old c → Fits c before.handles.entries → Serves terms Replies (answer_to_job job (view_of c before) (reveal c)) c old new before (over before) result desk
+  pub counts : Counted terms old.keep new.keep 0 1
+  pub cause : IsErrOf result Device → Rises (terms.failures old.keep) (terms.failures new.keep)
+  pub plain : IfOk result (λ reply. set_apart reply ≡ None)
+  pub stays : IfErr result (λ fault. SameDesk (over before) desk)
 
 -- the answer to the job's own value, and the world after it; or what a refusal leaves
 abbrev pub answer_by : World → ℕ → Job → Answer
@@ -112,6 +123,11 @@ told_result (Err fault) = refusal fault
 -- which of both it was is read off what is given out, since the codes of a refusal set apart have no other cause
 abbrev pub move_of : Event → Out → Move
 move_of event out = moved event (apart (said_of out))
+
+-- the checks under way after a call
+abbrev pub checks_after : ℕ → Result Out Fault → List Check → List Check
+checks_after app (Ok out) cs = cs ++ checks_of app (pin_checked_in (said_of out))
+checks_after app (Err fault) cs = cs
 
 -- ---- jobs
 

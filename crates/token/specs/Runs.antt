@@ -12,7 +12,8 @@ use Rattle.views.specs.declared.fault.Fault.TheVariants.{Memory, Device}
 use Rattle.mech.specs.declared.job.Job.{Job}
 use Rattle.token_model.specs.declared.event.Event.{Event}
 use Rattle.token_model.specs.declared.event.Event.TheVariants.{Call, Finish, Gone}
-use Rattle.views.specs.Views.{RecordSight, record_sight, Question}
+use Rattle.pin_record.specs.Records.{TokenRecord}
+use Rattle.views.specs.Views.{Question}
 use Rattle.views.specs.Changes.{Change, Stays}
 use Rattle.views.specs.Answering.{Replies}
 use Rattle.views.specs.Refusals.{set_apart}
@@ -26,14 +27,14 @@ use Rattle.token.specs.Applications.{HasJobs, TokenState, answer_by, taken_by, s
 
 -- what lasts: the token's record and the token objects, whole, with the values that are masked
 pub record Lasting : Type 0 where
-  pub token_record : RecordSight
+  pub token_record : TokenRecord
   pub objects : List (List Entry)
 
 abbrev pub lasting_of : World → Lasting
 lasting_of w = record { token_record = w.token_record; objects = w.objects }
 
 abbrev pub lasting_in : Contents → Lasting
-lasting_in c = record { token_record = record_sight c.token_record; objects = objects_of c }
+lasting_in c = record { token_record = c.token_record; objects = objects_of c }
 
 -- what a crash at this moment may leave, or `None`, where what is left is no token's store
 abbrev pub MayLeave : {K : Type 0} → Terms K → TokenState K → Option Lasting → Type 0

@@ -30,6 +30,7 @@
 //! ```
 #![tactic(auto)]
 
+mod ending;
 mod ran;
 mod serving;
 mod token;

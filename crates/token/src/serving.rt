@@ -5,28 +5,26 @@ ghost use Rattle.ck_calls.specs.declared.reply.Reply.TheVariants.{Code};
 ghost use Rattle.token_store.specs.declared.out.Out.TheVariants.{Reply as OutReply};
 ghost use Rattle.ck_calls.specs.Need.{random_bytes};
 ghost use Rattle.desk.specs.Desks.{is_busy};
-ghost use Rattle.keep.specs.Contents.{Contents};
-ghost use Rattle.views.specs.Answering.{Replies, reveals_nothing};
+ghost use Rattle.token_model.specs.Worlds.{reveal_by_call};
 ghost use Rattle.answers.specs.Answers.{answer, answer_to};
-ghost use Rattle.mech.specs.declared.job.Job.{Job as Asked};
-ghost use Rattle.mech.specs.Works.{outcome_of};
 ghost use Rattle.token_store.specs.Refusing.{IsServed};
-ghost use Rattle.token.specs.Applications.{answer_to_job};
-ghost use Rattle.token_store.specs.Shown.{Fits, Gives, IsFor, view_of};
+ghost use Rattle.token_store.specs.Shown.{IsFor};
 
 use aes_modes::Direction;
 use ck_calls::{Call, Reply};
 use ck_types::Rv;
 use desk::Desk;
 use keep::Keep;
-use mech::Outcome;
 use precede::Row;
 use serve_ciphers::{cipher, cipher_init};
 use serve_objects::{
     copy_object, create_object, destroy_object, get_attribute_value, get_object_size,
     set_attribute_value,
 };
-use serve_sessions::{close_session, get_session_info, open_session};
+use serve_sessions::{
+    close_session, get_session_info, get_token_info, init_pin, init_token, login, logout,
+    open_session, set_pin,
+};
 use std::alloc::Global;
 use token_store::{Out, Store, settle, settle_asking};
 use views::Fault;
@@ -46,14 +44,15 @@ pub(crate) fn serve<K: Keep>(
     store: &mut Store<K>,
     call: Call,
     random: &[u8],
+    in_use: bool,
 ) -> Result<Out, Fault>
     requires { length random.now ≡ random_bytes call }
-    ensures { IsServed K.terms (IsFor app) (λ v. answer v call random.now reveals_nothing) store.old store.new desk.old result desk.new }
+    ensures { IsServed K.terms (IsFor app) (λ v. answer v call random.now (reveal_by_call call in_use)) store.old store.new desk.old result desk.new }
 {
     if desk.is_busy() {
         return code(Row::Busy.code(Rv::Ok));
     }
-    dispatch(alloc, app, desk, store, call, random)
+    dispatch(alloc, app, desk, store, call, random, in_use)
 }
 
 /// A call that is taken: an arm for each, and one for each section of the standard of those that aren't served yet.
@@ -64,25 +63,40 @@ fn dispatch<K: Keep>(
     store: &mut Store<K>,
     call: Call,
     random: &[u8],
+    in_use: bool,
 ) -> Result<Out, Fault>
     requires random { length random.now ≡ random_bytes call }
     requires free { is_busy desk.old ≡ false }
-    ensures { IsServed K.terms (IsFor app) (λ v. answer_to v call random.now reveals_nothing) store.old store.new desk.old result desk.new }
+    ensures { IsServed K.terms (IsFor app) (λ v. answer_to v call random.now (reveal_by_call call in_use)) store.old store.new desk.old result desk.new }
 {
     match call {
         // Slot and token management (PKCS #11 v3.1, 5.5).
-        Call::GetTokenInfo { .. }
-        | Call::GetMechanismList { .. }
-        | Call::GetMechanismInfo { .. }
-        | Call::InitToken { .. }
-        | Call::InitPin { .. }
-        | Call::SetPin { .. } => code(Rv::FunctionNotSupported),
+        Call::GetTokenInfo { slot } => settle(get_token_info::serve(desk, store, slot)),
+        Call::GetMechanismList { .. } | Call::GetMechanismInfo { .. } => code(
+            Rv::FunctionNotSupported,
+        ),
+        Call::InitToken { slot, pin, label } => settle_asking(init_token::serve(
+            app, desk, store, slot, pin, label, random, in_use,
+        )),
+        Call::InitPin { session, pin } => {
+            settle_asking(init_pin::serve(app, desk, session, pin, random))
+        }
+        Call::SetPin {
+            session,
+            old_pin,
+            new_pin,
+        } => settle_asking(set_pin::serve(app, desk, store, session, old_pin, new_pin, random)),
         // Session management (5.6).
         Call::OpenSession { slot, flags } => settle(open_session::serve(desk, slot, flags)),
         Call::CloseSession { session } => settle(close_session::serve(desk, session)),
         Call::CloseAllSessions { slot } => settle(close_session::serve_all(desk, slot)),
         Call::GetSessionInfo { session } => settle(get_session_info::serve(desk, session)),
-        Call::Login { .. } | Call::Logout { .. } => code(Rv::FunctionNotSupported),
+        Call::Login {
+            session,
+            user_type,
+            pin,
+        } => settle_asking(login::serve(app, desk, store, session, user_type, pin)),
+        Call::Logout { session } => settle(logout::serve(desk, session)),
         // Object management (5.7).
         Call::CreateObject { session, template } => settle(create_object::serve(
             alloc, desk, store, session, &template, random,
@@ -192,20 +206,5 @@ fn dispatch<K: Keep>(
             code(Rv::FunctionNotSupported)
         }
         Call::GenerateRandom { .. } => code(Rv::FunctionNotSupported),
-    }
-}
-
-/// The outcome of the pending question, which ends it.
-pub(crate) fn serve_outcome(desk: &mut Desk, outcome: Outcome) -> Reply
-    ensures { (job : Asked) → outcome ≡ outcome_of job.work → (c : Contents) → Fits c desk.old.handles.entries → Gives (answer_to_job job (view_of c desk.old) reveals_nothing) desk.old.sessions.login c (Replies result) c desk.new }
-{
-    let (function, session) = match desk.question() {
-        Some(question) => (question.function(), question.session()),
-        None => return Reply::Code(Rv::FunctionFailed),
-    };
-    desk.end_question();
-    match cipher::place_of(function) {
-        Some(place) => cipher::finish(desk, session, place, outcome),
-        None => Reply::Code(Rv::FunctionFailed),
     }
 }

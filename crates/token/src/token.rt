@@ -1,6 +1,6 @@
 //! The token: one event at a time.
 
-ghost use Rattle.std.specs.Prelude.{◌≡◌, ◌≢◌, ◌∷◌, [], ℕ, ◌<◌, ◌≤◌, ◌==◌, All, IfErr, IfOk, IsErrOf, IsSome, None, OnErr, OnOk, Option, length, map, option_to_list, reverse, vec_capacity, vec_len};
+ghost use Rattle.std.specs.Prelude.{◌≡◌, ◌≢◌, ◌∷◌, ◌++◌, [], ℕ, ◌<◌, ◌≤◌, ◌==◌, ◌&&◌, not, All, IfErr, IfOk, IsErrOf, IsSome, None, OnErr, OnOk, Option, count_by, length, map, option_to_list, reverse, vec_capacity, vec_len};
 ghost use Rattle.std.specs.List.{position};
 ghost use Rattle.std.specs.BTreeMap.{get};
 ghost use Rattle.std.specs.Ordering.{nat_cmp};
@@ -10,30 +10,31 @@ ghost use Rattle.ck_types.specs.declared.rv.Rv.TheVariants.{DeviceError, Functio
 ghost use Rattle.ck_types.specs.declared.user_type.UserType.{UserType as Who};
 ghost use Rattle.desk.specs.Desks.{SameDesk, empty_desk};
 ghost use Rattle.keep.specs.Contents.{Contents};
+ghost use Rattle.pin_record.specs.Charges.{is_same};
 ghost use Rattle.pin_record.specs.Records.{tries_limit, tries_of};
 ghost use Rattle.keep.specs.Keeping.{Counted, Rises, Stays};
 ghost use Rattle.token_model.specs.declared.event.Event.TheVariants.{Finish, Gone};
 ghost use Rattle.token_store.specs.declared.out.Out.TheVariants.{Reply as OutReply};
 ghost use Rattle.token_model.specs.Events.{HasRandom};
 ghost use Rattle.views.specs.declared.fault.Fault.TheVariants.{Device};
-ghost use Rattle.views.specs.Answering.{reveals_nothing};
+ghost use Rattle.views.specs.Answering.{pin_checked_in};
 ghost use Rattle.answers.specs.Answers.{answer};
 ghost use Rattle.views.specs.Refusals.{apart, refusal, set_apart};
-ghost use Rattle.token_model.specs.Worlds.{World, called, goes, happens, reply_to, says_called, without_checks};
-ghost use Rattle.views.specs.Views.{stored_record};
+ghost use Rattle.token_model.specs.Worlds.{World, called, checks_of, goes, happens, is_init_token, others_checking, reply_to, reveal_by_call, says_called, without_checks};
 ghost use Rattle.token_model.specs.Tries.{IsSound};
 ghost use Rattle.token_store.specs.Shown.{IsFor, over, said_of};
-ghost use Rattle.token.specs.Applications.{FinishesAtDesk, HasJobs, HasNumbers, IsOpen, IsOther, TakesJob, desk_at, is_answer, move_of, opening, told_as, told_result, Shows};
+ghost use Rattle.token.specs.Applications.{Finishes, HasJobs, reveal_by_job, checks_after, has_session_at, others_seated, HasNumbers, IsOpen, IsOther, TakesJob, desk_at, is_answer, move_of, opening, told_as, told_result, Shows};
 ghost use Rattle.token_store.specs.Stores.{Served};
 ghost use Rattle.token.specs.Runs.{AccountsFor, Advances, IsRun, IsStep, IsTakenBy, Lasting, LeavesBy, LeftBy, MayLeave, call_change};
 
+use crate::ending::{Others, finish_at};
 use crate::ran::Ran;
-use crate::serving::{serve, serve_outcome};
-use ck_calls::{Call, Reply};
-use ck_types::Rv;
+use crate::serving::serve;
+use ck_calls::{Call, Function, Reply};
+use ck_types::{Rv, UserType};
 use desk::Desk;
 use keep::{Keep, KeepFault};
-use mech::{Done, Job};
+use mech::{Done, Job, Work};
 use std::alloc::{AllocError, Global};
 use std::collections::BTreeMap;
 use std::marker::Model;
@@ -64,7 +65,7 @@ impl<K: Keep> Token<K> {
         // It shows what the keeper holds, and no application.
         ensures shows { (c : Contents) → K.terms.holds keep c → IfOk result (λ t. K.terms.doubt t.store.keep ≡ 0 → Shows K.terms t (opening c)) }
         // The ten tries begin.
-        ensures sound { IfOk result (λ t. (w : World) → Shows K.terms t w → ((who : Who) → tries_of (stored_record w.token_record) who ≤ tries_limit) → IsSound (tries_of (stored_record w.token_record)) w) }
+        ensures sound { IfOk result (λ t. (w : World) → Shows K.terms t w → ((who : Who) → tries_of (w.token_record) who ≤ tries_limit) → IsSound (tries_of (w.token_record)) w) }
         // No question is pending.
         ensures jobs { IfOk result (λ t. (w : World) → Shows K.terms t w → HasJobs w []) }
         ensures leaves { (c : Contents) → K.terms.holds keep c → IfOk result (λ t. (left : Option Contents) → K.terms.may_leave t.store.keep left → K.terms.may_leave keep left) }
@@ -106,7 +107,15 @@ impl<K: Keep> Token<K> {
         ensures others { (b : ℕ) → b ≢ app → SameDesk (desk_at self.old.desks b) (desk_at self.new.desks b) }
         ensures stays { IsSome (apart (said_of result)) → SameDesk (desk_at self.old.desks app) (desk_at self.new.desks app) }
     {
-        told_as(serve_app(alloc, app, &mut self.desks, &mut self.store, call, random))
+        told_as(serve_app(
+            alloc,
+            app,
+            &mut self.desks,
+            &mut self.store,
+            &mut self.checks,
+            call,
+            random,
+        ))
     }
 
     /// The end of an application's question. A `Done` of another application, question or function, or
@@ -133,7 +142,13 @@ impl<K: Keep> Token<K> {
         if !is_open(&self.desks, app, &done) {
             return Reply::Code(Rv::FunctionFailed);
         }
-        let reply = told_result(finish_app(&mut self.desks, app, done));
+        let reply = told_result(finish_app(
+            &mut self.desks,
+            &mut self.store,
+            &self.checks,
+            app,
+            done,
+        ));
         retain_others(&mut self.checks, app);
         reply
     }
@@ -271,17 +286,47 @@ fn refusal(fault: Fault) -> Reply
     }
 }
 
-/// One call, at the desk of its application.
+/// One call, at the desk of its application. There is room for a check before it is charged.
 fn serve_app<K: Keep>(
+    alloc: Global,
+    app: u64,
+    desks: &mut BTreeMap<u64, Desk>,
+    store: &mut Store<K>,
+    checks: &mut Vec<Check>,
+    call: Call,
+    random: &[u8],
+) -> Result<Out, Fault>
+    requires { length random.now ≡ random_bytes call }
+    ensures serves { Served K.terms said_of (λ v. answer v call random.now (reveal_by_call call (others_seated desks.old.entries app))) store.old store.new (desk_at desks.old.entries app) (desk_at desks.old.entries app) result (desk_at desks.new.entries app) }
+    ensures others { (b : ℕ) → b ≢ app → SameDesk (desk_at desks.old.entries b) (desk_at desks.new.entries b) }
+    ensures checks { checks.new.items ≡ checks_after app result checks.old.items }
+    ensures asker { IfOk result (IsFor app) }
+    ensures counts { Counted K.terms store.old.keep store.new.keep 0 1 }
+    ensures cause { IsErrOf result Device → Rises (K.terms.failures store.old.keep) (K.terms.failures store.new.keep) }
+    ensures plain { IfOk result (λ out. apart (said_of out) ≡ None) }
+    ensures stays { IfErr result (λ fault. SameDesk (desk_at desks.old.entries app) (desk_at desks.new.entries app)) }
+{
+    checks.reserve(1)?;
+    let in_use = is_in_use_for(desks, app, &call);
+    let outcome = serve_seated(alloc, app, desks, store, call, random, in_use);
+    if let Ok(out) = &outcome {
+        note_check(checks, app, out);
+    }
+    outcome
+}
+
+/// One call, where it is known whether another application has a session.
+fn serve_seated<K: Keep>(
     alloc: Global,
     app: u64,
     desks: &mut BTreeMap<u64, Desk>,
     store: &mut Store<K>,
     call: Call,
     random: &[u8],
+    in_use: bool,
 ) -> Result<Out, Fault>
     requires { length random.now ≡ random_bytes call }
-    ensures serves { Served K.terms said_of (λ v. answer v call random.now reveals_nothing) store.old store.new (desk_at desks.old.entries app) (desk_at desks.old.entries app) result (desk_at desks.new.entries app) }
+    ensures serves { Served K.terms said_of (λ v. answer v call random.now (reveal_by_call call in_use)) store.old store.new (desk_at desks.old.entries app) (desk_at desks.old.entries app) result (desk_at desks.new.entries app) }
     ensures others { (b : ℕ) → b ≢ app → SameDesk (desk_at desks.old.entries b) (desk_at desks.new.entries b) }
     ensures asker { IfOk result (IsFor app) }
     ensures counts { Counted K.terms store.old.keep store.new.keep 0 1 }
@@ -291,8 +336,61 @@ fn serve_app<K: Keep>(
 {
     seat(alloc, desks, app)?;
     match desks.get_mut(&app) {
-        Some(desk) => serve(alloc, app, desk, store, call, random),
+        Some(desk) => serve(alloc, app, desk, store, call, random, in_use),
         None => unreachable!(),
+    }
+}
+
+/// Whether another application has a session, where the call asks.
+fn is_in_use_for(desks: &BTreeMap<u64, Desk>, app: u64, call: &Call) -> bool
+    ensures { reveal_by_call call.now result ≡ reveal_by_call call.now (others_seated desks.now.entries app) }
+{
+    is_init_token(Function::of(call)) && others_seated(desks, app)
+}
+
+fn is_init_token(function: Function) -> bool
+    ensures { result ≡ is_init_token function }
+{
+    matches!(function, Function::InitToken)
+}
+
+/// Whether another application has a session.
+fn others_seated(desks: &BTreeMap<u64, Desk>, app: u64) -> bool
+    ensures { result ≡ others_seated desks.now.entries app }
+{
+    desks.keys().any(|b| *b != app && has_session_at(desks, *b))
+}
+
+fn has_session_at(desks: &BTreeMap<u64, Desk>, app: u64) -> bool
+    ensures { result ≡ has_session_at desks.now.entries app }
+{
+    match desks.get(&app) {
+        Some(desk) => desk.has_session(),
+        None => false,
+    }
+}
+
+/// A check that a call has begun is under way.
+fn note_check(checks: &mut Vec<Check>, app: u64, out: &Out)
+    requires { vec_len checks.old < vec_capacity checks.old }
+    ensures { checks.new.items ≡ checks.old.items ++ checks_of app (pin_checked_in (said_of out.now)) }
+{
+    if let Some(user) = pin_checked(out) {
+        checks.push_reserved(Check { user, app });
+    }
+}
+
+/// The PIN that a question checks.
+fn pin_checked(out: &Out) -> Option<UserType>
+    ensures { result ≡ pin_checked_in (said_of out.now) }
+{
+    let Out::Ask(job) = out else {
+        return None;
+    };
+    match &job.work {
+        Work::CheckPin { who, .. } | Work::ChangePin { who, .. } => Some(*who),
+        Work::ResetToken { .. } => Some(UserType::So),
+        Work::Cipher { .. } | Work::MakePin { .. } | Work::InitToken { .. } => None,
     }
 }
 
@@ -328,27 +426,51 @@ fn is_open(desks: &BTreeMap<u64, Desk>, app: u64, done: &Done) -> bool
 }
 
 /// The result of the application's pending question.
-fn finish_app(desks: &mut BTreeMap<u64, Desk>, app: u64, done: Done) -> Result<Reply, Fault>
-    ensures serves { FinishesAtDesk done.job.value (desk_at desks.old.entries app) result (desk_at desks.new.entries app) }
+fn finish_app<K: Keep>(
+    desks: &mut BTreeMap<u64, Desk>,
+    store: &mut Store<K>,
+    checks: &[Check],
+    app: u64,
+    done: Done,
+) -> Result<Reply, Fault>
+    ensures finishes { Finishes K.terms done.job.value (reveal_by_job done.job.value (others_checking checks.now app) (others_seated desks.old.entries app)) store.old store.new (desk_at desks.old.entries app) result (desk_at desks.new.entries app) }
     ensures others { (b : ℕ) → b ≢ app → desk_at desks.new.entries b ≡ desk_at desks.old.entries b }
 {
+    let others = Others {
+        so_checks: others_checking(checks, app, UserType::So),
+        user_checks: others_checking(checks, app, UserType::User),
+        in_session: others_seated(desks, app),
+    };
     match desks.get_mut(&app) {
-        Some(desk) => finish_at(desk, done),
+        Some(desk) => finish_at(desk, store, done, &others),
         None => Ok(Reply::Code(Rv::FunctionFailed)),
     }
 }
 
-/// The result of the pending question, at its desk.
-fn finish_at(desk: &mut Desk, done: Done) -> Result<Reply, Fault>
-    ensures { FinishesAtDesk done.job.value desk.old result desk.new }
+/// How many other applications check a PIN.
+fn others_checking(checks: &[Check], app: u64, who: UserType) -> usize
+    ensures { result ≡ others_checking checks.now app who }
 {
-    match done.into_outcome() {
-        Ok(outcome) => Ok(serve_outcome(desk, outcome)),
-        Err(_) => {
-            desk.end_question();
-            Err(Fault::Memory)
-        }
-    }
+    count_others(checks, app, who)
+}
+
+fn count_others(checks: &[Check], app: u64, who: UserType) -> usize
+    ensures { result ≡ count_by (λ c. is_same who c.user && not (c.app == app)) checks.now }
+{
+    checks
+        .iter()
+        .filter(|check| is_other_check(check, app, who))
+        .count()
+}
+
+fn is_other_check(check: &Check, app: u64, who: UserType) -> bool
+    ensures { result ≡ (is_same who check.now.user && not (check.now.app == app)) }
+{
+    let same = match (who, check.user) {
+        (UserType::So, UserType::So) | (UserType::User, UserType::User) => true,
+        (UserType::So, UserType::User) | (UserType::User, UserType::So) => false,
+    };
+    same && check.app != app
 }
 
 /// The application has no desk any more.

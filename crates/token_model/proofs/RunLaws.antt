@@ -1,23 +1,25 @@
 -- Laws of runs.
-use Rattle.std.proofs.Common.{◌≡◌, ◌≢◌, ℕ, zero, suc, Bool, true, false, cond, not, List, [], ◌∷◌, ◌++◌, Option, Some, None, refl, sym, ◌∙◌, ap, inl, inr}
-use Rattle.std.specs.Prelude.{◌||◌, ◌&&◌}
+use Rattle.std.proofs.Common.{◌≡◌, ◌≢◌, ℕ, zero, suc, Bool, true, false, cond, not, List, [], ◌∷◌, ◌++◌, Option, Some, None, refl, sym, ◌∙◌, ap, inl, inr, subst}
+use Rattle.std.specs.Prelude.{◌||◌, ◌&&◌, ◌⊎◌}
 use Rattle.std.proofs.lemmas.Bool.{eq-eqb, ne_eqb}
 use Rattle.std.specs.Option.{option_map}
 use Rattle.ck_types.specs.declared.entry.Entry.{Entry}
 use Rattle.ck_types.specs.declared.user_type.UserType.{UserType}
 use Rattle.ck_calls.specs.declared.function.Function.{Function}
 use Rattle.ck_calls.specs.Functions.{function_of}
-use Rattle.guard.specs.Access.{is_public}
+use Rattle.guard.specs.Access.{is_public, is_user_in}
 use Rattle.token_model.specs.declared.event.Event.{Event}
 use Rattle.token_model.specs.declared.event.Event.TheVariants.{Call, Finish, Gone}
 use Rattle.views.specs.declared.fault.Fault.{Fault}
 use Rattle.lists.specs.Places.{seen_place}
-use Rattle.views.specs.Views.{sees, is_user_in, Question, Task, Ciphers, View, mask}
+use Rattle.views.specs.Views.{sees, Question, Task, Ciphers, View, mask}
 use Rattle.views.specs.Changes.{Change, Stays, Insert, Replace, Remove, Records, Resets, is_still, as_seen, replaced_at, removed_at}
 use Rattle.views.specs.Answering.{Answer}
-use Rattle.answers.specs.Answers.{answer_result, is_pin_function, may_change_objects}
-use Rattle.token_model.specs.Worlds.{World, answer_at, result_at, value_of, reveal_to_call, reveal_to_task, Move, Goes, Refuses, event_of, list_change, refused, happens, after, finished, finish_tells, finish_refusal, finish_refused, told, reply_to, replies}
-use Rattle.token_model.specs.Traces.{trace, replies_told, view_told, replies_to, NotSetApart, app_of, private_at, is_private, is_quiet_call, is_pin_event, IsQuiet, IsQuietMove, AllQuiet, own_moves}
+use Rattle.ck_calls.specs.declared.call.Call.{Call as CallType}
+use Rattle.ck_calls.specs.declared.function.Function.TheVariants as functions
+use Rattle.answers.specs.Answers.{answer, answer_result, is_pin_function, is_pin_task, may_change_objects, is_still_function}
+use Rattle.token_model.specs.Worlds.{World, is_init_token, answer_at, result_at, value_of, reveal_to_call, reveal_to_task, Move, Goes, Refuses, event_of, list_change, refused, happens, after, finished, finish_tells, finish_refusal, finish_refused, told, reply_to, replies}
+use Rattle.token_model.specs.Traces.{trace, replies_told, view_told, replies_to, NotSetApart, app_of, private_at, is_private, is_quiet_call, is_pin_event, IsQuiet, IsQuietMove, AllQuiet, own_moves, is_quiet_result, is_pin_question, is_private_result}
 use Rattle.answers.proofs.Proper.{still-answer, still-result}
 use Rattle.token_model.proofs.Told.{told-trace, seen-trace, replies_to-append, told-other}
 
@@ -37,16 +39,16 @@ still-change (Remove place) is = absurd cc
 still-change (Records r) is = absurd cc
 still-change (Resets r) is = absurd cc
 
-quiet-still : (function : Function) (a : Answer) → (may_change_objects function ≡ false → a.change ≡ Stays) → is_quiet_call function a ≡ true → a.change ≡ Stays
+quiet-still : (function : Function) (a : Answer) → (is_still_function function ≡ true → a.change ≡ Stays) → is_quiet_call function a ≡ true → a.change ≡ Stays
 quiet-still function a still quiet = step (is_pin_function function) (may_change_objects function) still quiet where
-  step : (pin may : Bool) → (may ≡ false → a.change ≡ Stays) → (not pin && (not may || is_still a.change)) ≡ true → a.change ≡ Stays
+  step : (pin may : Bool) → ((not pin && not may) ≡ true → a.change ≡ Stays) → (not pin && (not may || is_still a.change)) ≡ true → a.change ≡ Stays
   step true may still quiet = absurd cc
   step false true still quiet = still-change a.change quiet
   step false false still quiet = still refl
 
-quiet-finish : (app other : ℕ) (w : World) (q : Option Question) → app ≢ other → (finished w other q).views app ≡ w.views app
-quiet-finish app other w None differ = refl
-quiet-finish app other w (Some q) differ = rw (ne_eqb app other differ, still-result (w.views other) (value_of q.task) (reveal_to_task w other q.task)) refl
+quiet-finish : (app other : ℕ) (w : World) (q : Option Question) → (w.views other).question ≡ q → is_pin_question q ≡ false → app ≢ other → (finished w other q).views app ≡ w.views app
+quiet-finish app other w None asked plain differ = refl
+quiet-finish app other w (Some q) asked plain differ = rw (ne_eqb app other differ, still-result (w.views other) q (value_of q.task) (reveal_to_task w other q.task) asked plain) refl
 
 -- a change of a private object is no change to one whose user isn't logged in
 unseen-place : (login : Option UserType) (os : List (List Entry)) (place : ℕ) → is_user_in login ≡ false → private_at os place ≡ true → seen_place (sees login) os place ≡ None
@@ -75,6 +77,14 @@ and-right : (b c : Bool) → (b && c) ≡ true → c ≡ true
 and-right true c is = is
 and-right false c is = absurd cc
 
+and-left : (b c : Bool) → (b && c) ≡ true → b ≡ true
+and-left true c is = refl
+and-left false c is = absurd cc
+
+not-true : (b : Bool) → not b ≡ true → b ≡ false
+not-true true h = absurd cc
+not-true false h = refl
+
 quiet-refused : (app other : ℕ) (w : World) (q : Option Question) → app ≢ other → (finish_refused w other q).views app ≡ w.views app
 quiet-refused app other w None differ = refl
 quiet-refused app other w (Some q) differ = rw (ne_eqb app other differ) refl
@@ -85,6 +95,14 @@ refused-views app w (Call other call random) ne = refl
 refused-views app w (Finish other) ne = quiet-refused app other w (w.views other).question (λ e. ne (sym e))
 refused-views app w (Gone other) ne = rw (ne_eqb app other (λ e. ne (sym e))) refl
 
+-- a result that is quiet, or that changes a private object, is none of a PIN
+no-pin : (w : World) (other : ℕ) (q : Option Question) {A : Type 0} → (is_quiet_result w other q ≡ true) ⊎ A × (is_private_result w other q ≡ true) → is_pin_question q ≡ false
+no-pin w other None h = refl
+no-pin w other (Some q) h = elim h [
+  | inl quiet ↦ not-true (is_pin_task q.task) quiet
+  | inr hidden ↦ not-true (is_pin_task q.task) (and-left (not (is_pin_task q.task)) _ hidden.1)
+]
+
 pub quiet-views : (app : ℕ) (w : World) (m : Move) → IsQuiet app w (event_of m) → (happens w m).views app ≡ w.views app
 quiet-views app w (Goes (Call other call random)) q =
     let a = answer_at w other call random.items in
@@ -92,7 +110,7 @@ quiet-views app w (Goes (Call other call random)) q =
       | inl quiet ↦ rw (ne_eqb app other (λ e. q.other (sym e)), quiet-still (function_of call) a (still-answer (w.views other) call random.items (reveal_to_call w other call)) quiet) refl
       | inr hidden ↦ rw (ne_eqb app other (λ e. q.other (sym e)), unseen (w.views app).sessions.login w.objects (list_change w other a) hidden.0 (and-right (not (is_pin_function (function_of call))) _ hidden.1)) refl
     ]
-quiet-views app w (Goes (Finish other)) q = quiet-finish app other w (w.views other).question (λ e. q.other (sym e))
+quiet-views app w (Goes (Finish other)) q = quiet-finish app other w (w.views other).question refl (no-pin w other (w.views other).question q.quiet) (λ e. q.other (sym e))
 quiet-views app w (Goes (Gone other)) q = rw (ne_eqb app other (λ e. q.other (sym e))) refl
 quiet-views app w (Refuses event fault) q = refused-views app w event q.other
 
@@ -124,38 +142,49 @@ other-replies app w (Refuses (Gone other) fault) ne = refl
 
 -- ---- an own event that belongs to no call of a PIN depends on the own view alone
 
--- what a result of such a call reveals is the same in every world
-same-reveal : (v w : World) (app : ℕ) (t : Task) → reveal_to_task v app t ≡ reveal_to_task w app t
-same-reveal v w app (Ciphers part operation input) = refl
+-- what such a call, and its result, reveals is the same in every world
+none-inited : (f : Function) → is_pin_function f ≡ false → is_init_token f ≡ false
+none-inited functions.InitToken plain = let k : true ≡ false = plain in cc
+none-inited _ plain = refl
 
-same-result : (app : ℕ) (v w : World) (q : Question) → v.views app ≡ w.views app → result_at v app q ≡ result_at w app q
-same-result app v w q same =
+same-call-reveal : (v w : World) (app : ℕ) (c : CallType) → is_pin_function (function_of c) ≡ false → reveal_to_call v app c ≡ reveal_to_call w app c
+same-call-reveal v w app c plain = rw (none-inited (function_of c) plain) refl
+
+same-answer : (app : ℕ) (v w : World) (c : CallType) (random : List ℕ) → is_pin_function (function_of c) ≡ false → v.views app ≡ w.views app → answer_at v app c random ≡ answer_at w app c random
+same-answer app v w c random plain same = ap (λ u. answer u c random (reveal_to_call v app c)) same ∙ ap (answer (w.views app) c random) (same-call-reveal v w app c plain)
+
+same-reveal : (v w : World) (app : ℕ) (t : Task) → is_pin_task t ≡ false → reveal_to_task v app t ≡ reveal_to_task w app t
+same-reveal v w app (Ciphers part operation input) plain = refl
+same-reveal v w app _ plain = let k : true ≡ false = plain in cc
+
+same-result : (app : ℕ) (v w : World) (q : Question) → is_pin_task q.task ≡ false → v.views app ≡ w.views app → result_at v app q ≡ result_at w app q
+same-result app v w q plain same =
     ap (λ u. answer_result u (value_of q.task) (reveal_to_task v app q.task)) same
-    ∙ ap (λ r. answer_result (w.views app) (value_of q.task) r) (same-reveal v w app q.task)
+    ∙ ap (λ r. answer_result (w.views app) (value_of q.task) r) (same-reveal v w app q.task plain)
 
-own-finish_tells : (app : ℕ) (v w : World) (q : Option Question) → v.views app ≡ w.views app → finish_tells v app q ≡ finish_tells w app q
-own-finish_tells app v w None same = refl
-own-finish_tells app v w (Some q) same = ap (λ (a : Answer). told app a.says) (same-result app v w q same)
+own-finish_tells : (app : ℕ) (v w : World) (q : Option Question) → is_pin_question q ≡ false → v.views app ≡ w.views app → finish_tells v app q ≡ finish_tells w app q
+own-finish_tells app v w None plain same = refl
+own-finish_tells app v w (Some q) plain same = ap (λ (a : Answer). told app a.says) (same-result app v w q plain same)
 
 own-reply : (app : ℕ) (v w : World) (m : Move) → app_of (event_of m) ≡ app → is_pin_event v (event_of m) ≡ false → v.views app ≡ w.views app → reply_to v m ≡ reply_to w m
-own-reply app v w (Goes (Call other call random)) is plain same = rw is (rw same refl)
-own-reply app v w (Goes (Finish other)) is plain same = rw is (own-finish_tells app v w (v.views app).question same ∙ ap (λ (u : View). finish_tells w app u.question) same)
+own-reply app v w (Goes (Call other call random)) is plain same = rw is (ap (λ (a : Answer). told app a.says) (same-answer app v w call random.items plain same))
+own-reply app v w (Goes (Finish other)) is plain same = rw is (own-finish_tells app v w (v.views app).question (subst (λ n. is_pin_question (v.views n).question ≡ false) is plain) same ∙ ap (λ (u : View). finish_tells w app u.question) same)
 own-reply app v w (Goes (Gone other)) is plain same = refl
 own-reply app v w (Refuses (Call other call random) fault) is plain same = refl
 own-reply app v w (Refuses (Finish other) fault) is plain same = rw is (ap (λ (u : View). finish_refusal app fault u.question) same)
 own-reply app v w (Refuses (Gone other) fault) is plain same = refl
 
-own-finish : (app : ℕ) (v w : World) (q : Option Question) → v.views app ≡ w.views app → (finished v app q).views app ≡ (finished w app q).views app
-own-finish app v w None same = same
-own-finish app v w (Some q) same = rw (eq-eqb app app refl) (ap (λ (a : Answer). a.view) (same-result app v w q same))
+own-finish : (app : ℕ) (v w : World) (q : Option Question) → is_pin_question q ≡ false → v.views app ≡ w.views app → (finished v app q).views app ≡ (finished w app q).views app
+own-finish app v w None plain same = same
+own-finish app v w (Some q) plain same = rw (eq-eqb app app refl) (ap (λ (a : Answer). a.view) (same-result app v w q plain same))
 
 own-refused : (app : ℕ) (v w : World) (q : Option Question) → v.views app ≡ w.views app → (finish_refused v app q).views app ≡ (finish_refused w app q).views app
 own-refused app v w None same = same
 own-refused app v w (Some q) same = rw (eq-eqb app app refl) (rw same refl)
 
 own-views : (app : ℕ) (v w : World) (m : Move) → app_of (event_of m) ≡ app → is_pin_event v (event_of m) ≡ false → v.views app ≡ w.views app → (happens v m).views app ≡ (happens w m).views app
-own-views app v w (Goes (Call other call random)) is plain same = rw (eq-eqb app other (sym is)) (rw is (rw same refl))
-own-views app v w (Goes (Finish other)) is plain same = rw is (own-finish app v w (v.views app).question same ∙ ap (λ (u : View). (finished w app u.question).views app) same)
+own-views app v w (Goes (Call other call random)) is plain same = rw (eq-eqb app other (sym is)) (rw is (ap (λ (a : Answer). a.view) (same-answer app v w call random.items plain same)))
+own-views app v w (Goes (Finish other)) is plain same = rw is (own-finish app v w (v.views app).question (subst (λ n. is_pin_question (v.views n).question ≡ false) is plain) same ∙ ap (λ (u : View). (finished w app u.question).views app) same)
 own-views app v w (Goes (Gone other)) is plain same = rw (eq-eqb app other (sym is)) (rw is (rw same refl))
 own-views app v w (Refuses (Call other call random) fault) is plain same = same
 own-views app v w (Refuses (Finish other) fault) is plain same = rw is (own-refused app v w (v.views app).question same ∙ ap (λ (u : View). (finish_refused w app u.question).views app) same)

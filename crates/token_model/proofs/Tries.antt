@@ -1,7 +1,9 @@
 -- Over a run the record and the checks under way are what the events of PINs make of them, and each world is sound.
-use Rattle.std.proofs.Common.{◌≡◌, ℕ, ◌≤◌, Bool, true, false, cond, List, [], ◌∷◌, ◌++◌, Option, Some, None, inl, inr, is_some, refl, sym, ◌∙◌, ap, subst}
-use Rattle.std.specs.Prelude.{nat_lt}
-use Rattle.std.proofs.lemmas.Bool.{cases_eq, eq-eqb, ne_eqb, cond-true}
+use Rattle.std.proofs.Common.{◌≡◌, ◌≢◌, ℕ, ◌≤◌, Bool, true, false, cond, List, [], ◌∷◌, ◌++◌, Option, Some, None, inl, inr, is_some, refl, sym, ◌∙◌, ap, subst}
+use Rattle.std.specs.Prelude.{nat_lt, length, filter, not, ◌==◌, ◌||◌}
+use Rattle.std.specs.List.{list_any}
+use Rattle.std.proofs.lemmas.Bool.{cases_eq, eq-eqb, eqb-true, ne_eqb, cond-true}
+use Rattle.lists.proofs.ListLemmas.{any-less}
 use Rattle.ck_types.specs.declared.entry.Entry.{Entry}
 use Rattle.ck_types.specs.declared.user_type.UserType.{UserType}
 use Rattle.ck_types.specs.declared.user_type.UserType.TheVariants.{So, User}
@@ -12,19 +14,20 @@ use Rattle.pin_record.specs.Records.{TokenRecord, charged, tries_limit, tries_of
 use Rattle.pin_record.specs.Charges.{Charges, Event as PinEvent, Begins, opened, with_checks, with_stored, checks_of as checks_in, is_under_way, may_begin, spent_after, spent, IsCharged, happens as pin_happens, after as pin_after}
 use Rattle.pin_record.proofs.Counting.{goes_on, ten, starts}
 use Rattle.token_model.specs.declared.event.Event.TheVariants.{Call, Finish, Gone}
-use Rattle.views.specs.Outcomes.{Outcome, Output, BadPadding}
-use Rattle.views.specs.Views.{RecordSight, Question, Task, Ciphers, View, sees, left, stored_record}
+use Rattle.views.specs.Views.{Question, View, sees, left}
 use Rattle.views.specs.Changes.{Change, Stays, Insert, Replace, Remove, Records, Resets, recorded, seen, in_list, as_seen, replaced_at, removed_at}
-use Rattle.views.specs.Answering.{Said, Replies, Asks, Answer, answered, pin_checked_by, pin_checked_in}
-use Rattle.token_model.specs.Worlds.{World, list_change, change_for, checks_of, without_checks, stepped, unchecked, with_view, value_of, reveal_to_call, reveal_to_task, answer_at, result_at, Move, Goes, Refuses, finished, finish_refused, happens, after}
-use Rattle.token_model.specs.Tries.{checking, charges_of, pending_check, begins, ends, is_right, sets, events_of_result, events_of, events_in, checks_by, IsSound, spent_in}
+use Rattle.views.specs.Answering.{Said, Replies, Asks, Answer, answered, has_session, pin_checked_by, pin_checked_in}
+use Rattle.token_model.specs.Worlds.{World, list_change, change_for, checks_of, without_checks, stepped, unchecked, with_view, value_of, reveal_to_call, reveal_to_task, answer_at, result_at, Move, Goes, Refuses, finished, finish_refused, happens, after, seated, is_in_session, checking}
+use Rattle.token_model.specs.Tries.{charges_of, pending_check, begins, ends, events_of_outcome, events_of_result, events_of, events_in, checks_by, IsSound, spent_in}
 use Rattle.views.proofs.Blind.{Leaves, Charged}
-use Rattle.answers.proofs.Proper.{fair-answer, none-asked, still-result, over-result, unasking-result, record-result}
+use Rattle.answers.proofs.Proper.{fair-answer, none-asked, busy-answer, over-result, unasking-result, record-result, result-is}
+use Rattle.answers.specs.Answers.{answer_outcome}
+use Rattle.token_model.proofs.Ends.{charges, alike, ended, charges-ended, charges-outcome}
 use Rattle.token_model.proofs.UnderWay.{by-own, by-other, checking-begun, over-own, over-other, checking-over, under_way-is, checking-stays}
 
 -- ---- a change and the record
 
-recorded-in_list : (s : List Entry → Bool) (os : List (List Entry)) (change : Change) (r : RecordSight) → recorded (in_list s os change) r ≡ recorded change r
+recorded-in_list : (s : List Entry → Bool) (os : List (List Entry)) (change : Change) (r : TokenRecord) → recorded (in_list s os change) r ≡ recorded change r
 recorded-in_list s os Stays r = refl
 recorded-in_list s os (Insert o) r = refl
 recorded-in_list s os (Replace place o) r = refl
@@ -57,13 +60,15 @@ seen-question (Remove place) v = refl
 seen-question (Records r) v = refl
 seen-question (Resets r) v = refl
 
+seen-sessions : (change : Change) (v : View) → (seen change v).sessions ≡ v.sessions
+seen-sessions Stays v = refl
+seen-sessions (Insert o) v = refl
+seen-sessions (Replace place o) v = refl
+seen-sessions (Remove place) v = refl
+seen-sessions (Records r) v = refl
+seen-sessions (Resets r) v = refl
+
 -- ---- charges
-
-abbrev charges : TokenRecord → List ℕ → List ℕ → Charges
-charges r so user = record { stored = r; so_checks = so; user_checks = user }
-
-alike : {r r' : TokenRecord} {so so' user user' : List ℕ} → r ≡ r' → so ≡ so' → user ≡ user' → charges r so user ≡ charges r' so' user'
-alike p q z = λ i. charges (p i) (q i) (z i)
 
 begun : (c : Charges) (who : UserType) (app : ℕ) → is_some (verifier_of c.stored who) ≡ true → nat_lt (tries_of c.stored who) tries_limit ≡ true → is_under_way (checks_in c who) app ≡ false
     → with_stored (with_checks c who (checks_in c who ++ app ∷ [])) (charged c.stored who) ≡ pin_happens c (Begins who app)
@@ -72,9 +77,9 @@ begun c who app set few none =
     sym (cond-true (may_begin c who app) (with_stored (with_checks c who (checks_in c who ++ app ∷ [])) (charged c.stored who)) c may)
 
 -- a check begins with its charge
-charges-begun : (w : World) (app : ℕ) (o : Option UserType) (new : RecordSight) → Charged o w.token_record new → ((who : UserType) → o ≡ Some who → is_under_way (checking who w.checks) app ≡ false)
-    → charges (stored_record new) (checking So (w.checks ++ checks_of app o)) (checking User (w.checks ++ checks_of app o)) ≡ pin_after (charges_of w) (begins app o)
-charges-begun w app None new is free = alike (ap stored_record is) (ap (checking So) (append_nil w.checks)) (ap (checking User) (append_nil w.checks))
+charges-begun : (w : World) (app : ℕ) (o : Option UserType) (new : TokenRecord) → Charged o w.token_record new → ((who : UserType) → o ≡ Some who → is_under_way (checking who w.checks) app ≡ false)
+    → charges new (checking So (w.checks ++ checks_of app o)) (checking User (w.checks ++ checks_of app o)) ≡ pin_after (charges_of w) (begins app o)
+charges-begun w app None new is free = alike is (ap (checking So) (append_nil w.checks)) (ap (checking User) (append_nil w.checks))
 charges-begun w app (Some So) new is free =
     alike is.2 (checking-begun So So app w.checks) (checking-begun User So app w.checks ∙ append_nil (checking User w.checks))
     ∙ begun (charges_of w) So app is.0 is.1 (free So refl)
@@ -82,30 +87,27 @@ charges-begun w app (Some User) new is free =
     alike is.2 (checking-begun So User app w.checks ∙ append_nil (checking So w.checks)) (checking-begun User User app w.checks)
     ∙ begun (charges_of w) User app is.0 is.1 (free User refl)
 
--- and ends otherwise than right
-charges-ended : (w : World) (app : ℕ) (o : Option UserType) → checks_by app w.checks ≡ checks_of app o
-    → charges (stored_record w.token_record) (checking So (without_checks app w.checks)) (checking User (without_checks app w.checks)) ≡ pin_after (charges_of w) (ends app o false)
-charges-ended w app None is = alike refl (checking-stays So app w.checks (under_way-is So app w.checks None is)) (checking-stays User app w.checks (under_way-is User app w.checks None is))
-charges-ended w app (Some So) is = alike refl (checking-over So app w.checks) (checking-stays User app w.checks (under_way-is User app w.checks (Some So) is))
-charges-ended w app (Some User) is = alike refl (checking-stays So app w.checks (under_way-is So app w.checks (Some User) is)) (checking-over User app w.checks)
-
 -- ---- questions
-
--- no task that is built checks a PIN, and no result of it sets one
-pub unchecked-task : (t : Task) → pin_checked_by t ≡ None
-unchecked-task (Ciphers part operation input) = refl
-
-silent-task : (app : ℕ) (q : Question) (t : Task) → ends app (pin_checked_by t) (is_right (value_of t)) ++ sets q (value_of t) ≡ []
-silent-task app q (Ciphers part operation input) = none (value_of (Ciphers part operation input)) where
-  none : (outcome : Outcome) → sets q outcome ≡ []
-  none (Output bytes) = refl
-  none BadPadding = refl
 
 -- a question checks where none did before
 asks-check : (app : ℕ) (old new : Option Question) (x : Said) → Leaves old x new → ((q : Question) → x ≡ Asks q → old ≡ None) → checks_of app (pending_check old) ++ checks_of app (pin_checked_in x) ≡ checks_of app (pending_check new)
 asks-check app old new (Replies reply) leaves none = append_nil (checks_of app (pending_check old)) ∙ ap (λ o. checks_of app (pending_check o)) (sym leaves)
 asks-check app old new (Asks q) leaves none =
     ap (λ o. checks_of app (pending_check o) ++ checks_of app (pin_checked_by q.task)) (none q refl) ∙ ap (λ o. checks_of app (pending_check o)) (sym leaves)
+
+-- ---- who has a session
+
+any-kept : (b app : ℕ) (xs : List ℕ) → b ≢ app → list_any (λ n. n == b) (filter (λ n. not (n == app)) xs) ≡ list_any (λ n. n == b) xs
+any-kept b app xs differ = any-less (λ n. n == b) (λ n. not (n == app)) xs (λ n is. ap not (ne_eqb n app (λ e. differ (sym (eqb-true n b is) ∙ e))))
+
+in-other : (app b : ℕ) (u : View) (xs : List ℕ) → b ≢ app → list_any (λ n. n == b) (seated app u xs) ≡ list_any (λ n. n == b) xs
+in-other app b u xs differ = step (has_session u) where
+  step : (t : Bool) → list_any (λ n. n == b) (cond t (app ∷ filter (λ n. not (n == app)) xs) (filter (λ n. not (n == app)) xs)) ≡ list_any (λ n. n == b) xs
+  step true = ap (λ t. t || list_any (λ n. n == b) (filter (λ n. not (n == app)) xs)) (ne_eqb app b (λ e. differ (sym e))) ∙ any-kept b app xs differ
+  step false = any-kept b app xs differ
+
+in-own : (app b : ℕ) (u : View) (xs : List ℕ) → b ≡ app → has_session u ≡ true → list_any (λ n. n == b) (seated app u xs) ≡ true
+in-own app b u xs is has = rw (has, eq-eqb app b (sym is)) refl
 
 -- ---- a call
 
@@ -131,26 +133,20 @@ module _ (s : UserType → ℕ) (w : World) (sound : IsSound s w) where
 
   -- ---- a result
 
-  still-record : (app : ℕ) (a : Answer) → a.change ≡ Stays → recorded (list_change w app a) w.token_record ≡ w.token_record
-  still-record app a still = recorded-in_list (sees (w.views app).sessions.login) w.objects a.change w.token_record ∙ ap (λ c. recorded c w.token_record) still
-
-  -- one of a task that checks no PIN, where it sets none
-  charges-plain : (app : ℕ) (q : Question) → (w.views app).question ≡ Some q → pin_checked_by q.task ≡ None → events_of_result app (Some q) ≡ [] → charges_of (unchecked (stepped w app (result_at w app q)) app) ≡ pin_after (charges_of w) (events_of_result app (Some q))
-  charges-plain app q asked unchecks silent =
+  charges-finish : (app : ℕ) (q : Question) → (w.views app).question ≡ Some q → charges_of (unchecked (stepped w app (result_at w app q)) app) ≡ pin_after (charges_of w) (events_of_outcome w app q.task (value_of q.task))
+  charges-finish app q asked =
       let a = result_at w app q in
-      let none : checks_by app w.checks ≡ [] = sound.checks app ∙ ap (λ o. checks_of app (pending_check o)) asked ∙ ap (checks_of app) unchecks in
-      let same : w.checks ++ checks_of app (pin_checked_in a.says) ≡ w.checks = ap (λ o. w.checks ++ checks_of app o) (unasking-result (w.views app) (value_of q.task) (reveal_to_task w app q.task)) ∙ append_nil w.checks in
-      alike (ap stored_record (still-record app a (still-result (w.views app) (value_of q.task) (reveal_to_task w app q.task))))
-      (ap (λ cs. checking So (without_checks app cs)) same ∙ checking-stays So app w.checks (under_way-is So app w.checks None none))
-      (ap (λ cs. checking User (without_checks app cs)) same ∙ checking-stays User app w.checks (under_way-is User app w.checks None none))
-      ∙ ap (pin_after (charges_of w)) (sym silent)
+      let r = reveal_to_task w app q.task in
+      let x = answer_outcome (w.views app) q q.task (value_of q.task) r in
+      let own : checks_by app w.checks ≡ checks_of app (pin_checked_by q.task) = sound.checks app ∙ ap (λ o. checks_of app (pending_check o)) asked in
+      let same : w.checks ++ checks_of app (pin_checked_in a.says) ≡ w.checks = ap (λ o. w.checks ++ checks_of app o) (unasking-result (w.views app) (value_of q.task) r) ∙ append_nil w.checks in
+      alike (recorded-in_list (sees (w.views app).sessions.login) w.objects a.change w.token_record ∙ ap (λ (y : Answer). recorded y.change w.token_record) (result-is (w.views app) q (value_of q.task) r asked))
+      (ap (λ cs. checking So (without_checks app cs)) same) (ap (λ cs. checking User (without_checks app cs)) same)
+      ∙ charges-outcome s w sound app q q.task (value_of q.task) own
 
-  charges-result : (app : ℕ) (q : Question) → (w.views app).question ≡ Some q → charges_of (unchecked (stepped w app (result_at w app q)) app) ≡ pin_after (charges_of w) (events_of_result app (Some q))
-  charges-result app q asked = charges-plain app q asked (unchecked-task q.task) (silent-task app q q.task)
-
-  charges-finished : (app : ℕ) (q : Option Question) → (w.views app).question ≡ q → charges_of (finished w app q) ≡ pin_after (charges_of w) (events_of_result app q)
+  charges-finished : (app : ℕ) (q : Option Question) → (w.views app).question ≡ q → charges_of (finished w app q) ≡ pin_after (charges_of w) (events_of_result w app q)
   charges-finished app None asked = refl
-  charges-finished app (Some q) asked = charges-result app q asked
+  charges-finished app (Some q) asked = charges-finish app q asked
 
   charges-refused : (app : ℕ) (q : Option Question) → checks_by app w.checks ≡ checks_of app (pending_check q) → charges_of (finish_refused w app q) ≡ pin_after (charges_of w) (ends app (pending_check q) false)
   charges-refused app None is = refl
@@ -180,9 +176,7 @@ module _ (s : UserType → ℕ) (w : World) (sound : IsSound s w) where
   ]
 
   shows-result : (app : ℕ) (q : Question) → (result_at w app q).view.token_record ≡ recorded (result_at w app q).change (w.views app).token_record
-  shows-result app q =
-      record-result (w.views app) (value_of q.task) (reveal_to_task w app q.task)
-      ∙ sym (ap (λ c. recorded c (w.views app).token_record) (still-result (w.views app) (value_of q.task) (reveal_to_task w app q.task)))
+  shows-result app q = record-result (w.views app) (value_of q.task) (reveal_to_task w app q.task)
 
   records-finished : (app : ℕ) (q : Option Question) (b : ℕ) → ((finished w app q).views b).token_record ≡ (finished w app q).token_record
   records-finished app None b = sound.records b
@@ -242,9 +236,56 @@ module _ (s : UserType → ℕ) (w : World) (sound : IsSound s w) where
   checks-happen (Refuses (Finish app) fault) b = checks-refused app (w.views app).question b
   checks-happen (Refuses (Gone app) fault) b = checks-over app (left (w.views app)) refl b
 
+  -- who checks the user's PIN has a session
+  seated-stepped : (app : ℕ) (a : Answer) → (pending_check a.view.question ≡ Some User → has_session a.view ≡ true) → (b : ℕ) → pending_check ((stepped w app a).views b).question ≡ Some User → (has_session ((stepped w app a).views b) ≡ true) × (is_in_session (stepped w app a) b ≡ true)
+  seated-stepped app a own b = elim (cases_eq b app) [
+    | inl is ↦ rw (eq-eqb b app is) (λ checks. (own checks, in-own app b a.view w.in_session is (own checks)))
+    | inr differ ↦ rw (ne_eqb b app differ) (λ checks.
+        let change = change_for b w app a in
+        let old = sound.seated b (ap pending_check (sym (seen-question change (w.views b))) ∙ checks) in
+        (ap (λ t. nat_lt 0 (length t.sessions)) (seen-sessions change (w.views b)) ∙ old.0, in-other app b a.view w.in_session differ ∙ old.1))
+  ]
+
+  seated-put : (app : ℕ) (v : View) → v.question ≡ None → (b : ℕ) → pending_check ((with_view w app v).views b).question ≡ Some User → (has_session ((with_view w app v).views b) ≡ true) × (is_in_session (with_view w app v) b ≡ true)
+  seated-put app v none b = elim (cases_eq b app) [
+    | inl is ↦ rw (eq-eqb b app is) (λ checks. let k : None ≡ Some User = ap pending_check (sym none) ∙ checks in cc)
+    | inr differ ↦ rw (ne_eqb b app differ) (λ checks. let old = sound.seated b checks in (old.0, in-other app b v w.in_session differ ∙ old.1))
+  ]
+
+  called-seat : (app : ℕ) (call : CallType) (random : List ℕ) → pending_check (answer_at w app call random).view.question ≡ Some User → has_session (answer_at w app call random).view ≡ true
+  called-seat app call random checks =
+      let v = w.views app in
+      let reveal = reveal_to_call w app call in
+      let a = answer_at w app call random in
+      let f = fair-answer v call random reveal in
+      step v a (busy-answer v call random reveal) f.seats (λ is. (sound.seated app is).0) a.says refl f.asks checks where
+        step : (v : View) (a : Answer) → ((q : Question) → v.question ≡ Some q → a.view ≡ v) → (pin_checked_in a.says ≡ Some User → has_session a.view ≡ true) → (pending_check v.question ≡ Some User → has_session v ≡ true) → (x : Said) → a.says ≡ x → Leaves v.question x a.view.question → pending_check a.view.question ≡ Some User → has_session a.view ≡ true
+        step v a busy seats old (Asks q) says leaves checks = seats (ap pin_checked_in says ∙ ap pending_check (sym leaves) ∙ checks)
+        step v a busy seats old (Replies reply) says leaves checks = pending v.question refl (ap pending_check (sym leaves) ∙ checks) where
+          pending : (o : Option Question) → v.question ≡ o → pending_check v.question ≡ Some User → has_session a.view ≡ true
+          pending None e c = let k : None ≡ Some User = ap pending_check (sym e) ∙ c in cc
+          pending (Some q) e c = ap has_session (busy q e) ∙ old c
+
+  seated-finished : (app : ℕ) (q : Option Question) (b : ℕ) → pending_check ((finished w app q).views b).question ≡ Some User → (has_session ((finished w app q).views b) ≡ true) × (is_in_session (finished w app q) b ≡ true)
+  seated-finished app None b = sound.seated b
+  seated-finished app (Some q) b = seated-stepped app (result_at w app q) (λ is. let k : None ≡ Some User = ap pending_check (sym (over-result (w.views app) (value_of q.task) (reveal_to_task w app q.task))) ∙ is in cc) b
+
+  seated-refused : (app : ℕ) (q : Option Question) (b : ℕ) → pending_check ((finish_refused w app q).views b).question ≡ Some User → (has_session ((finish_refused w app q).views b) ≡ true) × (is_in_session (finish_refused w app q) b ≡ true)
+  seated-refused app None b = sound.seated b
+  seated-refused app (Some q) b = seated-put app (answered (w.views app)) refl b
+
+  seated-happen : (m : Move) (b : ℕ) → pending_check ((happens w m).views b).question ≡ Some User → (has_session ((happens w m).views b) ≡ true) × (is_in_session (happens w m) b ≡ true)
+  seated-happen (Goes (Call app call random)) b = seated-stepped app (answer_at w app call random.items) (called-seat app call random.items) b
+  seated-happen (Goes (Finish app)) b = seated-finished app (w.views app).question b
+  seated-happen (Goes (Gone app)) b = seated-put app (left (w.views app)) refl b
+  seated-happen (Refuses (Call app call random) fault) b = sound.seated b
+  seated-happen (Refuses (Finish app) fault) b = seated-refused app (w.views app).question b
+  seated-happen (Refuses (Gone app) fault) b = seated-put app (left (w.views app)) refl b
+
   sound-happen : (m : Move) → IsSound (λ who. spent who (s who) (charges_of w) (events_of w m)) (happens w m)
   sound-happen m = record {
     checks = checks-happen m;
+    seated = seated-happen m;
     records = records-happen m;
     tries = λ who.
         let n = spent who (s who) (charges_of w) (events_of w m) in
@@ -275,6 +316,7 @@ sound-run s w (m ∷ ms) sound =
     let rest = sound-run next (happens w m) ms (sound-happen s w sound m) in
     record {
       checks = rest.checks;
+      seated = rest.seated;
       records = rest.records;
       tries = λ who.
           let e : spent who (next who) (charges_of (happens w m)) (events_in (happens w m) ms) ≡ spent_in s w (m ∷ ms) who = ap (λ c. spent who (next who) c (events_in (happens w m) ms)) (charges-happen s w sound m) ∙ sym (spent-append who (s who) (charges_of w) (events_of w m) (events_in (happens w m) ms)) in
@@ -284,13 +326,14 @@ sound-run s w (m ∷ ms) sound =
 pub ten-run : (who : UserType) (s : UserType → ℕ) (w : World) (ms : List Move) → IsSound s w → spent_in s w ms who ≤ tries_limit
 ten-run who s w ms sound = ten who (s who) (charges_of w) (events_in w ms) (sound.tries who)
 
-pub sound-start : (w : World) → w.checks ≡ [] → ((app : ℕ) → (w.views app).question ≡ None) → ((app : ℕ) → (w.views app).token_record ≡ w.token_record) → ((who : UserType) → tries_of (stored_record w.token_record) who ≤ tries_limit)
-    → IsSound (tries_of (stored_record w.token_record)) w
+pub sound-start : (w : World) → w.checks ≡ [] → ((app : ℕ) → (w.views app).question ≡ None) → ((app : ℕ) → (w.views app).token_record ≡ w.token_record) → ((who : UserType) → tries_of w.token_record who ≤ tries_limit)
+    → IsSound (tries_of w.token_record) w
 sound-start w none idle same few =
-    let r = stored_record w.token_record in
+    let r = w.token_record in
     let is : opened r ≡ charges_of w = alike refl (ap (checking So) (sym none)) (ap (checking User) (sym none)) in
     record {
       checks = λ app. ap (checks_by app) none ∙ ap (λ o. checks_of app (pending_check o)) (sym (idle app));
+      seated = λ app is. let k : None ≡ Some User = ap pending_check (sym (idle app)) ∙ is in cc;
       records = same;
       tries = λ who. subst (IsCharged who (tries_of r who)) is (starts who r (few who));
     }

@@ -8,8 +8,8 @@ use Rattle.lists.proofs.PlaceLemmas.{append_nil, filter-push}
 use Rattle.pin_record.specs.Charges.{is_same, is_under_way, without}
 use Rattle.pin_record.proofs.Counting.{without-none}
 use Rattle.token_model.specs.declared.check.Check.{Check}
-use Rattle.token_model.specs.Worlds.{checks_of, without_checks}
-use Rattle.token_model.specs.Tries.{checking, checks_by}
+use Rattle.token_model.specs.Worlds.{checking, checks_of, without_checks}
+use Rattle.token_model.specs.Tries.{checks_by}
 
 -- ---- a check begins
 

@@ -9,14 +9,14 @@ use Rattle.ck_calls.specs.declared.function.Function.{Function}
 use Rattle.ck_calls.specs.Functions.{function_of}
 use Rattle.ck_calls.specs.declared.reply.Reply.{Reply}
 use Rattle.ck_calls.specs.declared.reply.Reply.TheVariants.{Code}
-use Rattle.guard.specs.Access.{is_public}
+use Rattle.guard.specs.Access.{is_public, is_user_in}
 use Rattle.views.specs.Outcomes.{Outcome}
 use Rattle.token_model.specs.declared.event.Event.{Event}
 use Rattle.token_model.specs.declared.event.Event.TheVariants.{Call, Finish, Gone}
-use Rattle.views.specs.Views.{View, Question, is_user_in, mask, left}
+use Rattle.views.specs.Views.{View, Question, mask, left}
 use Rattle.views.specs.Changes.{Change, Stays, Insert, Replace, Remove, Records, Resets, mask_change, seen, is_seen, is_still}
 use Rattle.views.specs.Answering.{Said, Replies, Asks, Answer, Reveal, mask_reveal}
-use Rattle.answers.specs.Answers.{answer, answer_result, is_pin_function, may_change_objects}
+use Rattle.answers.specs.Answers.{answer, answer_result, is_pin_function, is_pin_task, may_change_objects}
 use Rattle.token_model.specs.Worlds.{World, Move, Goes, Refuses, event_of, value_of, reveal_to_call, reveal_to_task, answer_at, result_at, list_change, change_for, happens, after, replies}
 
 -- what an application does, what it gets, that it goes, and what it sees of others
@@ -101,7 +101,7 @@ is_quiet_call function a = not (is_pin_function function) && (not (may_change_ob
 
 abbrev pub is_quiet_result : World → ℕ → Option Question → Bool
 is_quiet_result w app None = true
-is_quiet_result w app (Some q) = is_quiet_call q.function (result_at w app q)
+is_quiet_result w app (Some q) = not (is_pin_task q.task)
 
 abbrev pub is_quiet : World → Event → Bool
 is_quiet w (Call app call random) = is_quiet_call (function_of call) (answer_at w app call random.items)
@@ -125,7 +125,7 @@ is_private objects (Resets r) = false
 
 abbrev pub is_private_result : World → ℕ → Option Question → Bool
 is_private_result w app None = true
-is_private_result w app (Some q) = not (is_pin_function q.function) && is_private w.objects (list_change w app (result_at w app q))
+is_private_result w app (Some q) = not (is_pin_task q.task) && is_private w.objects (list_change w app (result_at w app q))
 
 abbrev pub is_private_event : World → Event → Bool
 is_private_event w (Call app call random) = not (is_pin_function (function_of call)) && is_private w.objects (list_change w app (answer_at w app call random.items))
@@ -141,7 +141,7 @@ pub record IsQuiet (app : ℕ) (w : World) (event : Event) : Type 0 where
 -- the application's own event belongs to no call of a PIN
 abbrev pub is_pin_question : Option Question → Bool
 is_pin_question None = false
-is_pin_question (Some q) = is_pin_function q.function
+is_pin_question (Some q) = is_pin_task q.task
 
 abbrev pub is_pin_event : World → Event → Bool
 is_pin_event w (Call app call random) = is_pin_function (function_of call)

@@ -1,29 +1,35 @@
 -- All that a token is to all applications, and what an event makes of it.
-use Rattle.std.specs.Prelude.{ℕ, nat_lt, Bool, not, ◌==◌, length, List, [], ◌∷◌, ◌++◌, filter, if◌then◌else◌, Option, Some, None}
+use Rattle.std.specs.Prelude.{ℕ, nat_lt, Bool, true, false, not, ◌==◌, length, List, [], ◌∷◌, ◌++◌, filter, if◌then◌else◌, Option, Some, None, map}
 use Rattle.std.specs.List.{list_any}
 use Rattle.ck_types.specs.declared.entry.Entry.{Entry}
 use Rattle.ck_types.specs.declared.user_type.UserType.{UserType}
+use Rattle.ck_types.specs.declared.user_type.UserType.TheVariants.{So, User}
 use Rattle.ck_calls.specs.declared.call.Call.{Call as CallType}
+use Rattle.ck_calls.specs.declared.function.Function.{Function}
+use Rattle.ck_calls.specs.declared.function.Function.TheVariants as functions
+use Rattle.ck_calls.specs.Functions.{function_of}
 use Rattle.ck_calls.specs.declared.reply.Reply.{Reply}
 use Rattle.mech.specs.declared.work.Work.{Work}
-use Rattle.mech.specs.declared.work.Work.TheVariants.{Cipher}
+use Rattle.mech.specs.declared.work.Work.TheVariants.{Cipher, CheckPin, MakePin, ChangePin, InitToken, ResetToken}
 use Rattle.mech.specs.Works.{outcome_of}
 use Rattle.ops.specs.Operations.{text_of}
-use Rattle.views.specs.Outcomes.{Outcome, told_of}
+use Rattle.views.specs.Outcomes.{Outcome, Right, told_of}
 use Rattle.token_model.specs.declared.check.Check.{Check}
 use Rattle.token_model.specs.declared.event.Event.{Event}
 use Rattle.token_model.specs.declared.event.Event.TheVariants.{Call, Finish, Gone}
 use Rattle.views.specs.declared.fault.Fault.{Fault}
-use Rattle.views.specs.Views.{RecordSight, View, Task, Ciphers, Question, sees, left}
+use Rattle.pin_record.specs.Records.{TokenRecord}
+use Rattle.pin_record.specs.Charges.{is_same, without}
+use Rattle.views.specs.Views.{View, Task, Ciphers, ChecksPin, MakesPin, ChangesPin, InitsToken, ResetsToken, Question, sees, left}
 use Rattle.views.specs.Changes.{Change, changed, recorded, seen, in_list, as_seen}
-use Rattle.views.specs.Answering.{Said, Replies, Asks, Answer, Reveal, reveals_nothing, answered, pin_checked_in}
+use Rattle.views.specs.Answering.{Said, Replies, Asks, Answer, Reveal, reveals_nothing, answered, pin_checked_in, has_session}
 use Rattle.views.specs.Refusals.{refusal}
 use Rattle.answers.specs.Answers.{answer, answer_result}
 
 -- The token's record, the token objects with their values, the checks that are under way, the applications that have a
 -- session, and the full view of each application. One that isn't there has the fresh view.
 pub record World : Type 0 where
-  pub token_record : RecordSight
+  pub token_record : TokenRecord
   pub objects : List (List Entry)
   pub checks : List Check
   pub in_session : List ℕ
@@ -31,15 +37,25 @@ pub record World : Type 0 where
 
 -- ---- the applications that have a session
 
-abbrev pub has_session : View → Bool
-has_session v = nat_lt 0 (length v.sessions.sessions)
-
 -- an application that has this view is one of them, or isn't
 abbrev pub seated : ℕ → View → List ℕ → List ℕ
 seated app v apps = if has_session v then app ∷ filter (λ n. not (n == app)) apps else filter (λ n. not (n == app)) apps
 
 abbrev pub is_in_session : World → ℕ → Bool
 is_in_session w app = list_any (λ n. n == app) w.in_session
+
+abbrev pub others_in_session : World → ℕ → Bool
+others_in_session w app = list_any (λ n. not (n == app)) w.in_session
+
+-- ---- checks of PINs
+
+-- the applications that check a PIN
+abbrev pub checking : UserType → List Check → List ℕ
+checking who cs = map (λ c. c.app) (filter (λ c. is_same who c.user) cs)
+
+-- how many others do
+abbrev pub others_checking : List Check → ℕ → UserType → ℕ
+others_checking cs app who = length (without (checking who cs) app)
 
 -- ---- one application's answer, for all
 
@@ -83,16 +99,63 @@ with_view w app v = record w { in_session = seated app v w.in_session; views = �
 -- the work of a task on full views, and its result: what the mechanism makes of it
 abbrev pub work_of : Task → Work
 work_of (Ciphers part operation input) = Cipher (text_of operation) part input
+work_of (ChecksPin who verifier pin) = CheckPin who verifier pin
+work_of (MakesPin pin salt) = MakePin pin salt
+work_of (ChangesPin who verifier pin new_pin salt) = ChangePin who verifier pin new_pin salt
+work_of (InitsToken label pin salt) = InitToken label pin salt
+work_of (ResetsToken label verifier pin) = ResetToken label verifier pin
 
 abbrev pub value_of : Task → Outcome
 value_of task = told_of (outcome_of (work_of task))
 
--- what a call, and what a result, reveals from outside
+-- ---- what is revealed from outside
+
+-- how many others check the PIN that was right or is set; to the user who logs in all token objects too
+abbrev pub reveals_checks : ℕ → Reveal
+reveals_checks under_way = record { objects = None; under_way = Some under_way; in_session = None }
+
+abbrev pub reveals_login : List (List Entry) → UserType → ℕ → Reveal
+reveals_login objects So under_way = reveals_checks under_way
+reveals_login objects User under_way = record { objects = Some objects; under_way = Some under_way; in_session = None }
+
+-- and to one who initialises the token whether another application has a session
+abbrev pub reveals_sessions : Bool → Reveal
+reveals_sessions in_use = record { objects = None; under_way = None; in_session = Some in_use }
+
+abbrev pub reveals_reset : ℕ → Bool → Reveal
+reveals_reset under_way in_use = record { objects = None; under_way = Some under_way; in_session = Some in_use }
+
+abbrev pub is_init_token : Function → Bool
+is_init_token functions.InitToken = true
+is_init_token _ = false
+
+abbrev pub reveal_by_call : CallType → Bool → Reveal
+reveal_by_call call in_use = if is_init_token (function_of call) then reveals_sessions in_use else reveals_nothing
+
+abbrev pub if_right : Outcome → Reveal → Reveal
+if_right Right r = r
+if_right _ r = reveals_nothing
+
+-- by the task and its result
+abbrev pub reveal_by_outcome : Task → Outcome → List (List Entry) → (UserType → ℕ) → Bool → Reveal
+reveal_by_outcome (Ciphers part operation input) outcome objects under_way in_use = reveals_nothing
+reveal_by_outcome (ChecksPin who verifier pin) outcome objects under_way in_use = if_right outcome (reveals_login objects who (under_way who))
+reveal_by_outcome (MakesPin pin salt) outcome objects under_way in_use = reveals_checks (under_way User)
+reveal_by_outcome (ChangesPin who verifier pin new_pin salt) outcome objects under_way in_use = if_right outcome (reveals_checks (under_way who))
+reveal_by_outcome (InitsToken label pin salt) outcome objects under_way in_use = reveals_sessions in_use
+reveal_by_outcome (ResetsToken label verifier pin) outcome objects under_way in_use = if_right outcome (reveals_reset (under_way So) in_use)
+
+-- what a call, and a result, reveals of a world
 abbrev pub reveal_to_call : World → ℕ → CallType → Reveal
-reveal_to_call w app call = reveals_nothing
+reveal_to_call w app call = reveal_by_call call (others_in_session w app)
+
+abbrev pub reveal_to_outcome : World → ℕ → Task → Outcome → Reveal
+reveal_to_outcome w app task outcome = reveal_by_outcome task outcome w.objects (others_checking w.checks app) (others_in_session w app)
 
 abbrev pub reveal_to_task : World → ℕ → Task → Reveal
-reveal_to_task w app (Ciphers part operation input) = reveals_nothing
+reveal_to_task w app task = reveal_to_outcome w app task (value_of task)
+
+-- ---- answers
 
 -- the answers to a call and to a result
 abbrev pub answer_at : World → ℕ → CallType → List ℕ → Answer

@@ -4,7 +4,7 @@ ghost use Rattle.std.specs.Prelude.{◌≡◌, ℕ, ◌≤◌, List, [], None};
 ghost use Rattle.ck_types.specs.declared.user_type.UserType.{UserType as Who};
 ghost use Rattle.pin_record.specs.Charges.{after as charged_after};
 ghost use Rattle.pin_record.specs.Records.{tries_limit, tries_of};
-ghost use Rattle.views.specs.Views.{View, stored_record, mask};
+ghost use Rattle.views.specs.Views.{View, mask};
 ghost use Rattle.views.specs.Changes.{Change, seen};
 ghost use Rattle.token_model.specs.Worlds.{World, Move, event_of, happens, after, replies};
 ghost use Rattle.token_model.specs.Traces.{saw, trace, replies_to, NotSetApart, IsTold, IsQuiet, AllQuiet, own_moves};
@@ -49,7 +49,7 @@ pub fn quiet_run()
 /// which no question is pending and no check is under way.
 pub fn ten_tries()
     ensures begins { (w : World) → w.checks ≡ [] → ((app : ℕ) → (w.views app).question ≡ None) → ((app : ℕ) → (w.views app).token_record ≡ w.token_record)
-        → ((who : Who) → tries_of (stored_record w.token_record) who ≤ tries_limit) → IsSound (tries_of (stored_record w.token_record)) w }
+        → ((who : Who) → tries_of (w.token_record) who ≤ tries_limit) → IsSound (tries_of (w.token_record)) w }
     ensures goes { (s : Who → ℕ) (w : World) (ms : List Move) → IsSound s w → charges_of (after w ms) ≡ charged_after (charges_of w) (events_in w ms) }
     ensures goes_on { (s : Who → ℕ) (w : World) (ms : List Move) → IsSound s w → IsSound (spent_in s w ms) (after w ms) }
     ensures ten { (who : Who) (s : Who → ℕ) (w : World) (ms : List Move) → IsSound s w → spent_in s w ms who ≤ tries_limit }

@@ -1,9 +1,9 @@
 -- Each kind of change: what another application sees of it, what lasts after it, and that handles fit still.
-use Rattle.std.proofs.Common.{◌≡◌, ℕ, ◌+◌, ◌≤◌, Bool, true, false, cond, not, List, [], ◌∷◌, ◌++◌, map, zero, suc, Option, Some, None, refl, sym, ◌∙◌, ap, arith, inl, inr}
-use Rattle.std.specs.Prelude.{find, filter, ◌==◌, ◌||◌}
+use Rattle.std.proofs.Common.{◌≡◌, ℕ, ◌+◌, ◌≤◌, Bool, true, false, cond, not, List, [], ◌∷◌, ◌++◌, map, zero, suc, Option, Some, None, refl, sym, ◌∙◌, ap, arith}
+use Rattle.std.specs.Prelude.{filter, ◌||◌}
 use Rattle.std.specs.Option.{option_map}
 use Rattle.std.specs.List.{AllByRecursion, remove}
-use Rattle.std.proofs.lemmas.Bool.{cases_Bool, ne_eqb}
+use Rattle.std.proofs.lemmas.Bool.{ne_eqb}
 use Rattle.ck_types.specs.declared.entry.Entry.{Entry}
 use Rattle.guard.specs.Access.{is_public, is_user}
 use Rattle.ck_types.specs.declared.user_type.UserType.{UserType}
@@ -13,7 +13,7 @@ use Rattle.handles.specs.Handles.{number_of}
 use Rattle.keep.specs.Contents.{Contents, Kept}
 use Rattle.desk.specs.Desks.{DeskState}
 use Rattle.lists.specs.Places.{seen_place, replaced}
-use Rattle.views.specs.Views.{View, TokenObject, sees, without_handle, record_sight}
+use Rattle.views.specs.Views.{View, TokenObject, sees}
 use Rattle.views.specs.Changes.{Change, Stays, Insert, Replace, Remove, Records, Resets, changed, recorded, rewritten, seen, as_seen, replaced_at, removed_at}
 use Rattle.token_store.specs.Shown.{objects_of, sees_kept, token_object, view_of, IsNoted, Fits, rekept, IsAsPublic, Changes}
 use Rattle.lists.proofs.ListLemmas.{map-push, map-remove}
@@ -61,8 +61,8 @@ fits-changed (Insert o) c c' hs is fits = rw is (record {
 })
 fits-changed (Replace place o) c c' hs is fits = rw is.1 (record { given = fits.given; noted = noted-rekept hs o c.objects place is.0 fits.noted })
 fits-changed (Remove place) c c' hs is fits = rw is (record { given = fits.given; noted = all-remove (IsNoted hs) c.objects place fits.noted })
-fits-changed (Records r) c c' hs is fits = rw is.2 (record { given = fits.given; noted = fits.noted })
-fits-changed (Resets r) c c' hs is fits = rw is.2 (record { given = fits.given; noted = tt })
+fits-changed (Records r) c c' hs is fits = rw is (record { given = fits.given; noted = fits.noted })
+fits-changed (Resets r) c c' hs is fits = rw is (record { given = fits.given; noted = tt })
 
 -- ---- what lasts
 
@@ -76,16 +76,16 @@ objects-changed Stays c c' is = rw is refl
 objects-changed (Insert o) c c' is = rw is (map-push (λ (e : Kept). e.1) c.objects (c.last_id + 1, o))
 objects-changed (Replace place o) c c' is = rw is.1 (objects-rekept c.objects place o)
 objects-changed (Remove place) c c' is = rw is (map-remove (λ (e : Kept). e.1) c.objects place)
-objects-changed (Records r) c c' is = rw is.2 refl
-objects-changed (Resets r) c c' is = rw is.2 refl
+objects-changed (Records r) c c' is = rw is refl
+objects-changed (Resets r) c c' is = rw is refl
 
-pub record-changed : (change : Change) (c c' : Contents) → Changes change c c' → record_sight c'.token_record ≡ recorded change (record_sight c.token_record)
+pub record-changed : (change : Change) (c c' : Contents) → Changes change c c' → c'.token_record ≡ recorded change c.token_record
 record-changed Stays c c' is = rw is refl
 record-changed (Insert o) c c' is = rw is refl
 record-changed (Replace place o) c c' is = rw is.1 refl
 record-changed (Remove place) c c' is = rw is refl
-record-changed (Records r) c c' is = rw is.2 is.1
-record-changed (Resets r) c c' is = rw is.2 is.1
+record-changed (Records r) c c' is = rw is refl
+record-changed (Resets r) c c' is = rw is refl
 
 -- ---- what another application sees
 
@@ -134,5 +134,5 @@ view_of-changed (Remove place) c c' d is fits =
       step (Some q) =
           let f : List TokenObject → View = λ ts. record (view_of c d) { tokens = ts } in
           ap f (map-remove (token_object d) (filter (sees_kept d.sessions.login) c.objects) q)
-view_of-changed (Records r) c c' d is fits = rw (is.2, is.1) refl
-view_of-changed (Resets r) c c' d is fits = rw (is.2, is.1) refl
+view_of-changed (Records r) c c' d is fits = rw is refl
+view_of-changed (Resets r) c c' d is fits = rw is refl

@@ -1,20 +1,15 @@
 -- What an event at a desk does to the store.
-use Rattle.std.proofs.Common.{◌≡◌, ℕ, Option, Result, Ok, Err, inl, inr, refl, sym, subst, ap}
-use Rattle.std.specs.Prelude.{IsErr, IfOk}
-use Rattle.std.proofs.lemmas.Bool.{false≢true}
+use Rattle.std.proofs.Common.{◌≡◌, Option, inl, inr, refl, sym, subst, ap}
 use Rattle.ck_types.specs.declared.user_type.UserType.{UserType}
 use Rattle.keep.specs.Contents.{Contents}
 use Rattle.keep.specs.Keeping.{Terms}
-use Rattle.keep.specs.declared.keep.KeepFault.{KeepFault}
 use Rattle.desk.specs.Desks.{DeskState}
 use Rattle.views.specs.Views.{sees}
 use Rattle.views.specs.Changes.{Stays, in_list}
 use Rattle.ck_calls.specs.declared.reply.Reply.{Reply}
 use Rattle.views.specs.Answering.{Said, Replies, Answer, replies}
-use Rattle.token_store.specs.declared.out.Out.{Out}
-use Rattle.token_store.specs.declared.out.Out.TheVariants.{Reply as OutReply, Ask}
-use Rattle.token_store.specs.Shown.{objects_of, view_of, IsReply, IsFor, Fits, Gives}
-use Rattle.token_store.specs.Stores.{StoreState, Has, LeavesAlone, LeavesAsBefore, Gave, Refused, Serves}
+use Rattle.token_store.specs.Shown.{objects_of, view_of, Fits, Gives}
+use Rattle.token_store.specs.Stores.{StoreState, Has, LeavesAlone, LeavesAsBefore, Gave}
 
 module _ {K : Type 0} (terms : Terms K) (a : Answer) (login : Option UserType) (c : Contents) (old new : StoreState K) (said : Said) (desk : DeskState) where
   -- an answer that changes nothing

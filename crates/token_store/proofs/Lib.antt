@@ -3,6 +3,7 @@ pub mod Storing
 pub mod Gaves
 pub mod Refusals
 pub mod Plain
+pub mod Serving
 pub mod Seeing
 pub mod Seated
 pub mod Listing

@@ -10,14 +10,12 @@ use Rattle.ck_calls.specs.declared.reply.Reply.TheVariants.{Code}
 use Rattle.handles.specs.declared.Handle.{Handle}
 use Rattle.pin_record.specs.Records.{new_record}
 use Rattle.keep.specs.Contents.{Contents}
-use Rattle.keep.specs.declared.keep.KeepFault.{KeepFault}
 use Rattle.templates.specs.declared.fault.MakeFault.{MakeFault}
 use Rattle.templates.specs.declared.fault.MakeFault.TheVariants as make_faults
 use Rattle.templates.specs.Made.{Answers as IsAnswered}
 use Rattle.desk.specs.Desks.{DeskState, SameDesk}
-use Rattle.views.specs.declared.fault.Fault.{Fault}
 use Rattle.views.specs.Views.{View}
-use Rattle.views.specs.Answering.{Said, Answer}
+use Rattle.views.specs.Answering.{Said, Replies, Answer}
 use Rattle.views.specs.Refusals.{apart, set_apart}
 use Rattle.views.proofs.Checks.{plain-row}
 use Rattle.views.proofs.Blind.{IsPlainFault}
@@ -25,19 +23,22 @@ use Rattle.token_store.specs.declared.out.Out.{Out}
 use Rattle.token_store.specs.declared.out.Out.TheVariants.{Reply as OutReply}
 use Rattle.token_store.specs.declared.refusal.Refusal.{Refusal}
 use Rattle.token_store.specs.declared.refusal.Refusal.TheVariants as refusals
-use Rattle.token_store.specs.Refusing.{of_make_fault, AtDesk, DoesAtDesk, IsPlain, settled}
+use Rattle.token_store.specs.Refusing.{of_make_fault, AtDesk, DoesAtDesk, IsPlain, IsPlainAs, settled}
 use Rattle.token_store.specs.Shown.{said_of, view_of, Fits}
 use Rattle.token_store.proofs.Refusals.{IsFault}
 
 -- ---- at the desk and the store
 
 -- a fault of the keeper, or want of memory
+pub plain_as-fault : {T : Type 0} (tell : T → Said) (r : Result T Refusal) → IsFault r → IsPlainAs tell r
+plain_as-fault tell (Err refusals.Memory) is = tt
+plain_as-fault tell (Err refusals.Device) is = tt
+plain_as-fault tell (Err (refusals.Row row)) is = tt
+plain_as-fault tell (Err (refusals.Code code)) is = absurd is
+plain_as-fault tell (Ok out) is = absurd is
+
 pub plain-fault : (r : Result Reply Refusal) → IsFault r → IsPlain r
-plain-fault (Err refusals.Memory) is = tt
-plain-fault (Err refusals.Device) is = tt
-plain-fault (Err (refusals.Row row)) is = tt
-plain-fault (Err (refusals.Code code)) is = absurd is
-plain-fault (Ok reply) is = absurd is
+plain-fault r is = plain_as-fault Replies r is
 
 -- what a template makes, or why it makes nothing
 plain-make : (e : MakeFault) (fault : Option Rv) (made : List Entry) → IsAnswered (Err e) fault made → IsPlainFault fault → IsPlain (Err (of_make_fault e))
@@ -52,12 +53,15 @@ pub plain-made : (r : Result Reply Refusal) (e : MakeFault) (fault : Option Rv) 
 plain-made (Ok reply) e fault made is answered plain = absurd is
 plain-made (Err x) e fault made is answered plain = subst (λ y. IsPlain (Err y)) (sym is) (plain-make e fault made answered plain)
 
+pub plain-done_as : {T : Type 0} (tell : T → Said) (as_out : T → Out) (r : Result T Refusal) → ((t : T) → said_of (as_out t) ≡ tell t) → IsPlainAs tell r → IfOk (settled as_out r) (λ out. apart (said_of out) ≡ None)
+plain-done_as tell as_out (Ok t) same plain = ap apart (same t) ∙ plain
+plain-done_as tell as_out (Err (refusals.Row row)) same plain = plain-row row
+plain-done_as tell as_out (Err (refusals.Code code)) same plain = plain
+plain-done_as tell as_out (Err refusals.Memory) same plain = tt
+plain-done_as tell as_out (Err refusals.Device) same plain = tt
+
 pub plain-done : (r : Result Reply Refusal) → IsPlain r → IfOk (settled OutReply r) (λ out. apart (said_of out) ≡ None)
-plain-done (Ok reply) plain = plain
-plain-done (Err (refusals.Row row)) plain = plain-row row
-plain-done (Err (refusals.Code code)) plain = plain
-plain-done (Err refusals.Memory) plain = tt
-plain-done (Err refusals.Device) plain = tt
+plain-done r plain = plain-done_as Replies OutReply r (λ t. refl) plain
 
 pub stays-settled : {T : Type 0} (as_out : T → Out) (before desk : DeskState) (r : Result T Refusal) → IfErr r (λ refusal. SameDesk before desk) → IfErr (settled as_out r) (λ fault. SameDesk before desk)
 stays-settled as_out before desk (Ok t) stays = tt

@@ -1,55 +1,54 @@
 -- What a call that may be refused does, and what is told of it.
-use Rattle.std.proofs.Common.{◌≡◌, ℕ, ◌+◌, ◌≤◌, Result, Ok, Err, inl, inr, refl, sym, ◌∙◌, ap, subst, arith}
-use Rattle.std.specs.Prelude.{IfOk, IsErrOf}
+use Rattle.std.proofs.Common.{◌≡◌, Result, Ok, Err, inl, inr, refl, sym, subst}
 use Rattle.std.specs.Result.{IsErrAnd}
 use Rattle.ck_calls.specs.declared.reply.Reply.{Reply}
 use Rattle.ck_calls.specs.declared.reply.Reply.TheVariants.{Code}
 use Rattle.ck_types.specs.declared.rv.Rv.TheVariants as rv
 use Rattle.precede.specs.Row.{code_of}
 use Rattle.keep.specs.Contents.{Contents}
-use Rattle.keep.specs.Keeping.{Counted, Rises, Terms}
+use Rattle.keep.specs.Keeping.{Terms}
 use Rattle.keep.specs.declared.keep.KeepFault.{KeepFault}
 use Rattle.keep.specs.declared.keep.KeepFault.TheVariants as keep_faults
-use Rattle.desk.specs.Desks.{DeskState, SameDesk}
-use Rattle.views.specs.declared.fault.Fault.TheVariants as faults
-use Rattle.views.specs.Views.{View}
+use Rattle.desk.specs.Desks.{DeskState}
 use Rattle.views.specs.Changes.{Stays}
 use Rattle.views.specs.Answering.{Said, Replies, Answer}
 use Rattle.token_store.specs.declared.out.Out.{Out}
 use Rattle.token_store.specs.declared.out.Out.TheVariants.{Reply as OutReply}
 use Rattle.token_store.specs.declared.refusal.Refusal.{Refusal}
 use Rattle.token_store.specs.declared.refusal.Refusal.TheVariants as refusals
-use Rattle.token_store.specs.Refusing.{of_fault, DoesAtDesk, AtDesk, Does, Done, IsDone, refused_as, settled, IsServed}
-use Rattle.token_store.specs.Shown.{view_of, said_of, IsReply, IsFor, Fits}
-use Rattle.token_store.specs.Stores.{StoreState, Has, Gave, Refused, Serves, Served, LeavesAsBefore}
+use Rattle.token_store.specs.Refusing.{of_fault, DoesAtDesk, DoesAs, Does, settled}
+use Rattle.token_store.specs.Shown.{view_of, said_of, Fits}
+use Rattle.token_store.specs.Stores.{StoreState, Has, Gave, Refused, Serves, LeavesAsBefore}
 use Rattle.token_store.proofs.Gaves.{gave-quiet, gave-reply}
 
 -- it is a fault of the keeper, or want of memory
-abbrev pub IsFault : Result Reply Refusal → Type 0
+abbrev pub IsFault : {T : Type 0} → Result T Refusal → Type 0
 IsFault (Err refusals.Memory) = Unit {0}
 IsFault (Err refusals.Device) = Unit {0}
 IsFault _ = ⊥
 
-pub fault-is : (fault : KeepFault) → IsFault (Err (of_fault fault))
-fault-is keep_faults.Memory = tt
-fault-is keep_faults.Device = tt
-fault-is keep_faults.Damaged = tt
+fault-is : (T : Type 0) (fault : KeepFault) → IsFault {T = T} (Err (of_fault fault))
+fault-is T keep_faults.Memory = tt
+fault-is T keep_faults.Device = tt
+fault-is T keep_faults.Damaged = tt
 
-pub fault-of : (r : Result Reply Refusal) (fault : KeepFault) → IsErrAnd r (λ e. e ≡ of_fault fault) → IsFault r
-fault-of (Ok reply) fault is = absurd is
-fault-of (Err e) fault is = subst (λ x. IsFault (Err x)) (sym is) (fault-is fault)
+pub fault-of : {T : Type 0} (r : Result T Refusal) (fault : KeepFault) → IsErrAnd r (λ e. e ≡ of_fault fault) → IsFault r
+fault-of (Ok out) fault is = absurd is
+fault-of {T} (Err e) fault is = subst (λ x. IsFault {T = T} (Err x)) (sym is) (fault-is T fault)
 
-module _ {K : Type 0} (terms : Terms K) where
-  pub does-refused : (a : Answer) (c : Contents) (old new : StoreState K) (before desk : DeskState) (r : Result Reply Refusal) → IsFault r → Refused terms a before.sessions.login c old new before desk → Does terms a c old new before r desk
-  does-refused a c old new before desk (Err refusals.Memory) is refused = refused
-  does-refused a c old new before desk (Err refusals.Device) is refused = refused
-  does-refused a c old new before desk (Err (refusals.Row row)) is refused = absurd is
-  does-refused a c old new before desk (Err (refusals.Code code)) is refused = absurd is
-  does-refused a c old new before desk (Ok reply) is refused = absurd is
+-- ---- by what is told of the result
+
+module _ {K T : Type 0} (terms : Terms K) (tell : T → Said) where
+  pub does_as-refused : (a : Answer) (c : Contents) (old new : StoreState K) (before desk : DeskState) (r : Result T Refusal) → IsFault r → Refused terms a before.sessions.login c old new before desk → DoesAs terms tell a c old new before r desk
+  does_as-refused a c old new before desk (Err refusals.Memory) is refused = refused
+  does_as-refused a c old new before desk (Err refusals.Device) is refused = refused
+  does_as-refused a c old new before desk (Err (refusals.Row row)) is refused = absurd is
+  does_as-refused a c old new before desk (Err (refusals.Code code)) is refused = absurd is
+  does_as-refused a c old new before desk (Ok out) is refused = absurd is
 
   -- the same answer, written otherwise
-  pub does-is : (a b : Answer) (c : Contents) (old new : StoreState K) (before desk : DeskState) (r : Result Reply Refusal) → a ≡ b → Does terms b c old new before r desk → Does terms a c old new before r desk
-  does-is a b c old new before desk r is does = subst (λ x. Does terms x c old new before r desk) (sym is) does
+  pub does_as-is : (a b : Answer) (c : Contents) (old new : StoreState K) (before desk : DeskState) (r : Result T Refusal) → a ≡ b → DoesAs terms tell b c old new before r desk → DoesAs terms tell a c old new before r desk
+  does_as-is a b c old new before desk r is does = subst (λ x. DoesAs terms tell x c old new before r desk) (sym is) does
 
   refused-after : (a : Answer) (c : Contents) (old mid new : StoreState K) (before desk : DeskState) → LeavesAsBefore terms old mid → Refused terms a before.sessions.login c mid new before desk → Refused terms a before.sessions.login c old new before desk
   refused-after a c old mid new before desk first refused = record {
@@ -62,8 +61,8 @@ module _ {K : Type 0} (terms : Terms K) where
   }
 
   -- what a read leaves before it
-  pub does-after : (a : Answer) (c : Contents) (old mid new : StoreState K) (before desk : DeskState) (r : Result Reply Refusal) → LeavesAsBefore terms old mid → Does terms a c mid new before r desk → Does terms a c old new before r desk
-  does-after a c old mid new before desk (Ok reply) first gave = record {
+  pub does_as-after : (a : Answer) (c : Contents) (old mid new : StoreState K) (before desk : DeskState) (r : Result T Refusal) → LeavesAsBefore terms old mid → DoesAs terms tell a c mid new before r desk → DoesAs terms tell a c old new before r desk
+  does_as-after a c old mid new before desk (Ok out) first gave = record {
     contents = gave.contents;
     has = gave.has;
     gives = gave.gives;
@@ -72,10 +71,22 @@ module _ {K : Type 0} (terms : Terms K) where
       | inr is ↦ inr is
     ];
   }
-  does-after a c old mid new before desk (Err (refusals.Row row)) first does = (does.0, record { has = does.1.has; leaves = λ d may. first d (does.1.leaves d may); desk = does.1.desk })
-  does-after a c old mid new before desk (Err (refusals.Code code)) first does = (does.0, record { has = does.1.has; leaves = λ d may. first d (does.1.leaves d may); desk = does.1.desk })
-  does-after a c old mid new before desk (Err refusals.Memory) first refused = refused-after a c old mid new before desk first refused
-  does-after a c old mid new before desk (Err refusals.Device) first refused = refused-after a c old mid new before desk first refused
+  does_as-after a c old mid new before desk (Err (refusals.Row row)) first does = (does.0, record { has = does.1.has; leaves = λ d may. first d (does.1.leaves d may); desk = does.1.desk })
+  does_as-after a c old mid new before desk (Err (refusals.Code code)) first does = (does.0, record { has = does.1.has; leaves = λ d may. first d (does.1.leaves d may); desk = does.1.desk })
+  does_as-after a c old mid new before desk (Err refusals.Memory) first refused = refused-after a c old mid new before desk first refused
+  does_as-after a c old mid new before desk (Err refusals.Device) first refused = refused-after a c old mid new before desk first refused
+
+-- ---- and where it replies
+
+module _ {K : Type 0} (terms : Terms K) where
+  pub does-refused : (a : Answer) (c : Contents) (old new : StoreState K) (before desk : DeskState) (r : Result Reply Refusal) → IsFault r → Refused terms a before.sessions.login c old new before desk → Does terms a c old new before r desk
+  does-refused a c old new before desk r is refused = does_as-refused terms Replies a c old new before desk r is refused
+
+  pub does-is : (a b : Answer) (c : Contents) (old new : StoreState K) (before desk : DeskState) (r : Result Reply Refusal) → a ≡ b → Does terms b c old new before r desk → Does terms a c old new before r desk
+  does-is a b c old new before desk r is does = does_as-is terms Replies a b c old new before desk r is does
+
+  pub does-after : (a : Answer) (c : Contents) (old mid new : StoreState K) (before desk : DeskState) (r : Result Reply Refusal) → LeavesAsBefore terms old mid → Does terms a c mid new before r desk → Does terms a c old new before r desk
+  does-after a c old mid new before desk r first does = does_as-after terms Replies a c old mid new before desk r first does
 
   -- ---- what is told
 
@@ -83,12 +94,15 @@ module _ {K : Type 0} (terms : Terms K) where
   told-code : (a : Answer) (c : Contents) (old new : StoreState K) (before desk : DeskState) (code : Reply) → Fits c before.handles.entries → a ≡ record { says = Replies code; view = view_of c before; change = Stays } → Has terms new c → LeavesAsBefore terms old new → desk ≡ before → Gave terms a before.sessions.login c old new (Replies code) desk
   told-code a c old new before desk code fits is h leaves same = rw same (gave-reply terms a c old new before code h leaves fits is)
 
+  pub serves-done_as : {T : Type 0} (tell : T → Said) (as_out : T → Out) (a : Answer) (c : Contents) (old new : StoreState K) (before desk : DeskState) (r : Result T Refusal) → ((t : T) → said_of (as_out t) ≡ tell t) → Fits c before.handles.entries → DoesAs terms tell a c old new before r desk → Serves terms said_of a c old new before before (settled as_out r) desk
+  serves-done_as tell as_out a c old new before desk (Ok t) same fits does = rw (same t) does
+  serves-done_as tell as_out a c old new before desk (Err (refusals.Row row)) same fits does = told-code a c old new before desk (Code (code_of rv.Ok row)) fits does.0 does.1.has does.1.leaves does.1.desk
+  serves-done_as tell as_out a c old new before desk (Err (refusals.Code code)) same fits does = told-code a c old new before desk (Code code) fits does.0 does.1.has does.1.leaves does.1.desk
+  serves-done_as tell as_out a c old new before desk (Err refusals.Memory) same fits does = does
+  serves-done_as tell as_out a c old new before desk (Err refusals.Device) same fits does = does
+
   pub serves-done : (a : Answer) (c : Contents) (old new : StoreState K) (before desk : DeskState) (r : Result Reply Refusal) → Fits c before.handles.entries → Does terms a c old new before r desk → Serves terms said_of a c old new before before (settled OutReply r) desk
-  serves-done a c old new before desk (Ok reply) fits does = does
-  serves-done a c old new before desk (Err (refusals.Row row)) fits does = told-code a c old new before desk (Code (code_of rv.Ok row)) fits does.0 does.1.has does.1.leaves does.1.desk
-  serves-done a c old new before desk (Err (refusals.Code code)) fits does = told-code a c old new before desk (Code code) fits does.0 does.1.has does.1.leaves does.1.desk
-  serves-done a c old new before desk (Err refusals.Memory) fits does = does
-  serves-done a c old new before desk (Err refusals.Device) fits does = does
+  serves-done a c old new before desk r fits does = serves-done_as Replies OutReply a c old new before desk r (λ t. refl) fits does
 
   pub serves-at-desk : {T : Type 0} (tell : T → Said) (as_out : T → Out) (a : Answer) (c : Contents) (store : StoreState K) (before desk : DeskState) (r : Result T Refusal) → ((t : T) → said_of (as_out t) ≡ tell t) → a.change ≡ Stays → Has terms store c → Fits c before.handles.entries
       → DoesAtDesk tell a c before r desk → Serves terms said_of a c store store before before (settled as_out r) desk

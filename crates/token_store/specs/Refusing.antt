@@ -57,34 +57,47 @@ pub record Stands {K : Type 0} (terms : Terms K) (c : Contents) (old new : Store
   pub leaves : LeavesAsBefore terms old new
   pub desk : now ≡ before
 
-abbrev pub Does : {K : Type 0} → Terms K → Answer → Contents → StoreState K → StoreState K → DeskState → Result Reply Refusal → DeskState → Type 0
-Does terms a c old new before (Ok reply) desk = Gave terms a before.sessions.login c old new (Replies reply) desk
-Does terms a c old new before (Err (refusals.Row row)) desk = (a ≡ refuses_by (view_of c before) row) × Stands terms c old new before desk
-Does terms a c old new before (Err (refusals.Code code)) desk = (a ≡ refuses (view_of c before) code) × Stands terms c old new before desk
-Does terms a c old new before (Err refusals.Memory) desk = Refused terms a before.sessions.login c old new before desk
-Does terms a c old new before (Err refusals.Device) desk = Refused terms a before.sessions.login c old new before desk
+-- what is done of an answer, by what is told of its result
+abbrev pub DoesAs : {K T : Type 0} → Terms K → (T → Said) → Answer → Contents → StoreState K → StoreState K → DeskState → Result T Refusal → DeskState → Type 0
+DoesAs terms tell a c old new before (Ok out) desk = Gave terms a before.sessions.login c old new (tell out) desk
+DoesAs terms tell a c old new before (Err (refusals.Row row)) desk = (a ≡ refuses_by (view_of c before) row) × Stands terms c old new before desk
+DoesAs terms tell a c old new before (Err (refusals.Code code)) desk = (a ≡ refuses (view_of c before) code) × Stands terms c old new before desk
+DoesAs terms tell a c old new before (Err refusals.Memory) desk = Refused terms a before.sessions.login c old new before desk
+DoesAs terms tell a c old new before (Err refusals.Device) desk = Refused terms a before.sessions.login c old new before desk
 
-abbrev pub Done : {K : Type 0} → Terms K → (View → Answer) → StoreState K → StoreState K → DeskState → Result Reply Refusal → DeskState → Type 0
-Done terms f old new before result desk =
-    terms.doubt new.keep ≡ 0 → (c : Contents) → Has terms old c → Fits c before.handles.entries → Does terms (f (view_of c before)) c old new before result desk
+-- The answer is to the view, and what an answer takes from outside is told by what is kept.
+abbrev pub DoneAs : {K T : Type 0} → Terms K → (T → Said) → (Contents → View → Answer) → StoreState K → StoreState K → DeskState → Result T Refusal → DeskState → Type 0
+DoneAs terms tell f old new before result desk =
+    terms.doubt new.keep ≡ 0 → (c : Contents) → Has terms old c → Fits c before.handles.entries → DoesAs terms tell (f c (view_of c before)) c old new before result desk
 
--- no reply is a refusal set apart, nor is the code of a refusal
-abbrev pub IsPlain : Result Reply Refusal → Type 0
-IsPlain (Ok reply) = set_apart reply ≡ None
-IsPlain (Err (refusals.Row row)) = Unit {0}
-IsPlain (Err (refusals.Code code)) = set_apart (Code code) ≡ None
-IsPlain (Err refusals.Memory) = Unit {0}
-IsPlain (Err refusals.Device) = Unit {0}
+-- what is told is no refusal set apart, nor is the code of a refusal
+abbrev pub IsPlainAs : {T : Type 0} → (T → Said) → Result T Refusal → Type 0
+IsPlainAs tell (Ok out) = apart (tell out) ≡ None
+IsPlainAs tell (Err (refusals.Row row)) = Unit {0}
+IsPlainAs tell (Err (refusals.Code code)) = set_apart (Code code) ≡ None
+IsPlainAs tell (Err refusals.Memory) = Unit {0}
+IsPlainAs tell (Err refusals.Device) = Unit {0}
 
--- What a call does, in one clause: its answer is given or refused while the store is honest, it tries no more than so
--- many writes, and the device is to blame only where a failure of the keeper was counted. Whether or not the store is
--- honest, a refusal leaves the desk, but for the memory that is at hand.
-pub record IsDone {K : Type 0} (terms : Terms K) (writes : ℕ) (f : View → Answer) (old new : StoreState K) (before : DeskState) (result : Result Reply Refusal) (desk : DeskState) : Type 0 where
-  pub serves : Done terms f old new before result desk
+-- What a call or the end of a question does, in one clause: its answer is given or refused while the store is honest, it
+-- tries no more than so many writes, and the device is to blame only where a failure of the keeper was counted. Whether
+-- or not the store is honest, a refusal leaves the desk, but for the memory that is at hand.
+pub record IsDoneAs {K T : Type 0} (terms : Terms K) (tell : T → Said) (writes : ℕ) (f : Contents → View → Answer) (old new : StoreState K) (before : DeskState) (result : Result T Refusal) (desk : DeskState) : Type 0 where
+  pub serves : DoneAs terms tell f old new before result desk
   pub counts : Counted terms old.keep new.keep 0 writes
   pub cause : IsErrOf result refusals.Device → Rises (terms.failures old.keep) (terms.failures new.keep)
-  pub plain : IsPlain result
+  pub plain : IsPlainAs tell result
   pub stays : IfErr result (λ refusal. SameDesk before desk)
+
+-- ---- and where it replies, to the view alone
+
+abbrev pub Does : {K : Type 0} → Terms K → Answer → Contents → StoreState K → StoreState K → DeskState → Result Reply Refusal → DeskState → Type 0
+Does terms a c old new before result desk = DoesAs terms Replies a c old new before result desk
+
+abbrev pub IsPlain : Result Reply Refusal → Type 0
+IsPlain result = IsPlainAs Replies result
+
+abbrev pub IsDone : {K : Type 0} → Terms K → ℕ → (View → Answer) → StoreState K → StoreState K → DeskState → Result Reply Refusal → DeskState → Type 0
+IsDone terms writes f old new before result desk = IsDoneAs terms Replies writes (λ c. f) old new before result desk
 
 -- ---- as it is told
 

@@ -1,25 +1,24 @@
 -- What a token's parts show: the one place where ids become handles.
-use Rattle.std.specs.Prelude.{◌≡◌, ℕ, ◌≤◌, Bool, not, List, [], ◌∷◌, map, filter, Option, Some, None}
+use Rattle.std.specs.Prelude.{◌≡◌, ℕ, ◌≤◌, Bool, not, List, [], ◌∷◌, map, filter, Option, None}
 use Rattle.std.proofs.Common.{zero, suc}
 use Rattle.std.specs.Option.{option_map}
 use Rattle.std.specs.List.{AllByRecursion, remove}
 use Rattle.ck_types.specs.declared.entry.Entry.{Entry}
 use Rattle.ck_types.specs.declared.user_type.UserType.{UserType}
 use Rattle.guard.specs.Access.{is_public}
-use Rattle.pin_record.specs.Records.{TokenRecord}
 use Rattle.lists.specs.Places.{updated}
 use Rattle.handles.specs.declared.Handle.{Handle}
 use Rattle.handles.specs.Handles.{number_of}
 use Rattle.keep.specs.Contents.{Contents, Kept, with_object, with_record, after_reset}
 use Rattle.mech.specs.declared.job.Job.{Job}
 use Rattle.mech.specs.declared.work.Work.{Work}
-use Rattle.mech.specs.declared.work.Work.TheVariants.{Cipher}
+use Rattle.mech.specs.declared.work.Work.TheVariants.{Cipher, CheckPin, MakePin, ChangePin, InitToken, ResetToken}
 use Rattle.desk.specs.declared.own_object.OwnObject.{OwnObject}
 use Rattle.desk.specs.Desks.{DeskState}
 use Rattle.ops.specs.Operations.{operation_of}
 use Rattle.token_store.specs.declared.out.Out.{Out}
 use Rattle.token_store.specs.declared.out.Out.TheVariants.{Reply as OutReply, Ask}
-use Rattle.views.specs.Views.{record_sight, sees, TokenObject, SessionObject, Task, Ciphers, Question, View}
+use Rattle.views.specs.Views.{sees, TokenObject, SessionObject, Task, Ciphers, ChecksPin, MakesPin, ChangesPin, InitsToken, ResetsToken, Question, View}
 use Rattle.views.specs.Changes.{Change, Stays, Insert, Replace, Remove, Records, Resets, in_list}
 use Rattle.views.specs.Answering.{Said, Replies, Asks, Answer}
 
@@ -39,6 +38,11 @@ session_object e = record { object = e.object; handle = e.handle; session = e.se
 
 abbrev pub task_of : Work → Task
 task_of (Cipher stream part input) = Ciphers part (operation_of stream) input
+task_of (CheckPin who verifier pin) = ChecksPin who verifier pin
+task_of (MakePin pin salt) = MakesPin pin salt
+task_of (ChangePin who verifier pin new_pin salt) = ChangesPin who verifier pin new_pin salt
+task_of (InitToken label pin salt) = InitsToken label pin salt
+task_of (ResetToken label verifier pin) = ResetsToken label verifier pin
 
 abbrev pub question_of : Job → Question
 question_of j = record { number = j.question; function = j.function; session = j.session; task = task_of j.work }
@@ -47,7 +51,7 @@ question_of j = record { number = j.question; function = j.function; session = j
 abbrev pub view_of : Contents → DeskState → View
 view_of c d =
     record {
-      token_record = record_sight c.token_record;
+      token_record = c.token_record;
       tokens = map (token_object d) (filter (sees_kept d.sessions.login) c.objects);
       own = map session_object d.own;
       sessions = d.sessions;
@@ -81,8 +85,8 @@ Changes Stays old new = new ≡ old
 Changes (Insert o) old new = new ≡ with_object o old
 Changes (Replace place o) old new = IsAsPublic old.objects place o × (new ≡ record old { objects = rekept old.objects place o })
 Changes (Remove place) old new = new ≡ record old { objects = remove old.objects place }
-Changes (Records r) old new = (kept : TokenRecord) × (record_sight kept ≡ r) × (new ≡ with_record kept old)
-Changes (Resets r) old new = (kept : TokenRecord) × (record_sight kept ≡ r) × (new ≡ after_reset kept old)
+Changes (Records r) old new = new ≡ with_record r old
+Changes (Resets r) old new = new ≡ after_reset r old
 
 -- ---- what is given out
 

@@ -6,7 +6,8 @@
 //!
 //! Contracts speak of what an application sees (`specs/Shown.antt`: `view_of`), of what the store has and what a crash
 //! may leave (`specs/Stores.antt`), and of what a call does in one clause: `IsDone` where it reads or writes the store,
-//! `AtDesk` where it doesn't (`specs/Refusing.antt`).
+//! `AtDesk` where it doesn't, and `IsDoneAs` where it asks a question and writes, or where something of the answer is told
+//! by what the store has (`specs/Refusing.antt`).
 //!
 //! ```text
 //! let _ = desk.state(session).ok_or(Row::NoSession)?;

@@ -1,25 +1,27 @@
 -- What every answer keeps to, and how it is put together.
-use Rattle.std.proofs.Common.{◌≡◌, ℕ, Bool, true, false, cond, List, Option, Some, None, is_some, refl, sym, ◌∙◌, ap, subst}
+use Rattle.std.proofs.Common.{◌≡◌, ℕ, ◌+◌, Bool, true, false, cond, List, Option, Some, None, is_some, refl, sym, ◌∙◌, ap, subst}
 use Rattle.std.specs.Prelude.{nat_lt}
 use Rattle.std.specs.Option.{option_map}
 use Rattle.ck_types.specs.declared.entry.Entry.{Entry}
 use Rattle.ck_types.specs.declared.rv.Rv.{Rv}
 use Rattle.ck_types.specs.declared.rv.Rv.TheVariants.{Ok}
 use Rattle.ck_types.specs.declared.user_type.UserType.{UserType}
+use Rattle.ck_types.specs.declared.user_type.UserType.TheVariants.{User}
 use Rattle.ck_calls.specs.declared.reply.Reply.{Reply}
 use Rattle.ck_calls.specs.declared.reply.Reply.TheVariants.{Code}
 use Rattle.attrs.specs.Masking.{mask as mask_object}
 use Rattle.precede.specs.declared.row.Row.{Row}
 use Rattle.precede.specs.Row.{code_of}
-use Rattle.pin_record.specs.Records.{charged, tries_limit, tries_of, verifier_of}
+use Rattle.pin_record.specs.Records.{TokenRecord, charged, tries_limit, tries_of, verifier_of}
 use Rattle.sessions.specs.declared.Session.{Session}
 use Rattle.ops.specs.Operations.{Operations}
 use Rattle.views.specs.declared.fault.Fault.{Fault}
-use Rattle.views.specs.Views.{RecordSight, View, Question, mask, mask_session, stored_record}
-use Rattle.views.specs.Changes.{Stays, recorded}
-use Rattle.views.specs.Answering.{Said, Replies, Asks, Answer, Reveal, shown, mask_reveal, replies, refuses, refuses_by, becomes, session_of, object_at, place_of, pin_checked_in}
+use Rattle.ck_calls.specs.declared.function.Function.{Function}
+use Rattle.views.specs.Views.{View, Question, Task, mask, mask_session, mask_task, mask_record}
+use Rattle.views.specs.Changes.{Stays, Records, recorded}
+use Rattle.views.specs.Answering.{has_session, asks, asks_checked, Said, Replies, Asks, Answer, Reveal, shown, mask_reveal, replies, refuses, refuses_by, becomes, session_of, object_at, place_of, pin_checked_in, pin_checked_by}
 use Rattle.views.specs.Refusals.{apart, set_apart}
-use Rattle.views.proofs.Masks.{mask-twice, session-mask, object-mask, place-mask}
+use Rattle.views.proofs.Masks.{charged-masked, mask-twice, session-mask, object-mask, place-mask}
 
 -- ---- what is shown of an answer depends on what is shown of the view
 
@@ -45,6 +47,21 @@ blind-if b c x x' y y' tests p q = ap (λ t. shown (cond t x y)) tests ∙ step 
   step true = p
   step false = q
 
+-- a question, which is shown without what is kept back of it
+pub blind-asks : (v : View) (f : Function) (s : ℕ) (t u : Task) → mask_task t ≡ mask_task u → shown (asks (mask v) f s t) ≡ shown (asks v f s u)
+blind-asks v f s t u same =
+    let q : Task → Question = λ x. record { number = v.next_question; function = f; session = s; task = x } in
+    let a : Task → View → Answer = λ x w. record { says = Asks (q x); view = record w { question = Some (q x); next_question = v.next_question + 1 }; change = Stays } in
+    ap (λ x. a x (mask (mask v))) same ∙ ap (a (mask_task u)) (mask-twice v)
+
+pub blind-asks_checked : (v : View) (f : Function) (s : ℕ) (t u : Task) (who : UserType) → mask_task t ≡ mask_task u → shown (asks_checked (mask v) f s t who) ≡ shown (asks_checked v f s u who)
+blind-asks_checked v f s t u who same =
+    let q : Task → Question = λ x. record { number = v.next_question; function = f; session = s; task = x } in
+    let a : Task → TokenRecord → View → Answer = λ x r w. record { says = Asks (q x); view = record w { token_record = r; question = Some (q x); next_question = v.next_question + 1 }; change = Records r } in
+    ap (λ x. a x (mask_record (charged (mask_record v.token_record) who)) (mask (mask v))) same
+    ∙ ap (λ r. a (mask_task u) r (mask (mask v))) (charged-masked v.token_record who)
+    ∙ ap (a (mask_task u) (mask_record (charged v.token_record who))) (mask-twice v)
+
 -- what is answered by a session, by the object under a handle, and by the place of a token object
 pub blind-session : (f : View → Option (Session Operations) → Answer) (v : View) (s : ℕ) → ((o : Option (Session Operations)) → shown (f (mask v) (option_map mask_session o)) ≡ shown (f v o)) → shown (f (mask v) (session_of (mask v) s)) ≡ shown (f v (session_of v s))
 blind-session f v s same = ap (λ o. shown (f (mask v) o)) (session-mask v s) ∙ same (session_of v s)
@@ -56,16 +73,17 @@ pub blind-place : (f : View → Option ℕ → Answer) (v : View) (handle : ℕ)
 blind-place f v handle same = ap (λ p. shown (f (mask v) p)) (place-mask v handle) ∙ same (place_of v.tokens handle)
 
 -- ---- an answer is no refusal set apart, a quiet one makes no change, and where it is no question it leaves the
--- question as it was; else the question that it asks is pending; the record is seen as it becomes
+-- question as it was; else the question that it asks is pending; the record is seen as it becomes; and who begins a check
+-- of the user's PIN has a session
 
 abbrev pub Leaves : Option Question → Said → Option Question → Type 0
 Leaves old (Replies reply) new = new ≡ old
 Leaves old (Asks question) new = new ≡ Some question
 
 -- A check of a PIN begins with its charge, and only where the PIN is set and isn't locked. Nothing else changes the record.
-abbrev pub Charged : Option UserType → RecordSight → RecordSight → Type 0
+abbrev pub Charged : Option UserType → TokenRecord → TokenRecord → Type 0
 Charged None old new = new ≡ old
-Charged (Some who) old new = (is_some (verifier_of (stored_record old) who) ≡ true) × (nat_lt (tries_of (stored_record old) who) tries_limit ≡ true) × (stored_record new ≡ charged (stored_record old) who)
+Charged (Some who) old new = (is_some (verifier_of old who) ≡ true) × (nat_lt (tries_of old who) tries_limit ≡ true) × (new ≡ charged old who)
 
 pub record IsFair (quiet : Bool) (v : View) (a : Answer) : Type 0 where
   pub plain : apart a.says ≡ None
@@ -73,6 +91,7 @@ pub record IsFair (quiet : Bool) (v : View) (a : Answer) : Type 0 where
   pub asks : Leaves v.question a.says a.view.question
   pub shows : a.view.token_record ≡ recorded a.change v.token_record
   pub charges : Charged (pin_checked_in a.says) v.token_record a.view.token_record
+  pub seats : pin_checked_in a.says ≡ Some User → has_session a.view ≡ true
 
 module _ {quiet : Bool} (v : View) where
   pub fair : {a : Answer} → apart a.says ≡ None → a.change ≡ Stays → Leaves v.question a.says a.view.question → a.view.token_record ≡ v.token_record → pin_checked_in a.says ≡ None → IsFair quiet v a
@@ -82,6 +101,18 @@ module _ {quiet : Bool} (v : View) where
     asks = leaves;
     shows = kept ∙ sym (ap (λ c. recorded c v.token_record) still);
     charges = subst (λ o. Charged o v.token_record a.view.token_record) (sym none) kept;
+    seats = λ is. let k : None ≡ Some User = sym none ∙ is in cc;
+  }
+
+  -- a check of a PIN that is set and isn't locked
+  pub fair-asks_checked : (f : Function) (s : ℕ) (t : Task) (who : UserType) → quiet ≡ false → is_some (verifier_of v.token_record who) ≡ true → nat_lt (tries_of v.token_record who) tries_limit ≡ true → pin_checked_by t ≡ Some who → (who ≡ User → has_session v ≡ true) → IsFair quiet v (asks_checked v f s t who)
+  fair-asks_checked f s t who loud set few checks seated = record {
+    plain = refl;
+    still = λ q. let k : true ≡ false = sym q ∙ loud in cc;
+    asks = refl;
+    shows = refl;
+    charges = subst (λ o. Charged o v.token_record (charged v.token_record who)) (sym checks) (set, few, refl);
+    seats = λ is. seated (let k : Some who ≡ Some User = sym checks ∙ is in cc);
   }
 
   pub fair-if : (b : Bool) {x y : Answer} → IsFair quiet v x → IsFair quiet v y → IsFair quiet v (cond b x y)
@@ -89,7 +120,7 @@ module _ {quiet : Bool} (v : View) where
   fair-if false p q = q
 
   pub fair-refusal : (code : Rv) → set_apart (Code code) ≡ None → IsFair quiet v (refuses v code)
-  fair-refusal code is = record { plain = is; still = λ q. refl; asks = refl; shows = refl; charges = refl }
+  fair-refusal code is = record { plain = is; still = λ q. refl; asks = refl; shows = refl; charges = refl; seats = λ k. cc }
 
   pub fair-row : (row : Row) (b : Bool) {x : Answer} → set_apart (Code (code_of Ok row)) ≡ None → IsFair quiet v x → IsFair quiet v (cond b (refuses_by v row) x)
   fair-row row true is p = fair-refusal (code_of Ok row) is

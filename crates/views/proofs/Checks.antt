@@ -1,14 +1,17 @@
 -- An answer by its table is proper: by a fact of what each row tests, and of what it answers where that is not its code
 -- alone.
-use Rattle.std.proofs.Common.{◌≡◌, ℕ, Bool, true, List, [], ◌∷◌, Option, Some, None, refl, ◌∙◌, ap}
+use Rattle.std.proofs.lemmas.Bool.{lt-ltb}
+use Rattle.std.proofs.Common.{arith, ◌≡◌, ℕ, Bool, true, false, cond, List, [], ◌∷◌, Option, Some, None, refl, ◌∙◌, ap}
 pub use Rattle.ck_types.specs.declared.entry.Entry.{Entry}
 pub use Rattle.attrs.specs.Masking.{mask as mask_object}
 pub use Rattle.precede.specs.declared.row.Row.{Row}
 pub use Rattle.views.specs.Views.{View, mask, mask_session, mask_token_object, mask_session_object}
 pub use Rattle.views.specs.Answering.{Answer, shown, replies, refuses, refuses_by, becomes, session_of, object_at, place_of}
-pub use Rattle.views.proofs.Masks.{tokens-twice, own-twice, sessions-twice, question-twice, mask-twice, session-mask, object-mask, place-mask}
+pub use Rattle.views.proofs.Masks.{tokens-twice, own-twice, sessions-twice, question-twice, record-twice, set-masked, tries-masked, verifier-masked, mask-twice, session-mask, object-mask, place-mask}
 pub use Rattle.views.proofs.Blind.{IsProper, IsFair, blind-reply, blind-becomes, blind-refusal, blind-if, blind-place, fair, fair-if, fair-refusal}
-use Rattle.std.specs.Prelude.{is_none}
+use Rattle.std.specs.Prelude.{is_none, nat_lt, length}
+use Rattle.std.specs.List.{AllByRecursion}
+use Rattle.views.specs.Answering.{Reveal, mask_reveal, has_session}
 use Rattle.std.specs.Option.{option_map, unwrap_or}
 use Rattle.ck_calls.specs.declared.reply.Reply.{Reply}
 use Rattle.ck_types.specs.declared.attr_type.AttrType.{AttrType}
@@ -17,7 +20,7 @@ use Rattle.ck_types.specs.declared.rv.Rv.TheVariants.{Ok}
 use Rattle.ck_types.specs.Numbers.{attr_type_number}
 use Rattle.attrs.specs.MaskingLaws.{flag-mask}
 use Rattle.sessions.specs.declared.Session.{Session}
-use Rattle.sessions.specs.Sessions.{state_of}
+use Rattle.sessions.specs.Sessions.{state_of, session_at}
 use Rattle.ops.specs.Operations.{Operations}
 use Rattle.ck_calls.specs.declared.function.Function.{Function}
 use Rattle.ck_calls.specs.declared.reply.Reply.TheVariants.{Code}
@@ -53,12 +56,27 @@ blind-checked_by f h k says says' x y same told is = blind-rows (table_of (funct
 pub fair-checked_by : {quiet : Bool} (f : Function) (v : View) (h : Row → Bool) (says : Row → Answer) (x : Answer) → ((row : Row) → IsFair quiet v (says row)) → IsFair quiet v x → IsFair quiet v (checked_by f h says x)
 fair-checked_by f v h says x told is = fair-rows (table_of (function_number f)) v h says x told is
 
--- where each row refuses by its code
-pub proper-checked : {quiet : Bool} (f : Function) (h : View → Row → Bool) (x : View → Answer) → ((v : View) (row : Row) → h (mask v) row ≡ h v row) → ((v : View) → shown (x (mask v)) ≡ shown (x v)) → ((v : View) → IsFair quiet v (x v)) → IsProper (λ v r. checked f (h v) v (x v)) quiet
-proper-checked f h x same is fairly = record {
-  blind = λ v r. blind-checked_by f (h (mask v)) (h v) (refuses_by (mask v)) (refuses_by v) (x (mask v)) (x v) (same v) (blind-row v) (is v);
-  fair = λ v r. fair-checked_by f v (h v) (refuses_by v) (x v) (fair-row v) (fairly v);
+-- where no row holds, and each is known not to
+fair-given : {quiet : Bool} (rows : List Row) (v : View) (h : Row → Bool) (f : Row → Answer) (x : Answer) → ((row : Row) → IsFair quiet v (f row)) → (AllByRecursion (λ row. h row ≡ false) rows → IsFair quiet v x) → IsFair quiet v (by_rows rows h f x)
+fair-given [] v h f x says is = is tt
+fair-given {quiet = quiet} (row ∷ rows) v h f x says is = step (h row) refl (λ e. fair-given rows v h f x says (λ all. is (e, all))) where
+  step : (b : Bool) → h row ≡ b → ((h row ≡ false) → IsFair quiet v (by_rows rows h f x)) → IsFair quiet v (cond b (f row) (by_rows rows h f x))
+  step true e rest = says row
+  step false e rest = rest e
+
+-- the rows of a call's table, where none holds
+abbrev pub NoRow : Function → (Row → Bool) → Type 0
+NoRow f h = AllByRecursion (λ row. h row ≡ false) (table_of (function_number f))
+
+-- where each row refuses by its code, by what is revealed too
+pub proper-given : {quiet : Bool} (f : Function) (h : View → Reveal → Row → Bool) (x : View → Answer) → ((v : View) (r : Reveal) (row : Row) → h (mask v) (mask_reveal r) row ≡ h v r row) → ((v : View) → shown (x (mask v)) ≡ shown (x v)) → ((v : View) (r : Reveal) → NoRow f (h v r) → IsFair quiet v (x v)) → IsProper (λ v r. checked f (h v r) v (x v)) quiet
+proper-given f h x same is fairly = record {
+  blind = λ v r. blind-checked_by f (h (mask v) (mask_reveal r)) (h v r) (refuses_by (mask v)) (refuses_by v) (x (mask v)) (x v) (same v r) (blind-row v) (is v);
+  fair = λ v r. fair-given (table_of (function_number f)) v (h v r) (refuses_by v) (x v) (fair-row v) (fairly v r);
 }
+
+pub proper-checked : {quiet : Bool} (f : Function) (h : View → Row → Bool) (x : View → Answer) → ((v : View) (row : Row) → h (mask v) row ≡ h v row) → ((v : View) → shown (x (mask v)) ≡ shown (x v)) → ((v : View) → IsFair quiet v (x v)) → IsProper (λ v r. checked f (h v) v (x v)) quiet
+proper-checked f h x same is fairly = proper-given f (λ v r. h v) x (λ v r. same v) is (λ v r none. fairly v)
 
 -- ---- what rows test
 
@@ -108,3 +126,11 @@ pub proper-reads : (f : Function) (s handle : ℕ) (tells : List Entry → Reply
 proper-reads f s handle tells same plain =
     proper-checked f (λ v. object_row v s handle) (λ v. replies v (tells (unwrap_or (object_at v handle) []))) (object-mask-row s handle)
     (blind-told handle tells same) (λ v. fair v {a = replies v (tells (unwrap_or (object_at v handle) []))} (plain (unwrap_or (object_at v handle) [])) refl refl refl refl)
+
+-- ---- who has a session
+
+pub has-session : (v : View) (s : ℕ) → is_none (session_of v s) ≡ false → has_session v ≡ true
+has-session v s there = step v.sessions.sessions there where
+  step : (ss : List (Session Operations)) → is_none (session_at ss s) ≡ false → nat_lt 0 (length ss) ≡ true
+  step [] is = let k : true ≡ false = is in cc
+  step (x ∷ xs) is = lt-ltb 0 (length (x ∷ xs)) (omega arith)

@@ -1,16 +1,19 @@
 -- Masking: twice is once, and what a view says of itself but for what is kept back.
 use Rattle.std.proofs.Common.{◌≡◌, ℕ, zero, suc, Bool, true, false, cond, List, [], ◌∷◌, map, Option, Some, None, refl, sym, ◌∙◌, ap}
-use Rattle.std.specs.Prelude.{find, filter, ◌==◌}
+use Rattle.std.specs.Prelude.{find, filter, is_some, ◌==◌}
 use Rattle.std.specs.Option.{option_map}
 use Rattle.ck_types.specs.declared.entry.Entry.{Entry}
 use Rattle.ck_types.specs.declared.user_type.UserType.{UserType}
+use Rattle.ck_types.specs.declared.user_type.UserType.TheVariants.{So, User}
 use Rattle.attrs.specs.Masking.{mask as mask_object}
 use Rattle.attrs.specs.MaskingLaws.{mask-mask}
 use Rattle.guard.specs.AccessLaws.{is_visible-mask}
+use Rattle.pin_record.specs.Verifiers.{PinVerifier}
+use Rattle.pin_record.specs.Records.{TokenRecord, charged, with_tries, with_pin, tries_of, verifier_of}
 use Rattle.sessions.specs.declared.Session.{Session}
 use Rattle.sessions.specs.Sessions.{state_of, busy_at, login_among}
 use Rattle.ops.specs.Operations.{Operation, Operations, mask_operation}
-use Rattle.views.specs.Views.{TokenObject, SessionObject, Question, Task, Ciphers, View, sees, seen_by, without_handle, left, mask_token_object, mask_session_object, mask_operations, mask_session, mask_task, mask_question, mask}
+use Rattle.views.specs.Views.{TokenObject, SessionObject, Question, Task, Ciphers, ChecksPin, MakesPin, ChangesPin, InitsToken, ResetsToken, View, sees, seen_by, without_handle, left, mask_verifier, mask_record, mask_token_object, mask_session_object, mask_operations, mask_session, mask_task, mask_question, mask}
 use Rattle.views.specs.Changes.{Change, Stays, Insert, Replace, Remove, Records, Resets, mask_change, seen, rewritten}
 use Rattle.views.specs.Answering.{session_of, object_at, first_object, is_handle, place_of}
 use Rattle.lists.proofs.ListLemmas.{map-push, map-twice, map-remove, find-map, filter-map, filter-equal, place-map}
@@ -44,6 +47,11 @@ sessions-twice ss = map-twice mask_session ss session-twice
 
 task-twice : (t : Task) → mask_task (mask_task t) ≡ mask_task t
 task-twice (Ciphers part operation input) = refl
+task-twice (ChecksPin who verifier pin) = refl
+task-twice (MakesPin pin salt) = refl
+task-twice (ChangesPin who verifier pin new_pin salt) = refl
+task-twice (InitsToken label pin salt) = refl
+task-twice (ResetsToken label verifier pin) = refl
 
 question-masked : (q : Question) → mask_question (mask_question q) ≡ mask_question q
 question-masked q = let f : Task → Question = λ t. record { number = q.number; function = q.function; session = q.session; task = t } in ap f (task-twice q.task)
@@ -52,8 +60,39 @@ pub question-twice : (q : Option Question) → option_map mask_question (option_
 question-twice None = refl
 question-twice (Some q) = ap Some (question-masked q)
 
+pub set-twice : (o : Option PinVerifier) → option_map mask_verifier (option_map mask_verifier o) ≡ option_map mask_verifier o
+set-twice None = refl
+set-twice (Some v) = refl
+
+pub record-twice : (r : TokenRecord) → mask_record (mask_record r) ≡ mask_record r
+record-twice r = rw (set-twice r.so.verifier, set-twice r.user.verifier) refl
+
+pub charged-masked : (r : TokenRecord) (who : UserType) → mask_record (charged (mask_record r) who) ≡ mask_record (charged r who)
+charged-masked r So = rw (set-twice r.so.verifier, set-twice r.user.verifier) refl
+charged-masked r User = rw (set-twice r.so.verifier, set-twice r.user.verifier) refl
+
+pub with_tries-masked : (r : TokenRecord) (who : UserType) (n : ℕ) → mask_record (with_tries (mask_record r) who n) ≡ mask_record (with_tries r who n)
+with_tries-masked r So n = rw (set-twice r.so.verifier, set-twice r.user.verifier) refl
+with_tries-masked r User n = rw (set-twice r.so.verifier, set-twice r.user.verifier) refl
+
+pub with_pin-masked : (r : TokenRecord) (who : UserType) (v : PinVerifier) (n : ℕ) → mask_record (with_pin (mask_record r) who v n) ≡ mask_record (with_pin r who v n)
+with_pin-masked r So v n = rw (set-twice r.user.verifier) refl
+with_pin-masked r User v n = rw (set-twice r.so.verifier) refl
+
+pub tries-masked : (r : TokenRecord) (who : UserType) → tries_of (mask_record r) who ≡ tries_of r who
+tries-masked r So = refl
+tries-masked r User = refl
+
+pub set-masked : (o : Option PinVerifier) → is_some (option_map mask_verifier o) ≡ is_some o
+set-masked None = refl
+set-masked (Some v) = refl
+
+pub verifier-masked : (r : TokenRecord) (who : UserType) → verifier_of (mask_record r) who ≡ option_map mask_verifier (verifier_of r who)
+verifier-masked r So = refl
+verifier-masked r User = refl
+
 pub mask-twice : (v : View) → mask (mask v) ≡ mask v
-mask-twice v = rw (tokens-twice v.tokens, own-twice v.own, sessions-twice v.sessions.sessions, question-twice v.question) refl
+mask-twice v = rw (set-twice v.token_record.so.verifier, set-twice v.token_record.user.verifier, tokens-twice v.tokens, own-twice v.own, sessions-twice v.sessions.sessions, question-twice v.question) refl
 
 -- ---- what is found in a masked view
 

@@ -1,14 +1,16 @@
 -- What answers are made of.
-use Rattle.std.specs.Prelude.{ℕ, ◌+◌, ◌^◌, Bool, false, ◌||◌, ◌==◌, nat_le, List, [], ◌∷◌, find, is_some, if◌then◌else◌, Option, Some, None}
+use Rattle.std.specs.Prelude.{ℕ, ◌+◌, ◌^◌, Bool, false, ◌||◌, ◌==◌, nat_le, List, [], ◌∷◌, find, is_some, if◌then◌else◌, Option, Some, None, nat_lt, length}
 use Rattle.std.specs.Option.{option_map}
 use Rattle.ck_types.specs.declared.entry.Entry.{Entry}
 use Rattle.ck_types.specs.declared.rv.Rv.{Rv}
 use Rattle.ck_types.specs.declared.rv.Rv.TheVariants.{Ok}
 use Rattle.ck_types.specs.declared.user_type.UserType.{UserType}
+use Rattle.ck_types.specs.declared.user_type.UserType.TheVariants.{So}
 use Rattle.ck_calls.specs.declared.function.Function.{Function}
 use Rattle.ck_calls.specs.declared.reply.Reply.{Reply}
 use Rattle.ck_calls.specs.declared.reply.Reply.TheVariants.{Code}
 use Rattle.attrs.specs.Masking.{mask as mask_object}
+use Rattle.pin_record.specs.Records.{charged}
 use Rattle.precede.specs.declared.row.Row.{Row}
 use Rattle.precede.specs.Row.{code_of}
 use Rattle.sessions.specs.declared.Session.{Session}
@@ -16,8 +18,8 @@ use Rattle.sessions.specs.Sessions.{session_at}
 use Rattle.ops.specs.declared.place.Place.{Place}
 use Rattle.ops.specs.Operations.{Operation, Operations, with_operation as in_sessions}
 use Rattle.lists.specs.Places.{first_place}
-use Rattle.views.specs.Views.{View, TokenObject, SessionObject, Task, Ciphers, Question, mask, mask_question}
-use Rattle.views.specs.Changes.{Change, Stays, mask_change}
+use Rattle.views.specs.Views.{View, TokenObject, SessionObject, Task, Ciphers, ChecksPin, MakesPin, ChangesPin, InitsToken, ResetsToken, Question, mask, mask_question}
+use Rattle.views.specs.Changes.{Change, Stays, Records, mask_change}
 
 -- a reply, or a question
 pub data Said : Type 0 where
@@ -31,6 +33,11 @@ mask_said (Asks question) = Asks (mask_question question)
 -- the PIN that a task checks
 abbrev pub pin_checked_by : Task → Option UserType
 pin_checked_by (Ciphers part operation input) = None
+pin_checked_by (ChecksPin who verifier pin) = Some who
+pin_checked_by (MakesPin pin salt) = None
+pin_checked_by (ChangesPin who verifier pin new_pin salt) = Some who
+pin_checked_by (InitsToken label pin salt) = None
+pin_checked_by (ResetsToken label verifier pin) = Some So
 
 -- and that a question which is asked begins to check
 abbrev pub pin_checked_in : Said → Option UserType
@@ -92,6 +99,13 @@ asks v function session task =
     let q : Question = record { number = v.next_question; function = function; session = session; task = task } in
     record { says = Asks q; view = record v { question = Some q; next_question = v.next_question + 1 }; change = Stays }
 
+-- so, where the question checks a PIN: the check begins with its charge, which is the change that others see
+abbrev pub asks_checked : View → Function → ℕ → Task → UserType → Answer
+asks_checked v function session task who =
+    let q : Question = record { number = v.next_question; function = function; session = session; task = task } in
+    let r = charged v.token_record who in
+    record { says = Asks q; view = record v { token_record = r; question = Some q; next_question = v.next_question + 1 }; change = Records r }
+
 -- its question is over
 abbrev pub answered : View → View
 answered v = record v { question = None }
@@ -100,6 +114,10 @@ answered v = record v { question = None }
 
 abbrev pub session_of : View → ℕ → Option (Session Operations)
 session_of v s = session_at v.sessions.sessions s
+
+-- the application has a session
+abbrev pub has_session : View → Bool
+has_session v = nat_lt 0 (length v.sessions.sessions)
 
 -- an operation stands at a place of a session, or none
 abbrev pub with_operation : View → ℕ → Place → Option Operation → View

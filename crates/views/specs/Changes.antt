@@ -1,5 +1,5 @@
 -- What one application does that others may see: a change of the token objects, or of the token's record.
-use Rattle.std.specs.Prelude.{ℕ, ◌==◌, nat_eq, Bool, true, false, ◌&&◌, not, List, [], ◌∷◌, ◌++◌, Option, Some, None, if◌then◌else◌}
+use Rattle.std.specs.Prelude.{ℕ, ◌==◌, nat_eq, Bool, true, false, ◌&&◌, not, List, [], ◌∷◌, ◌++◌, Option, Some, None, if◌then◌else◌, is_some}
 use Rattle.std.specs.Bool.{beq}
 use Rattle.std.specs.Cmp.Lexicographic.{pointwise}
 use Rattle.std.specs.List.{remove}
@@ -9,7 +9,8 @@ use Rattle.ck_types.specs.declared.entry.Entry.{Entry}
 use Rattle.attrs.specs.Masking.{mask as mask_object}
 use Rattle.attrs.specs.Sameness.{same_object}
 use Rattle.lists.specs.Places.{seen_place, kept_place, replaced, updated}
-use Rattle.views.specs.Views.{PinSight, RecordSight, View, TokenObject, without_handle, mask_record, mask}
+use Rattle.pin_record.specs.Records.{PinState, TokenRecord}
+use Rattle.views.specs.Views.{View, TokenObject, without_handle, mask_record, mask}
 
 pub data Change : Type 0 where
   Stays : Change
@@ -17,9 +18,9 @@ pub data Change : Type 0 where
   Replace : (place : ℕ) (object : List Entry) → Change
   Remove : (place : ℕ) → Change
   -- a new record
-  Records : (token_record : RecordSight) → Change
+  Records : (token_record : TokenRecord) → Change
   -- no objects, and a new record
-  Resets : (token_record : RecordSight) → Change
+  Resets : (token_record : TokenRecord) → Change
 
 abbrev pub is_still : Change → Bool
 is_still Stays = true
@@ -47,7 +48,7 @@ changed (Records r) objects = objects
 changed (Resets r) objects = []
 
 -- and the record
-abbrev pub recorded : Change → RecordSight → RecordSight
+abbrev pub recorded : Change → TokenRecord → TokenRecord
 recorded Stays r = r
 recorded (Insert o) r = r
 recorded (Replace place o) r = r
@@ -71,10 +72,10 @@ seen (Resets r) v = record v { token_record = r; tokens = [] }
 -- ---- whether a change alters what an application sees
 
 -- a PIN and a record, but for verifiers, which no view shows
-abbrev pub same_pin : PinSight → PinSight → Bool
-same_pin p q = beq p.is_set q.is_set && (p.tries == q.tries)
+abbrev pub same_pin : PinState → PinState → Bool
+same_pin p q = beq (is_some p.verifier) (is_some q.verifier) && (p.tries == q.tries)
 
-abbrev pub same_record : RecordSight → RecordSight → Bool
+abbrev pub same_record : TokenRecord → TokenRecord → Bool
 same_record r s = bytes_eq r.label s.label && (same_pin r.so s.so && same_pin r.user s.user)
 
 abbrev pub same_token_object : TokenObject → TokenObject → Bool

@@ -6,46 +6,15 @@ use Rattle.ck_types.specs.declared.entry.Entry.{Entry}
 use Rattle.ck_types.specs.declared.user_type.UserType.{UserType}
 use Rattle.ck_calls.specs.declared.function.Function.{Function}
 use Rattle.attrs.specs.Masking.{mask as mask_object}
-use Rattle.guard.specs.Access.{is_user, is_visible}
-use Rattle.pin_record.specs.Verifiers.{PinVerifier}
+use Rattle.guard.specs.Access.{is_visible}
+use Rattle.pin_record.specs.Verifiers.{PinVerifier, hidden_verifier}
 use Rattle.pin_record.specs.Records.{PinState, TokenRecord}
 use Rattle.sessions.specs.declared.Session.{Session}
 use Rattle.sessions.specs.Sessions.{SessionTable, state_of, no_sessions}
 use Rattle.streams.specs.declared.part.Part.{Part}
 use Rattle.ops.specs.Operations.{Operation, Operations, mask_operation}
 
--- ---- the token's record
-
--- a PIN: whether it is set, what it is checked against, which may be left out, and its tries
-pub record PinSight : Type 0 where
-  pub is_set : Bool
-  pub verifier : Option PinVerifier
-  pub tries : ℕ
-
--- the token's label and its PINs; the token is initialised where the SO's PIN is set
-pub record RecordSight : Type 0 where
-  pub label : List ℕ
-  pub so : PinSight
-  pub user : PinSight
-
-abbrev pub pin_sight : PinState → PinSight
-pin_sight p = record { is_set = is_some p.verifier; verifier = p.verifier; tries = p.tries }
-
-abbrev pub record_sight : TokenRecord → RecordSight
-record_sight r = record { label = r.label; so = pin_sight r.so; user = pin_sight r.user }
-
--- and a record as it is stored
-abbrev pub stored_pin : PinSight → PinState
-stored_pin p = record { verifier = p.verifier; tries = p.tries }
-
-abbrev pub stored_record : RecordSight → TokenRecord
-stored_record r = record { label = r.label; so = stored_pin r.so; user = stored_pin r.user }
-
 -- ---- objects
-
--- the user is logged in
-abbrev pub is_user_in : Option UserType → Bool
-is_user_in login = is_user (state_of login true)
 
 -- the objects that an application sees by who is logged in (PKCS #11 v3.1, 4.4 and 5.6)
 abbrev pub sees : Option UserType → List Entry → Bool
@@ -71,9 +40,19 @@ seen_by login ts = filter (λ t. sees login t.object) ts
 
 -- ---- questions
 
--- what a call asks to have computed: what an operation makes of data, as a piece or as the last
+-- what a call asks to have computed
 pub data Task : Type 0 where
+  -- what an operation makes of data, as a piece or as the last
   Ciphers : (part : Part) (operation : Operation) (input : List ℕ) → Task
+  -- C_Login: whether a PIN is right, by the verifier that stood when the check began
+  ChecksPin : (who : UserType) (verifier : PinVerifier) (pin : List ℕ) → Task
+  -- C_InitPIN: the verifier of the user's new PIN, with this salt
+  MakesPin : (pin salt : List ℕ) → Task
+  -- C_SetPIN: both
+  ChangesPin : (who : UserType) (verifier : PinVerifier) (pin new_pin salt : List ℕ) → Task
+  -- C_InitToken: the verifier of the SO's first PIN, or whether the SO's PIN is right
+  InitsToken : (label pin salt : List ℕ) → Task
+  ResetsToken : (label : List ℕ) (verifier : PinVerifier) (pin : List ℕ) → Task
 
 -- the question of a call, by its function and session, which its result answers
 pub record Question : Type 0 where
@@ -85,7 +64,7 @@ pub record Question : Type 0 where
 -- ---- views
 
 pub record View : Type 0 where
-  pub token_record : RecordSight
+  pub token_record : TokenRecord
   -- the token objects that are seen, in the order of their creation
   pub tokens : List TokenObject
   pub own : List SessionObject
@@ -95,7 +74,7 @@ pub record View : Type 0 where
   pub next_question : ℕ
 
 -- the full view of an application that isn't there
-abbrev pub fresh : RecordSight → List (List Entry) → View
+abbrev pub fresh : TokenRecord → List (List Entry) → View
 fresh token_record objects =
     record {
       token_record = token_record;
@@ -113,10 +92,14 @@ left v = fresh v.token_record (map (λ t. t.object) v.tokens)
 
 -- ---- what is kept back
 
-abbrev pub mask_pin : PinSight → PinSight
-mask_pin p = record { is_set = p.is_set; verifier = None; tries = p.tries }
+-- a verifier is kept back, and that there is one is seen
+abbrev pub mask_verifier : PinVerifier → PinVerifier
+mask_verifier v = hidden_verifier
 
-abbrev pub mask_record : RecordSight → RecordSight
+abbrev pub mask_pin : PinState → PinState
+mask_pin p = record { verifier = option_map mask_verifier p.verifier; tries = p.tries }
+
+abbrev pub mask_record : TokenRecord → TokenRecord
 mask_record r = record { label = r.label; so = mask_pin r.so; user = mask_pin r.user }
 
 abbrev pub mask_token_object : TokenObject → TokenObject
@@ -143,6 +126,11 @@ mask_sessions t = record { sessions = map mask_session t.sessions; login = t.log
 
 abbrev pub mask_task : Task → Task
 mask_task (Ciphers part operation input) = Ciphers part (mask_operation operation) input
+mask_task (ChecksPin who verifier pin) = ChecksPin who (mask_verifier verifier) pin
+mask_task (MakesPin pin salt) = MakesPin pin salt
+mask_task (ChangesPin who verifier pin new_pin salt) = ChangesPin who (mask_verifier verifier) pin new_pin salt
+mask_task (InitsToken label pin salt) = InitsToken label pin salt
+mask_task (ResetsToken label verifier pin) = ResetsToken label (mask_verifier verifier) pin
 
 abbrev pub mask_question : Question → Question
 mask_question q = record { number = q.number; function = q.function; session = q.session; task = mask_task q.task }

@@ -16,9 +16,9 @@ use Rattle.views.specs.Views.{Task, Ciphers, mask_task}
 use Rattle.views.specs.Refusals.{set_apart}
 use Rattle.views.specs.Answering.{asks, answered, with_operation}
 use Rattle.answers.specs.CipherInit.{ends, place_for}
-use Rattle.answers.specs.Cipher.{single_function, update_function, final_function, operation_or, refused, cipher_row, cipher_says, ciphers, cipher, cipher_single, cipher_update, cipher_final, ciphered_reply, operation_after, ciphered}
+use Rattle.answers.specs.Cipher.{further_by, single_function, update_function, final_function, operation_or, refused, cipher_row, cipher_says, ciphers, cipher, cipher_single, cipher_update, cipher_final, ciphered_reply, operation_after, ciphered}
 use Rattle.answers.proofs.Proper.CipherInit.{with_operation-mask, operation-mask, blind-ends}
-use Rattle.views.proofs.Checks.{Row, View, mask, shown, replies, session_of, tokens-twice, own-twice, sessions-twice, IsProper, IsFair, blind-reply, blind-becomes, fair, blind-row, fair-row, blind-checked_by, fair-checked_by, row-session}
+use Rattle.views.proofs.Checks.{Row, View, mask, shown, replies, session_of, tokens-twice, own-twice, sessions-twice, record-twice, IsProper, IsFair, blind-reply, blind-becomes, fair, blind-row, fair-row, blind-checked_by, fair-checked_by, row-session}
 
 -- the length that is wanted is known without the key
 wanted-mask : (o : Option Operation) (part : Part) (n : ℕ) → wanted part (text_of (operation_or (option_map mask_operation o))) n ≡ wanted part (text_of (operation_or o)) n
@@ -55,8 +55,8 @@ module _ (d : Direction) (v : View) (s : ℕ) (part : Part) (input : List ℕ) w
 
   -- a question is shown without the value of its key
   blind-asks : (f : Function) (o : Option Operation) → shown (asks (mask v) f s (Ciphers part (operation_or (option_map mask_operation o)) input)) ≡ shown (asks v f s (Ciphers part (operation_or o) input))
-  blind-asks f None = rw (tokens-twice v.tokens, own-twice v.own, sessions-twice v.sessions.sessions) refl
-  blind-asks f (Some o) = rw (tokens-twice v.tokens, own-twice v.own, sessions-twice v.sessions.sessions) refl
+  blind-asks f None = rw (tokens-twice v.tokens, own-twice v.own, sessions-twice v.sessions.sessions, record-twice v.token_record) refl
+  blind-asks f (Some o) = rw (tokens-twice v.tokens, own-twice v.own, sessions-twice v.sessions.sessions, record-twice v.token_record) refl
 
   blind-ciphers : (f : Function) (o : Option Operation) (room : Option ℕ) → shown (ciphers f d part (mask v) s (option_map mask_operation o) input room) ≡ shown (ciphers f d part v s o input room)
   blind-ciphers f o room =
@@ -95,17 +95,21 @@ proper-final d s room = proper-cipher (final_function d) d Last s [] room
 -- ---- the result
 
 -- an operation goes on without its key being seen
-after-mask : (task : Task) (outcome : Outcome) → option_map mask_operation (operation_after (mask_task task) outcome) ≡ option_map mask_operation (operation_after task outcome)
-after-mask (Ciphers Update o input) (Output bytes) = refl
-after-mask (Ciphers Update o input) BadPadding = refl
-after-mask (Ciphers Last o input) outcome = refl
+further-mask : (o : Operation) (input : List ℕ) (outcome : Outcome) → option_map mask_operation (further_by (mask_operation o) input outcome) ≡ option_map mask_operation (further_by o input outcome)
+further-mask o input (Output bytes) = refl
+further-mask o input _ = refl
 
-pub blind-ciphered : (v : View) (s : ℕ) (place : Place) (task : Task) (outcome : Outcome) → shown (ciphered (mask v) s place (mask_task task) outcome) ≡ shown (ciphered v s place task outcome)
-blind-ciphered v s place task outcome =
-    let o = operation_after (mask_task task) outcome in
-    let p = operation_after task outcome in
-    blind-becomes (ciphered_reply outcome) (with_operation (answered (mask v)) s place o) (with_operation (answered v) s place p) (with_operation-mask (answered v) s place o p (after-mask task outcome))
+after-mask : (part : Part) (o : Operation) (input : List ℕ) (outcome : Outcome) → option_map mask_operation (operation_after part (mask_operation o) input outcome) ≡ option_map mask_operation (operation_after part o input outcome)
+after-mask Update o input outcome = further-mask o input outcome
+after-mask Last o input outcome = refl
+
+pub blind-ciphered : (v : View) (s : ℕ) (place : Place) (part : Part) (o : Operation) (input : List ℕ) (outcome : Outcome) → shown (ciphered (mask v) s place part (mask_operation o) input outcome) ≡ shown (ciphered v s place part o input outcome)
+blind-ciphered v s place part o input outcome =
+    let x = operation_after part (mask_operation o) input outcome in
+    let y = operation_after part o input outcome in
+    blind-becomes (ciphered_reply outcome) (with_operation (answered (mask v)) s place x) (with_operation (answered v) s place y) (with_operation-mask (answered v) s place x y (after-mask part o input outcome))
 
 pub plain-ciphered : (outcome : Outcome) → set_apart (ciphered_reply outcome) ≡ None
 plain-ciphered (Output bytes) = refl
 plain-ciphered BadPadding = refl
+plain-ciphered _ = refl

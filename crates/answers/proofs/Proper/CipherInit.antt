@@ -24,7 +24,7 @@ use Rattle.views.specs.Answering.{with_operation}
 use Rattle.views.specs.Checked.{flag_at}
 use Rattle.answers.specs.CipherInit.{is_aes, permission, place_for, init_function, ends, cipher_in, init_row, init_says, begins, begins_under, cipher_init}
 use Rattle.views.proofs.Masks.{operation-twice, busy-mask}
-use Rattle.views.proofs.Checks.{Entry, mask_object, Row, View, mask, mask_session, shown, session_of, object_at, tokens-twice, own-twice, question-twice, mask-twice, session-mask, object-mask, IsProper, IsFair, blind-becomes, fair, blind-row, fair-row, blind-checked_by, fair-checked_by, row-session, none-masked, flag-masked}
+use Rattle.views.proofs.Checks.{Entry, mask_object, Row, View, mask, mask_session, shown, session_of, object_at, tokens-twice, own-twice, question-twice, record-twice, mask-twice, session-mask, object-mask, IsProper, IsFair, blind-becomes, fair, blind-row, fair-row, blind-checked_by, fair-checked_by, row-session, none-masked, flag-masked}
 
 -- ---- the operation of a session, as it is seen
 
@@ -42,6 +42,7 @@ module _ (v : View) (session : ℕ) (place : Place) (o p : Option Operation) (sa
         tokens-twice v.tokens,
         own-twice v.own,
         question-twice v.question,
+        record-twice v.token_record,
         busy-mask session (placed (mask_operations s.work) place o) (placed s.work place p) (placed-mask s.work place o p same) v.sessions.sessions,
       ) refl
 

@@ -12,7 +12,7 @@ use Rattle.lists.proofs.ListLemmas.{filter-map}
 use Rattle.views.specs.Views.{SessionObject, seen_by}
 use Rattle.answers.specs.CloseSession.{close_row, closed, close_session, close_all_row, all_closed, close_all_sessions}
 use Rattle.views.proofs.Masks.{seen-tokens, login-among}
-use Rattle.views.proofs.Checks.{Row, View, mask, mask_session, mask_session_object, becomes, tokens-twice, own-twice, sessions-twice, question-twice, IsProper, blind-becomes, fair, proper-checked, row-session}
+use Rattle.views.proofs.Checks.{Row, View, mask, mask_session, mask_session_object, becomes, tokens-twice, own-twice, sessions-twice, question-twice, record-twice, IsProper, blind-becomes, fair, proper-checked, row-session}
 
 row-mask : (s : ℕ) (v : View) (row : Row) → close_row (mask v) s row ≡ close_row v s row
 row-mask s v NoSession = row-session v s
@@ -33,6 +33,7 @@ closed-mask v s =
       filter-map (λ (e : SessionObject). not (e.session == s)) mask_session_object v.own,
       own-twice (filter (λ e. not (e.session == s)) v.own),
       question-twice v.question,
+      record-twice v.token_record,
     ) refl
 
 pub proper-close_session : (s : ℕ) → IsProper (λ v r. close_session v s) true
@@ -41,7 +42,7 @@ proper-close_session s =
     (λ v. blind-becomes (Code Ok) (closed (mask v) s) (closed v s) (closed-mask v s)) (λ v. fair v {a = becomes (Code Ok) (closed v s)} refl refl refl refl refl)
 
 all_closed-mask : (v : View) → mask (all_closed (mask v)) ≡ mask (all_closed v)
-all_closed-mask v = rw (seen-tokens None v.tokens, tokens-twice (seen_by None v.tokens), question-twice v.question) refl
+all_closed-mask v = rw (seen-tokens None v.tokens, tokens-twice (seen_by None v.tokens), question-twice v.question, record-twice v.token_record) refl
 
 pub proper-close_all_sessions : (slot : ℕ) → IsProper (λ v r. close_all_sessions v slot) true
 proper-close_all_sessions slot =

@@ -26,7 +26,7 @@ use Rattle.views.specs.Checked.{state_in, made_by}
 use Rattle.answers.specs.CreateObject.{adds_token_object, adds_session_object, adds, makes_row, makes_says, create_row, creates, create_object}
 use Rattle.views.proofs.Blind.{IsPlainFault}
 use Rattle.answers.proofs.Templates.{fault-plain}
-use Rattle.views.proofs.Checks.{Entry, mask_object, Row, View, mask, mask_token_object, mask_session_object, Answer, shown, tokens-twice, own-twice, sessions-twice, question-twice, IsProper, IsFair, blind-if, blind-refusal, fair, fair-if, fair-refusal, blind-row, fair-row, blind-checked_by, fair-checked_by, row-session, state-mask}
+use Rattle.views.proofs.Checks.{Entry, mask_object, Row, View, mask, mask_token_object, mask_session_object, Answer, shown, tokens-twice, own-twice, sessions-twice, question-twice, record-twice, IsProper, IsFair, blind-if, blind-refusal, fair, fair-if, fair-refusal, blind-row, fair-row, blind-checked_by, fair-checked_by, row-session, state-mask}
 
 blind-token_object : (v : View) (o : List Entry) → shown (adds_token_object (mask v) o) ≡ shown (adds_token_object v o)
 blind-token_object v o =
@@ -34,6 +34,7 @@ blind-token_object v o =
       own-twice v.own,
       sessions-twice v.sessions.sessions,
       question-twice v.question,
+      record-twice v.token_record,
       map-push mask_token_object (map mask_token_object v.tokens) (record { object = o; handle = Some v.next_handle }),
       tokens-twice v.tokens,
       map-push mask_token_object v.tokens (record { object = o; handle = Some v.next_handle }),
@@ -45,6 +46,7 @@ blind-session_object v s o =
       tokens-twice v.tokens,
       sessions-twice v.sessions.sessions,
       question-twice v.question,
+      record-twice v.token_record,
       map-push mask_session_object (map mask_session_object v.own) (record { object = o; handle = v.next_handle; session = s }),
       own-twice v.own,
       map-push mask_session_object v.own (record { object = o; handle = v.next_handle; session = s }),
@@ -99,7 +101,7 @@ makes-fair v (Some code) plain TemplateRefused = fair-refusal v code plain.plain
 makes-fair v fault plain row = fair-row v row
 
 pub fair-adds : (v : View) (s : ℕ) (o : List Entry) → IsFair false v (adds v s o)
-fair-adds v s o = fair-if v (flag o attr.Token) {x = adds_token_object v o} {y = adds_session_object v s o} (record { plain = refl; still = λ q. absurd (false≢true q); asks = refl; shows = refl; charges = refl }) (fair v {a = adds_session_object v s o} refl refl refl refl refl)
+fair-adds v s o = fair-if v (flag o attr.Token) {x = adds_token_object v o} {y = adds_session_object v s o} (record { plain = refl; still = λ q. absurd (false≢true q); asks = refl; shows = refl; charges = refl; seats = λ k. cc }) (fair v {a = adds_session_object v s o} refl refl refl refl refl)
 
 blind-creates : (v : View) (s : ℕ) (fault : Option Rv) (o : List Entry) → shown (creates (mask v) s fault o) ≡ shown (creates v s fault o)
 blind-creates v s fault o =

@@ -9,7 +9,7 @@ use Rattle.precede.specs.declared.row.Row.TheVariants.{NoSession, NoObject, Toke
 use Rattle.lists.proofs.ListLemmas.{filter-map, map-remove}
 use Rattle.views.specs.Views.{SessionObject}
 use Rattle.answers.specs.DestroyObject.{destroy_row, destroyed, destroy_object}
-use Rattle.views.proofs.Checks.{Row, View, mask, mask_token_object, mask_session_object, shown, place_of, tokens-twice, own-twice, sessions-twice, question-twice, IsProper, IsFair, blind-place, fair, proper-checked, row-session, row-object, row-flag, row-writes}
+use Rattle.views.proofs.Checks.{Row, View, mask, mask_token_object, mask_session_object, shown, place_of, tokens-twice, own-twice, sessions-twice, question-twice, record-twice, IsProper, IsFair, blind-place, fair, proper-checked, row-session, row-object, row-flag, row-writes}
 
 row-mask : (s handle : ℕ) (v : View) (row : Row) → destroy_row (mask v) s handle row ≡ destroy_row v s handle row
 row-mask s handle v NoSession = row-session v s
@@ -24,6 +24,7 @@ blind-destroyed handle v None =
       tokens-twice v.tokens,
       sessions-twice v.sessions.sessions,
       question-twice v.question,
+      record-twice v.token_record,
       filter-map (λ (e : SessionObject). not (e.handle == handle)) mask_session_object v.own,
       own-twice (filter (λ e. not (e.handle == handle)) v.own),
     ) refl
@@ -32,13 +33,14 @@ blind-destroyed handle v (Some place) =
       own-twice v.own,
       sessions-twice v.sessions.sessions,
       question-twice v.question,
+      record-twice v.token_record,
       ← map-remove mask_token_object v.tokens place,
       tokens-twice (remove v.tokens place),
     ) refl
 
 fair-destroyed : (handle : ℕ) (v : View) (place : Option ℕ) → IsFair false v (destroyed v handle place)
 fair-destroyed handle v None = fair v {a = destroyed v handle None} refl refl refl refl refl
-fair-destroyed handle v (Some place) = record { plain = refl; still = λ q. absurd (false≢true q); asks = refl; shows = refl; charges = refl }
+fair-destroyed handle v (Some place) = record { plain = refl; still = λ q. absurd (false≢true q); asks = refl; shows = refl; charges = refl; seats = λ k. cc }
 
 pub proper-destroy_object : (s handle : ℕ) → IsProper (λ v r. destroy_object v s handle) false
 proper-destroy_object s handle =

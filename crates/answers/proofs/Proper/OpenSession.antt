@@ -7,7 +7,7 @@ use Rattle.sessions.specs.declared.Session.{Session}
 use Rattle.ops.specs.Operations.{Operations, no_operations}
 use Rattle.lists.proofs.ListLemmas.{map-push, length-map}
 use Rattle.answers.specs.OpenSession.{is_read_write, open_row, opened, open_session}
-use Rattle.views.proofs.Checks.{Row, View, mask, mask_session, shown, tokens-twice, own-twice, sessions-twice, question-twice, IsProper, fair, proper-checked}
+use Rattle.views.proofs.Checks.{Row, View, mask, mask_session, shown, tokens-twice, own-twice, sessions-twice, question-twice, record-twice, IsProper, fair, proper-checked}
 
 row-mask : (slot flags : ℕ) (v : View) (row : Row) → open_row (mask v) slot flags row ≡ open_row v slot flags row
 row-mask slot flags v SessionLimit = ap (nat_le 64) (length-map mask_session v.sessions.sessions)
@@ -20,6 +20,7 @@ blind-opened v read_write =
       tokens-twice v.tokens,
       own-twice v.own,
       question-twice v.question,
+      record-twice v.token_record,
       map-push mask_session (map mask_session v.sessions.sessions) new,
       sessions-twice v.sessions.sessions,
       map-push mask_session v.sessions.sessions new,

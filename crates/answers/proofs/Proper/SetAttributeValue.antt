@@ -20,7 +20,7 @@ use Rattle.answers.specs.CreateObject.{makes_says}
 use Rattle.answers.specs.SetAttributeValue.{rewritten_own, puts, set_row, sets, sets_in, set_attribute_value}
 use Rattle.answers.proofs.Templates.{fault-plain}
 use Rattle.answers.proofs.Proper.CreateObject.{makes-told, makes-fair}
-use Rattle.views.proofs.Checks.{Entry, mask_object, Row, View, mask, mask_token_object, mask_session_object, shown, object_at, place_of, tokens-twice, own-twice, sessions-twice, question-twice, object-mask, place-mask, IsProper, IsFair, fair, blind-checked_by, fair-checked_by, row-session, none-masked, flag-masked, state-mask}
+use Rattle.views.proofs.Checks.{Entry, mask_object, Row, View, mask, mask_token_object, mask_session_object, shown, object_at, place_of, tokens-twice, own-twice, sessions-twice, question-twice, record-twice, object-mask, place-mask, IsProper, IsFair, fair, blind-checked_by, fair-checked_by, row-session, none-masked, flag-masked, state-mask}
 
 -- objects that are shown alike are put in one place
 module _ (x y : List Entry) (same : mask_object x ≡ mask_object y) where
@@ -52,6 +52,7 @@ module _ (x y : List Entry) (same : mask_object x ≡ mask_object y) where
         tokens-twice v.tokens,
         sessions-twice v.sessions.sessions,
         question-twice v.question,
+        record-twice v.token_record,
         rewritten_own-shown v.own handle,
       ) refl
   blind-puts v handle (Some place) =
@@ -59,6 +60,7 @@ module _ (x y : List Entry) (same : mask_object x ≡ mask_object y) where
         own-twice v.own,
         sessions-twice v.sessions.sessions,
         question-twice v.question,
+        record-twice v.token_record,
         rewritten-shown v.tokens place,
         same,
       ) refl
@@ -96,7 +98,7 @@ blind-sets template v s handle (Some o) =
 
 fair-puts : (v : View) (handle : ℕ) (o : List Entry) (place : Option ℕ) → IsFair false v (puts v handle o place)
 fair-puts v handle o None = fair v {a = puts v handle o None} refl refl refl refl refl
-fair-puts v handle o (Some place) = record { plain = refl; still = λ q. absurd (false≢true q); asks = refl; shows = refl; charges = refl }
+fair-puts v handle o (Some place) = record { plain = refl; still = λ q. absurd (false≢true q); asks = refl; shows = refl; charges = refl; seats = λ k. cc }
 
 fair-sets : (template : List Entry) (v : View) (s handle : ℕ) (o : Option (List Entry)) → IsFair false v (sets_in v s handle o template)
 fair-sets template v s handle o =

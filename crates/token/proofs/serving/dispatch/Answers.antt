@@ -2,107 +2,127 @@ use Rattle.std.proofs.Common.{refl, rules, arith}
 use Rattle.ck_calls.specs.declared.call.Call.TheVariants as call
 use Rattle.ck_types.specs.declared.rv.Rv.TheVariants.{FunctionNotSupported}
 use Rattle.answers.specs.Answers.{answer_to}
-use Rattle.token.proofs.Dispatching.{call-done, call-at-desk, call-asking, call-refused}
+use Rattle.token.proofs.Dispatching.{call-done, call-checked, call-at-desk, call-asking, call-unchecked, call-refused, still-init_pin}
 use Rattle.token.proofs.serving.dispatch.Goals as goal
 
 pub returns-in-OpenSession : goal.returns-in-OpenSession
 unfolding answer_to
-returns-in-OpenSession g c = call-at-desk g.K.Keep.terms c.args.app c.args.call (call.OpenSession c.in-OpenSession.slot c.in-OpenSession.flags) c.args.random.now c.in-OpenSession.is c.args.store.now c.args.desk.now _ c.serve.result c.settle.result refl c.settle.ensures c.serve.ensures
+returns-in-OpenSession g c = call-at-desk g.K.Keep.terms c.args.app c.args.in_use c.args.call (call.OpenSession c.in-OpenSession.slot c.in-OpenSession.flags) c.args.random.now c.in-OpenSession.is c.args.store.now c.args.desk.now _ c.serve-in-OpenSession.result c.settle-in-OpenSession.result refl c.settle-in-OpenSession.ensures c.serve-in-OpenSession.ensures
 
 pub returns-in-CloseSession : goal.returns-in-CloseSession
 unfolding answer_to
-returns-in-CloseSession g c = call-at-desk g.K.Keep.terms c.args.app c.args.call (call.CloseSession c.in-CloseSession.session) c.args.random.now c.in-CloseSession.is c.args.store.now c.args.desk.now _ c.serve-in-CloseSession.result c.settle-in-CloseSession.result refl c.settle-in-CloseSession.ensures c.serve-in-CloseSession.ensures
+returns-in-CloseSession g c = call-at-desk g.K.Keep.terms c.args.app c.args.in_use c.args.call (call.CloseSession c.in-CloseSession.session) c.args.random.now c.in-CloseSession.is c.args.store.now c.args.desk.now _ c.serve-in-CloseSession.result c.settle-in-CloseSession.result refl c.settle-in-CloseSession.ensures c.serve-in-CloseSession.ensures
 
 pub returns-in-CloseAllSessions : goal.returns-in-CloseAllSessions
 unfolding answer_to
-returns-in-CloseAllSessions g c = call-at-desk g.K.Keep.terms c.args.app c.args.call (call.CloseAllSessions c.in-CloseAllSessions.slot) c.args.random.now c.in-CloseAllSessions.is c.args.store.now c.args.desk.now _ c.serve_all.result c.settle-in-CloseAllSessions.result refl c.settle-in-CloseAllSessions.ensures c.serve_all.ensures
+returns-in-CloseAllSessions g c = call-at-desk g.K.Keep.terms c.args.app c.args.in_use c.args.call (call.CloseAllSessions c.in-CloseAllSessions.slot) c.args.random.now c.in-CloseAllSessions.is c.args.store.now c.args.desk.now _ c.serve_all.result c.settle-in-CloseAllSessions.result refl c.settle-in-CloseAllSessions.ensures c.serve_all.ensures
 
 pub returns-in-GetSessionInfo : goal.returns-in-GetSessionInfo
 unfolding answer_to
-returns-in-GetSessionInfo g c = call-at-desk g.K.Keep.terms c.args.app c.args.call (call.GetSessionInfo c.in-GetSessionInfo.session) c.args.random.now c.in-GetSessionInfo.is c.args.store.now c.args.desk.now _ c.serve-in-GetSessionInfo.result c.settle-in-GetSessionInfo.result refl c.settle-in-GetSessionInfo.ensures c.serve-in-GetSessionInfo.ensures
+returns-in-GetSessionInfo g c = call-at-desk g.K.Keep.terms c.args.app c.args.in_use c.args.call (call.GetSessionInfo c.in-GetSessionInfo.session) c.args.random.now c.in-GetSessionInfo.is c.args.store.now c.args.desk.now _ c.serve-in-GetSessionInfo.result c.settle-in-GetSessionInfo.result refl c.settle-in-GetSessionInfo.ensures c.serve-in-GetSessionInfo.ensures
 
 pub returns-in-CreateObject : goal.returns-in-CreateObject
 unfolding answer_to
-returns-in-CreateObject g c = call-done g.K.Keep.terms c.args.app c.args.call (call.CreateObject c.in-CreateObject.session c.in-CreateObject.template) c.args.random.now c.in-CreateObject.is 1 c.args.store.now _ c.args.desk.now _ c.serve-in-CreateObject.result c.settle-in-CreateObject.result (omega arith) c.settle-in-CreateObject.ensures c.serve-in-CreateObject.ensures
+returns-in-CreateObject g c = call-done g.K.Keep.terms c.args.app c.args.in_use c.args.call (call.CreateObject c.in-CreateObject.session c.in-CreateObject.template) c.args.random.now c.in-CreateObject.is 1 c.args.store.now _ c.args.desk.now _ c.serve-in-CreateObject.result c.settle-in-CreateObject.result (omega arith) c.settle-in-CreateObject.ensures c.serve-in-CreateObject.ensures
 
 pub returns-in-CopyObject : goal.returns-in-CopyObject
 unfolding answer_to
-returns-in-CopyObject g c = call-done g.K.Keep.terms c.args.app c.args.call (call.CopyObject c.in-CopyObject.session c.in-CopyObject.object c.in-CopyObject.template) c.args.random.now c.in-CopyObject.is 1 c.args.store.now _ c.args.desk.now _ c.serve-in-CopyObject.result c.settle-in-CopyObject.result (omega arith) c.settle-in-CopyObject.ensures c.serve-in-CopyObject.ensures
+returns-in-CopyObject g c = call-done g.K.Keep.terms c.args.app c.args.in_use c.args.call (call.CopyObject c.in-CopyObject.session c.in-CopyObject.object c.in-CopyObject.template) c.args.random.now c.in-CopyObject.is 1 c.args.store.now _ c.args.desk.now _ c.serve-in-CopyObject.result c.settle-in-CopyObject.result (omega arith) c.settle-in-CopyObject.ensures c.serve-in-CopyObject.ensures
 
 pub returns-in-DestroyObject : goal.returns-in-DestroyObject
 unfolding answer_to
-returns-in-DestroyObject g c = call-done g.K.Keep.terms c.args.app c.args.call (call.DestroyObject c.in-DestroyObject.session c.in-DestroyObject.object) c.args.random.now c.in-DestroyObject.is 1 c.args.store.now _ c.args.desk.now _ c.serve-in-DestroyObject.result c.settle-in-DestroyObject.result (omega arith) c.settle-in-DestroyObject.ensures c.serve-in-DestroyObject.ensures
+returns-in-DestroyObject g c = call-done g.K.Keep.terms c.args.app c.args.in_use c.args.call (call.DestroyObject c.in-DestroyObject.session c.in-DestroyObject.object) c.args.random.now c.in-DestroyObject.is 1 c.args.store.now _ c.args.desk.now _ c.serve-in-DestroyObject.result c.settle-in-DestroyObject.result (omega arith) c.settle-in-DestroyObject.ensures c.serve-in-DestroyObject.ensures
 
 pub returns-in-GetObjectSize : goal.returns-in-GetObjectSize
 unfolding answer_to
-returns-in-GetObjectSize g c = call-done g.K.Keep.terms c.args.app c.args.call (call.GetObjectSize c.in-GetObjectSize.session c.in-GetObjectSize.object) c.args.random.now c.in-GetObjectSize.is 0 c.args.store.now _ c.args.desk.now _ c.serve-in-GetObjectSize.result c.settle-in-GetObjectSize.result (omega arith) c.settle-in-GetObjectSize.ensures c.serve-in-GetObjectSize.ensures
+returns-in-GetObjectSize g c = call-done g.K.Keep.terms c.args.app c.args.in_use c.args.call (call.GetObjectSize c.in-GetObjectSize.session c.in-GetObjectSize.object) c.args.random.now c.in-GetObjectSize.is 0 c.args.store.now _ c.args.desk.now _ c.serve-in-GetObjectSize.result c.settle-in-GetObjectSize.result (omega arith) c.settle-in-GetObjectSize.ensures c.serve-in-GetObjectSize.ensures
 
 pub returns-in-GetAttributeValue : goal.returns-in-GetAttributeValue
 unfolding answer_to
-returns-in-GetAttributeValue g c = call-done g.K.Keep.terms c.args.app c.args.call (call.GetAttributeValue c.in-GetAttributeValue.session c.in-GetAttributeValue.object c.in-GetAttributeValue.query) c.args.random.now c.in-GetAttributeValue.is 0 c.args.store.now _ c.args.desk.now _ c.serve-in-GetAttributeValue.result c.settle-in-GetAttributeValue.result (omega arith) c.settle-in-GetAttributeValue.ensures c.serve-in-GetAttributeValue.ensures
+returns-in-GetAttributeValue g c = call-done g.K.Keep.terms c.args.app c.args.in_use c.args.call (call.GetAttributeValue c.in-GetAttributeValue.session c.in-GetAttributeValue.object c.in-GetAttributeValue.query) c.args.random.now c.in-GetAttributeValue.is 0 c.args.store.now _ c.args.desk.now _ c.serve-in-GetAttributeValue.result c.settle-in-GetAttributeValue.result (omega arith) c.settle-in-GetAttributeValue.ensures c.serve-in-GetAttributeValue.ensures
 
 pub returns-in-SetAttributeValue : goal.returns-in-SetAttributeValue
 unfolding answer_to
-returns-in-SetAttributeValue g c = call-done g.K.Keep.terms c.args.app c.args.call (call.SetAttributeValue c.in-SetAttributeValue.session c.in-SetAttributeValue.object c.in-SetAttributeValue.template) c.args.random.now c.in-SetAttributeValue.is 1 c.args.store.now _ c.args.desk.now _ c.serve-in-SetAttributeValue.result c.settle-in-SetAttributeValue.result (omega arith) c.settle-in-SetAttributeValue.ensures c.serve-in-SetAttributeValue.ensures
+returns-in-SetAttributeValue g c = call-done g.K.Keep.terms c.args.app c.args.in_use c.args.call (call.SetAttributeValue c.in-SetAttributeValue.session c.in-SetAttributeValue.object c.in-SetAttributeValue.template) c.args.random.now c.in-SetAttributeValue.is 1 c.args.store.now _ c.args.desk.now _ c.serve-in-SetAttributeValue.result c.settle-in-SetAttributeValue.result (omega arith) c.settle-in-SetAttributeValue.ensures c.serve-in-SetAttributeValue.ensures
 
 pub returns-in-EncryptInit : goal.returns-in-EncryptInit
 unfolding answer_to
-returns-in-EncryptInit g c = call-done g.K.Keep.terms c.args.app c.args.call (call.EncryptInit c.in-EncryptInit.session c.in-EncryptInit.mechanism c.in-EncryptInit.key) c.args.random.now c.in-EncryptInit.is 0 c.args.store.now _ c.args.desk.now _ c.serve-in-EncryptInit.result c.settle-in-EncryptInit.result (omega arith) c.settle-in-EncryptInit.ensures c.serve-in-EncryptInit.ensures
+returns-in-EncryptInit g c = call-done g.K.Keep.terms c.args.app c.args.in_use c.args.call (call.EncryptInit c.in-EncryptInit.session c.in-EncryptInit.mechanism c.in-EncryptInit.key) c.args.random.now c.in-EncryptInit.is 0 c.args.store.now _ c.args.desk.now _ c.serve-in-EncryptInit.result c.settle-in-EncryptInit.result (omega arith) c.settle-in-EncryptInit.ensures c.serve-in-EncryptInit.ensures
 
 pub returns-in-Encrypt : goal.returns-in-Encrypt
 unfolding answer_to
-returns-in-Encrypt g c = call-asking g.K.Keep.terms c.args.app c.args.call (call.Encrypt c.in-Encrypt.session c.in-Encrypt.data c.in-Encrypt.room) c.args.random.now c.in-Encrypt.is c.args.store.now c.args.desk.now _ c.single.result c.settle_asking.result refl c.settle_asking.ensures c.single.ensures.asker c.single.ensures.serves
+returns-in-Encrypt g c = call-asking g.K.Keep.terms c.args.app c.args.in_use c.args.call (call.Encrypt c.in-Encrypt.session c.in-Encrypt.data c.in-Encrypt.room) c.args.random.now c.in-Encrypt.is c.args.store.now c.args.desk.now _ c.single.result c.settle_asking-in-Encrypt.result refl c.settle_asking-in-Encrypt.ensures c.single.ensures.asker c.single.ensures.serves
 
 pub returns-in-EncryptUpdate : goal.returns-in-EncryptUpdate
 unfolding answer_to
-returns-in-EncryptUpdate g c = call-asking g.K.Keep.terms c.args.app c.args.call (call.EncryptUpdate c.in-EncryptUpdate.session c.in-EncryptUpdate.part c.in-EncryptUpdate.room) c.args.random.now c.in-EncryptUpdate.is c.args.store.now c.args.desk.now _ c.update.result c.settle_asking-in-EncryptUpdate.result refl c.settle_asking-in-EncryptUpdate.ensures c.update.ensures.asker c.update.ensures.serves
+returns-in-EncryptUpdate g c = call-asking g.K.Keep.terms c.args.app c.args.in_use c.args.call (call.EncryptUpdate c.in-EncryptUpdate.session c.in-EncryptUpdate.part c.in-EncryptUpdate.room) c.args.random.now c.in-EncryptUpdate.is c.args.store.now c.args.desk.now _ c.update.result c.settle_asking-in-EncryptUpdate.result refl c.settle_asking-in-EncryptUpdate.ensures c.update.ensures.asker c.update.ensures.serves
 
 pub returns-in-EncryptFinal : goal.returns-in-EncryptFinal
 unfolding answer_to
-returns-in-EncryptFinal g c = call-asking g.K.Keep.terms c.args.app c.args.call (call.EncryptFinal c.in-EncryptFinal.session c.in-EncryptFinal.room) c.args.random.now c.in-EncryptFinal.is c.args.store.now c.args.desk.now _ c.last.result c.settle_asking-in-EncryptFinal.result refl c.settle_asking-in-EncryptFinal.ensures c.last.ensures.asker c.last.ensures.serves
+returns-in-EncryptFinal g c = call-asking g.K.Keep.terms c.args.app c.args.in_use c.args.call (call.EncryptFinal c.in-EncryptFinal.session c.in-EncryptFinal.room) c.args.random.now c.in-EncryptFinal.is c.args.store.now c.args.desk.now _ c.last.result c.settle_asking-in-EncryptFinal.result refl c.settle_asking-in-EncryptFinal.ensures c.last.ensures.asker c.last.ensures.serves
 
 pub returns-in-DecryptInit : goal.returns-in-DecryptInit
 unfolding answer_to
-returns-in-DecryptInit g c = call-done g.K.Keep.terms c.args.app c.args.call (call.DecryptInit c.in-DecryptInit.session c.in-DecryptInit.mechanism c.in-DecryptInit.key) c.args.random.now c.in-DecryptInit.is 0 c.args.store.now _ c.args.desk.now _ c.serve-in-DecryptInit.result c.settle-in-DecryptInit.result (omega arith) c.settle-in-DecryptInit.ensures c.serve-in-DecryptInit.ensures
+returns-in-DecryptInit g c = call-done g.K.Keep.terms c.args.app c.args.in_use c.args.call (call.DecryptInit c.in-DecryptInit.session c.in-DecryptInit.mechanism c.in-DecryptInit.key) c.args.random.now c.in-DecryptInit.is 0 c.args.store.now _ c.args.desk.now _ c.serve-in-DecryptInit.result c.settle-in-DecryptInit.result (omega arith) c.settle-in-DecryptInit.ensures c.serve-in-DecryptInit.ensures
 
 pub returns-in-Decrypt : goal.returns-in-Decrypt
 unfolding answer_to
-returns-in-Decrypt g c = call-asking g.K.Keep.terms c.args.app c.args.call (call.Decrypt c.in-Decrypt.session c.in-Decrypt.encrypted_data c.in-Decrypt.room) c.args.random.now c.in-Decrypt.is c.args.store.now c.args.desk.now _ c.single-in-Decrypt.result c.settle_asking-in-Decrypt.result refl c.settle_asking-in-Decrypt.ensures c.single-in-Decrypt.ensures.asker c.single-in-Decrypt.ensures.serves
+returns-in-Decrypt g c = call-asking g.K.Keep.terms c.args.app c.args.in_use c.args.call (call.Decrypt c.in-Decrypt.session c.in-Decrypt.encrypted_data c.in-Decrypt.room) c.args.random.now c.in-Decrypt.is c.args.store.now c.args.desk.now _ c.single-in-Decrypt.result c.settle_asking-in-Decrypt.result refl c.settle_asking-in-Decrypt.ensures c.single-in-Decrypt.ensures.asker c.single-in-Decrypt.ensures.serves
 
 pub returns-in-DecryptUpdate : goal.returns-in-DecryptUpdate
 unfolding answer_to
-returns-in-DecryptUpdate g c = call-asking g.K.Keep.terms c.args.app c.args.call (call.DecryptUpdate c.in-DecryptUpdate.session c.in-DecryptUpdate.encrypted_part c.in-DecryptUpdate.room) c.args.random.now c.in-DecryptUpdate.is c.args.store.now c.args.desk.now _ c.update-in-DecryptUpdate.result c.settle_asking-in-DecryptUpdate.result refl c.settle_asking-in-DecryptUpdate.ensures c.update-in-DecryptUpdate.ensures.asker c.update-in-DecryptUpdate.ensures.serves
+returns-in-DecryptUpdate g c = call-asking g.K.Keep.terms c.args.app c.args.in_use c.args.call (call.DecryptUpdate c.in-DecryptUpdate.session c.in-DecryptUpdate.encrypted_part c.in-DecryptUpdate.room) c.args.random.now c.in-DecryptUpdate.is c.args.store.now c.args.desk.now _ c.update-in-DecryptUpdate.result c.settle_asking-in-DecryptUpdate.result refl c.settle_asking-in-DecryptUpdate.ensures c.update-in-DecryptUpdate.ensures.asker c.update-in-DecryptUpdate.ensures.serves
 
 pub returns-in-DecryptFinal : goal.returns-in-DecryptFinal
 unfolding answer_to
-returns-in-DecryptFinal g c = call-asking g.K.Keep.terms c.args.app c.args.call (call.DecryptFinal c.in-DecryptFinal.session c.in-DecryptFinal.room) c.args.random.now c.in-DecryptFinal.is c.args.store.now c.args.desk.now _ c.last-in-DecryptFinal.result c.settle_asking-in-DecryptFinal.result refl c.settle_asking-in-DecryptFinal.ensures c.last-in-DecryptFinal.ensures.asker c.last-in-DecryptFinal.ensures.serves
-
--- ---- calls that aren't served
+returns-in-DecryptFinal g c = call-asking g.K.Keep.terms c.args.app c.args.in_use c.args.call (call.DecryptFinal c.in-DecryptFinal.session c.in-DecryptFinal.room) c.args.random.now c.in-DecryptFinal.is c.args.store.now c.args.desk.now _ c.last-in-DecryptFinal.result c.settle_asking-in-DecryptFinal.result refl c.settle_asking-in-DecryptFinal.ensures c.last-in-DecryptFinal.ensures.asker c.last-in-DecryptFinal.ensures.serves
 
 pub returns-in-GetTokenInfo : goal.returns-in-GetTokenInfo
 unfolding answer_to
-returns-in-GetTokenInfo g c = call-refused g.K.Keep.terms c.args.app c.args.call c.args.random.now FunctionNotSupported c.args.store.now c.args.desk.now c.code.result (λ v. search rules) refl c.code.ensures
+returns-in-GetTokenInfo g c = call-done g.K.Keep.terms c.args.app c.args.in_use c.args.call (call.GetTokenInfo c.in-GetTokenInfo.slot) c.args.random.now c.in-GetTokenInfo.is 0 c.args.store.now _ c.args.desk.now _ c.serve.result c.settle.result (omega arith) c.settle.ensures c.serve.ensures
+
+pub returns-in-InitToken : goal.returns-in-InitToken
+unfolding answer_to
+returns-in-InitToken g c = call-checked g.K.Keep.terms c.args.app c.args.in_use c.args.call (call.InitToken c.in-InitToken.slot c.in-InitToken.pin c.in-InitToken.label) c.args.random.now c.in-InitToken.is c.args.store.now _ c.args.desk.now _ c.serve-in-InitToken.result c.settle_asking.result c.settle_asking.ensures c.serve-in-InitToken.ensures.asker c.serve-in-InitToken.ensures.done
+
+pub returns-in-InitPin : goal.returns-in-InitPin
+unfolding answer_to
+returns-in-InitPin g c = call-unchecked g.K.Keep.terms c.args.app c.args.in_use c.args.call (call.InitPin c.in-InitPin.session c.in-InitPin.pin) c.args.random.now c.in-InitPin.is c.args.store.now c.args.desk.now _ c.serve-in-InitPin.result c.settle_asking-in-InitPin.result (λ v. still-init_pin v c.in-InitPin.session c.in-InitPin.pin c.args.random.now) c.settle_asking-in-InitPin.ensures c.serve-in-InitPin.ensures.asker c.serve-in-InitPin.ensures.serves
+
+pub returns-in-SetPin : goal.returns-in-SetPin
+unfolding answer_to
+returns-in-SetPin g c = call-checked g.K.Keep.terms c.args.app c.args.in_use c.args.call (call.SetPin c.in-SetPin.session c.in-SetPin.old_pin c.in-SetPin.new_pin) c.args.random.now c.in-SetPin.is c.args.store.now _ c.args.desk.now _ c.serve-in-SetPin.result c.settle_asking-in-SetPin.result c.settle_asking-in-SetPin.ensures c.serve-in-SetPin.ensures.asker c.serve-in-SetPin.ensures.done
 
 pub returns-in-Login : goal.returns-in-Login
 unfolding answer_to
-returns-in-Login g c = call-refused g.K.Keep.terms c.args.app c.args.call c.args.random.now FunctionNotSupported c.args.store.now c.args.desk.now c.code-in-Login.result (λ v. search rules) refl c.code-in-Login.ensures
+returns-in-Login g c = call-checked g.K.Keep.terms c.args.app c.args.in_use c.args.call (call.Login c.in-Login.session c.in-Login.user_type c.in-Login.pin) c.args.random.now c.in-Login.is c.args.store.now _ c.args.desk.now _ c.serve-in-Login.result c.settle_asking-in-Login.result c.settle_asking-in-Login.ensures c.serve-in-Login.ensures.asker c.serve-in-Login.ensures.done
+
+pub returns-in-Logout : goal.returns-in-Logout
+unfolding answer_to
+returns-in-Logout g c = call-at-desk g.K.Keep.terms c.args.app c.args.in_use c.args.call (call.Logout c.in-Logout.session) c.args.random.now c.in-Logout.is c.args.store.now c.args.desk.now _ c.serve-in-Logout.result c.settle-in-Logout.result refl c.settle-in-Logout.ensures c.serve-in-Logout.ensures
+
+-- ---- calls that aren't served
+
+pub returns-in-GetMechanismList : goal.returns-in-GetMechanismList
+unfolding answer_to
+returns-in-GetMechanismList g c = call-refused g.K.Keep.terms c.args.app c.args.in_use c.args.call c.args.random.now FunctionNotSupported c.args.store.now c.args.desk.now c.code.result (λ v. search rules) refl c.code.ensures
 
 pub returns-in-FindObjectsInit : goal.returns-in-FindObjectsInit
 unfolding answer_to
-returns-in-FindObjectsInit g c = call-refused g.K.Keep.terms c.args.app c.args.call c.args.random.now FunctionNotSupported c.args.store.now c.args.desk.now c.code-in-FindObjectsInit.result (λ v. search rules) refl c.code-in-FindObjectsInit.ensures
+returns-in-FindObjectsInit g c = call-refused g.K.Keep.terms c.args.app c.args.in_use c.args.call c.args.random.now FunctionNotSupported c.args.store.now c.args.desk.now c.code-in-FindObjectsInit.result (λ v. search rules) refl c.code-in-FindObjectsInit.ensures
 
 pub returns-in-SignInit : goal.returns-in-SignInit
 unfolding answer_to
-returns-in-SignInit g c = call-refused g.K.Keep.terms c.args.app c.args.call c.args.random.now FunctionNotSupported c.args.store.now c.args.desk.now c.code-in-SignInit.result (λ v. search rules) refl c.code-in-SignInit.ensures
+returns-in-SignInit g c = call-refused g.K.Keep.terms c.args.app c.args.in_use c.args.call c.args.random.now FunctionNotSupported c.args.store.now c.args.desk.now c.code-in-SignInit.result (λ v. search rules) refl c.code-in-SignInit.ensures
 
 pub returns-in-VerifyInit : goal.returns-in-VerifyInit
 unfolding answer_to
-returns-in-VerifyInit g c = call-refused g.K.Keep.terms c.args.app c.args.call c.args.random.now FunctionNotSupported c.args.store.now c.args.desk.now c.code-in-VerifyInit.result (λ v. search rules) refl c.code-in-VerifyInit.ensures
+returns-in-VerifyInit g c = call-refused g.K.Keep.terms c.args.app c.args.in_use c.args.call c.args.random.now FunctionNotSupported c.args.store.now c.args.desk.now c.code-in-VerifyInit.result (λ v. search rules) refl c.code-in-VerifyInit.ensures
 
 pub returns-in-GenerateKey : goal.returns-in-GenerateKey
 unfolding answer_to
-returns-in-GenerateKey g c = call-refused g.K.Keep.terms c.args.app c.args.call c.args.random.now FunctionNotSupported c.args.store.now c.args.desk.now c.code-in-GenerateKey.result (λ v. search rules) refl c.code-in-GenerateKey.ensures
+returns-in-GenerateKey g c = call-refused g.K.Keep.terms c.args.app c.args.in_use c.args.call c.args.random.now FunctionNotSupported c.args.store.now c.args.desk.now c.code-in-GenerateKey.result (λ v. search rules) refl c.code-in-GenerateKey.ensures
 
 pub returns : goal.returns
 unfolding answer_to
-returns g c = call-refused g.K.Keep.terms c.args.app c.args.call c.args.random.now FunctionNotSupported c.args.store.now c.args.desk.now c.code-in-GenerateRandom.result (λ v. search rules) refl c.code-in-GenerateRandom.ensures
+returns g c = call-refused g.K.Keep.terms c.args.app c.args.in_use c.args.call c.args.random.now FunctionNotSupported c.args.store.now c.args.desk.now c.code-in-GenerateRandom.result (λ v. search rules) refl c.code-in-GenerateRandom.ensures

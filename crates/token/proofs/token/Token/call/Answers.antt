@@ -6,7 +6,7 @@ use Rattle.token.proofs.token.Token.call.Goals as goal
 pub returns-clause-world : goal.returns-clause-world
 returns-clause-world g c = λ sure w s.
     let t = rw (← c.self.view_is) at s in
-    rw c.told_as.ensures (shows-called _ _ _ _ _ _ c.args.app c.args.call c.args.random.now w t c.serve_app.ensures.others c.serve_app.result (c.serve_app.ensures.serves sure t.contents t.has (t.fits c.args.app)))
+    rw (c.told_as.ensures, c.serve_app.ensures.checks) (shows-called _ _ _ _ _ _ c.args.app c.args.call c.args.random.now w t c.serve_app.ensures.others c.serve_app.result (c.serve_app.ensures.serves sure t.contents t.has (t.fits c.args.app)))
 
 pub returns-clause-says : goal.returns-clause-says
 returns-clause-says g c = λ sure w s.

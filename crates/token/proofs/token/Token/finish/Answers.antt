@@ -1,7 +1,7 @@
 use Rattle.std.proofs.Common.{refl, sym, ◌∙◌}
 use Rattle.std.proofs.lemmas.Bool.{true≢false}
 use Rattle.token.specs.Applications.{desk_at}
-use Rattle.token.proofs.Outcomes.{serves-finished, never-device, always-stays}
+use Rattle.token.proofs.Endings.{blames-device, stays-finished}
 use Rattle.token.proofs.Jobs.{asked-of, told-has, told-other}
 use Rattle.token.proofs.Resulted.{taken, open-numbers, shows-open, tells-open, leaves-open}
 use Rattle.token.proofs.token.Token.finish.Goals as goal
@@ -10,8 +10,8 @@ pub returns-clause-taken : goal.returns-clause-taken
 returns-clause-taken g c = λ sure w s has.
     let t = rw (← c.self.view_is) at s in
     let q = asked-of _ c.args.app c.args.done.job.value has in
-    rw (c.told_result-reply.ensures, c.retain_others.ensures, ← c.self.view_is) (taken g.K.Keep.terms _ _ _ _ _ c.args.app c.args.done.job.value w t q.0 q.1 (λ b differ. rw (c.finish_app.ensures.others b differ) refl) c.finish_app.result
-    (serves-finished c.args.done.job.value t.contents _ _ g.K.Keep.terms _ c.finish_app.result t.has (c.finish_app.ensures.serves t.contents (t.fits c.args.app))))
+    let f = rw c.deref.ensures.value at c.finish_app.ensures.finishes in
+    rw (c.told_result-reply.ensures, c.retain_others.ensures, ← c.self.view_is) (taken g.K.Keep.terms _ c.finish_app.new.store _ _ _ c.args.app c.args.done.job.value w t q.0 q.1 (λ b differ. rw (c.finish_app.ensures.others b differ) refl) c.finish_app.result (f.serves sure t.contents t.has (t.fits c.args.app)))
 
 pub returns-clause-world : goal.returns-clause-world
 returns-clause-world g c = λ sure w s is. shows-open w c.args.app c.args.done.job.value is _ _ _ c.told_result-reply.result (returns-clause-taken g c sure w s (open-numbers w c.args.app c.args.done.job.value is))
@@ -23,10 +23,10 @@ pub returns-clause-leaves : goal.returns-clause-leaves
 returns-clause-leaves g c = λ sure w s is. leaves-open w c.args.app c.args.done.job.value is _ _ _ c.told_result-reply.result (returns-clause-taken g c sure w s (open-numbers w c.args.app c.args.done.job.value is))
 
 pub returns-clause-cause : goal.returns-clause-cause
-returns-clause-cause g c = λ blamed. absurd (never-device c.args.done.job.value (desk_at c.self.inside.desks.entries c.args.app) (desk_at c.finish_app.new.desks.entries c.args.app) c.finish_app.result c.finish_app.ensures.serves (sym c.told_result-reply.ensures ∙ blamed))
+returns-clause-cause g c = λ blamed. rw (← c.self.view_is) (c.finish_app.ensures.finishes.cause (blames-device g.K.Keep.terms c.args.done.job.value _ _ _ (desk_at c.self.inside.desks.entries c.args.app) c.finish_app.result (desk_at c.finish_app.new.desks.entries c.args.app) c.finish_app.ensures.finishes (sym c.told_result-reply.ensures ∙ blamed)))
 
 pub returns-clause-stays : goal.returns-clause-stays
-returns-clause-stays g c = λ some. rw (← c.self.view_is) (always-stays c.args.done.job.value (desk_at c.self.inside.desks.entries c.args.app) (desk_at c.finish_app.new.desks.entries c.args.app) c.finish_app.result c.finish_app.ensures.serves (rw c.told_result-reply.ensures at some))
+returns-clause-stays g c = λ some. rw (← c.self.view_is) (stays-finished g.K.Keep.terms c.args.done.job.value _ _ _ (desk_at c.self.inside.desks.entries c.args.app) c.finish_app.result (desk_at c.finish_app.new.desks.entries c.args.app) c.finish_app.ensures.finishes (rw c.told_result-reply.ensures at some))
 
 -- ---- a job of no pending question, and one that has its numbers
 

@@ -1,0 +1,37 @@
+use Rattle.std.proofs.Common.{refl, rules}
+use Rattle.pin_record.specs.Records.{charged}
+use Rattle.keep.specs.Contents.{with_record}
+use Rattle.token_store.specs.Shown.{view_of, said_of, task_of}
+use Rattle.token_store.proofs.Gaves.{gave-change}
+use Rattle.token_store.proofs.Plain.{plain_as-fault}
+use Rattle.token_store.proofs.Refusals.{does_as-refused, fault-of}
+use Rattle.serve_sessions.specs.Recording.{asks_charged}
+use Rattle.serve_sessions.proofs.Charging.{gives-charged, refused-recorded}
+use Rattle.serve_sessions.proofs.recording.ask_charged.Goals as goal
+
+pub returns-clause-done : goal.returns-clause-done
+returns-clause-done g c = record {
+  serves = λ sure k h fits.
+      let r = c.args.«record» in
+      rw (c.ask.ensures.asked) (gave-change _ _ _ k _ _ _ _ (with_record (charged r c.args.who) k)
+      (rw c.begin_check.ensures at (c.in_ok-set_record.ensures.has k h)) (rw c.begin_check.ensures at (c.in_ok-set_record.ensures.leaves k h))
+      (gives-charged k c.args.desk.now r c.args.function c.args.session (task_of c.args.work) c.args.who c.ask.result c.ask.ensures.question fits));
+  counts = search rules;
+  cause = search rules;
+  plain = refl;
+  stays = tt;
+}
+
+pub returns-in_err-set_record-clause-done : goal.returns-in_err-set_record-clause-done
+returns-in_err-set_record-clause-done g c = record {
+  serves = λ sure k h fits.
+      let r = c.args.«record» in
+      let d = c.args.desk.now in
+      let a = asks_charged r (view_of k d) c.args.function c.args.session (task_of c.args.work) c.args.who in
+      does_as-refused _ said_of a k _ _ d d c.from_residual.result (fault-of c.from_residual.result _ c.from_residual.ensures.1)
+      (refused-recorded _ a k _ _ d (charged r c.args.who) refl (c.in_err-set_record.ensures.same k h) (rw c.begin_check.ensures at (c.in_err-set_record.ensures.leaves_or k h)));
+  counts = search rules;
+  cause = search rules;
+  plain = plain_as-fault said_of c.from_residual.result (fault-of c.from_residual.result _ c.from_residual.ensures.1);
+  stays = search rules;
+}

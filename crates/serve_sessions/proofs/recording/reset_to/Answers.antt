@@ -1,0 +1,34 @@
+use Rattle.std.proofs.Common.{refl, rules}
+use Rattle.keep.specs.Contents.{after_reset}
+use Rattle.token_store.specs.Shown.{view_of}
+use Rattle.token_store.proofs.Gaves.{gave-change}
+use Rattle.token_store.proofs.Plain.{plain-fault}
+use Rattle.token_store.proofs.Refusals.{does-refused, fault-of}
+use Rattle.answers.specs.Pins.{resets}
+use Rattle.serve_sessions.proofs.Charging.{gives-reset, refused-reset}
+use Rattle.serve_sessions.proofs.recording.reset_to.Goals as goal
+
+pub returns : goal.returns
+returns g c = record {
+  serves = λ sure k h fits.
+      let r = c.args.«record» in
+      gave-change _ _ _ k _ _ _ _ (after_reset r k) (c.in_ok-reset.ensures.has k h) (c.in_ok-reset.ensures.leaves k h) (gives-reset k c.args.desk.now r fits);
+  counts = search rules;
+  cause = search rules;
+  plain = refl;
+  stays = tt;
+}
+
+pub returns-in_err-reset : goal.returns-in_err-reset
+returns-in_err-reset g c = record {
+  serves = λ sure k h fits.
+      let r = c.args.«record» in
+      let d = c.args.desk.now in
+      let a = resets r (view_of k d) in
+      does-refused _ a k _ _ d d c.from_residual.result (fault-of c.from_residual.result _ c.from_residual.ensures.1)
+      (refused-reset _ a k _ _ d r refl (c.in_err-reset.ensures.same k h) (c.in_err-reset.ensures.leaves_or k h));
+  counts = search rules;
+  cause = search rules;
+  plain = plain-fault c.from_residual.result (fault-of c.from_residual.result _ c.from_residual.ensures.1);
+  stays = search rules;
+}

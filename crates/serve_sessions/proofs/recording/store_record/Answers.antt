@@ -1,0 +1,34 @@
+use Rattle.std.proofs.Common.{refl, rules}
+use Rattle.keep.specs.Contents.{with_record}
+use Rattle.token_store.specs.Shown.{view_of}
+use Rattle.token_store.proofs.Gaves.{gave-change}
+use Rattle.token_store.proofs.Plain.{plain-fault}
+use Rattle.token_store.proofs.Refusals.{does-refused, fault-of}
+use Rattle.serve_sessions.specs.Recording.{codes_with}
+use Rattle.serve_sessions.proofs.Charging.{gives-stored, refused-recorded}
+use Rattle.serve_sessions.proofs.recording.store_record.Goals as goal
+
+pub returns : goal.returns
+returns g c = record {
+  serves = λ sure k h fits.
+      let r = c.args.«record» in
+      gave-change _ _ _ k _ _ _ _ (with_record r k) (c.in_ok-set_record.ensures.has k h) (c.in_ok-set_record.ensures.leaves k h) (gives-stored k c.args.desk.now r c.args.code fits);
+  counts = search rules;
+  cause = search rules;
+  plain = c.requires;
+  stays = tt;
+}
+
+pub returns-in_err-set_record : goal.returns-in_err-set_record
+returns-in_err-set_record g c = record {
+  serves = λ sure k h fits.
+      let r = c.args.«record» in
+      let d = c.args.desk.now in
+      let a = codes_with c.args.code r (view_of k d) in
+      does-refused _ a k _ _ d d c.from_residual.result (fault-of c.from_residual.result _ c.from_residual.ensures.1)
+      (refused-recorded _ a k _ _ d r refl (c.in_err-set_record.ensures.same k h) (c.in_err-set_record.ensures.leaves_or k h));
+  counts = search rules;
+  cause = search rules;
+  plain = plain-fault c.from_residual.result (fault-of c.from_residual.result _ c.from_residual.ensures.1);
+  stays = search rules;
+}

@@ -1,0 +1,29 @@
+//! C_GetTokenInfo (PKCS #11 v3.1, 5.5).
+
+ghost use Rattle.answers.specs.GetTokenInfo.{get_token_info};
+ghost use Rattle.token_store.specs.Refusing.{IsDone};
+
+use crate::SLOT;
+use ck_calls::{Reply, TokenInfo};
+use desk::Desk;
+use keep::Keep;
+use pin_record::token_flags;
+use precede::Row;
+use token_store::{Refusal, Store};
+
+/// What the token is: its label and flags, and how many sessions the application has. `CKR_SLOT_ID_INVALID` where the slot
+/// isn't the one that there is.
+pub fn serve<K: Keep>(desk: &Desk, store: &Store<K>, slot: u64) -> Result<Reply, Refusal>
+    ensures { IsDone K.terms 0 (λ v. get_token_info v slot) store.now store.now desk.now result desk.now }
+{
+    if slot != SLOT {
+        return Err(Refusal::Row(Row::NoSlot));
+    }
+    let record = store.get_record();
+    Ok(Reply::TokenInfo(TokenInfo {
+        label: *record.label(),
+        flags: token_flags(&record),
+        session_count: desk.session_count() as u64,
+        rw_session_count: desk.read_write_session_count() as u64,
+    }))
+}

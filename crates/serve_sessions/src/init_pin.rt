@@ -1,0 +1,71 @@
+//! C_InitPIN (PKCS #11 v3.1, 5.5): the SO sets the user's PIN.
+
+ghost use Rattle.std.specs.Prelude.{◌≡◌, ◌<◌, ◌^◌, IfOk, Some, None, length};
+ghost use Rattle.views.specs.Answering.{Replies};
+ghost use Rattle.answers.specs.InitPin.{init_pin, pin_made};
+ghost use Rattle.answers.specs.Pins.{is_so};
+ghost use Rattle.token_store.specs.Refusing.{AtDesk, IsDone};
+ghost use Rattle.token_store.specs.Shown.{IsFor, said_of};
+
+use crate::recording::{is_pin_length, salt_of, store_record};
+use ck_calls::{Function, Reply};
+use ck_types::{Bytes, Rv, UserType};
+use desk::Desk;
+use keep::Keep;
+use mech::Work;
+use pin_record::{TRIES_LIMIT, Verifier};
+use precede::Row;
+use token_store::{Out, Refusal, Store, ask};
+
+fn is_so(login: Option<UserType>) -> bool
+    ensures { result ≡ is_so login }
+{
+    match login {
+        None => false,
+        Some(who) => who == UserType::So,
+    }
+}
+
+/// Asks for the verifier of the user's new PIN, with random bytes as its salt: `CKR_SESSION_HANDLE_INVALID`,
+/// `CKR_USER_NOT_LOGGED_IN` where the SO isn't, `CKR_PIN_LEN_RANGE`.
+pub fn serve(
+    app: u64,
+    desk: &mut Desk,
+    session: u64,
+    pin: Bytes,
+    random: &[u8],
+) -> Result<Out, Refusal>
+    requires below { desk.old.next_question < 2 ^ 63 }
+    requires random { length random.now ≡ 16 }
+    ensures serves { AtDesk said_of (λ v. init_pin v session pin random.now) desk.old result desk.new }
+    ensures asker { IfOk result (IsFor app) }
+{
+    let _ = desk.state(session).ok_or(Row::NoSession)?;
+    if !is_so(desk.logged_in()) {
+        return Err(Refusal::Row(Row::NotSo));
+    }
+    if !is_pin_length(pin.as_slice()) {
+        return Err(Refusal::Row(Row::PinLength));
+    }
+    let salt = salt_of(random);
+    let work = Work::MakePin { pin, salt };
+    Ok(Out::Ask(ask(app, desk, Function::InitPin, session, work)))
+}
+
+/// The PIN is set. Its tries are the checks of the user's PIN that other applications have under way.
+/// `CKR_FUNCTION_FAILED` where the token isn't initialised any more.
+pub fn made<K: Keep>(
+    desk: &Desk,
+    store: &mut Store<K>,
+    verifier: Verifier,
+    under_way: usize,
+) -> Result<Reply, Refusal>
+    ensures { IsDone K.terms 1 (λ v. pin_made v verifier (record { objects = None; under_way = Some under_way; in_session = None })) store.old store.new desk.now result desk.now }
+{
+    let record = store.get_record();
+    if !record.is_initialized() || under_way > TRIES_LIMIT as usize {
+        return Err(Refusal::Code(Rv::FunctionFailed));
+    }
+    let record = record.with_pin(UserType::User, verifier, under_way as u8);
+    store_record(desk, store, record, Rv::Ok)
+}

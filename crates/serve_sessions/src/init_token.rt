@@ -1,0 +1,119 @@
+//! C_InitToken (PKCS #11 v3.1, 5.5): the token is initialised, for the first time or again.
+
+ghost use Rattle.std.specs.Prelude.{◌≡◌, ◌<◌, ◌^◌, IfOk, Some, None, length};
+ghost use Rattle.views.specs.Answering.{Replies};
+ghost use Rattle.answers.specs.InitToken.{init_token, inited, reset};
+ghost use Rattle.token_store.specs.Refusing.{IsDone, IsDoneAs};
+ghost use Rattle.token_store.specs.Shown.{IsFor, said_of};
+
+use crate::SLOT;
+use crate::recording::{ask_charged, is_pin_length, reset_to, salt_of, store_record};
+use ck_calls::{Function, Reply};
+use ck_types::{Bytes, Label, Rv, UserType};
+use desk::Desk;
+use keep::Keep;
+use mech::Work;
+use pin_record::{Record, Verifier, end_check};
+use precede::Row;
+use token_store::{Out, Refusal, Store, ask};
+
+/// Begins a check of the SO's PIN, which is charged before it; or, where the token isn't initialised, asks for the
+/// verifier of this PIN, with random bytes as its salt: `CKR_SLOT_ID_INVALID`, `CKR_ARGUMENTS_BAD` for a label that hasn't
+/// 32 bytes, `CKR_SESSION_EXISTS`, `CKR_PIN_LEN_RANGE`, `CKR_PIN_LOCKED`.
+pub fn serve<K: Keep>(
+    app: u64,
+    desk: &mut Desk,
+    store: &mut Store<K>,
+    slot: u64,
+    pin: Bytes,
+    label: Bytes,
+    random: &[u8],
+    others_in_session: bool,
+) -> Result<Out, Refusal>
+    requires below { desk.old.next_question < 2 ^ 63 }
+    requires random { length random.now ≡ 16 }
+    ensures done { IsDoneAs K.terms said_of 1 (λ c v. init_token v slot pin label random.now (record { objects = None; under_way = None; in_session = Some others_in_session })) store.old store.new desk.old result desk.new }
+    ensures asker { IfOk result (IsFor app) }
+{
+    if slot != SLOT {
+        return Err(Refusal::Row(Row::NoSlot));
+    }
+    let label = Label::from_slice(label.as_slice()).ok_or(Row::LabelLength)?;
+    if desk.has_session() || others_in_session {
+        return Err(Refusal::Row(Row::SessionOpen));
+    }
+    let record = store.get_record();
+    let Some(verifier) = record.verifier(UserType::So).copied() else {
+        if !is_pin_length(pin.as_slice()) {
+            return Err(Refusal::Row(Row::PinLength));
+        }
+        let salt = salt_of(random);
+        let work = Work::InitToken { label, pin, salt };
+        return Ok(Out::Ask(ask(app, desk, Function::InitToken, 0, work)));
+    };
+    if record.is_locked(UserType::So) {
+        return Err(Refusal::Row(Row::PinLocked));
+    }
+    let work = Work::ResetToken {
+        label,
+        verifier,
+        pin,
+    };
+    ask_charged(
+        app,
+        desk,
+        store,
+        record,
+        UserType::So,
+        Function::InitToken,
+        0,
+        work,
+    )
+}
+
+/// The SO's first PIN is set, and the token has this label. `CKR_FUNCTION_FAILED` where it was initialised meanwhile,
+/// `CKR_SESSION_EXISTS` where there is a session by now.
+pub fn made<K: Keep>(
+    desk: &Desk,
+    store: &mut Store<K>,
+    label: Label,
+    verifier: Verifier,
+    others_in_session: bool,
+) -> Result<Reply, Refusal>
+    ensures { IsDone K.terms 1 (λ v. inited v label verifier (record { objects = None; under_way = None; in_session = Some others_in_session })) store.old store.new desk.now result desk.now }
+{
+    let record = store.get_record();
+    if record.is_initialized() || record.tries(UserType::So) != 0 {
+        return Err(Refusal::Code(Rv::FunctionFailed));
+    }
+    if desk.has_session() || others_in_session {
+        return Err(Refusal::Code(Rv::SessionExists));
+    }
+    reset_to(desk, store, Record::initialized(label, verifier, 0))
+}
+
+/// The SO's PIN was right: the token has no objects, this label, the SO's PIN and no user's. `CKR_SESSION_EXISTS` where
+/// there is a session by now.
+pub fn reset<K: Keep>(
+    desk: &Desk,
+    store: &mut Store<K>,
+    label: Label,
+    under_way: usize,
+    others_in_session: bool,
+) -> Result<Reply, Refusal>
+    ensures { IsDone K.terms 1 (λ v. reset v label (record { objects = None; under_way = Some under_way; in_session = Some others_in_session })) store.old store.new desk.now result desk.now }
+{
+    let record = store.get_record();
+    if under_way >= record.tries(UserType::So) as usize {
+        return Err(Refusal::Code(Rv::FunctionFailed));
+    }
+    let under_way = under_way as u8;
+    if desk.has_session() || others_in_session {
+        let record = end_check(record, UserType::So, true, under_way);
+        return store_record(desk, store, record, Rv::SessionExists);
+    }
+    let Some(verifier) = record.verifier(UserType::So).copied() else {
+        return Err(Refusal::Code(Rv::FunctionFailed));
+    };
+    reset_to(desk, store, Record::initialized(label, verifier, under_way))
+}

@@ -1,0 +1,85 @@
+//! The token's record, which the calls of PINs write.
+
+ghost use Rattle.std.specs.Prelude.{◌≡◌, ◌<◌, ◌≤◌, ◌^◌, IfOk, IsTrue, None, is_some, length, true};
+ghost use Rattle.ck_calls.specs.declared.reply.Reply.TheVariants.{Code};
+ghost use Rattle.mech.specs.Runnable.{is_runnable};
+ghost use Rattle.pin_record.specs.Records.{tries_limit, tries_of, verifier_of};
+ghost use Rattle.views.specs.Answering.{Replies};
+ghost use Rattle.views.specs.Refusals.{set_apart};
+ghost use Rattle.answers.specs.Pins.{is_pin_length, resets};
+ghost use Rattle.token_store.specs.Refusing.{IsDone, IsDoneAs};
+ghost use Rattle.token_store.specs.Shown.{IsFor, said_of, task_of};
+ghost use Rattle.serve_sessions.specs.Recording.{asks_charged, codes_with};
+
+use ck_calls::{Function, Reply};
+use ck_types::{Rv, UserType};
+use desk::Desk;
+use keep::Keep;
+use mech::Work;
+use pin_record::{Record, begin_check};
+use token_store::{Out, Refusal, Store, ask};
+
+/// Whether a new PIN has 4 to 64 bytes.
+pub(crate) fn is_pin_length(pin: &[u8]) -> bool
+    ensures { result ≡ is_pin_length pin.now }
+{
+    4 <= pin.len() && pin.len() <= 64
+}
+
+/// The salt of a new verifier: the random bytes that the call takes.
+pub(crate) fn salt_of(random: &[u8]) -> [u8; 16]
+    requires { length random.now ≡ 16 }
+    ensures { result ≡ random.now }
+{
+    let mut salt = [0; 16];
+    salt.copy_from_slice(random);
+    salt
+}
+
+/// Asks for a check of a PIN. Its charge is stored first, and only then there is a job.
+pub(crate) fn ask_charged<K: Keep>(
+    app: u64,
+    desk: &mut Desk,
+    store: &mut Store<K>,
+    record: Record,
+    who: UserType,
+    function: Function,
+    session: u64,
+    work: Work,
+) -> Result<Out, Refusal>
+    requires below { desk.old.next_question < 2 ^ 63 }
+    requires runnable { IsTrue (is_runnable work) }
+    requires set { is_some (verifier_of «record» who) ≡ true }
+    requires unlocked { tries_of «record» who < tries_limit }
+    ensures done { IsDoneAs K.terms said_of 1 (λ c v. asks_charged «record» v function session (task_of work) who) store.old store.new desk.old result desk.new }
+    ensures asker { IfOk result (IsFor app) }
+{
+    store.set_record(begin_check(record, who))?;
+    Ok(Out::Ask(ask(app, desk, function, session, work)))
+}
+
+/// Stores another record, and answers a code.
+pub(crate) fn store_record<K: Keep>(
+    desk: &Desk,
+    store: &mut Store<K>,
+    record: Record,
+    code: Rv,
+) -> Result<Reply, Refusal>
+    requires { set_apart (Code code) ≡ None }
+    ensures { IsDone K.terms 1 (λ v. codes_with code «record» v) store.old store.new desk.now result desk.now }
+{
+    store.set_record(record)?;
+    Ok(Reply::Code(code))
+}
+
+/// Takes all token objects away and stores another record.
+pub(crate) fn reset_to<K: Keep>(
+    desk: &Desk,
+    store: &mut Store<K>,
+    record: Record,
+) -> Result<Reply, Refusal>
+    ensures { IsDone K.terms 1 (λ v. resets «record» v) store.old store.new desk.now result desk.now }
+{
+    store.reset(record)?;
+    Ok(Reply::Code(Rv::Ok))
+}

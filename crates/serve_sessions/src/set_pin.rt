@@ -1,0 +1,105 @@
+//! C_SetPIN (PKCS #11 v3.1, 5.5): a new PIN in the place of the old one.
+
+ghost use Rattle.std.specs.Prelude.{◌≡◌, ◌<◌, ◌^◌, IfOk, Some, None, length};
+ghost use Rattle.views.specs.Answering.{Replies};
+ghost use Rattle.answers.specs.SetPin.{owner, pin_changed, set_pin};
+ghost use Rattle.token_store.specs.Refusing.{IsDone, IsDoneAs};
+ghost use Rattle.token_store.specs.Shown.{IsFor, said_of};
+
+use crate::recording::{ask_charged, is_pin_length, salt_of, store_record};
+use ck_calls::{Function, Reply};
+use ck_types::{Bytes, Rv, UserType};
+use desk::Desk;
+use keep::Keep;
+use mech::Work;
+use pin_record::{Verifier, end_check};
+use precede::Row;
+use token_store::{Out, Refusal, Store};
+
+/// Whose PIN is changed: that of who is logged in, and the user's where nobody is.
+fn owner(login: Option<UserType>) -> UserType
+    ensures { result ≡ owner login }
+{
+    match login {
+        None => UserType::User,
+        Some(who) => who,
+    }
+}
+
+/// Begins a check of the old PIN, which is charged before it, for a new one with random bytes as its salt:
+/// `CKR_SESSION_HANDLE_INVALID`, `CKR_SESSION_READ_ONLY`, `CKR_USER_PIN_NOT_INITIALIZED`, `CKR_PIN_LEN_RANGE`,
+/// `CKR_PIN_LOCKED`.
+pub fn serve<K: Keep>(
+    app: u64,
+    desk: &mut Desk,
+    store: &mut Store<K>,
+    session: u64,
+    old_pin: Bytes,
+    new_pin: Bytes,
+    random: &[u8],
+) -> Result<Out, Refusal>
+    requires below { desk.old.next_question < 2 ^ 63 }
+    requires random { length random.now ≡ 16 }
+    ensures done { IsDoneAs K.terms said_of 1 (λ c v. set_pin v session old_pin new_pin random.now) store.old store.new desk.old result desk.new }
+    ensures asker { IfOk result (IsFor app) }
+{
+    let read_write = desk.is_read_write(session).ok_or(Row::NoSession)?;
+    if !read_write {
+        return Err(Refusal::Row(Row::SessionReadOnly));
+    }
+    let who = owner(desk.logged_in());
+    let record = store.get_record();
+    let verifier = record.verifier(who).copied().ok_or(Row::PinNotSet)?;
+    if !is_pin_length(new_pin.as_slice()) {
+        return Err(Refusal::Row(Row::PinLength));
+    }
+    if record.is_locked(who) {
+        return Err(Refusal::Row(Row::PinLocked));
+    }
+    let salt = salt_of(random);
+    let work = Work::ChangePin {
+        who,
+        verifier,
+        pin: old_pin,
+        new_pin,
+        salt,
+    };
+    ask_charged(
+        app,
+        desk,
+        store,
+        record,
+        who,
+        Function::SetPin,
+        session,
+        work,
+    )
+}
+
+/// The old PIN was right: the new one is set. Its tries are the checks of the PIN that other applications have under
+/// way. `CKR_FUNCTION_FAILED` where the token isn't initialised any more.
+pub fn changed<K: Keep>(
+    desk: &Desk,
+    store: &mut Store<K>,
+    who: UserType,
+    verifier: Verifier,
+    under_way: usize,
+) -> Result<Reply, Refusal>
+    ensures { IsDone K.terms 1 (λ v. pin_changed v who verifier (record { objects = None; under_way = Some under_way; in_session = None })) store.old store.new desk.now result desk.now }
+{
+    let record = store.get_record();
+    if under_way >= record.tries(who) as usize {
+        return Err(Refusal::Code(Rv::FunctionFailed));
+    }
+    let under_way = under_way as u8;
+    if !record.is_initialized() {
+        let record = end_check(record, who, true, under_way);
+        return store_record(desk, store, record, Rv::FunctionFailed);
+    }
+    store_record(
+        desk,
+        store,
+        record.with_pin(who, verifier, under_way),
+        Rv::Ok,
+    )
+}

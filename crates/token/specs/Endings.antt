@@ -1,0 +1,60 @@
+-- The end of a question at its desk, by what the other applications have under way.
+use Rattle.std.specs.Prelude.{◌≡◌, ℕ, Option, Some, None, Result, Ok, Err}
+use Rattle.ck_types.specs.declared.rv.Rv.TheVariants as rv
+use Rattle.ck_types.specs.declared.user_type.UserType.{UserType}
+use Rattle.ck_types.specs.declared.user_type.UserType.TheVariants.{So, User}
+use Rattle.ck_calls.specs.declared.function.Function.{Function}
+use Rattle.ck_calls.specs.declared.reply.Reply.{Reply}
+use Rattle.ck_calls.specs.declared.reply.Reply.TheVariants.{Code}
+use Rattle.precede.specs.Row.{code_of}
+use Rattle.keep.specs.Keeping.{Terms}
+use Rattle.mech.specs.declared.job.Job.{Job}
+use Rattle.mech.specs.declared.outcome.Outcome.{Outcome}
+use Rattle.mech.specs.declared.work.Work.{Work}
+use Rattle.mech.specs.Works.{outcome_of}
+use Rattle.desk.specs.Desks.{DeskState}
+use Rattle.views.specs.declared.fault.Fault.{Fault}
+use Rattle.views.specs.declared.fault.Fault.TheVariants as faults
+use Rattle.ops.specs.declared.place.Place.{Place}
+use Rattle.ops.specs.Operations.{with_operation}
+use Rattle.answers.specs.Cipher.{ciphered_reply}
+use Rattle.serve_ciphers.specs.Steps.{operation_left}
+use Rattle.views.specs.Outcomes.{told_of}
+use Rattle.views.specs.Views.{Question}
+use Rattle.views.specs.Answering.{Replies}
+use Rattle.answers.specs.Answers.{answer_outcome}
+use Rattle.token_model.specs.Worlds.{reveal_by_outcome}
+use Rattle.token_store.specs.declared.refusal.Refusal.{Refusal}
+use Rattle.token_store.specs.declared.refusal.Refusal.TheVariants as refusals
+use Rattle.token_store.specs.Refusing.{IsDoneAs}
+use Rattle.token_store.specs.Shown.{objects_of, task_of}
+use Rattle.token_store.specs.Stores.{StoreState}
+use Rattle.token.specs.declared.ending.Others.{Others}
+
+-- how many others check the PIN
+abbrev pub under_way_of : Others → UserType → ℕ
+under_way_of o So = o.so_checks
+under_way_of o User = o.user_checks
+
+-- what a cipher's outcome is told as, and what it leaves, at the place of its operation
+abbrev pub reply_at : Option Place → Outcome → Reply
+reply_at None outcome = Code rv.FunctionFailed
+reply_at (Some place) outcome = ciphered_reply (told_of outcome)
+
+abbrev pub desk_left : Option Place → ℕ → Outcome → DeskState → DeskState
+desk_left None session outcome d = d
+desk_left (Some place) session outcome d = record d { sessions = with_operation d.sessions session place (operation_left outcome) }
+
+-- The outcome of some work is answered as the definition of its question says.
+abbrev pub EndsBy : {K : Type 0} → Terms K → Function → ℕ → Outcome → Others → StoreState K → StoreState K → DeskState → Result Reply Refusal → DeskState → Type 0
+EndsBy terms function session outcome others old new before result desk =
+    (work : Work) (q : Question) → outcome ≡ outcome_of work → q.function ≡ function → q.session ≡ session
+    → IsDoneAs terms Replies 1 (λ c v. answer_outcome v q (task_of work) (told_of outcome) (reveal_by_outcome (task_of work) (told_of outcome) (objects_of c) (under_way_of others) others.in_session)) old new before result desk
+
+-- what is told of it
+abbrev pub settled_reply : Result Reply Refusal → Result Reply Fault
+settled_reply (Ok reply) = Ok reply
+settled_reply (Err (refusals.Row row)) = Ok (Code (code_of rv.Ok row))
+settled_reply (Err (refusals.Code code)) = Ok (Code code)
+settled_reply (Err refusals.Memory) = Err faults.Memory
+settled_reply (Err refusals.Device) = Err faults.Device
