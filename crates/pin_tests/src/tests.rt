@@ -1,0 +1,12 @@
+mod flags;
+mod given;
+mod logins;
+mod lost;
+mod new_pins;
+mod order;
+mod overlaps;
+mod private_objects;
+mod resets;
+mod sessions;
+mod stored;
+mod tries;
