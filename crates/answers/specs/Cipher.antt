@@ -17,7 +17,7 @@ use Rattle.precede.specs.declared.row.Row.TheVariants.{NoSession, NoOperation, D
 use Rattle.ops.specs.declared.place.Place.{Place}
 use Rattle.ops.specs.Operations.{started, further, text_of, operation_in}
 use Rattle.views.specs.Outcomes.{Outcome, Output, BadPadding}
-use Rattle.views.specs.Views.{Task, Ciphers}
+use Rattle.views.specs.Views.{Ciphers}
 use Rattle.answers.specs.Calls.{Reply, Row, Operation, View, Answer, replies, refuses_by, becomes, asks, answered, session_of, with_operation, checked_by}
 use Rattle.answers.specs.CipherInit.{place_for, ends}
 

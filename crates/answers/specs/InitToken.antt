@@ -52,8 +52,8 @@ init_token_result v label pin salt _ r = refuses v FunctionFailed
 abbrev pub reset : View → List ℕ → Reveal → Answer
 reset v label r =
     if is_charged v.token_record So (others r) then (
-      if is_in_use v r then stores (Code SessionExists) (with_tries v.token_record So (others r)) v
-      else resets (initialized_record label (verifier_or v.token_record So) (others r)) v)
+    if is_in_use v r then stores (Code SessionExists) (with_tries v.token_record So (others r)) v
+    else resets (initialized_record label (verifier_or v.token_record So) (others r)) v)
     else refuses v FunctionFailed
 
 abbrev pub reset_token_result : View → List ℕ → Outcome → Reveal → Answer

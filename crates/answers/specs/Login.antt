@@ -1,5 +1,5 @@
 -- C_Login (PKCS #11 v3.1, 5.6): a check of a PIN, and its end.
-use Rattle.std.specs.Prelude.{ℕ, Bool, true, false, ◌&&◌, ◌==◌, not, nat_lt, List, [], ◌∷◌, length, is_some, is_none, if◌then◌else◌, Option, Some, None}
+use Rattle.std.specs.Prelude.{ℕ, Bool, false, ◌&&◌, ◌==◌, not, nat_lt, List, [], ◌∷◌, length, is_some, is_none, if◌then◌else◌, Option, Some, None}
 use Rattle.std.specs.Option.{unwrap_or}
 use Rattle.ck_types.specs.declared.rv.Rv.TheVariants.{FunctionFailed, PinIncorrect}
 use Rattle.ck_types.specs.declared.user_type.UserType.TheVariants.{So, User}
@@ -13,7 +13,7 @@ use Rattle.views.specs.Outcomes.{Outcome, Right, Wrong}
 use Rattle.views.specs.Views.{ChecksPin, sees, without_handle}
 use Rattle.views.specs.Answering.{Reveal, asks_checked}
 use Rattle.answers.specs.Calls.{Ok, Code, Entry, UserType, Row, View, TokenObject, Answer, refuses, session_of, checked}
-use Rattle.answers.specs.Pins.{is_so, is_set, verifier_or, others, is_charged, stores}
+use Rattle.answers.specs.Pins.{is_set, verifier_or, others, is_charged, stores}
 
 -- ---- the check begins
 

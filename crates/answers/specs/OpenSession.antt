@@ -1,6 +1,5 @@
 -- C_OpenSession (PKCS #11 v3.1, 5.6).
-use Rattle.std.specs.Prelude.{bit_and, bit_or, ℕ, Bool, true, false, ◌&&◌, ◌==◌, not, nat_le, length, Option, Some, None}
-use Rattle.ck_types.specs.declared.user_type.UserType.TheVariants.{So, User}
+use Rattle.std.specs.Prelude.{bit_and, bit_or, ℕ, Bool, false, ◌&&◌, ◌==◌, not, nat_le, length}
 use Rattle.ck_calls.specs.declared.function.Function.TheVariants.{OpenSession}
 use Rattle.ck_calls.specs.declared.reply.Reply.TheVariants.{Session as SessionReply}
 use Rattle.precede.specs.declared.row.Row.TheVariants.{NoSlot, NotSerial, UnknownFlag, SoLoggedIn, SessionLimit}

@@ -1,5 +1,5 @@
 -- What the calls of PINs share (PKCS #11 v3.1, 5.5 and 5.6): checks of PINs, new ones, and what they make of the record.
-use Rattle.std.specs.Prelude.{ℕ, Bool, true, false, ◌&&◌, not, nat_le, nat_lt, List, [], length, is_some, Option, Some, None}
+use Rattle.std.specs.Prelude.{ℕ, Bool, true, false, ◌&&◌, nat_le, nat_lt, List, [], length, is_some, Option, Some, None}
 use Rattle.std.specs.Option.{unwrap_or}
 use Rattle.ck_types.specs.declared.user_type.UserType.TheVariants.{So, User}
 use Rattle.ck_calls.specs.declared.reply.Reply.{Reply}
@@ -7,7 +7,7 @@ use Rattle.pin_record.specs.Verifiers.{PinVerifier, hidden_verifier}
 use Rattle.pin_record.specs.Records.{TokenRecord, verifier_of, tries_of}
 use Rattle.views.specs.Answering.{Reveal}
 use Rattle.views.specs.Changes.{Records, Resets}
-use Rattle.answers.specs.Calls.{UserType, Rv, Code, Ok, View, Answer, Replies}
+use Rattle.answers.specs.Calls.{UserType, Code, Ok, View, Answer, Replies}
 
 -- the SO is logged in
 abbrev pub is_so : Option UserType → Bool

@@ -1,5 +1,5 @@
 -- C_SetPIN (PKCS #11 v3.1, 5.5): a new PIN in the place of the old one.
-use Rattle.std.specs.Prelude.{ℕ, Bool, false, not, List, is_none, if◌then◌else◌, Option, Some, None}
+use Rattle.std.specs.Prelude.{ℕ, Bool, false, not, List, is_none, if◌then◌else◌, Option}
 use Rattle.ck_types.specs.declared.rv.Rv.TheVariants.{FunctionFailed, PinIncorrect}
 use Rattle.ck_types.specs.declared.user_type.UserType.TheVariants.{So, User}
 use Rattle.ck_calls.specs.declared.function.Function.TheVariants.{SetPin}
@@ -34,8 +34,8 @@ set_pin v s pin new_pin random = sets_pin v s (owner v.sessions.login) pin new_p
 abbrev pub pin_changed : View → UserType → PinVerifier → Reveal → Answer
 pin_changed v who made r =
     if is_charged v.token_record who (others r) then (
-      if is_initialized v.token_record then stores (Code Ok) (with_pin v.token_record who made (others r)) v
-      else stores (Code FunctionFailed) (with_tries v.token_record who (others r)) v)
+    if is_initialized v.token_record then stores (Code Ok) (with_pin v.token_record who made (others r)) v
+    else stores (Code FunctionFailed) (with_tries v.token_record who (others r)) v)
     else refuses v FunctionFailed
 
 abbrev pub set_pin_result : View → UserType → List ℕ → List ℕ → Outcome → Reveal → Answer

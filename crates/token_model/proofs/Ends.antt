@@ -1,30 +1,29 @@
 -- What a result makes of the record and the checks under way is what its events of PINs make of them.
-use Rattle.std.proofs.Common.{◌≡◌, ◌≢◌, ℕ, ◌+◌, ◌<◌, Bool, true, false, cond, List, [], ◌∷◌, ◌++◌, length, Option, Some, None, inl, inr, refl, sym, ◌∙◌, ap, subst, arith}
-use Rattle.std.specs.Prelude.{◌==◌, ◌||◌, ◌&&◌, not, nat_lt, nat_le}
+use Rattle.std.proofs.Common.{◌≡◌, ◌≢◌, ℕ, Bool, true, false, cond, List, [], ◌∷◌, length, Option, Some, None, inl, inr, refl, sym, ◌∙◌, ap, arith}
+use Rattle.std.specs.Prelude.{◌==◌, ◌||◌, ◌&&◌, not}
 use Rattle.std.specs.List.{list_any}
-use Rattle.std.specs.Option.{unwrap_or}
-use Rattle.std.proofs.lemmas.Bool.{cases_eq, cases_Bool, eq-eqb, ne_eqb, eqb-true, cond-true, lt-ltb}
+use Rattle.std.proofs.lemmas.Bool.{cases_eq, eq-eqb, ne_eqb, eqb-true, cond-true, lt-ltb}
 use Rattle.ck_types.specs.declared.rv.Rv.TheVariants.{Ok, FunctionFailed, SessionExists}
 use Rattle.ck_calls.specs.declared.reply.Reply.TheVariants.{Code}
 use Rattle.ck_types.specs.declared.user_type.UserType.{UserType}
 use Rattle.ck_types.specs.declared.user_type.UserType.TheVariants.{So, User}
 use Rattle.pin_record.specs.Verifiers.{PinVerifier, verifier_for, new_rounds}
 use Rattle.pin_record.specs.Records.{TokenRecord, is_initialized, initialized_record, tries_of, with_pin, with_tries}
-use Rattle.pin_record.specs.Charges.{Charges, EndsRight, EndsOtherwise, SetsPin, Initializes, checks_of as checks_in, with_checks, with_stored, is_under_way, without, has_no_user_check, happens as pin_happens, after as pin_after}
+use Rattle.pin_record.specs.Charges.{Charges, EndsRight, SetsPin, Initializes, checks_of as checks_in, with_checks, with_stored, is_under_way, without, has_no_user_check, happens as pin_happens, after as pin_after}
 use Rattle.pin_record.proofs.Counting.{fewer, without-none}
 use Rattle.views.specs.Outcomes.{Outcome, Right, Wrong, Made}
 use Rattle.views.specs.Views.{Task, Ciphers, ChecksPin, MakesPin, ChangesPin, InitsToken, ResetsToken, Question, View}
-use Rattle.views.specs.Changes.{Change, Stays, Records, Resets, recorded}
-use Rattle.views.specs.Answering.{Reveal, Answer, answered, pin_checked_by, has_session, refuses}
+use Rattle.views.specs.Changes.{Change, Records, recorded}
+use Rattle.views.specs.Answering.{Reveal, answered, pin_checked_by, has_session, refuses}
 use Rattle.answers.specs.Pins.{verifier_or, others, is_charged, stores, resets}
 use Rattle.answers.specs.Login.{may_log_in, logged_in, right_pin, login_result}
 use Rattle.answers.specs.InitPin.{may_set_pin, init_pin_result}
-use Rattle.answers.specs.SetPin.{pin_changed, set_pin_result}
-use Rattle.answers.specs.InitToken.{is_in_use, may_init, inited, init_token_result, reset, reset_token_result}
-use Rattle.answers.specs.Answers.{answer_outcome, place_asked, ciphered_at}
+use Rattle.answers.specs.SetPin.{set_pin_result}
+use Rattle.answers.specs.InitToken.{is_in_use, may_init, init_token_result, reset_token_result}
+use Rattle.answers.specs.Answers.{answer_outcome, place_asked}
 use Rattle.answers.proofs.Proper.{still-ciphered_at}
 use Rattle.token_model.specs.Worlds.{World, is_in_session, others_in_session, checking, others_checking, checks_of, without_checks, reveal_to_outcome, reveals_login}
-use Rattle.token_model.specs.Tries.{charges_of, ends, is_right, sets, events_of_outcome, pending_check, checks_by, IsSound}
+use Rattle.token_model.specs.Tries.{charges_of, ends, events_of_outcome, pending_check, checks_by, IsSound}
 use Rattle.token_model.proofs.UnderWay.{checking-over, under_way-is, checking-stays}
 
 abbrev pub charges : TokenRecord → List ℕ → List ℕ → Charges
@@ -143,6 +142,7 @@ module _ (s : UserType → ℕ) (w : World) (sound : IsSound s w) (app : ℕ) wh
         told : (who : UserType) → others (reveals_login w.objects who (others_checking w.checks app who)) ≡ others_checking w.checks app who
         told So = refl
         told User = refl
+
         changes : (v : View) (who : UserType) (r : Reveal) → is_charged v.token_record who (others r) ≡ true → (right_pin (answered v) who r).change ≡ Records (with_tries v.token_record who (others r))
         changes v who r set = rw set (step (may_log_in (answered v) who)) where
           step : (b : Bool) → (cond b (stores (Code Ok) (with_tries v.token_record who (others r)) (logged_in (answered v) who r)) (stores (Code FunctionFailed) (with_tries v.token_record who (others r)) (answered v))).change ≡ Records (with_tries v.token_record who (others r))
@@ -155,10 +155,13 @@ module _ (s : UserType → ℕ) (w : World) (sound : IsSound s w) (app : ℕ) wh
   becomes-made pin salt Made own = step (may_set_pin (w.views app) r) refl where
     r : Reveal
     r = reveal_to_outcome w app (MakesPin pin salt) Made
+
     made : PinVerifier
     made = verifier_for pin salt new_rounds
+
     n : ℕ
     n = others_checking w.checks app User
+
     step : (b : Bool) → may_set_pin (w.views app) r ≡ b → ended w app (recorded (cond b (stores (Code Ok) (with_pin (w.views app).token_record User made n) (answered (w.views app))) (refuses (answered (w.views app)) FunctionFailed)).change w.token_record) ≡ pin_after (charges_of w) (cond b (SetsPin User made ∷ []) [])
     step false e = none-ended w.token_record own
     step true e =
@@ -222,10 +225,13 @@ module _ (s : UserType → ℕ) (w : World) (sound : IsSound s w) (app : ℕ) wh
   becomes-inited label pin salt Made own = step (may_init (w.views app)) refl (is_in_use (w.views app) r) refl where
     r : Reveal
     r = reveal_to_outcome w app (InitsToken label pin salt) Made
+
     made : PinVerifier
     made = verifier_for pin salt new_rounds
+
     v : View
     v = w.views app
+
     step : (a : Bool) → may_init (w.views app) ≡ a → (b : Bool) → is_in_use (w.views app) r ≡ b → ended w app (recorded (cond a (cond b (refuses (answered v) SessionExists) (resets (initialized_record label made 0) (answered v))) (refuses (answered v) FunctionFailed)).change w.token_record) ≡ pin_after (charges_of w) (cond a (cond b [] (Initializes label made ∷ [])) [])
     step false p b q = none-ended w.token_record own
     step true p true q = none-ended w.token_record own
@@ -243,10 +249,13 @@ module _ (s : UserType → ℕ) (w : World) (sound : IsSound s w) (app : ℕ) wh
   becomes-reset label verifier pin Right own = step (is_charged (w.views app).token_record So (others_checking w.checks app So)) (ap (λ r. is_charged r So (others_checking w.checks app So)) (sound.records app) ∙ charged So own) (is_in_use (w.views app) r) refl where
     r : Reveal
     r = reveal_to_outcome w app (ResetsToken label verifier pin) Right
+
     v : View
     v = w.views app
+
     n : ℕ
     n = others_checking w.checks app So
+
     step : (a : Bool) → a ≡ true → (b : Bool) → is_in_use (w.views app) r ≡ b → ended w app (recorded (cond a (cond b (stores (Code SessionExists) (with_tries v.token_record So n) (answered v)) (resets (initialized_record label (verifier_or v.token_record So) n) (answered v))) (refuses (answered v) FunctionFailed)).change w.token_record) ≡ pin_after (pin_happens (charges_of w) (EndsRight So app)) (cond b [] (Initializes label (verifier_or v.token_record So) ∷ []))
     step false k b q = let z : false ≡ true = k in cc
     step true k true q = ap (λ x. ended w app (with_tries x So n)) (sound.records app) ∙ ended-right So own

@@ -22,8 +22,8 @@ use Rattle.token_model.specs.Tries.{charges_of, pending_check, begins, ends, eve
 use Rattle.views.proofs.Blind.{Leaves, Charged}
 use Rattle.answers.proofs.Proper.{fair-answer, none-asked, busy-answer, over-result, unasking-result, record-result, result-is}
 use Rattle.answers.specs.Answers.{answer_outcome}
-use Rattle.token_model.proofs.Ends.{charges, alike, ended, charges-ended, charges-outcome}
-use Rattle.token_model.proofs.UnderWay.{by-own, by-other, checking-begun, over-own, over-other, checking-over, under_way-is, checking-stays}
+use Rattle.token_model.proofs.Ends.{charges, alike, charges-ended, charges-outcome}
+use Rattle.token_model.proofs.UnderWay.{by-own, by-other, checking-begun, over-own, over-other, under_way-is}
 
 -- ---- a change and the record
 

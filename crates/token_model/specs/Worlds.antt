@@ -1,5 +1,5 @@
 -- All that a token is to all applications, and what an event makes of it.
-use Rattle.std.specs.Prelude.{ℕ, nat_lt, Bool, true, false, not, ◌==◌, length, List, [], ◌∷◌, ◌++◌, filter, if◌then◌else◌, Option, Some, None, map}
+use Rattle.std.specs.Prelude.{ℕ, Bool, true, false, not, ◌==◌, length, List, [], ◌∷◌, ◌++◌, filter, if◌then◌else◌, Option, Some, None, map}
 use Rattle.std.specs.List.{list_any}
 use Rattle.ck_types.specs.declared.entry.Entry.{Entry}
 use Rattle.ck_types.specs.declared.user_type.UserType.{UserType}

@@ -1,6 +1,6 @@
 -- What one application sees of the token. The full view has the values of keys that are masked or in use, and
 -- what PINs are checked against; the view has none of them.
-use Rattle.std.specs.Prelude.{ℕ, Bool, true, List, [], map, filter, Option, None, is_some}
+use Rattle.std.specs.Prelude.{ℕ, Bool, true, List, [], map, filter, Option, None}
 use Rattle.std.specs.Option.{option_map}
 use Rattle.ck_types.specs.declared.entry.Entry.{Entry}
 use Rattle.ck_types.specs.declared.user_type.UserType.{UserType}

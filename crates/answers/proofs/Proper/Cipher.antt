@@ -12,7 +12,7 @@ use Rattle.precede.specs.declared.row.Row.TheVariants.{NoSession, DataTaken, Dat
 use Rattle.ops.specs.declared.place.Place.{Place}
 use Rattle.ops.specs.Operations.{Operation, mask_operation, text_of, operation_in}
 use Rattle.views.specs.Outcomes.{Outcome, Output, BadPadding}
-use Rattle.views.specs.Views.{Task, Ciphers, mask_task}
+use Rattle.views.specs.Views.{Ciphers}
 use Rattle.views.specs.Refusals.{set_apart}
 use Rattle.views.specs.Answering.{asks, answered, with_operation}
 use Rattle.answers.specs.CipherInit.{ends, place_for}

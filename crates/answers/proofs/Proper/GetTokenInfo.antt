@@ -6,7 +6,7 @@ use Rattle.ck_calls.specs.declared.function.Function.TheVariants.{GetTokenInfo}
 use Rattle.sessions.specs.declared.Session.{Session}
 use Rattle.ops.specs.Operations.{Operations}
 use Rattle.answers.specs.GetTokenInfo.{token_info_row, token_info, get_token_info}
-use Rattle.views.proofs.Checks.{Row, View, mask, mask_session, shown, replies, IsProper, blind-reply, fair, proper-checked, set-masked}
+use Rattle.views.proofs.Checks.{View, mask, mask_session, shown, replies, IsProper, blind-reply, fair, proper-checked, set-masked}
 
 counted-mask : (n : ℕ) (ss : List (Session Operations)) → fold (λ a (x : Session Operations). a + cond x.read_write 1 0) n (map mask_session ss) ≡ fold (λ a x. a + cond x.read_write 1 0) n ss
 counted-mask n [] = refl

@@ -1,9 +1,9 @@
 -- C_InitToken: the check or the question, and its result.
-use Rattle.std.proofs.Common.{◌≡◌, ℕ, Bool, true, false, cond, not, List, map, refl, ap}
-use Rattle.std.specs.Prelude.{◌&&◌, ◌||◌, ◌==◌, nat_lt, length}
+use Rattle.std.proofs.Common.{◌≡◌, ℕ, Bool, true, false, cond, not, List, refl, ap}
+use Rattle.std.specs.Prelude.{◌&&◌, ◌||◌, ◌==◌, nat_lt}
 use Rattle.std.specs.Option.{unwrap_or}
 use Rattle.std.proofs.lemmas.Bool.{not-false}
-use Rattle.ck_types.specs.declared.rv.Rv.TheVariants.{Ok, FunctionFailed, PinIncorrect, SessionExists}
+use Rattle.ck_types.specs.declared.rv.Rv.TheVariants.{FunctionFailed, PinIncorrect, SessionExists}
 use Rattle.ck_types.specs.declared.user_type.UserType.TheVariants.{So, User}
 use Rattle.ck_calls.specs.declared.function.Function.TheVariants.{InitToken}
 use Rattle.ck_calls.specs.declared.reply.Reply.TheVariants.{Code}
@@ -18,9 +18,9 @@ use Rattle.views.proofs.Masks.{with_tries-masked}
 use Rattle.views.proofs.Blind.{blind-if, blind-asks, blind-asks_checked, fair-asks_checked}
 use Rattle.views.proofs.Checks.{Row, View, mask, shown, mask-twice, IsProper, IsFair, NoRow, blind-refusal, fair, proper-given}
 use Rattle.answers.specs.Pins.{is_pin_length, verifier_or, others, is_charged}
-use Rattle.answers.specs.InitToken.{is_in_use, init_token_row, inits, init_token, may_init, inited, init_token_result, reset, reset_token_result}
+use Rattle.answers.specs.InitToken.{is_in_use, init_token_row, inits, init_token, may_init, init_token_result, reset_token_result}
 use Rattle.answers.proofs.Over.{IsOver, over-if, over-refused, over-stores, over-resets, blind-stores, blind-resets}
-use Rattle.answers.proofs.Proper.Pins.{row-locked, row-initialized, charged-mask}
+use Rattle.answers.proofs.Proper.Pins.{row-initialized, charged-mask}
 
 use-mask : (v : View) (r : Reveal) → is_in_use (mask v) (mask_reveal r) ≡ is_in_use v r
 use-mask v r = ap (λ n. nat_lt 0 n || unwrap_or r.in_session false) (length-map mask_session v.sessions.sessions)

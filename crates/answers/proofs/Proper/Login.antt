@@ -1,6 +1,6 @@
 -- C_Login: the check, and its end.
-use Rattle.std.proofs.Common.{◌≡◌, ℕ, Bool, true, false, cond, not, List, [], ◌∷◌, map, Option, Some, None, refl, sym, ◌∙◌, ap}
-use Rattle.std.specs.Prelude.{nat_lt, length, ◌||◌, ◌&&◌}
+use Rattle.std.proofs.Common.{◌≡◌, ℕ, Bool, true, false, cond, not, List, [], ◌∷◌, map, Option, Some, None, refl, ◌∙◌, ap}
+use Rattle.std.specs.Prelude.{nat_lt, ◌||◌}
 use Rattle.std.specs.Option.{option_map, unwrap_or}
 use Rattle.std.proofs.lemmas.Bool.{not-false}
 use Rattle.ck_types.specs.declared.entry.Entry.{Entry}
@@ -19,12 +19,12 @@ use Rattle.sessions.specs.Sessions.{has_read_only, state_of}
 use Rattle.ops.specs.Operations.{Operations}
 use Rattle.lists.proofs.ListLemmas.{length-map}
 use Rattle.views.specs.Outcomes.{Outcome, Right, Wrong}
-use Rattle.views.specs.Views.{TokenObject, ChecksPin, mask_record, mask_session, mask_token_object, sees, without_handle}
-use Rattle.views.specs.Answering.{Reveal, mask_reveal, mask_objects, answered, refuses, asks_checked}
-use Rattle.views.proofs.Masks.{charged-masked, with_tries-masked, tokens-twice, record-twice}
+use Rattle.views.specs.Views.{TokenObject, ChecksPin, mask_session, mask_token_object, sees, without_handle}
+use Rattle.views.specs.Answering.{Reveal, mask_reveal, mask_objects, answered, asks_checked}
+use Rattle.views.proofs.Masks.{with_tries-masked, tokens-twice, record-twice}
 use Rattle.views.proofs.Blind.{blind-if, blind-asks_checked, fair-asks_checked}
-use Rattle.views.proofs.Checks.{Row, View, mask, shown, own-twice, sessions-twice, question-twice, mask-twice, IsProper, IsFair, NoRow, blind-refusal, proper-given, has-session, row-session}
-use Rattle.answers.specs.Pins.{verifier_or, others, is_charged, stores}
+use Rattle.views.proofs.Checks.{Row, View, mask, shown, own-twice, sessions-twice, question-twice, mask-twice, IsProper, blind-refusal, proper-given, has-session, row-session}
+use Rattle.answers.specs.Pins.{verifier_or, others, is_charged}
 use Rattle.answers.specs.Login.{user_of, keeps_out, login_row, logs_in, login, merged, tokens_for, may_log_in, logged_in, right_pin, login_result}
 use Rattle.answers.proofs.Over.{IsOver, over-if, over-refused, over-stores, blind-stores}
 use Rattle.answers.proofs.Proper.Pins.{row-set, row-locked, charged-mask}

@@ -1,14 +1,9 @@
 -- What the calls of PINs test and check against, but for what is kept back.
-use Rattle.std.proofs.Common.{◌≡◌, ℕ, Bool, true, false, not, List, Option, Some, None, refl, sym, ◌∙◌, ap}
+use Rattle.std.proofs.Common.{◌≡◌, ℕ, not, refl, ◌∙◌, ap}
 use Rattle.std.specs.Prelude.{nat_lt, is_some}
-use Rattle.std.specs.Option.{option_map, unwrap_or}
-use Rattle.std.proofs.lemmas.Bool.{cases_Bool}
 use Rattle.ck_types.specs.declared.user_type.UserType.{UserType}
-use Rattle.ck_types.specs.declared.user_type.UserType.TheVariants.{So}
-use Rattle.pin_record.specs.Verifiers.{PinVerifier, hidden_verifier}
-use Rattle.pin_record.specs.Records.{TokenRecord, is_initialized, is_locked, tries_limit, tries_of, verifier_of}
+use Rattle.pin_record.specs.Records.{TokenRecord, is_initialized, is_locked, tries_limit, verifier_of}
 use Rattle.views.specs.Views.{mask_record, mask_verifier}
-use Rattle.views.specs.Answering.{Reveal, mask_reveal}
 use Rattle.views.proofs.Masks.{set-masked, tries-masked, verifier-masked}
 use Rattle.answers.specs.Pins.{is_set, verifier_or, is_charged}
 

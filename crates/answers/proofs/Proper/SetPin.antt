@@ -14,9 +14,9 @@ use Rattle.views.specs.Views.{ChangesPin}
 use Rattle.views.specs.Answering.{Reveal, mask_reveal, answered, asks_checked}
 use Rattle.views.proofs.Masks.{with_pin-masked, with_tries-masked}
 use Rattle.views.proofs.Blind.{blind-if, blind-asks_checked, fair-asks_checked}
-use Rattle.views.proofs.Checks.{Row, View, mask, shown, mask-twice, IsProper, IsFair, blind-refusal, proper-given, has-session, row-session, row-writes}
+use Rattle.views.proofs.Checks.{Row, View, mask, shown, mask-twice, IsProper, blind-refusal, proper-given, has-session, row-session, row-writes}
 use Rattle.answers.specs.Pins.{verifier_or, others, is_charged}
-use Rattle.answers.specs.SetPin.{owner, set_pin_row, sets_pin, set_pin, pin_changed, set_pin_result}
+use Rattle.answers.specs.SetPin.{owner, set_pin_row, sets_pin, set_pin, set_pin_result}
 use Rattle.answers.proofs.Over.{IsOver, over-if, over-refused, over-stores, blind-stores}
 use Rattle.answers.proofs.Proper.Pins.{row-set, row-locked, row-initialized, charged-mask}
 
