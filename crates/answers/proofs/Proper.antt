@@ -13,6 +13,8 @@ mod CreateObject
 mod CopyObject
 mod DestroyObject
 mod SetAttributeValue
+mod FindObjects
+mod FindObjectsInit
 mod CipherInit
 mod Cipher
 use Rattle.std.proofs.Common.{◌≡◌, ℕ, ◌^◌, Bool, true, false, cond, not, List, Option, Some, None, refl, ◌∙◌, ap}
@@ -59,6 +61,8 @@ use Rattle.answers.proofs.Sizes.{object_size-mask}
 use Rattle.answers.proofs.Telling.{attributes_told-mask}
 use Rattle.views.proofs.Checks.{proper-reads}
 use Rattle.answers.proofs.Proper.SetAttributeValue.{proper-set_attribute_value}
+use Rattle.answers.proofs.Proper.FindObjects.{proper-find_objects, proper-find_objects_final}
+use Rattle.answers.proofs.Proper.FindObjectsInit.{proper-find_objects_init}
 use Rattle.answers.proofs.Proper.CipherInit.{proper-cipher_init}
 use Rattle.answers.proofs.Proper.Cipher.{proper-single, proper-update, proper-final, blind-ciphered, plain-ciphered}
 
@@ -84,6 +88,9 @@ proper-answer_to (call.DestroyObject session object) random = proper-destroy_obj
 proper-answer_to (call.GetObjectSize session object) random = proper-reads function.GetObjectSize session object (λ o. ObjectSize (object_size o)) (λ o. ap ObjectSize (object_size-mask o)) (λ o. refl)
 proper-answer_to (call.GetAttributeValue session object query) random = proper-reads function.GetAttributeValue session object (λ o. attributes_told o query) (λ o. attributes_told-mask o query) (λ o. refl)
 proper-answer_to (call.SetAttributeValue session object template) random = proper-set_attribute_value session object template
+proper-answer_to (call.FindObjectsInit session template) random = proper-find_objects_init session template
+proper-answer_to (call.FindObjects session max_count) random = proper-find_objects session max_count
+proper-answer_to (call.FindObjectsFinal session) random = proper-find_objects_final session
 proper-answer_to (call.EncryptInit session mechanism key) random = proper-cipher_init Encipher session mechanism key
 proper-answer_to (call.Encrypt session input room) random = proper-single Encipher session input room
 proper-answer_to (call.EncryptUpdate session input room) random = proper-update Encipher session input room

@@ -29,6 +29,8 @@ use Rattle.answers.specs.DestroyObject.{destroy_object}
 use Rattle.answers.specs.GetObjectSize.{get_object_size}
 use Rattle.answers.specs.GetAttributeValue.{get_attribute_value}
 use Rattle.answers.specs.SetAttributeValue.{set_attribute_value}
+use Rattle.answers.specs.FindObjectsInit.{find_objects_init}
+use Rattle.answers.specs.FindObjects.{find_objects, find_objects_final}
 use Rattle.answers.specs.CipherInit.{cipher_init}
 use Rattle.answers.specs.Cipher.{cipher_single, cipher_update, cipher_final, ciphered}
 
@@ -50,6 +52,9 @@ answer_to v (call.DestroyObject session object) random reveal = destroy_object v
 answer_to v (call.GetObjectSize session object) random reveal = get_object_size v session object
 answer_to v (call.GetAttributeValue session object query) random reveal = get_attribute_value v session object query
 answer_to v (call.SetAttributeValue session object template) random reveal = set_attribute_value v session object template
+answer_to v (call.FindObjectsInit session template) random reveal = find_objects_init v session template
+answer_to v (call.FindObjects session max_count) random reveal = find_objects v session max_count
+answer_to v (call.FindObjectsFinal session) random reveal = find_objects_final v session
 answer_to v (call.EncryptInit session mechanism key) random reveal = cipher_init Encipher v session mechanism key
 answer_to v (call.Encrypt session input room) random reveal = cipher_single Encipher v session input room
 answer_to v (call.EncryptUpdate session input room) random reveal = cipher_update Encipher v session input room

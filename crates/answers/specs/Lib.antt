@@ -9,6 +9,8 @@ pub mod DestroyObject
 pub mod GetObjectSize
 pub mod GetAttributeValue
 pub mod SetAttributeValue
+pub mod FindObjectsInit
+pub mod FindObjects
 pub mod CipherInit
 pub mod Cipher
 pub mod GetTokenInfo

@@ -1,6 +1,6 @@
 //! Desks.
 
-ghost use Rattle.std.specs.Prelude.{◌≡◌, ℕ, ◌+◌, ◌<◌, ◌^◌, ◌++◌, ◌∷◌, [], ◌==◌, not, filter, map, length, nat_lt, nat_le, is_some, Some, None, option_map, count_by, vec_capacity, IfOk, OnOk, OnErr, IsTrue, IsFalse, true};
+ghost use Rattle.std.specs.Prelude.{◌≡◌, ℕ, ◌+◌, ◌<◌, ◌^◌, ◌++◌, ◌∷◌, [], ◌==◌, not, drop, filter, map, length, nat_lt, nat_le, is_some, Some, None, option_map, count_by, vec_capacity, IfOk, OnOk, OnErr, IsTrue, IsFalse, true};
 ghost use Rattle.std.specs.Option.{option_copied};
 ghost use Rattle.std.specs.List.{position};
 ghost use Rattle.ck_types.specs.declared.user_type.UserType.TheVariants.{So};
@@ -8,7 +8,7 @@ ghost use Rattle.handles.specs.Handles.{object_of, number_of, with_handle, witho
 ghost use Rattle.handles.specs.Handles.{IsTable as IsHandleTable};
 ghost use Rattle.sessions.specs.Sessions.{session_at, state_of, has_read_only, with_session, with_work, IsTable};
 ghost use Rattle.guard.specs.Access.{is_user_in};
-ghost use Rattle.ops.specs.Operations.{no_operations, operation_in, operation_of, with_operation};
+ghost use Rattle.ops.specs.Operations.{no_operations, operation_in, operation_of, search_in, with_operation, with_search};
 ghost use Rattle.desk.specs.Desks.{DeskState, SameDesk, IsDiscreet, empty_desk, is_busy, own_at, replaced_own, closed, all_closed, logged_out_desk, with_question};
 ghost use Rattle.attrs.specs.Objects.{flag};
 ghost use Rattle.ck_types.specs.declared.attr_type.AttrType.TheVariants.{Private};
@@ -20,7 +20,7 @@ use ck_types::{AttrType, SessionState, UserType};
 use handles::Handles;
 use lists::NUMBER_LIMIT;
 use mech::Job;
-use ops::{Place, Places};
+use ops::{Place, Places, Search};
 use sessions::Sessions;
 use std::alloc::{AllocError, Global};
 use std::marker::Model;
@@ -200,6 +200,31 @@ impl Desk {
         }
     }
 
+    /// The search of a session.
+    pub fn search(&self, session: u64) -> Option<&Search>
+        ensures { option_copied result ≡ search_in (session_at self.now.sessions.sessions session) }
+    {
+        self.sessions.work(session)?.search()
+    }
+
+    /// Begins a search of a session, or ends the one that is there. Without such a session nothing changes.
+    pub fn set_search(&mut self, session: u64, search: Option<Search>)
+        ensures { self.new ≡ record self.old { sessions = with_search self.old.sessions session search } }
+    {
+        if let Some(places) = self.sessions.work_mut(session) {
+            places.set_search(search);
+        }
+    }
+
+    /// The first handles of a session's search, so many, are answered now. Without such a search nothing changes.
+    pub fn advance_search(&mut self, session: u64, count: usize)
+        ensures { self.new ≡ record self.old { sessions = with_search self.old.sessions session (option_map (drop count) (search_in (session_at self.old.sessions.sessions session))) } }
+    {
+        if let Some(places) = self.sessions.work_mut(session) {
+            places.advance_search(count);
+        }
+    }
+
     /// Whether there are as many session objects as an application may have.
     pub fn has_all_objects(&self) -> bool
         ensures { result ≡ nat_le 256 (length self.now.own) }
@@ -226,6 +251,13 @@ impl Desk {
             object,
         });
         Ok(handle)
+    }
+
+    /// The session objects, in the order of their creation.
+    pub fn own_objects(&self) -> &[OwnObject]
+        ensures { result.now ≡ self.now.own }
+    {
+        self.own.as_slice()
     }
 
     /// The session object under a handle.
@@ -261,18 +293,18 @@ impl Desk {
         self.handles.object_of(handle)
     }
 
-    /// Makes room for one more handle of a token object. It fails only for want of memory.
-    pub fn reserve_handle(&mut self) -> Result<(), AllocError>
-        ensures room { OnOk result (HasRoomFor self.new.handles 1) }
+    /// Makes room for so many more handles of token objects. It fails only for want of memory.
+    pub fn reserve_handles(&mut self, additional: usize) -> Result<(), AllocError>
+        ensures room { OnOk result (HasRoomFor self.new.handles additional) }
         ensures same { SameDesk self.old self.new }
     {
-        self.handles.reserve(1)
+        self.handles.reserve(additional)
     }
 
     /// Gives a token object its handle, and notes whether the object is private, as it may be only where
     /// the user is logged in. No memory is taken.
     pub fn give_handle(&mut self, id: u64, private: bool) -> u64
-        requires below { self.old.handles.next_number < 2 ^ 63 }
+        requires below { self.old.handles.next_number + 1 < 2 ^ 64 }
         requires room { HasRoomFor self.old.handles 1 }
         requires discreet { IsTrue private → is_user_in self.old.sessions.login ≡ true }
         ensures given { self.new ≡ record self.old { handles = with_handle self.old.handles id private } }

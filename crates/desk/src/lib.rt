@@ -6,11 +6,11 @@
 //! numbers count, sessions, handles and questions, is its own, so that no application can tell from its
 //! numbers what others do.
 //!
-//! What follows a write to the store can't fail: a handle's room is made before it (`reserve_handle`).
+//! What follows a write to the store can't fail: a handle's room is made before it (`reserve_handles`).
 //!
 //! ```text
 //! let session = desk.open_session(true)?;
-//! desk.reserve_handle()?;
+//! desk.reserve_handles(1)?;
 //! let id = store.insert(&object)?;
 //! let handle = desk.give_handle(id, false);
 //! desk.close(session);

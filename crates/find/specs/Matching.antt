@@ -1,5 +1,5 @@
 -- Which objects a search template finds (PKCS #11 v3.1, 5.7.5).
-use Rattle.std.specs.Prelude.{ℕ, Bool, false, ◌&&◌, List, Option, Some, None}
+use Rattle.std.specs.Prelude.{ℕ, Bool, false, ◌&&◌, List, [], ◌∷◌, ◌++◌, Option, Some, None, if◌then◌else◌}
 use Rattle.std.specs.List.{list_all}
 use Rattle.std.specs.Str.{bytes_eq}
 use Rattle.ck_types.specs.declared.entry.Entry.{Entry}
@@ -16,3 +16,7 @@ entry_matches object e = reveals object e.number && has_value (attribute object 
 
 abbrev pub template_matches : List Entry → List Entry → Bool
 template_matches template object = list_all (entry_matches object) template
+
+-- what a search has found, an object further: notes stand for objects, in the order in which they come
+abbrev pub searched : {T : Type 0} → List Entry → List Entry → T → List T → List T
+searched template object note found = if template_matches template object then found ++ note ∷ [] else found

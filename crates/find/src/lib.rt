@@ -5,13 +5,17 @@
 //! search tells anything of its value. An attribute of an unknown type matches nothing, and an empty
 //! template matches every object.
 //!
+//! `search` reads one object at a time, and keeps no more of it than a note.
+//!
 //! ```
-//! if guard::visible(state, &object) && find::matches(&template, &object) {
-//!     found.push(handle)?;
+//! for own in objects {
+//!     find::search(&template, &own.object, own.handle, &mut found)?;
 //! }
 //! ```
 #![tactic(auto)]
 
 mod matching;
+mod searching;
 
 pub use matching::matches;
+pub use searching::search;

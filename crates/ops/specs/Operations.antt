@@ -72,6 +72,21 @@ placed_in t session (Some s) place o = with_work t session (placed s.work place 
 abbrev pub with_operation : SessionTable Operations → ℕ → Place → Option Operation → SessionTable Operations
 with_operation t session place o = placed_in t session (session_at t.sessions session) place o
 
+-- ---- a search (PKCS #11 v3.1, 5.7.5)
+
+-- the search of a session
+abbrev pub search_in : Option (Session Operations) → Option (List ℕ)
+search_in None = None
+search_in (Some s) = s.work.find
+
+-- a search begins in a session, goes on or ends; the operations stay
+abbrev pub searching_in : SessionTable Operations → ℕ → Option (Session Operations) → Option (List ℕ) → SessionTable Operations
+searching_in t session None search = t
+searching_in t session (Some s) search = with_work t session (record s.work { find = search })
+
+abbrev pub with_search : SessionTable Operations → ℕ → Option (List ℕ) → SessionTable Operations
+with_search t session search = searching_in t session (session_at t.sessions session) search
+
 -- ---- what is kept back
 
 -- all of an operation but the value of its key

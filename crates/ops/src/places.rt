@@ -1,15 +1,16 @@
 //! What a session has under way.
 
-ghost use Rattle.std.specs.Prelude.{◌≡◌, option_map};
+ghost use Rattle.std.specs.Prelude.{◌≡◌, drop, option_map};
 ghost use Rattle.std.specs.Option.{option_copied};
 ghost use Rattle.ops.specs.Operations.{no_operations, operation_at, operation_of, placed};
 
 use crate::place::Place;
+use crate::search::Search;
 use sessions::Work;
 use std::marker::Model;
 use streams::Stream;
 
-/// What a session has under way (PKCS #11 v3.1, 5.2): an operation at each place, or none. Searches have no place yet.
+/// What a session has under way (PKCS #11 v3.1, 5.2): an operation at each place, or none, and a search, or none.
 ///
 /// An operation keeps its own copy of the key, so that a later change of the key's object leaves it running.
 #[derive(Drop)]
@@ -18,15 +19,16 @@ pub struct Places {
     decrypt: Option<Stream>,
     sign: Option<Stream>,
     verify: Option<Stream>,
+    find: Option<Search>,
 }
 
 impl Model for Places {
-    ghost use Rattle.std.specs.Prelude.{None, option_map};
+    ghost use Rattle.std.specs.Prelude.{option_map};
     ghost use Rattle.ops.specs.Operations.{Operations, operation_of};
 
     ghost Value = { Operations };
 
-    ghost view = { λ p. record { encrypt = option_map operation_of p.encrypt; decrypt = option_map operation_of p.decrypt; sign = option_map operation_of p.sign; verify = option_map operation_of p.verify; find = None } };
+    ghost view = { λ p. record { encrypt = option_map operation_of p.encrypt; decrypt = option_map operation_of p.decrypt; sign = option_map operation_of p.sign; verify = option_map operation_of p.verify; find = p.find } };
 }
 
 impl Places {
@@ -53,6 +55,29 @@ impl Places {
             Place::Verify => self.verify = operation,
         }
     }
+
+    /// The search.
+    pub fn search(&self) -> Option<&Search>
+        ensures { option_copied result ≡ self.now.find }
+    {
+        self.find.as_ref()
+    }
+
+    /// A search begins, or the one that is there ends. The operations at the places stay.
+    pub fn set_search(&mut self, search: Option<Search>)
+        ensures { self.new ≡ record self.old { find = search } }
+    {
+        self.find = search;
+    }
+
+    /// The first handles of the search, so many, are answered now. Without a search nothing changes.
+    pub fn advance_search(&mut self, count: usize)
+        ensures { self.new ≡ record self.old { find = option_map (drop count) self.old.find } }
+    {
+        if let Some(search) = &mut self.find {
+            search.advance(count);
+        }
+    }
 }
 
 impl Work for Places {
@@ -64,6 +89,7 @@ impl Work for Places {
             decrypt: None,
             sign: None,
             verify: None,
+            find: None,
         }
     }
 }

@@ -9,6 +9,12 @@ use std::test::Fail;
 /// The call of a step.
 pub fn call_of(alloc: Global, step: Step) -> Result<Call, Fail> {
     match step {
+        Step::GetTokenInfo(_)
+        | Step::InitToken(..)
+        | Step::InitPin(..)
+        | Step::SetPin(..)
+        | Step::Login(..)
+        | Step::Logout(_) => token_call_of(alloc, step),
         Step::OpenSession(slot, flags) => Ok(Call::OpenSession { slot, flags }),
         Step::CloseSession(session) => Ok(Call::CloseSession { session }),
         Step::CloseAllSessions(slot) => Ok(Call::CloseAllSessions { slot }),
@@ -21,7 +27,46 @@ pub fn call_of(alloc: Global, step: Step) -> Result<Call, Fail> {
         | Step::Decrypt(..)
         | Step::DecryptUpdate(..)
         | Step::DecryptFinal(..) => decrypting_call_of(alloc, step),
+        Step::FindObjectsInit(..)
+        | Step::FindByNumber(..)
+        | Step::FindObjects(..)
+        | Step::FindObjectsFinal(_) => searching_call_of(alloc, step),
         _ => object_call_of(alloc, step),
+    }
+}
+
+/// The call of a step on the token and its PINs.
+fn token_call_of(alloc: Global, step: Step) -> Result<Call, Fail> {
+    match step {
+        Step::GetTokenInfo(slot) => Ok(Call::GetTokenInfo { slot }),
+        Step::InitToken(slot, pin, label) => {
+            let pin = Bytes::from_slice(alloc, pin)?;
+            let label = Bytes::from_slice(alloc, label)?;
+            Ok(Call::InitToken { slot, pin, label })
+        }
+        Step::InitPin(session, pin) => {
+            let pin = Bytes::from_slice(alloc, pin)?;
+            Ok(Call::InitPin { session, pin })
+        }
+        Step::SetPin(session, old_pin, new_pin) => {
+            let old_pin = Bytes::from_slice(alloc, old_pin)?;
+            let new_pin = Bytes::from_slice(alloc, new_pin)?;
+            Ok(Call::SetPin {
+                session,
+                old_pin,
+                new_pin,
+            })
+        }
+        Step::Login(session, user_type, pin) => {
+            let pin = Bytes::from_slice(alloc, pin)?;
+            Ok(Call::Login {
+                session,
+                user_type,
+                pin,
+            })
+        }
+        Step::Logout(session) => Ok(Call::Logout { session }),
+        _ => Err("this is no call of a PIN".into()),
     }
 }
 
@@ -140,6 +185,27 @@ fn plain_object_call_of(alloc: Global, step: Step) -> Result<Call, Fail> {
             })
         }
         _ => Err("this is no call".into()),
+    }
+}
+
+/// The call of a step that searches.
+fn searching_call_of(alloc: Global, step: Step) -> Result<Call, Fail> {
+    match step {
+        Step::FindObjectsInit(session, given) => {
+            let template = template_of(alloc, given)?;
+            Ok(Call::FindObjectsInit { session, template })
+        }
+        Step::FindByNumber(session, number, value) => {
+            let mut template = Template::new(alloc);
+            template.push(Entry {
+                number,
+                value: Bytes::from_slice(alloc, value)?,
+            })?;
+            Ok(Call::FindObjectsInit { session, template })
+        }
+        Step::FindObjects(session, max_count) => Ok(Call::FindObjects { session, max_count }),
+        Step::FindObjectsFinal(session) => Ok(Call::FindObjectsFinal { session }),
+        _ => Err("this searches nothing".into()),
     }
 }
 

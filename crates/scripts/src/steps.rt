@@ -21,6 +21,17 @@ pub type GivenMechanism = (u64, &'static [u8]);
 /// What an application does. The steps up to `Finish` are calls.
 #[derive(Clone, Copy, Debug)]
 pub enum Step {
+    /// Of a slot.
+    GetTokenInfo(u64),
+    /// In a slot, with the SO's PIN and a label.
+    InitToken(u64, &'static [u8], &'static [u8]),
+    /// In a session, with the user's new PIN.
+    InitPin(u64, &'static [u8]),
+    /// In a session, from one PIN to another.
+    SetPin(u64, &'static [u8], &'static [u8]),
+    /// In a session, of a user type, with a PIN.
+    Login(u64, u64, &'static [u8]),
+    Logout(u64),
     /// In a slot, with flags.
     OpenSession(u64, u64),
     CloseSession(u64),
@@ -32,6 +43,13 @@ pub enum Step {
     GetObjectSize(u64, u64),
     GetAttributeValue(u64, u64, Asked),
     SetAttributeValue(u64, u64, Given),
+    /// In a session, by a template.
+    FindObjectsInit(u64, Given),
+    /// In a session, by a template with one attribute, of this number, which may be none of an attribute type.
+    FindByNumber(u64, u64, &'static [u8]),
+    /// In a session, as many as this at most.
+    FindObjects(u64, u64),
+    FindObjectsFinal(u64),
     /// In a session, by a mechanism if there is one, under a key.
     EncryptInit(u64, Option<GivenMechanism>, u64),
     /// In a session, of a text, with the room for the output.
@@ -55,10 +73,14 @@ pub enum Told {
     /// Nothing yet: its question is pending, or there is nothing to be told.
     Nothing,
     Code(Rv),
+    /// A label, flags, and how many sessions there are, and how many of them may write.
+    TokenInfo(&'static [u8], u64, u64, u64),
     Session(u64),
     SessionInfo(SessionInfo),
     Object(u64),
     ObjectSize(u64),
+    /// The handles that are answered.
+    Objects(&'static [u64]),
     AttributeValues(Rv, Values),
     Length(u64),
     Data(&'static [u8]),

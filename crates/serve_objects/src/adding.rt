@@ -56,7 +56,7 @@ fn add_token_object<K: Keep>(
     requires seen { sees desk.old.sessions.login object.now ≡ true }
     ensures { IsDone K.terms 1 (λ v. adds_token_object v object.now) store.old store.new desk.old result desk.new }
 {
-    desk.reserve_handle()?;
+    desk.reserve_handles(1)?;
     let id = store.insert(object)?;
     Ok(Reply::Object(desk.give_handle(id, object.flag(AttrType::Private))))
 }

@@ -21,6 +21,7 @@ use serve_objects::{
     copy_object, create_object, destroy_object, get_attribute_value, get_object_size,
     set_attribute_value,
 };
+use serve_search::{find_objects, find_objects_init};
 use serve_sessions::{
     close_session, get_session_info, get_token_info, init_pin, init_token, login, logout,
     open_session, set_pin,
@@ -122,8 +123,13 @@ fn dispatch<K: Keep>(
             object,
             template,
         } => settle(set_attribute_value::serve(alloc, desk, store, session, object, &template)),
-        Call::FindObjectsInit { .. } | Call::FindObjects { .. } | Call::FindObjectsFinal { .. } =>
-            code(Rv::FunctionNotSupported),
+        Call::FindObjectsInit { session, template } => {
+            settle(find_objects_init::serve(alloc, desk, store, session, &template))
+        }
+        Call::FindObjects { session, max_count } => {
+            settle(find_objects::serve(alloc, desk, session, max_count))
+        }
+        Call::FindObjectsFinal { session } => settle(find_objects::serve_final(desk, session)),
         // Encryption (5.8).
         Call::EncryptInit {
             session,

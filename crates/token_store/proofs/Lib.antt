@@ -7,3 +7,4 @@ pub mod Serving
 pub mod Seeing
 pub mod Seated
 pub mod Listing
+mod Searched

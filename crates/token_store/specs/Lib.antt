@@ -2,3 +2,4 @@ pub mod Shown
 pub mod Stores
 pub mod Found
 pub mod Refusing
+pub mod Searching

@@ -25,11 +25,11 @@ pub struct Found {
     pub object: Object,
 }
 
-/// Whether the application sees a token object, by who is logged in.
-fn sees(desk: &Desk, object: &Object) -> bool
-    ensures { result ≡ sees desk.now.sessions.login object.now }
+/// Whether an application sees a token object, by who is logged in.
+pub(crate) fn sees(login: Option<UserType>, object: &Object) -> bool
+    ensures { result ≡ sees login object.now }
 {
-    match desk.logged_in() {
+    match login {
         None => visible(SessionState::RwPublic, object),
         Some(UserType::User) => visible(SessionState::RwUser, object),
         Some(UserType::So) => visible(SessionState::RwSo, object),
@@ -67,7 +67,7 @@ pub fn find<K: Keep>(
     match desk.id_of(handle) {
         Some(id) => match store.object(alloc, id)? {
             Some(object) => {
-                if sees(desk, &object) {
+                if sees(desk.logged_in(), &object) {
                     return Ok(Some(Found {
                         id: Some(id),
                         object,

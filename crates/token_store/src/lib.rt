@@ -1,7 +1,7 @@
 //! One desk over the store: what the crates that serve calls stand on.
 //!
 //! `Store` is the keeper of the token objects with their ids in the order of their creation; `find` copies the object
-//! that an application sees under a handle. A call answers `Result<Reply, Refusal>` or, where it may ask a question,
+//! that an application sees under a handle, and `Store::search` notes those that a template finds. A call answers `Result<Reply, Refusal>` or, where it may ask a question,
 //! `Result<Out, Refusal>`: an `Err` always means that nothing has changed. `settle` makes of it what is told.
 //!
 //! Contracts speak of what an application sees (`specs/Shown.antt`: `view_of`), of what the store has and what a crash
@@ -20,10 +20,12 @@ mod asking;
 mod finding;
 mod out;
 mod refusal;
+mod searching;
 mod store;
 
 pub use asking::ask;
 pub use finding::{Found, find};
 pub use out::Out;
 pub use refusal::{Refusal, settle, settle_asking};
+pub use searching::Match;
 pub use store::Store;

@@ -1,13 +1,16 @@
 //! The keeper, with the ids of its objects in the order of their creation.
 
-ghost use Rattle.std.specs.Prelude.{◌≡◌, ◌==◌, ◌+◌, not, filter, Option, IfOk, IfErr, OnOk, OnErr, IfSome};
-ghost use Rattle.std.specs.List.{list_any};
+ghost use Rattle.std.specs.Prelude.{◌≡◌, ◌==◌, ◌+◌, ◌++◌, not, filter, Option, IfOk, IfErr, OnOk, OnErr, IfSome};
+ghost use Rattle.std.specs.List.{AllByRecursion, list_any};
 ghost use Rattle.keep.specs.Contents.{Contents, IsTokenObject, after_reset, object_at, with_object, with_record, with_replacement, without_object};
 ghost use Rattle.keep.specs.Keeping.{Stays, HasCause, Counted};
 ghost use Rattle.lists.specs.Bisection.{IsPlaceOf, KeysRise};
+ghost use Rattle.token_store.specs.Searching.{tokens_found, MayFind};
 ghost use Rattle.token_store.specs.Stores.{Has, LeavesAlone, LeavesOr};
 
-use attrs::Object;
+use crate::searching::{Match, search_kept};
+use attrs::{Object, Template};
+use ck_types::UserType;
 use keep::{Keep, KeepFault};
 use pin_record::Record;
 use std::alloc::Global;
@@ -102,6 +105,25 @@ impl<K: Keep> Store<K> {
             return Ok(None);
         }
         Ok(Some(self.keep.object(alloc, id)?))
+    }
+
+    /// Finds the token objects that one who is logged in so sees and the template finds, in the order of their creation, and
+    /// notes them after what was found before. Each object is read once.
+    pub fn search(
+        &mut self,
+        alloc: Global,
+        login: Option<UserType>,
+        template: &Template,
+        found: &mut Vec<Match>,
+    ) -> Result<(), KeepFault>
+        ensures found { K.terms.doubt self.new.keep ≡ 0 → (c : Contents) → Has K.terms self.old c → OnOk result (found.new.items ≡ found.old.items ++ tokens_found login template.now c.objects) }
+        ensures may { AllByRecursion (MayFind login) found.old.items → OnOk result (AllByRecursion (MayFind login) found.new.items) }
+        ensures same { Stays K.terms self.old.keep self.new.keep }
+        ensures ids { self.new.ids ≡ self.old.ids }
+        ensures counts { Counted K.terms self.old.keep self.new.keep 0 0 }
+        ensures cause { HasCause (K.terms.failures self.old.keep) (K.terms.failures self.new.keep) result }
+    {
+        search_kept(alloc, &mut self.keep, &self.ids, login, template, found)
     }
 
     /// Adds a token object at the end. There is room for its id before it is written.

@@ -45,6 +45,18 @@ pub returns-in-SetAttributeValue : goal.returns-in-SetAttributeValue
 unfolding answer_to
 returns-in-SetAttributeValue g c = call-done g.K.Keep.terms c.args.app c.args.in_use c.args.call (call.SetAttributeValue c.in-SetAttributeValue.session c.in-SetAttributeValue.object c.in-SetAttributeValue.template) c.args.random.now c.in-SetAttributeValue.is 1 c.args.store.now _ c.args.desk.now _ c.serve-in-SetAttributeValue.result c.settle-in-SetAttributeValue.result (omega arith) c.settle-in-SetAttributeValue.ensures c.serve-in-SetAttributeValue.ensures
 
+pub returns-in-FindObjectsInit : goal.returns-in-FindObjectsInit
+unfolding answer_to
+returns-in-FindObjectsInit g c = call-done g.K.Keep.terms c.args.app c.args.in_use c.args.call (call.FindObjectsInit c.in-FindObjectsInit.session c.in-FindObjectsInit.template) c.args.random.now c.in-FindObjectsInit.is 0 c.args.store.now _ c.args.desk.now _ c.serve-in-FindObjectsInit.result c.settle-in-FindObjectsInit.result (omega arith) c.settle-in-FindObjectsInit.ensures c.serve-in-FindObjectsInit.ensures
+
+pub returns-in-FindObjects : goal.returns-in-FindObjects
+unfolding answer_to
+returns-in-FindObjects g c = call-at-desk g.K.Keep.terms c.args.app c.args.in_use c.args.call (call.FindObjects c.in-FindObjects.session c.in-FindObjects.max_count) c.args.random.now c.in-FindObjects.is c.args.store.now c.args.desk.now _ c.serve-in-FindObjects.result c.settle-in-FindObjects.result refl c.settle-in-FindObjects.ensures c.serve-in-FindObjects.ensures
+
+pub returns-in-FindObjectsFinal : goal.returns-in-FindObjectsFinal
+unfolding answer_to
+returns-in-FindObjectsFinal g c = call-at-desk g.K.Keep.terms c.args.app c.args.in_use c.args.call (call.FindObjectsFinal c.in-FindObjectsFinal.session) c.args.random.now c.in-FindObjectsFinal.is c.args.store.now c.args.desk.now _ c.serve_final.result c.settle-in-FindObjectsFinal.result refl c.settle-in-FindObjectsFinal.ensures c.serve_final.ensures
+
 pub returns-in-EncryptInit : goal.returns-in-EncryptInit
 unfolding answer_to
 returns-in-EncryptInit g c = call-done g.K.Keep.terms c.args.app c.args.in_use c.args.call (call.EncryptInit c.in-EncryptInit.session c.in-EncryptInit.mechanism c.in-EncryptInit.key) c.args.random.now c.in-EncryptInit.is 0 c.args.store.now _ c.args.desk.now _ c.serve-in-EncryptInit.result c.settle-in-EncryptInit.result (omega arith) c.settle-in-EncryptInit.ensures c.serve-in-EncryptInit.ensures
@@ -106,10 +118,6 @@ returns-in-Logout g c = call-at-desk g.K.Keep.terms c.args.app c.args.in_use c.a
 pub returns-in-GetMechanismList : goal.returns-in-GetMechanismList
 unfolding answer_to
 returns-in-GetMechanismList g c = call-refused g.K.Keep.terms c.args.app c.args.in_use c.args.call c.args.random.now FunctionNotSupported c.args.store.now c.args.desk.now c.code.result (λ v. search rules) refl c.code.ensures
-
-pub returns-in-FindObjectsInit : goal.returns-in-FindObjectsInit
-unfolding answer_to
-returns-in-FindObjectsInit g c = call-refused g.K.Keep.terms c.args.app c.args.in_use c.args.call c.args.random.now FunctionNotSupported c.args.store.now c.args.desk.now c.code-in-FindObjectsInit.result (λ v. search rules) refl c.code-in-FindObjectsInit.ensures
 
 pub returns-in-SignInit : goal.returns-in-SignInit
 unfolding answer_to

@@ -5,14 +5,16 @@ use ck_calls::Function;
 use precede::Row as Fault;
 use precede::Row::{
     DataLength, DataTaken, EncryptedDataLength, NoBuffer, NoObject, NoOperation, NoSession, NoSlot,
-    NotCopyable, NotDestroyable, NotModifiable, NotSerial, ObjectLimit, PrivateObject,
-    SessionLimit, SmallBuffer, SoLoggedIn, TemplateRefused, TokenObjectReadOnly, UnknownFlag,
+    NotCopyable, NotDestroyable, NotModifiable, NotSerial, ObjectLimit, OperationActive,
+    PrivateObject, SessionLimit, SmallBuffer, SoLoggedIn, TemplateRefused, TokenObjectReadOnly,
+    UnknownFlag,
 };
 use scripts::Step;
 use scripts::Step::{
     CloseAllSessions, CloseSession, CopyObject, CreateObject, Decrypt, DecryptFinal, DecryptInit,
-    DecryptUpdate, DestroyObject, Encrypt, EncryptFinal, EncryptInit, EncryptUpdate,
-    GetAttributeValue, GetObjectSize, GetSessionInfo, OpenSession, SetAttributeValue,
+    DecryptUpdate, DestroyObject, Encrypt, EncryptFinal, EncryptInit, EncryptUpdate, FindObjects,
+    FindObjectsFinal, FindObjectsInit, GetAttributeValue, GetObjectSize, GetSessionInfo,
+    OpenSession, SetAttributeValue,
 };
 use scripts::given::*;
 
@@ -28,6 +30,9 @@ pub(super) const SECONDS: &[(Fault, Step)] = &[
     (NoSession, GetObjectSize(NOWHERE, FREE)),
     (NoSession, GetAttributeValue(NOWHERE, FREE, &[])),
     (NoSession, SetAttributeValue(NOWHERE, FREE, NOTHING)),
+    (NoSession, FindObjectsInit(NOWHERE, NOTHING)),
+    (NoSession, FindObjects(NOWHERE, 1)),
+    (NoSession, FindObjectsFinal(NOWHERE)),
     (NoSession, EncryptInit(NOWHERE, ECB, KEY)),
     (NoSession, Encrypt(NOWHERE, TEXT, Some(16))),
     (NoSession, EncryptUpdate(NOWHERE, TEXT, Some(16))),
@@ -151,6 +156,18 @@ pub(super) const CASES: &[Case] = &[
         SetAttributeValue(WRITES, FREE, REFUSED),
         SetAttributeValue(WRITES, BARRED, REFUSED),
     ),
+    (
+        NoSession,
+        NoOperation,
+        FindObjects(WRITES, 1),
+        FindObjects(NOWHERE, 1),
+    ),
+    (
+        NoSession,
+        NoOperation,
+        FindObjectsFinal(WRITES),
+        FindObjectsFinal(NOWHERE),
+    ),
 ];
 
 /// The neighbours that can't both hold.
@@ -162,6 +179,8 @@ pub(super) const LEFT_OUT: &[(Function, Fault, Fault)] = &[
     (Function::CopyObject, NoObject, NotCopyable),
     (Function::DestroyObject, NoObject, TokenObjectReadOnly),
     (Function::SetAttributeValue, NoObject, TokenObjectReadOnly),
+    // In a session that isn't there no search is under way.
+    (Function::FindObjectsInit, NoSession, OperationActive),
     // Where there is no operation, none has taken data.
     (Function::Encrypt, NoOperation, DataTaken),
     (Function::Decrypt, NoOperation, DataTaken),

@@ -1,0 +1,4 @@
+mod answered;
+mod given;
+mod matches;
+mod others;

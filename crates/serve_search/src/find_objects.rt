@@ -1,0 +1,47 @@
+//! C_FindObjects and C_FindObjectsFinal (PKCS #11 v3.1, 5.7.6 and 5.7.7).
+
+ghost use Rattle.std.specs.Prelude.{◌≡◌};
+ghost use Rattle.views.specs.Answering.{Replies};
+ghost use Rattle.answers.specs.FindObjects.{answered_at_once, find_objects, find_objects_final};
+ghost use Rattle.token_store.specs.Refusing.{AtDesk};
+
+use ck_calls::Reply;
+use ck_types::{Items, Rv};
+use desk::Desk;
+use precede::Row;
+use std::alloc::Global;
+use token_store::Refusal;
+
+/// How many handles are answered at once, at most.
+pub const FOUND_LIMIT: u64 = 1024;
+
+/// Answers the first handles of a search that weren't answered yet: as many as are asked for, but at most `FOUND_LIMIT`.
+/// `CKR_SESSION_HANDLE_INVALID` where there is no such session, `CKR_OPERATION_NOT_INITIALIZED` where it has no search.
+pub fn serve(alloc: Global, desk: &mut Desk, session: u64, max_count: u64) -> Result<Reply, Refusal>
+    ensures { AtDesk Replies (λ v. find_objects v session max_count) desk.old result desk.new }
+{
+    let _ = desk.state(session).ok_or(Row::NoSession)?;
+    let search = desk.search(session).ok_or(Row::NoOperation)?;
+    let count = at_once(max_count);
+    let handles = Items::from_slice(alloc, search.first(count))?;
+    desk.advance_search(session, count);
+    Ok(Reply::Objects(handles))
+}
+
+/// Ends a search. `CKR_SESSION_HANDLE_INVALID` where there is no such session, `CKR_OPERATION_NOT_INITIALIZED` where it has
+/// no search.
+pub fn serve_final(desk: &mut Desk, session: u64) -> Result<Reply, Refusal>
+    ensures { AtDesk Replies (λ v. find_objects_final v session) desk.old result desk.new }
+{
+    let _ = desk.state(session).ok_or(Row::NoSession)?;
+    let _ = desk.search(session).ok_or(Row::NoOperation)?;
+    desk.set_search(session, None);
+    Ok(Reply::Code(Rv::Ok))
+}
+
+/// How many are answered of so many that are asked for.
+fn at_once(max_count: u64) -> usize
+    ensures { result ≡ answered_at_once max_count }
+{
+    max_count.min(FOUND_LIMIT) as usize
+}
