@@ -9,6 +9,12 @@ use std::test::Fail;
 /// The call of a step.
 pub fn call_of(alloc: Global, step: Step) -> Result<Call, Fail> {
     match step {
+        Step::GetTokenInfo(_)
+        | Step::InitToken(..)
+        | Step::InitPin(..)
+        | Step::SetPin(..)
+        | Step::Login(..)
+        | Step::Logout(_) => token_call_of(alloc, step),
         Step::OpenSession(slot, flags) => Ok(Call::OpenSession { slot, flags }),
         Step::CloseSession(session) => Ok(Call::CloseSession { session }),
         Step::CloseAllSessions(slot) => Ok(Call::CloseAllSessions { slot }),
@@ -22,6 +28,41 @@ pub fn call_of(alloc: Global, step: Step) -> Result<Call, Fail> {
         | Step::DecryptUpdate(..)
         | Step::DecryptFinal(..) => decrypting_call_of(alloc, step),
         _ => object_call_of(alloc, step),
+    }
+}
+
+/// The call of a step on the token and its PINs.
+fn token_call_of(alloc: Global, step: Step) -> Result<Call, Fail> {
+    match step {
+        Step::GetTokenInfo(slot) => Ok(Call::GetTokenInfo { slot }),
+        Step::InitToken(slot, pin, label) => {
+            let pin = Bytes::from_slice(alloc, pin)?;
+            let label = Bytes::from_slice(alloc, label)?;
+            Ok(Call::InitToken { slot, pin, label })
+        }
+        Step::InitPin(session, pin) => {
+            let pin = Bytes::from_slice(alloc, pin)?;
+            Ok(Call::InitPin { session, pin })
+        }
+        Step::SetPin(session, old_pin, new_pin) => {
+            let old_pin = Bytes::from_slice(alloc, old_pin)?;
+            let new_pin = Bytes::from_slice(alloc, new_pin)?;
+            Ok(Call::SetPin {
+                session,
+                old_pin,
+                new_pin,
+            })
+        }
+        Step::Login(session, user_type, pin) => {
+            let pin = Bytes::from_slice(alloc, pin)?;
+            Ok(Call::Login {
+                session,
+                user_type,
+                pin,
+            })
+        }
+        Step::Logout(session) => Ok(Call::Logout { session }),
+        _ => Err("this is no call of a PIN".into()),
     }
 }
 

@@ -1,8 +1,8 @@
 //! The replies that applications are told.
 
 use crate::steps::{Told, Values};
-use ck_calls::{AttributeValue, Output, Reply};
-use ck_types::{Bytes, Items};
+use ck_calls::{AttributeValue, Output, Reply, TokenInfo};
+use ck_types::{Bytes, Items, Label};
 use std::alloc::Global;
 use std::test::Fail;
 
@@ -11,6 +11,15 @@ pub fn reply_of(alloc: Global, told: Told) -> Result<Option<Reply>, Fail> {
     match told {
         Told::Nothing => Ok(None),
         Told::Code(code) => Ok(Some(Reply::Code(code))),
+        Told::TokenInfo(label, flags, session_count, rw_session_count) => {
+            let label = Label::from_slice(label).ok_or("a label has 32 bytes")?;
+            Ok(Some(Reply::TokenInfo(TokenInfo {
+                label,
+                flags,
+                session_count,
+                rw_session_count,
+            })))
+        }
         Told::Session(session) => Ok(Some(Reply::Session(session))),
         Told::SessionInfo(info) => Ok(Some(Reply::SessionInfo(info))),
         Told::Object(object) => Ok(Some(Reply::Object(object))),

@@ -21,6 +21,17 @@ pub type GivenMechanism = (u64, &'static [u8]);
 /// What an application does. The steps up to `Finish` are calls.
 #[derive(Clone, Copy, Debug)]
 pub enum Step {
+    /// Of a slot.
+    GetTokenInfo(u64),
+    /// In a slot, with the SO's PIN and a label.
+    InitToken(u64, &'static [u8], &'static [u8]),
+    /// In a session, with the user's new PIN.
+    InitPin(u64, &'static [u8]),
+    /// In a session, from one PIN to another.
+    SetPin(u64, &'static [u8], &'static [u8]),
+    /// In a session, of a user type, with a PIN.
+    Login(u64, u64, &'static [u8]),
+    Logout(u64),
     /// In a slot, with flags.
     OpenSession(u64, u64),
     CloseSession(u64),
@@ -55,6 +66,8 @@ pub enum Told {
     /// Nothing yet: its question is pending, or there is nothing to be told.
     Nothing,
     Code(Rv),
+    /// A label, flags, and how many sessions there are, and how many of them may write.
+    TokenInfo(&'static [u8], u64, u64, u64),
     Session(u64),
     SessionInfo(SessionInfo),
     Object(u64),
