@@ -5,7 +5,8 @@
 //! - `given` names what many scripts speak of: applications, keys, texts, templates and codes.
 //! - `Row`, `Step` and `Told` are the vocabulary; `call_of` and `reply_of` make a call and a reply of them.
 //! - `Bench` is a token that takes steps one after the other. `play` plays rows on a new one, `run` gives them to a new
-//!   token as one list of events, and `play_and_run` does both.
+//!   token as one list of events, and `play_and_run` does both. `BenchOver` and `run_over` take a keeper, where a token
+//!   starts from a store.
 //! - `expect_long_chain` and `expect_each_mechanism` give long texts to a `Server` at once and in pieces, there and back.
 //!
 //! ```text
@@ -29,6 +30,6 @@ mod texts;
 pub use bench::{Bench, BenchOver, expect_told, play};
 pub use calls::call_of;
 pub use replies::reply_of;
-pub use runs::{play_and_run, play_and_run_questions, run, run_over};
+pub use runs::{play_and_run, play_and_run_questions, run, run_over, with_finishes};
 pub use steps::{Asked, Given, GivenMechanism, Row, Step, Told, Values};
 pub use texts::{NewToken, Server, add_output, expect_each_mechanism, expect_long_chain};

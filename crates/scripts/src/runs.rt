@@ -49,7 +49,7 @@ fn joined(alloc: Global, before: &[Row], rows: &[Row]) -> Result<Vec<Row>, Fail>
 }
 
 /// The rows, and after each the end of the question, if there is one.
-fn with_finishes(alloc: Global, rows: &[Row]) -> Result<Vec<Row>, Fail> {
+pub fn with_finishes(alloc: Global, rows: &[Row]) -> Result<Vec<Row>, Fail> {
     let mut all = Vec::new(alloc);
     for row in rows {
         all.push(*row)?;
