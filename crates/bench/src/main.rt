@@ -11,9 +11,10 @@
 //! - keys that are made and kept, and keys that are made for one block each;
 //! - a text of 64,000 bytes, a thousand times, under each mode and code.
 //!
-//! After them stand HMAC-SHA-256 over such texts, 10,000 rounds of PBKDF2, C_GetAttributeValue among 100, 10,000 and 100,000
-//! token objects, of a hundred of them and of each, frames of C_Encrypt through a line in pieces of 4,096 and of 16 bytes beside the cipher alone, and 100,000
-//! events of two applications in one run of the token.
+//! After them stand HMAC-SHA-256 over such texts, 10,000 rounds of PBKDF2, logins and logouts of a user beside as many
+//! derivations alone, C_GetAttributeValue among 100, 10,000 and 100,000 token objects, of a hundred of them and of each, searches
+//! by label over 1,000 and 10,000 token objects, frames of C_Encrypt through a line in pieces of 4,096 and of 16 bytes beside the
+//! cipher alone, and 100,000 events of two applications in one run of the token.
 //!
 //! With the argument `small` it works on 64 KiB, 4,096 keys, one text or 100 rounds a row, and
 //! prints the exclusive or of the blocks that were made, or the last block, in place of times: they
@@ -36,17 +37,21 @@
 
 mod events;
 mod frames;
+mod logins;
 mod pieces;
 mod reading;
 mod run;
+mod searching;
 mod texts;
 
 use aes_modes::Direction;
 use events::events;
 use frames::{cipher, frames};
+use logins::{derivations, logins};
 use pieces::{print_memory, print_pieces};
 use reading::reading;
 use run::{Report, blocks_apart, chain, chain_back, keys_for_a_block, keys_kept};
+use searching::searching;
 use std::alloc::Global;
 use std::rt::Env;
 use std::time::CpuClock;
@@ -61,6 +66,7 @@ struct Scale {
     key_batches: u32,
     texts: u32,
     rounds: u32,
+    logins: u32,
     events: u32,
     report: Report,
 }
@@ -71,6 +77,7 @@ const FULL: Scale = Scale {
     key_batches: 256,
     texts: 1000,
     rounds: 10_000,
+    logins: 100,
     events: 100_000,
     report: Report::Times,
 };
@@ -80,6 +87,7 @@ const SMALL: Scale = Scale {
     key_batches: 1,
     texts: 1,
     rounds: 100,
+    logins: 1,
     events: 100,
     report: Report::Sums,
 };
@@ -104,6 +112,12 @@ const AMONG: &[(&str, u32, u32)] = &[
     ("GetAttributeValue among 100,000", 100_000, 100),
     ("GetAttributeValue of each of 10,000", 10_000, 10_000),
     ("GetAttributeValue of each of 100,000", 100_000, 100_000),
+];
+
+/// The searches of a row, and over how many token objects.
+const OVER: &[(&str, u32, u32)] = &[
+    ("a search by label over 1,000", 1000, 1000),
+    ("a search by label over 10,000", 10_000, 100),
 ];
 
 /// The lengths of the texts that go through a line, the longest that a frame of C_Encrypt has among them, with how many
@@ -169,6 +183,22 @@ fn print_readings(rt: &(impl CpuClock + Print), alloc: Global, scale: Scale) -> 
     Ok(())
 }
 
+fn print_logins(rt: &(impl CpuClock + Print), alloc: Global, scale: Scale) -> io::Result<()> {
+    logins(rt, alloc, scale.logins)?.print(rt, 0, scale.report)?;
+    derivations(rt, scale.logins)?.print(rt, 0, scale.report)
+}
+
+fn print_searches(rt: &(impl CpuClock + Print), alloc: Global, scale: Scale) -> io::Result<()> {
+    for (what, objects, count) in OVER {
+        let (objects, count) = match scale.report {
+            Report::Sums => (100, 1),
+            Report::Times => (*objects, *count),
+        };
+        searching(rt, alloc, what, objects, count)?.print(rt, 0, scale.report)?;
+    }
+    Ok(())
+}
+
 fn print_lines(rt: &(impl CpuClock + Print), alloc: Global, scale: Scale) -> io::Result<()> {
     for (what, len, count, most) in THROUGH {
         let count = match scale.report {
@@ -212,7 +242,9 @@ fn main(rt: HostRuntime) -> io::Result<()> {
     }
     over_texts(&rt, rt.alloc(), Work::Hmac, 32, scale.texts)?.print(&rt, 32, scale.report)?;
     derivation(&rt, scale.rounds)?.print(&rt, 8, scale.report)?;
+    print_logins(&rt, rt.alloc(), scale)?;
     print_readings(&rt, rt.alloc(), scale)?;
+    print_searches(&rt, rt.alloc(), scale)?;
     print_lines(&rt, rt.alloc(), scale)?;
     if let Report::Sums = scale.report {
         print_pieces(&rt, rt.alloc(), Report::Sums)?;

@@ -13,7 +13,7 @@ use token::{Out, Token};
 /// The application, and the number of its session.
 const APP: u64 = 1;
 
-const SESSION: u64 = 1;
+pub(crate) const SESSION: u64 = 1;
 
 /// A public data object of the token.
 const DATA: [(AttrType, &[u8]); 3] = [
@@ -22,27 +22,43 @@ const DATA: [(AttrType, &[u8]); 3] = [
     (AttrType::Private, &[0]),
 ];
 
-fn failed() -> io::Error {
+pub(crate) fn failed() -> io::Error {
     io::Error::from(io::ErrorKind::Other)
 }
 
-// One call, which asks no question.
-fn reply_to(alloc: Global, token: &mut Token<ListKeep>, call: Call) -> io::Result<Reply> {
+/// One call, and the end of its question if it asks one.
+pub(crate) fn reply_to(
+    alloc: Global,
+    token: &mut Token<ListKeep>,
+    call: Call,
+) -> io::Result<Reply> {
     let random = vec![in alloc; 0u8; need(&call)]?;
     match token.call(alloc, APP, call, &random) {
         Out::Reply(reply) => Ok(reply),
-        Out::Ask(_) => Err(failed()),
+        Out::Ask(job) => Ok(token.finish(alloc, APP, job.run(alloc))),
     }
 }
 
-fn new_object(alloc: Global) -> Result<Call, AllocError> {
+fn add(
+    alloc: Global,
+    template: &mut Template,
+    attribute: AttrType,
+    value: &[u8],
+) -> Result<(), AllocError> {
+    template.push(Entry {
+        number: attribute.number(),
+        value: Bytes::from_slice(alloc, value)?,
+    })?;
+    Ok(())
+}
+
+/// The call that makes a public data object of the token with this label.
+pub(crate) fn new_object(alloc: Global, label: &[u8]) -> Result<Call, AllocError> {
     let mut template = Template::new(alloc);
     for (attribute, value) in DATA {
-        template.push(Entry {
-            number: attribute.number(),
-            value: Bytes::from_slice(alloc, value)?,
-        })?;
+        add(alloc, &mut template, attribute, value)?;
     }
+    add(alloc, &mut template, AttrType::Label, label)?;
     Ok(Call::CreateObject {
         session: SESSION,
         template,
@@ -62,14 +78,28 @@ fn label_of(alloc: Global, object: u64) -> Result<Call, AllocError> {
     })
 }
 
+/// A new token over a keeper in memory.
+pub(crate) fn new_token(alloc: Global) -> io::Result<Token<ListKeep>> {
+    match Token::new(alloc, ListKeep::new(alloc, Record::new())) {
+        Ok(token) => Ok(token),
+        Err(_) => Err(failed()),
+    }
+}
+
+/// Opens the application's first session.
+pub(crate) fn open(alloc: Global, token: &mut Token<ListKeep>) -> io::Result<()> {
+    match reply_to(alloc, token, Call::OpenSession { slot: 0, flags: 6 })? {
+        Reply::Session(SESSION) => Ok(()),
+        _ => Err(failed()),
+    }
+}
+
 // A token with so many token objects, whose handles are the numbers from 1 on.
 fn filled(alloc: Global, objects: u32) -> io::Result<Token<ListKeep>> {
-    let Ok(mut token) = Token::new(alloc, ListKeep::new(alloc, Record::new())) else {
-        return Err(failed());
-    };
-    let _ = reply_to(alloc, &mut token, Call::OpenSession { slot: 0, flags: 6 })?;
+    let mut token = new_token(alloc)?;
+    open(alloc, &mut token)?;
     for _ in 0..objects {
-        let Reply::Object(_) = reply_to(alloc, &mut token, new_object(alloc)?)? else {
+        let Reply::Object(_) = reply_to(alloc, &mut token, new_object(alloc, b"")?)? else {
             return Err(failed());
         };
     }

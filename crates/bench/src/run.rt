@@ -35,6 +35,8 @@ pub(crate) enum Unit {
     Event,
     /// A call of the token.
     Call,
+    /// Calls of the token that belong together, and the work that they ask for.
+    Exchange,
     /// A text of so many bytes.
     Bytes(u32),
 }
@@ -202,6 +204,7 @@ impl Run {
                     Unit::Key => (f64::from(count) / 1e6 / seconds, "million keys/s"),
                     Unit::Bytes(len) => (f64::from(count) * f64::from(len) / 1e6 / seconds, "MB/s"),
                     Unit::Round | Unit::Event | Unit::Call => (seconds * 1e3, "ms in all"),
+                    Unit::Exchange => (f64::from(count) / seconds, "a second"),
                 };
                 println!(rt; "{bits:>4}  {what:<38}{count:>9}{each:>10.1}{rate:>10.2}  {unit}")
             }
