@@ -1,0 +1,12 @@
+mod flags;
+mod given;
+mod logins;
+mod lost;
+mod new_pins;
+mod open_sessions;
+mod order;
+mod overlaps;
+mod private_objects;
+mod resets;
+mod stored;
+mod tries;

@@ -1,0 +1,147 @@
+//! Of two faults of a call the one is told that stands first in the call's table.
+
+mod cases;
+
+use super::given::*;
+use super::stored::{bench_over, record_with};
+use cases::{CASES, Case, LEFT_OUT, SECONDS, Store};
+use ck_calls::Function;
+use ck_types::Rv;
+use pin_record::Record;
+use precede::{Row as Fault, rows};
+use scripts::given::*;
+use scripts::{Bench, Step, Told, call_of};
+use std::alloc::Global;
+use std::process::Abort;
+use std::test::*;
+
+/// What is told of a call whose first fault this is.
+fn told_of(fault: Fault) -> Result<Told, Fail> {
+    Ok(match fault {
+        Fault::Busy => FAILED,
+        Fault::NoSession => NO_SESSION,
+        Fault::NoSlot => NO_SLOT,
+        Fault::LabelLength | Fault::UnknownFlag => BAD_ARGUMENTS,
+        Fault::SessionOpen => SESSION_EXISTS,
+        Fault::PinLength => PIN_LENGTH,
+        Fault::PinLocked => LOCKED,
+        Fault::PinNotSet => PIN_NOT_SET,
+        Fault::NotSo | Fault::NobodyLoggedIn => NOT_LOGGED_IN,
+        Fault::SessionReadOnly => READ_ONLY_SESSION,
+        Fault::NotSerial => Told::Code(Rv::SessionParallelNotSupported),
+        Fault::SoLoggedIn => Told::Code(Rv::SessionReadWriteSoExists),
+        Fault::SessionLimit => SESSION_LIMIT,
+        Fault::UnknownUserType => Told::Code(Rv::UserTypeInvalid),
+        Fault::SameUserLoggedIn => Told::Code(Rv::UserAlreadyLoggedIn),
+        Fault::OtherUserLoggedIn => Told::Code(Rv::UserAnotherAlreadyLoggedIn),
+        Fault::ReadOnlySessionOpen => Told::Code(Rv::SessionReadOnlyExists),
+        _ => return Err("no call of these has this fault".into()),
+    })
+}
+
+fn record_of(store: Store) -> Result<Record, Fail> {
+    match store {
+        Store::New => Ok(Record::new()),
+        Store::Set => record_with(0, 0),
+        Store::Locked => record_with(10, 10),
+    }
+}
+
+/// A bench on which the second fault of the case holds alone.
+fn bench_for(alloc: Global, case: &Case) -> Result<Bench, Fail> {
+    let mut bench = bench_over(alloc, record_of(case.store)?)?;
+    bench.play(case.before)?;
+    if case.second == Fault::SessionLimit {
+        bench.fill((A, OPEN), 2, 64)?;
+    }
+    Ok(bench)
+}
+
+/// Sees that the second fault is told where it holds alone, and the first where both do.
+fn expect_order(bench: &mut Bench, case: &Case) -> Result<(), Fail> {
+    let (first, second) = (case.first, case.second);
+    bench.expect(second, (A, case.alone, told_of(second)?))?;
+    bench.play(case.between)?;
+    bench.expect((first, second), (A, case.both, told_of(first)?))
+}
+
+#[test]
+fn of_two_faults_the_first_is_told(rt: HostRuntime) -> Result<(), Fail> {
+    for case in CASES {
+        let mut bench = bench_for(rt.alloc(), case)?;
+        expect_order(&mut bench, case)?;
+    }
+    Ok(())
+}
+
+/// Sees that each call with its second fault is told that.
+fn expect_seconds(bench: &mut Bench) -> Result<(), Fail> {
+    for (fault, step) in SECONDS {
+        bench.expect(fault, (A, *step, told_of(*fault)?))?;
+    }
+    Ok(())
+}
+
+/// Sees that each of them fails while a check is under way.
+fn expect_busy(bench: &mut Bench) -> Result<(), Fail> {
+    bench.expect("the check", (A, WRONG_LOGIN, Told::Nothing))?;
+    for (fault, step) in SECONDS {
+        bench.expect((Fault::Busy, fault), (A, *step, FAILED))?;
+    }
+    bench.expect("its end", (A, Step::Finish, WRONG))
+}
+
+#[test]
+fn a_check_under_way_comes_before_every_fault(rt: HostRuntime) -> Result<(), Fail> {
+    let mut bench = bench_over(rt.alloc(), record_with(0, 0)?)?;
+    bench.expect("a session", (A, OPEN, Told::Session(1)))?;
+    expect_seconds(&mut bench)?;
+    expect_busy(&mut bench)
+}
+
+fn function_of(alloc: Global, step: Step) -> Result<Function, Fail> {
+    let call = call_of(alloc, step)?;
+    Ok(Function::of(&call))
+}
+
+/// Whether one of the cases has these faults of the function, or they are left out.
+fn has_case(alloc: Global, function: Function, first: Fault, second: Fault) -> Result<bool, Fail> {
+    for case in CASES {
+        let is_pair = case.first == first && case.second == second;
+        if is_pair && function_of(alloc, case.both)? == function {
+            return Ok(true);
+        }
+    }
+    Ok(LEFT_OUT.iter().any(|out| *out == (function, first, second)))
+}
+
+/// Sees that each fault has a case with the one before it, or that they are left out.
+fn expect_cases(
+    rt: &impl Abort,
+    alloc: Global,
+    function: Function,
+    before: Fault,
+    rest: &[Fault],
+) -> Result<(), Fail> {
+    let mut first = before;
+    for second in rest {
+        let has_case = has_case(alloc, function, first, *second)?;
+        assert!(rt; has_case, "{function:?}: {first:?}, {second:?}");
+        first = *second;
+    }
+    Ok(())
+}
+
+#[test]
+fn each_pair_of_neighbours_has_a_case_or_is_left_out(rt: HostRuntime) -> Result<(), Fail> {
+    for (fault, step) in SECONDS {
+        let function = function_of(rt.alloc(), *step)?;
+        match rows(function.number()) {
+            [Fault::Busy, second, rest @ ..] if second == fault => {
+                expect_cases(&rt, rt.alloc(), function, *fault, rest)?
+            }
+            _ => return Err("a table that begins otherwise".into()),
+        }
+    }
+    Ok(())
+}
