@@ -1,6 +1,6 @@
-//! The tests of `token`'s calls of PINs: scripts of what applications do and are told (`scripts`), by chapter, each by calls
-//! one after the other and as a run; the order in which each of these calls' faults are told (`tests/order.rt`); and the
-//! tries of a PIN, however its checks overlap (`tests/tries.rt`).
+//! The tests of `token`'s calls of PINs: scripts of what applications do and are told (`scripts`), by chapter, most of them by
+//! calls one after the other and as a run; the order in which each of these calls' faults are told (`tests/order.rt`); and the
+//! tries of a PIN where its checks overlap (`tests/tries.rt`).
 //!
 //! ```text
 //! const ROWS: &[Row] = &[

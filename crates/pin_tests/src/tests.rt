@@ -8,6 +8,5 @@ mod order;
 mod overlaps;
 mod private_objects;
 mod resets;
-mod searches;
 mod stored;
 mod tries;

@@ -8,10 +8,8 @@ use keep::{Keep, ListKeep};
 use scripts::given::*;
 use scripts::{Row, Step, Told, call_of};
 use std::alloc::Global;
-use std::process::Abort;
 use std::test::*;
-use token::{Job, Token};
-use token_store::Out;
+use token::{Job, Out, Token};
 
 #[test]
 fn a_charge_stays_when_its_application_goes(rt: HostRuntime) -> Result<(), Fail> {

@@ -4,11 +4,10 @@ use super::given::*;
 use super::stored::{bench_over, play_and_run, play_and_run_questions, record_with};
 use ck_types::UserType;
 use keep::Keep;
-use pin_record::{Record, Verifier};
+use pin_record::Record;
 use scripts::given::*;
 use scripts::{Row, Step, Told};
 use std::alloc::Global;
-use std::process::Abort;
 use std::test::*;
 
 const CHANGE: Step = Step::SetPin(1, USER_PIN, NEW_PIN);

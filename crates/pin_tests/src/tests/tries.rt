@@ -1,5 +1,5 @@
-//! The ten tries of the user's PIN, however its checks overlap: what is told is what a count of charges tells, and there is
-//! never an eleventh check that ends otherwise than right before one ends right.
+//! The ten tries of the user's PIN where its checks overlap: what is told is what a count of charges tells, and there is never
+//! an eleventh check that ends otherwise than right before one ends right.
 
 mod charges;
 mod numbers;

@@ -131,31 +131,31 @@ fn see_two_right_checks(alloc: Global, beginning: &'static [u64]) -> Result<u64,
 }
 
 #[test]
-fn two_right_checks_leave_those_beside_them_where_a_begins(rt: HostRuntime) -> Result<(), Fail> {
+fn two_right_checks_leave_others_charged_where_a_begins(rt: HostRuntime) -> Result<(), Fail> {
     assert_eq!(rt; see_two_right_checks(rt.alloc(), &[A])?, 105);
     Ok(())
 }
 
 #[test]
-fn two_right_checks_leave_those_beside_them_where_b_begins(rt: HostRuntime) -> Result<(), Fail> {
+fn two_right_checks_leave_others_charged_where_b_begins(rt: HostRuntime) -> Result<(), Fail> {
     assert_eq!(rt; see_two_right_checks(rt.alloc(), &[B])?, 105);
     Ok(())
 }
 
 #[test]
-fn two_right_checks_leave_those_beside_them_where_a_follows(rt: HostRuntime) -> Result<(), Fail> {
+fn two_right_checks_leave_others_charged_where_a_is_second(rt: HostRuntime) -> Result<(), Fail> {
     assert_eq!(rt; see_two_right_checks(rt.alloc(), &[C, A])?, 60);
     Ok(())
 }
 
 #[test]
-fn two_right_checks_leave_those_beside_them_where_b_follows(rt: HostRuntime) -> Result<(), Fail> {
+fn two_right_checks_leave_others_charged_where_b_is_second(rt: HostRuntime) -> Result<(), Fail> {
     assert_eq!(rt; see_two_right_checks(rt.alloc(), &[C, B])?, 60);
     Ok(())
 }
 
 #[test]
-fn two_right_checks_leave_those_beside_them_after_the_first(rt: HostRuntime) -> Result<(), Fail> {
+fn two_right_checks_leave_others_charged_where_c_ends_first(rt: HostRuntime) -> Result<(), Fail> {
     assert_eq!(rt; see_two_right_checks(rt.alloc(), &[C, C])?, 90);
     Ok(())
 }
