@@ -8,5 +8,6 @@ mod order;
 mod overlaps;
 mod private_objects;
 mod resets;
+mod searches;
 mod stored;
 mod tries;
