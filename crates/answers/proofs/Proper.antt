@@ -1,5 +1,7 @@
 -- Every answer is proper: one line for each call.
 mod GetTokenInfo
+mod Mechanisms
+mod GenerateRandom
 mod Pins
 mod InitToken
 mod InitPin
@@ -13,6 +15,7 @@ mod CreateObject
 mod CopyObject
 mod DestroyObject
 mod SetAttributeValue
+mod GenerateKey
 mod FindObjects
 mod FindObjectsInit
 mod CipherInit
@@ -43,6 +46,9 @@ use Rattle.answers.specs.Answers.{answer, answer_to, place_asked, ciphered_at, a
 use Rattle.views.specs.Refusals.{apart}
 use Rattle.views.proofs.Blind.{IsProper, IsFair, Leaves, blind-row, blind-refusal, fair, fair-row, fair-refusal}
 use Rattle.answers.proofs.Proper.GetTokenInfo.{proper-get_token_info}
+use Rattle.answers.proofs.Proper.Mechanisms.{proper-get_mechanism_list, proper-get_mechanism_info}
+use Rattle.answers.proofs.Proper.GenerateKey.{proper-generate_key}
+use Rattle.answers.proofs.Proper.GenerateRandom.{proper-generate_random}
 use Rattle.answers.proofs.Over.{IsOver, over-refused}
 use Rattle.answers.proofs.Proper.InitToken.{proper-init_token, blind-init_token, blind-reset_token, over-init_token, over-reset_token}
 use Rattle.answers.proofs.Proper.InitPin.{proper-init_pin, blind-init_pin, over-init_pin}
@@ -73,6 +79,8 @@ proper-refused = record { blind = λ v r. blind-refusal v FunctionNotSupported; 
 pub proper-answer_to : (c : Call) (random : List ℕ) → IsProper (λ v r. answer_to v c random r) (is_still_function (function_of c))
 unfolding answer_to
 proper-answer_to (call.GetTokenInfo slot) random = proper-get_token_info slot
+proper-answer_to (call.GetMechanismList slot) random = proper-get_mechanism_list slot
+proper-answer_to (call.GetMechanismInfo slot mechanism) random = proper-get_mechanism_info slot mechanism
 proper-answer_to (call.InitToken slot pin label) random = proper-init_token slot pin label random
 proper-answer_to (call.InitPin session pin) random = proper-init_pin session pin random
 proper-answer_to (call.SetPin session pin new_pin) random = proper-set_pin session pin new_pin random
@@ -99,6 +107,8 @@ proper-answer_to (call.DecryptInit session mechanism key) random = proper-cipher
 proper-answer_to (call.Decrypt session input room) random = proper-single Decipher session input room
 proper-answer_to (call.DecryptUpdate session input room) random = proper-update Decipher session input room
 proper-answer_to (call.DecryptFinal session room) random = proper-final Decipher session room
+proper-answer_to (call.GenerateKey session mechanism template) random = proper-generate_key session mechanism template random
+proper-answer_to (call.GenerateRandom session len) random = proper-generate_random session len random
 proper-answer_to _ random = proper-refused
 
 -- ---- calls

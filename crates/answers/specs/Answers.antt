@@ -15,6 +15,9 @@ use Rattle.streams.specs.declared.part.Part.{Part}
 use Rattle.views.specs.Views.{View, Question, Task, Ciphers, ChecksPin, MakesPin, ChangesPin, InitsToken, ResetsToken}
 use Rattle.views.specs.Answering.{Answer, Reveal, refuses, refuses_by, answered, is_closed}
 use Rattle.answers.specs.GetTokenInfo.{get_token_info}
+use Rattle.answers.specs.Mechanisms.{get_mechanism_list, get_mechanism_info}
+use Rattle.answers.specs.GenerateKey.{generate_key}
+use Rattle.answers.specs.GenerateRandom.{generate_random}
 use Rattle.answers.specs.OpenSession.{open_session}
 use Rattle.answers.specs.CloseSession.{close_session, close_all_sessions}
 use Rattle.answers.specs.GetSessionInfo.{get_session_info}
@@ -37,6 +40,8 @@ use Rattle.answers.specs.Cipher.{cipher_single, cipher_update, cipher_final, cip
 -- a call with its random bytes
 unfoldable pub answer_to : View → Call → List ℕ → Reveal → Answer
 answer_to v (call.GetTokenInfo slot) random reveal = get_token_info v slot
+answer_to v (call.GetMechanismList slot) random reveal = get_mechanism_list v slot
+answer_to v (call.GetMechanismInfo slot mechanism) random reveal = get_mechanism_info v slot mechanism
 answer_to v (call.InitToken slot pin label) random reveal = init_token v slot pin label random reveal
 answer_to v (call.InitPin session pin) random reveal = init_pin v session pin random
 answer_to v (call.SetPin session pin new_pin) random reveal = set_pin v session pin new_pin random
@@ -63,6 +68,8 @@ answer_to v (call.DecryptInit session mechanism key) random reveal = cipher_init
 answer_to v (call.Decrypt session input room) random reveal = cipher_single Decipher v session input room
 answer_to v (call.DecryptUpdate session input room) random reveal = cipher_update Decipher v session input room
 answer_to v (call.DecryptFinal session room) random reveal = cipher_final Decipher v session room
+answer_to v (call.GenerateKey session mechanism template) random reveal = generate_key v session mechanism template random
+answer_to v (call.GenerateRandom session len) random reveal = generate_random v session len random
 answer_to v _ random reveal = refuses v FunctionNotSupported
 
 unfoldable pub answer : View → Call → List ℕ → Reveal → Answer

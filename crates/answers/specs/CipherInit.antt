@@ -1,5 +1,5 @@
 -- C_EncryptInit and C_DecryptInit (PKCS #11 v3.1, 5.8 and 5.10).
-use Rattle.std.specs.Prelude.{ℕ, Bool, true, false, ◌||◌, ◌&&◌, ◌==◌, nat_le, not, if◌then◌else◌, List, [], ◌∷◌, length, take, drop, Option, Some, None, is_some, is_none}
+use Rattle.std.specs.Prelude.{ℕ, Bool, true, false, ◌||◌, ◌&&◌, ◌==◌, nat_le, not, if◌then◌else◌, List, [], length, take, drop, Option, Some, None, is_some, is_none}
 use Rattle.std.specs.Option.{unwrap_or}
 use Rattle.std.specs.Int.{w64, from_be_bytes}
 use Rattle.ck_types.specs.declared.attr_type.AttrType.{AttrType}
@@ -8,13 +8,14 @@ use Rattle.ck_types.specs.declared.key_type.KeyType.{KeyType}
 use Rattle.ck_types.specs.declared.key_type.KeyType.TheVariants.{GenericSecret, Aes}
 use Rattle.ck_types.specs.declared.mech_type.MechType.{MechType}
 use Rattle.ck_types.specs.declared.mech_type.MechType.TheVariants as mechanism
-use Rattle.ck_types.specs.Numbers.{mech_type_number, first_with}
+use Rattle.mechanisms.specs.declared.purpose.Purpose.TheVariants.{Cipher}
+use Rattle.mechanisms.specs.Table.{mechanism_for}
 use Rattle.ck_calls.specs.declared.fields.Mechanism.{Mechanism}
 use Rattle.ck_calls.specs.declared.function.Function.{Function}
 use Rattle.ck_calls.specs.declared.function.Function.TheVariants as functions
 use Rattle.aes_modes.specs.declared.direction.Direction.{Direction}
 use Rattle.aes_modes.specs.declared.direction.Direction.TheVariants.{Encipher, Decipher}
-use Rattle.streams.specs.declared.mechanism.Mechanism.{Mechanism as Cipher}
+use Rattle.streams.specs.declared.mechanism.Mechanism.{Mechanism as CipherMechanism}
 use Rattle.streams.specs.declared.mechanism.Mechanism.TheVariants.{Ecb, Cbc, CbcPad, Ctr}
 use Rattle.attrs.specs.Masking.{is_secret_key}
 use Rattle.precede.specs.declared.row.Row.TheVariants.{NoSession, NoMechanism, OperationActive, WrongMechanism, WrongParameter, NoKey, WrongKeyType, KeyNotPermitted}
@@ -42,11 +43,8 @@ permission Decipher = attr.Decrypt
 
 -- ---- mechanisms that encipher and decipher
 
-abbrev pub ciphers : List MechType
-ciphers = mechanism.AesEcb ∷ mechanism.AesCbc ∷ mechanism.AesCbcPad ∷ mechanism.AesCtr ∷ []
-
 abbrev pub cipher_at : ℕ → Option MechType
-cipher_at n = first_with mech_type_number ciphers n
+cipher_at number = mechanism_for Cipher number
 
 -- the parameter of CKM_AES_CTR: how many bits count, as a number of eight bytes, and the first counter block (6.11)
 abbrev pub counter_bits : List ℕ → ℕ
@@ -57,7 +55,7 @@ is_counter_parameter parameter = (length parameter == 24) && (nat_le 1 (counter_
 
 -- a mechanism with its parameter, where it is one of the mechanism: none of CKM_AES_ECB, an initialization vector of the
 -- two of CBC (6.10)
-abbrev pub with_parameter : MechType → List ℕ → Option Cipher
+abbrev pub with_parameter : MechType → List ℕ → Option CipherMechanism
 with_parameter mechanism.AesEcb parameter = if length parameter == 0 then Some Ecb else None
 with_parameter mechanism.AesCbc parameter = if length parameter == 16 then Some (Cbc parameter) else None
 with_parameter mechanism.AesCbcPad parameter = if length parameter == 16 then Some (CbcPad parameter) else None
@@ -88,7 +86,7 @@ abbrev pub parameter_in : Option Mechanism → List ℕ
 parameter_in None = []
 parameter_in (Some m) = m.parameter
 
-abbrev pub cipher_in : Option Mechanism → Option Cipher
+abbrev pub cipher_in : Option Mechanism → Option CipherMechanism
 cipher_in m = with_parameter (unwrap_or (cipher_at (number_in m)) mechanism.AesEcb) (parameter_in m)
 
 abbrev pub init_row : Direction → View → ℕ → Option Mechanism → Option (List Entry) → Row → Bool
@@ -112,7 +110,7 @@ init_says d v s NoMechanism = ends v s (place_for d) NoMechanism
 init_says d v s row = refuses_by v row
 
 -- an operation with a copy of the key
-abbrev pub begins : Direction → View → ℕ → Cipher → List Entry → Answer
+abbrev pub begins : Direction → View → ℕ → CipherMechanism → List Entry → Answer
 begins d v s mechanism key = becomes (Code Ok) (with_operation v s (place_for d) (Some (started mechanism d (attribute_of key attr.Value))))
 
 abbrev pub begins_under : Direction → View → ℕ → Option Mechanism → Option (List Entry) → Answer

@@ -1,10 +1,10 @@
 -- C_CloseSession and C_CloseAllSessions (PKCS #11 v3.1, 5.6).
 use Rattle.std.specs.Prelude.{ℕ, Bool, false, ◌==◌, not, [], filter, is_none, None}
 use Rattle.ck_calls.specs.declared.function.Function.TheVariants.{CloseSession, CloseAllSessions}
-use Rattle.precede.specs.declared.row.Row.TheVariants.{NoSlot, NoSession}
+use Rattle.precede.specs.declared.row.Row.TheVariants.{NoSession}
 use Rattle.sessions.specs.Sessions.{without_session}
 use Rattle.answers.specs.Calls.{Ok, Code, Row, View, seen_by, Answer, becomes, session_of, checked}
-use Rattle.answers.specs.OpenSession.{is_slot}
+use Rattle.answers.specs.OpenSession.{slot_row}
 
 -- The session's objects are destroyed with it. With the last session the login ends, and private objects are seen
 -- no more.
@@ -23,9 +23,5 @@ close_session v s = checked CloseSession (close_row v s) v (becomes (Code Ok) (c
 abbrev pub all_closed : View → View
 all_closed v = record v { tokens = seen_by None v.tokens; own = []; sessions = record v.sessions { sessions = []; login = None } }
 
-abbrev pub close_all_row : ℕ → Row → Bool
-close_all_row slot NoSlot = not (is_slot slot)
-close_all_row slot _ = false
-
 abbrev pub close_all_sessions : View → ℕ → Answer
-close_all_sessions v slot = checked CloseAllSessions (close_all_row slot) v (becomes (Code Ok) (all_closed v))
+close_all_sessions v slot = checked CloseAllSessions (slot_row slot) v (becomes (Code Ok) (all_closed v))

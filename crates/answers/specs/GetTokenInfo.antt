@@ -1,18 +1,13 @@
 -- C_GetTokenInfo (PKCS #11 v3.1, 5.5).
-use Rattle.std.specs.Prelude.{ℕ, Bool, false, length, not}
+use Rattle.std.specs.Prelude.{ℕ, length}
 use Rattle.std.specs.List.{count_by}
 use Rattle.ck_calls.specs.declared.function.Function.TheVariants.{GetTokenInfo}
 use Rattle.ck_calls.specs.declared.reply.Reply.{Reply}
 use Rattle.ck_calls.specs.declared.reply.Reply.TheVariants.{TokenInfo}
-use Rattle.precede.specs.declared.row.Row.TheVariants.{NoSlot}
 use Rattle.pin_record.specs.Flags.{token_flags}
 use Rattle.pin_record.specs.Records.{record_view}
-use Rattle.answers.specs.Calls.{Row, View, Answer, replies, checked}
-use Rattle.answers.specs.OpenSession.{is_slot}
-
-abbrev pub token_info_row : ℕ → Row → Bool
-token_info_row slot NoSlot = not (is_slot slot)
-token_info_row slot _ = false
+use Rattle.answers.specs.Calls.{View, Answer, replies, checked}
+use Rattle.answers.specs.OpenSession.{slot_row}
 
 -- of sessions the application's own alone are counted
 abbrev pub token_info : View → Reply
@@ -25,4 +20,4 @@ token_info v =
     })
 
 abbrev pub get_token_info : View → ℕ → Answer
-get_token_info v slot = checked GetTokenInfo (token_info_row slot) v (replies v (token_info v))
+get_token_info v slot = checked GetTokenInfo (slot_row slot) v (replies v (token_info v))

@@ -14,6 +14,9 @@ pub mod FindObjects
 pub mod CipherInit
 pub mod Cipher
 pub mod GetTokenInfo
+pub mod Mechanisms
+pub mod GenerateRandom
+pub mod GenerateKey
 pub mod Login
 pub mod Logout
 pub mod InitToken

@@ -12,6 +12,11 @@ use Rattle.answers.specs.Calls.{Row, View, Answer, becomes, checked}
 abbrev pub is_slot : ℕ → Bool
 is_slot slot = slot == 0
 
+-- the row of a call that names a slot alone
+abbrev pub slot_row : ℕ → Row → Bool
+slot_row slot NoSlot = not (is_slot slot)
+slot_row slot _ = false
+
 -- the flags CKF_SERIAL_SESSION, 4, and CKF_RW_SESSION, 2, and all others
 abbrev pub is_serial : ℕ → Bool
 is_serial flags = not (bit_and flags 4 == 0)

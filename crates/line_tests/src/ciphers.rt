@@ -7,7 +7,7 @@ use std::test::*;
 use wire::FrameReader;
 
 /// The payload of a call and that of its reply, in parts.
-type Row = (&'static [&'static str], &'static [&'static str]);
+pub(crate) type Row = (&'static [&'static str], &'static [&'static str]);
 
 const ENCRYPT_INIT: &str = "0016";
 
@@ -189,13 +189,18 @@ fn expect_replies(
     Ok(())
 }
 
-/// Sees that a line for a new token with the keys goes as the rows say.
+/// Sees that a line for a new token goes as the rows say.
+pub(crate) fn expect_line(rt: &impl Abort, alloc: Global, rows: &[Row]) -> Result<(), Fail> {
+    let (ended, written, _) = served(alloc, &frames_of(alloc, rows)?)?;
+    assert_eq!(rt; ended, Ok(rows.len() as u64));
+    expect_replies(rt, alloc, &written, rows)
+}
+
+/// And one for a token with the keys.
 fn expect_rows(rt: &impl Abort, alloc: Global, rows: &[Row]) -> Result<(), Fail> {
     let mut all = Vec::from_slice(alloc, BEFORE)?;
     all.extend_from_slice(rows)?;
-    let (ended, written, _) = served(alloc, &frames_of(alloc, &all)?)?;
-    assert_eq!(rt; ended, Ok(all.len() as u64));
-    expect_replies(rt, alloc, &written, &all)
+    expect_line(rt, alloc, &all)
 }
 
 #[test]

@@ -1,5 +1,5 @@
 //! Tests of `line`: frames in, frames out, over readers and writers that give and take little, and fail,
-//! over a keeper that fails, and with the calls of ciphers.
+//! over a keeper that fails, and with the calls of ciphers, of mechanisms, of keys and of random bytes.
 #![tactic(auto)]
 
 #[cfg(test)]
@@ -8,6 +8,8 @@ mod ciphers;
 mod failures;
 #[cfg(test)]
 mod keepers;
+#[cfg(test)]
+mod keys;
 #[cfg(test)]
 mod long_texts;
 #[cfg(test)]

@@ -27,6 +27,18 @@ pub fn call_of(alloc: Global, step: Step) -> Result<Call, Fail> {
         | Step::Decrypt(..)
         | Step::DecryptUpdate(..)
         | Step::DecryptFinal(..) => decrypting_call_of(alloc, step),
+        Step::GetMechanismList(slot) => Ok(Call::GetMechanismList { slot }),
+        Step::GetMechanismInfo(slot, mechanism) => Ok(Call::GetMechanismInfo { slot, mechanism }),
+        Step::GenerateKey(session, given, template) => {
+            let mechanism = given_mechanism(alloc, given)?;
+            let template = template_of(alloc, template)?;
+            Ok(Call::GenerateKey {
+                session,
+                mechanism,
+                template,
+            })
+        }
+        Step::GenerateRandom(session, len) => Ok(Call::GenerateRandom { session, len }),
         Step::FindObjectsInit(..)
         | Step::FindByNumber(..)
         | Step::FindObjects(..)
@@ -136,12 +148,17 @@ fn decrypting_call_of(alloc: Global, step: Step) -> Result<Call, Fail> {
 
 fn mechanism_of(alloc: Global, given: Option<GivenMechanism>) -> Result<Option<Mechanism>, Fail> {
     match given {
-        Some((number, parameter)) => Ok(Some(Mechanism {
-            number,
-            parameter: Bytes::from_slice(alloc, parameter)?,
-        })),
+        Some(given) => Ok(Some(given_mechanism(alloc, given)?)),
         None => Ok(None),
     }
+}
+
+fn given_mechanism(alloc: Global, given: GivenMechanism) -> Result<Mechanism, Fail> {
+    let (number, parameter) = given;
+    Ok(Mechanism {
+        number,
+        parameter: Bytes::from_slice(alloc, parameter)?,
+    })
 }
 
 /// The call of a step on an object.

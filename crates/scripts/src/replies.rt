@@ -1,7 +1,7 @@
 //! The replies that applications are told.
 
 use crate::steps::{Told, Values};
-use ck_calls::{AttributeValue, Output, Reply, TokenInfo};
+use ck_calls::{AttributeValue, MechanismInfo, Output, Reply, TokenInfo};
 use ck_types::{Bytes, Items, Label};
 use std::alloc::Global;
 use std::test::Fail;
@@ -18,6 +18,17 @@ pub fn reply_of(alloc: Global, told: Told) -> Result<Option<Reply>, Fail> {
                 flags,
                 session_count,
                 rw_session_count,
+            })))
+        }
+        Told::MechanismList(numbers) => {
+            let numbers = Items::from_slice(alloc, numbers)?;
+            Ok(Some(Reply::MechanismList(numbers)))
+        }
+        Told::MechanismInfo(min_key_size, max_key_size, flags) => {
+            Ok(Some(Reply::MechanismInfo(MechanismInfo {
+                min_key_size,
+                max_key_size,
+                flags,
             })))
         }
         Told::Session(session) => Ok(Some(Reply::Session(session))),
@@ -38,6 +49,10 @@ pub fn reply_of(alloc: Global, told: Told) -> Result<Option<Reply>, Fail> {
             Ok(Some(Reply::Output(Output::Data(data))))
         }
         Told::BufferTooSmall(len) => Ok(Some(Reply::BufferTooSmall(len))),
+        Told::Random(bytes) => {
+            let bytes = Bytes::from_slice(alloc, bytes)?;
+            Ok(Some(Reply::Random(bytes)))
+        }
     }
 }
 

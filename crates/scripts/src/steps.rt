@@ -23,6 +23,10 @@ pub type GivenMechanism = (u64, &'static [u8]);
 pub enum Step {
     /// Of a slot.
     GetTokenInfo(u64),
+    /// Of a slot.
+    GetMechanismList(u64),
+    /// Of a slot, of a mechanism's number.
+    GetMechanismInfo(u64, u64),
     /// In a slot, with the SO's PIN and a label.
     InitToken(u64, &'static [u8], &'static [u8]),
     /// In a session, with the user's new PIN.
@@ -60,6 +64,10 @@ pub enum Step {
     Decrypt(u64, &'static [u8], Option<u64>),
     DecryptUpdate(u64, &'static [u8], Option<u64>),
     DecryptFinal(u64, Option<u64>),
+    /// In a session, by a mechanism and a template.
+    GenerateKey(u64, GivenMechanism, Given),
+    /// In a session, so many bytes.
+    GenerateRandom(u64, u64),
     /// The job of the application's question is run, and the question ends.
     Finish,
     /// The job of another application's question is run, and its result handed in as one's own.
@@ -75,6 +83,9 @@ pub enum Told {
     Code(Rv),
     /// A label, flags, and how many sessions there are, and how many of them may write.
     TokenInfo(&'static [u8], u64, u64, u64),
+    MechanismList(&'static [u64]),
+    /// The least and the greatest size of its keys, and flags.
+    MechanismInfo(u64, u64, u64),
     Session(u64),
     SessionInfo(SessionInfo),
     Object(u64),
@@ -85,4 +96,5 @@ pub enum Told {
     Length(u64),
     Data(&'static [u8]),
     BufferTooSmall(u64),
+    Random(&'static [u8]),
 }

@@ -1,10 +1,9 @@
 -- The operations of a session that encipher and decipher.
-use Rattle.std.proofs.Common.{◌≡◌, ℕ, ◌+◌, Bool, true, false, not, List, [], ◌∷◌, length, Option, Some, None, Bor, Result, Ok, Err, inl, inr, ◌⊎◌, refl, sym, ◌∙◌, ap, subst}
+use Rattle.std.proofs.Common.{◌≡◌, ℕ, Bool, true, false, not, List, [], ◌∷◌, length, Option, Some, None, Bor, Result, Ok, Err, inl, inr, ◌⊎◌, refl, sym, ◌∙◌, ap, subst}
 use Rattle.std.specs.Prelude.{is_some, is_none, option_map, IsErrOf, IfErr, ◌↔◌}
 use Rattle.std.specs.Option.{option_copied}
 use Rattle.ck_types.specs.declared.entry.Entry.{Entry}
 use Rattle.ck_types.specs.declared.mech_type.MechType.{MechType}
-use Rattle.ck_types.specs.declared.mech_type.MechType.TheVariants.{AesEcb}
 use Rattle.ck_calls.specs.declared.fields.Mechanism.{Mechanism}
 use Rattle.ck_calls.specs.declared.reply.Reply.{Reply}
 use Rattle.aes_modes.specs.declared.direction.Direction.{Direction}
@@ -12,7 +11,6 @@ use Rattle.aes_modes.specs.declared.direction.Direction.TheVariants.{Encipher, D
 use Rattle.aes_modes.specs.declared.fault.ModeFault.{ModeFault}
 use Rattle.aes_modes.specs.declared.fault.ModeFault.TheVariants.{LenRange, CounterEnd as CountersEnd}
 use Rattle.streams.specs.declared.mechanism.Mechanism.{Mechanism as Cipher}
-use Rattle.streams.specs.declared.mechanism.Mechanism.TheVariants.{Ecb}
 use Rattle.streams.specs.declared.part.Part.{Part}
 use Rattle.streams.specs.declared.part.Part.TheVariants.{Update, Last}
 use Rattle.streams.specs.Lengths.{wanted, refuses_length, ends_counters}

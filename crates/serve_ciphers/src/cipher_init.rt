@@ -8,7 +8,7 @@ ghost use Rattle.answers.specs.CipherInit.{cipher_init, is_aes};
 ghost use Rattle.token_store.specs.Refusing.{IsDone};
 
 use crate::directions::{permission, place_for};
-use crate::parameter::{cipher_at, with_parameter};
+use crate::parameter::with_parameter;
 use aes_block::Key;
 use aes_modes::Direction;
 use attrs::Object;
@@ -16,6 +16,7 @@ use ck_calls::{Mechanism, Reply};
 use ck_types::{KeyType, ObjectClass, Rv};
 use desk::Desk;
 use keep::Keep;
+use mechanisms::{Purpose, find_for};
 use precede::Row;
 use std::alloc::Global;
 use streams::Stream;
@@ -42,7 +43,7 @@ pub fn serve<K: Keep>(
     if desk.operation(session, place).is_some() {
         return Err(Refusal::Row(Row::OperationActive));
     }
-    let cipher = cipher_at(mechanism.number).ok_or(Row::WrongMechanism)?;
+    let cipher = find_for(Purpose::Cipher, mechanism.number).ok_or(Row::WrongMechanism)?;
     let cipher = with_parameter(cipher, mechanism.parameter.as_slice()).ok_or(Row::WrongParameter)?;
     let found = find(alloc, desk, store, key)?.ok_or(Row::NoKey)?;
     if !is_secret_key(&found.object) {

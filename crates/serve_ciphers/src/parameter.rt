@@ -1,7 +1,7 @@
 //! Mechanisms with their parameters.
 
 ghost use Rattle.std.specs.Prelude.{◌≡◌, ◌==◌, length, Option, Some, None, if◌then◌else◌, take, drop};
-ghost use Rattle.answers.specs.CipherInit.{cipher_at, counter_bits, is_counter_parameter, with_parameter};
+ghost use Rattle.answers.specs.CipherInit.{counter_bits, is_counter_parameter, with_parameter};
 ghost use Rattle.streams.specs.declared.mechanism.Mechanism.TheVariants.{Ctr};
 
 use aes_block::{BLOCK_SIZE, Block};
@@ -9,23 +9,6 @@ use aes_modes::CounterBits;
 use byteorder::{BigEndian, ByteOrder};
 use ck_types::MechType;
 use streams::Mechanism;
-
-/// The mechanism of this number, if it enciphers and deciphers data.
-pub(crate) fn cipher_at(number: u64) -> Option<MechType>
-    ensures { result ≡ cipher_at number }
-{
-    if number == MechType::AesEcb.number() {
-        Some(MechType::AesEcb)
-    } else if number == MechType::AesCbc.number() {
-        Some(MechType::AesCbc)
-    } else if number == MechType::AesCbcPad.number() {
-        Some(MechType::AesCbcPad)
-    } else if number == MechType::AesCtr.number() {
-        Some(MechType::AesCtr)
-    } else {
-        None
-    }
-}
 
 fn block(parameter: &[u8]) -> Option<Block>
     ensures { result ≡ (if length parameter.now == 16 then Some parameter.now else None) }

@@ -18,7 +18,7 @@ use precede::Row;
 use token_store::{Refusal, Store};
 
 /// Adds an object, if a session in this state may and there is room.
-pub(crate) fn add_object<K: Keep>(
+pub fn add_object<K: Keep>(
     desk: &mut Desk,
     store: &mut Store<K>,
     session: u64,

@@ -17,3 +17,5 @@ pub mod destroy_object;
 pub mod get_attribute_value;
 pub mod get_object_size;
 pub mod set_attribute_value;
+
+pub use adding::add_object;

@@ -17,6 +17,8 @@
 #![tactic(auto)]
 
 pub mod close_session;
+pub mod get_mechanism_info;
+pub mod get_mechanism_list;
 pub mod get_session_info;
 pub mod get_token_info;
 pub mod init_pin;

@@ -1,6 +1,6 @@
 -- A call at one desk is the world's next step.
 use Rattle.std.proofs.lemmas.Bool.{cases_eq}
-use Rattle.std.proofs.Common.{◌≡◌, false, true, ◌≢◌, ◌⊎◌, ℕ, List, ◌++◌, Option, Some, None, Result, Ok, Err, refl, sym, ◌∙◌, ap, inl, inr, subst}
+use Rattle.std.proofs.Common.{◌≡◌, false, true, ◌≢◌, ℕ, List, ◌++◌, Option, Some, None, Result, Ok, Err, refl, sym, ◌∙◌, ap, inl, inr, subst}
 use Rattle.std.specs.Prelude.{IfErr, IfOk, IsSome}
 use Rattle.std.specs.Option.{option_map}
 use Rattle.ck_types.specs.declared.rv.Rv.TheVariants.{DeviceError}
@@ -15,13 +15,13 @@ use Rattle.token_model.specs.declared.check.Check.{Check}
 use Rattle.token_store.specs.declared.out.Out.{Out}
 use Rattle.token_store.specs.declared.out.Out.TheVariants.{Reply as OutReply}
 use Rattle.views.specs.Views.{View, sees}
-use Rattle.views.specs.Changes.{Change, Stays, in_list}
-use Rattle.views.specs.Answering.{Said, Replies, Answer, Reveal, pin_checked_in}
+use Rattle.views.specs.Changes.{Change, in_list}
+use Rattle.views.specs.Answering.{Replies, Answer, Reveal, pin_checked_in}
 use Rattle.answers.specs.Answers.{answer}
 use Rattle.views.specs.Refusals.{apart, refusal}
 use Rattle.token_model.specs.Worlds.{World, answer_at, checks_of, list_change, called, reveal_by_call, reveal_to_call, says_called, stepped}
 use Rattle.token_store.specs.Shown.{view_of, objects_of, said_of, Changes}
-use Rattle.token.specs.Applications.{desk_at, checks_after, others_seated, told_as, Depicts, TokenState, Shows}
+use Rattle.token.specs.Applications.{desk_at, checks_after, others_seated, told_as, Depicts, Shows}
 use Rattle.token.proofs.Seats.{seated-is}
 use Rattle.token_store.specs.Stores.{StoreState, Serves}
 use Rattle.token.specs.Runs.{Lasting, lasting_of, lasting_in, MayLeave, LeavesBy, call_change}

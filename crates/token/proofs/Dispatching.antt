@@ -1,5 +1,5 @@
 -- Which definition answers a call, and what is told of it.
-use Rattle.std.proofs.Common.{◌≡◌, ℕ, ◌^◌, ◌≤◌, arith, Bool, true, false, cond, not, List, Option, Some, None, Result, Ok, Err, refl, sym, ◌∙◌, ap, subst}
+use Rattle.std.proofs.Common.{◌≡◌, ℕ, ◌^◌, ◌≤◌, arith, Bool, true, false, cond, List, Option, Some, None, Result, Ok, Err, refl, sym, ap, subst}
 use Rattle.std.specs.Prelude.{is_some, ◌||◌, nat_le, IfOk}
 use Rattle.std.specs.Option.{option_map}
 use Rattle.ck_calls.specs.declared.call.Call.{Call}

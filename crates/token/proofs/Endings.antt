@@ -1,5 +1,5 @@
 -- The end of a question at its desk.
-use Rattle.std.proofs.Common.{◌≡◌, ◌≢◌, ℕ, ◌≤◌, false, true, List, Option, Some, None, Result, Ok, Err, refl, sym, ◌∙◌, ap, subst, inl, arith}
+use Rattle.std.proofs.Common.{◌≡◌, ℕ, false, true, Option, Some, None, Result, Ok, Err, refl, sym, ◌∙◌, ap, subst, inl, arith}
 use Rattle.std.specs.Prelude.{IfErr, IfOk, IsSome, IsErrOf}
 use Rattle.std.specs.Option.{option_map}
 use Rattle.ck_types.specs.declared.rv.Rv.TheVariants.{DeviceError, FunctionFailed, PinIncorrect}
@@ -9,18 +9,16 @@ use Rattle.ck_calls.specs.declared.reply.Reply.{Reply}
 use Rattle.ck_calls.specs.declared.reply.Reply.TheVariants.{Code}
 use Rattle.precede.specs.Row.{code_of}
 use Rattle.keep.specs.Contents.{Contents}
-use Rattle.keep.specs.Keeping.{Counted, Rises, Terms}
+use Rattle.keep.specs.Keeping.{Counted, Terms}
 use Rattle.mech.specs.declared.job.Job.{Job}
 use Rattle.mech.specs.declared.outcome.Outcome.{Outcome}
-use Rattle.mech.specs.declared.work.Work.{Work}
 use Rattle.mech.specs.Works.{outcome_of}
 use Rattle.ops.specs.declared.place.Place.{Place}
 use Rattle.desk.specs.Desks.{DeskState, SameDesk}
 use Rattle.views.specs.declared.fault.Fault.{Fault}
 use Rattle.views.specs.declared.fault.Fault.TheVariants.{Memory, Device}
 use Rattle.views.specs.Outcomes.{told_of}
-use Rattle.views.specs.Views.{View, Question}
-use Rattle.views.specs.Changes.{Stays}
+use Rattle.views.specs.Views.{View}
 use Rattle.views.specs.Answering.{Replies, Answer, Reveal, answered, becomes, refuses, with_operation}
 use Rattle.views.specs.Refusals.{set_apart}
 use Rattle.answers.specs.Answers.{answer_outcome, answer_question, answer_result, place_asked}
@@ -37,7 +35,7 @@ use Rattle.token_store.proofs.Refusals.{does_as-is}
 use Rattle.serve_ciphers.specs.Steps.{operation_left}
 use Rattle.serve_ciphers.proofs.Ciphering.{gives-with}
 use Rattle.token.specs.declared.ending.Others.{Others}
-use Rattle.token.specs.Applications.{Finishes, answer_to_job, asked_by_job, by_job, reveal_by_job, told_result}
+use Rattle.token.specs.Applications.{Finishes, answer_to_job, by_job, reveal_by_job, told_result}
 use Rattle.token.specs.Endings.{EndsBy, desk_left, reply_at, settled_reply, under_way_of}
 use Rattle.token.proofs.Outcomes.{answer-ciphered, answer-wrong, by_place, is_ciphered, is_wrong, work-value}
 use Rattle.mech.specs.declared.outcome.Outcome.TheVariants as out

@@ -1,5 +1,5 @@
 -- Which work has an outcome, and what the definition of its question answers then.
-use Rattle.std.proofs.Common.{◌≡◌, ℕ, Bool, true, false, cond, List, Option, Some, None, refl, sym, ◌∙◌, ap, subst}
+use Rattle.std.proofs.Common.{◌≡◌, ℕ, Bool, true, false, cond, List, Option, Some, None, refl, sym, ◌∙◌, ap}
 use Rattle.std.specs.Option.{unwrap_or}
 use Rattle.ck_types.specs.declared.entry.Entry.{Entry}
 use Rattle.ck_types.specs.declared.rv.Rv.TheVariants.{FunctionFailed, PinIncorrect}
@@ -16,7 +16,7 @@ use Rattle.streams.specs.Outputs.{last_output}
 use Rattle.ops.specs.declared.place.Place.{Place}
 use Rattle.ops.specs.Operations.{Operation, operation_of}
 use Rattle.streams.specs.declared.part.Part.{Part}
-use Rattle.views.specs.Outcomes.{Right, Wrong, Made, told_of}
+use Rattle.views.specs.Outcomes.{told_of}
 use Rattle.views.specs.Views.{View, Question}
 use Rattle.views.specs.Answering.{Answer, Reveal, answered, becomes, refuses, with_operation}
 use Rattle.answers.specs.Answers.{answer_outcome, place_asked, ciphered_at}

@@ -1,6 +1,5 @@
 -- A result at one desk, and an application that goes, are the world's next step.
-use Rattle.std.proofs.Common.{◌≡◌, ◌≢◌, ◌⊎◌, ◌≤◌, ℕ, Bool, List, [], ◌∷◌, ◌++◌, Option, Some, None, Result, Ok, Err, refl, sym, ◌∙◌, ap, inl, inr}
-use Rattle.std.proofs.lemmas.Bool.{cases_eq}
+use Rattle.std.proofs.Common.{◌≡◌, ◌≢◌, ◌≤◌, ℕ, Bool, List, [], ◌∷◌, ◌++◌, Option, Some, None, Result, Ok, Err, refl, sym, ◌∙◌, ap, inl, inr}
 use Rattle.std.specs.Prelude.{option_to_list, map}
 use Rattle.std.specs.Option.{option_map}
 use Rattle.ck_types.specs.declared.user_type.UserType.{UserType}
@@ -18,11 +17,11 @@ use Rattle.token_model.specs.declared.event.Event.TheVariants.{Finish, Gone}
 use Rattle.token_store.specs.declared.out.Out.TheVariants.{Reply as OutReply}
 use Rattle.ck_types.specs.declared.entry.Entry.{Entry}
 use Rattle.views.specs.Views.{Question, View, sees}
-use Rattle.views.specs.Changes.{Change, Stays, in_list}
-use Rattle.views.specs.Answering.{Said, Replies, Answer, Reveal, answered}
+use Rattle.views.specs.Changes.{Change, in_list}
+use Rattle.views.specs.Answering.{Replies, Answer, Reveal, answered}
 use Rattle.answers.specs.Answers.{answer_result}
 use Rattle.views.specs.Refusals.{apart, refusal, set_apart}
-use Rattle.token_model.specs.Worlds.{World, Goes, Refuses, checks_of, others_checking, others_in_session, value_of, reveal_by_outcome, reveal_to_task, result_at, list_change, without_checks, stepped, unchecked, finished, finish_tells, finish_refusal, goes, happens, told, reply_to}
+use Rattle.token_model.specs.Worlds.{World, checks_of, others_checking, others_in_session, value_of, reveal_by_outcome, reveal_to_task, result_at, list_change, without_checks, stepped, unchecked, finished, finish_tells, finish_refusal, goes, happens, told, reply_to}
 use Rattle.token_store.specs.Shown.{objects_of, view_of, question_of, over, Changes}
 use Rattle.token.specs.Applications.{desk_at, others_seated, reveal_by_job, told_result, moved, move_of, IsOpen, HasNumbers, HasJobs, opening, answer_by, answer_to_job, asked_by_job, by_job, taken_by, says_by, TokenState, Shows}
 use Rattle.token_store.specs.Stores.{StoreState, Has, Serves}
@@ -33,7 +32,7 @@ use Rattle.lists.proofs.PlaceLemmas.{append_nil}
 use Rattle.token.proofs.Seats.{seated-is}
 use Rattle.token_model.proofs.Tries.{sound-start}
 use Rattle.token_store.proofs.Changing.{objects-changed, record-changed}
-use Rattle.token.proofs.Steps.{state, fits-given, depicts-given, depicts-put, fits-put, fits-empty, depicts-gone, depicts-opening}
+use Rattle.token.proofs.Steps.{fits-given, depicts-given, depicts-put, fits-put, fits-empty, depicts-gone, depicts-opening}
 
 -- ---- a result with the numbers of the pending question, by its own value
 

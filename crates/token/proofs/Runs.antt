@@ -1,5 +1,5 @@
 -- A run goes on by one event.
-use Rattle.std.proofs.Common.{◌≡◌, ℕ, List, [], ◌∷◌, ◌++◌, map, Option, Some, None, inl, inr, refl, sym, ◌∙◌, ap, append_assoc}
+use Rattle.std.proofs.Common.{◌≡◌, ℕ, List, [], ◌∷◌, ◌++◌, map, Option, inl, inr, refl, sym, ◌∙◌, ap, append_assoc}
 use Rattle.ck_calls.specs.declared.reply.Reply.{Reply}
 use Rattle.mech.specs.declared.job.Job.{Job}
 use Rattle.token_model.specs.declared.event.Event.{Event}

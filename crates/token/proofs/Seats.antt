@@ -1,18 +1,16 @@
 -- Whether another application has a session, by the desks and in the world.
-use Rattle.std.proofs.Common.{◌≡◌, ◌≢◌, ℕ, Bool, true, false, cond, not, List, [], ◌∷◌, Option, Some, None, refl, sym, ◌∙◌, ap, inl, inr, arith}
-use Rattle.std.specs.Prelude.{◌==◌, ◌||◌, ◌&&◌, ◌+◌, nat_lt, length, unwrap_or, filter, map}
+use Rattle.std.proofs.Common.{◌≡◌, ℕ, Bool, true, false, cond, not, List, [], ◌∷◌, refl, sym, ◌∙◌, ap, inl, inr, arith}
+use Rattle.std.specs.Prelude.{◌==◌, ◌||◌, ◌&&◌, ◌+◌, length, filter, map}
 use Rattle.ck_types.specs.declared.user_type.UserType.{UserType}
 use Rattle.pin_record.specs.Charges.{is_same, without}
 use Rattle.token_model.specs.declared.check.Check.{Check}
 use Rattle.token_model.specs.Worlds.{checking, others_checking}
 use Rattle.std.specs.List.{list_any, count_by, fold}
-use Rattle.std.specs.Map.{lookup, keys_of}
-use Rattle.std.specs.BTreeMap.{is_at}
-use Rattle.std.specs.Ordering.{nat_cmp}
-use Rattle.std.proofs.lemmas.Bool.{cases_Bool, cases_eq, eq-eqb, eqb-true, ne_eqb}
+use Rattle.std.specs.Map.{keys_of}
+use Rattle.std.proofs.lemmas.Bool.{cases_Bool, cases_eq, eq-eqb, ne_eqb}
 use Rattle.keep.proofs.Rows.{same_key}
-use Rattle.desk.specs.Desks.{DeskState, empty_desk}
-use Rattle.token.specs.Applications.{desk_at, has_session_at, others_seated}
+use Rattle.desk.specs.Desks.{DeskState}
+use Rattle.token.specs.Applications.{has_session_at, others_seated}
 
 -- what an element passes that is there
 any-of : (t : ℕ → Bool) (xs : List ℕ) → list_any t xs ≡ true → (n : ℕ) × (t n ≡ true) × (list_any (λ m. m == n) xs ≡ true)

@@ -1,10 +1,8 @@
 -- What an event at one desk is to all applications.
-use Rattle.std.proofs.Common.{◌≡◌, ◌≢◌, ℕ, Bool, true, false, cond, not, List, [], ◌∷◌, ◌++◌, map, Option, Some, None, Result, Ok, Err, refl, sym, ◌∙◌, ap, inl, inr}
+use Rattle.std.proofs.Common.{◌≡◌, ◌≢◌, ℕ, Bool, true, false, cond, not, List, [], ◌∷◌, ◌++◌, map, None, Result, Ok, Err, refl, sym, ◌∙◌, ap, inl, inr}
 use Rattle.std.specs.Prelude.{filter, ◌==◌, ◌||◌}
 use Rattle.std.specs.List.{AllByRecursion, list_any}
 use Rattle.std.proofs.lemmas.Bool.{cases_eq, eq-eqb, ne_eqb, eqb-true}
-use Rattle.ck_types.specs.declared.entry.Entry.{Entry}
-use Rattle.ck_types.specs.declared.user_type.UserType.{UserType}
 use Rattle.ck_calls.specs.declared.call.Call.{Call}
 use Rattle.keep.specs.Contents.{Contents, Kept}
 use Rattle.keep.specs.Keeping.{Terms}

@@ -22,7 +22,7 @@ use Rattle.views.specs.Views.{Question, View, fresh}
 use Rattle.views.specs.Answering.{Said, Replies, Answer, Reveal, has_session, pin_checked_in}
 use Rattle.answers.specs.Answers.{answer_result}
 use Rattle.views.specs.Refusals.{refusal, apart, set_apart}
-use Rattle.token_model.specs.Worlds.{World, is_in_session, checks_of, others_checking, Move, Goes, Refuses, value_of, reveal_by_outcome, reveal_to_task, stepped, unchecked, finish_refused}
+use Rattle.token_model.specs.Worlds.{World, is_in_session, checks_of, Move, Goes, Refuses, value_of, reveal_by_outcome, reveal_to_task, stepped, unchecked, finish_refused}
 use Rattle.token_store.specs.Shown.{objects_of, view_of, Fits, said_of, question_of, over}
 use Rattle.token_store.specs.Stores.{StoreState, Has, Serves}
 

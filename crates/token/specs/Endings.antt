@@ -8,7 +8,6 @@ use Rattle.ck_calls.specs.declared.reply.Reply.{Reply}
 use Rattle.ck_calls.specs.declared.reply.Reply.TheVariants.{Code}
 use Rattle.precede.specs.Row.{code_of}
 use Rattle.keep.specs.Keeping.{Terms}
-use Rattle.mech.specs.declared.job.Job.{Job}
 use Rattle.mech.specs.declared.outcome.Outcome.{Outcome}
 use Rattle.mech.specs.declared.work.Work.{Work}
 use Rattle.mech.specs.Works.{outcome_of}

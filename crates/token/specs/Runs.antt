@@ -17,7 +17,7 @@ use Rattle.views.specs.Views.{Question}
 use Rattle.views.specs.Changes.{Change, Stays}
 use Rattle.views.specs.Answering.{Replies}
 use Rattle.views.specs.Refusals.{set_apart}
-use Rattle.token_model.specs.Worlds.{World, Move, Goes, Refuses, event_of, answer_at, result_at, list_change, called, goes, happens, reply_to, after, replies}
+use Rattle.token_model.specs.Worlds.{World, Move, Goes, Refuses, event_of, answer_at, result_at, list_change, goes, happens, reply_to, after, replies}
 use Rattle.token_model.specs.Traces.{NotSetApart, IsTold}
 use Rattle.token_model.specs.Tries.{IsSound, spent_in}
 use Rattle.token_store.specs.Shown.{objects_of}

@@ -17,14 +17,15 @@ use desk::Desk;
 use keep::Keep;
 use precede::Row;
 use serve_ciphers::{cipher, cipher_init};
+use serve_keys::{generate_key, generate_random};
 use serve_objects::{
     copy_object, create_object, destroy_object, get_attribute_value, get_object_size,
     set_attribute_value,
 };
 use serve_search::{find_objects, find_objects_init};
 use serve_sessions::{
-    close_session, get_session_info, get_token_info, init_pin, init_token, login, logout,
-    open_session, set_pin,
+    close_session, get_mechanism_info, get_mechanism_list, get_session_info, get_token_info,
+    init_pin, init_token, login, logout, open_session, set_pin,
 };
 use std::alloc::Global;
 use token_store::{Out, Store, settle, settle_asking};
@@ -73,9 +74,10 @@ fn dispatch<K: Keep>(
     match call {
         // Slot and token management (PKCS #11 v3.1, 5.5).
         Call::GetTokenInfo { slot } => settle(get_token_info::serve(desk, store, slot)),
-        Call::GetMechanismList { .. } | Call::GetMechanismInfo { .. } => code(
-            Rv::FunctionNotSupported,
-        ),
+        Call::GetMechanismList { slot } => settle(get_mechanism_list::serve(alloc, desk, slot)),
+        Call::GetMechanismInfo { slot, mechanism } => {
+            settle(get_mechanism_info::serve(desk, slot, mechanism))
+        }
         Call::InitToken { slot, pin, label } => settle_asking(init_token::serve(
             app, desk, store, slot, pin, label, random, in_use,
         )),
@@ -208,9 +210,14 @@ fn dispatch<K: Keep>(
         | Call::VerifyUpdate { .. }
         | Call::VerifyFinal { .. } => code(Rv::FunctionNotSupported),
         // Key management (5.18), and random numbers (5.19).
-        Call::GenerateKey { .. } | Call::WrapKey { .. } | Call::UnwrapKey { .. } => {
-            code(Rv::FunctionNotSupported)
+        Call::GenerateKey {
+            session,
+            mechanism,
+            template,
+        } => settle(generate_key::serve(alloc, desk, store, session, mechanism, &template, random)),
+        Call::WrapKey { .. } | Call::UnwrapKey { .. } => code(Rv::FunctionNotSupported),
+        Call::GenerateRandom { session, len } => {
+            settle(generate_random::serve(alloc, desk, session, len, random))
         }
-        Call::GenerateRandom { .. } => code(Rv::FunctionNotSupported),
     }
 }

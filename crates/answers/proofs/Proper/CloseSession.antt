@@ -10,7 +10,8 @@ use Rattle.sessions.specs.Sessions.{login_among}
 use Rattle.ops.specs.Operations.{Operations}
 use Rattle.lists.proofs.ListLemmas.{filter-map}
 use Rattle.views.specs.Views.{SessionObject, seen_by}
-use Rattle.answers.specs.CloseSession.{close_row, closed, close_session, close_all_row, all_closed, close_all_sessions}
+use Rattle.answers.specs.OpenSession.{slot_row}
+use Rattle.answers.specs.CloseSession.{close_row, closed, close_session, all_closed, close_all_sessions}
 use Rattle.views.proofs.Masks.{seen-tokens, login-among}
 use Rattle.views.proofs.Checks.{Row, View, mask, mask_session, mask_session_object, becomes, tokens-twice, own-twice, sessions-twice, question-twice, record-twice, IsProper, blind-becomes, fair, proper-checked, row-session}
 
@@ -46,5 +47,5 @@ all_closed-mask v = rw (seen-tokens None v.tokens, tokens-twice (seen_by None v.
 
 pub proper-close_all_sessions : (slot : ℕ) → IsProper (λ v r. close_all_sessions v slot) true
 proper-close_all_sessions slot =
-    proper-checked CloseAllSessions (λ v. close_all_row slot) (λ v. becomes (Code Ok) (all_closed v)) (λ v row. refl)
+    proper-checked CloseAllSessions (λ v. slot_row slot) (λ v. becomes (Code Ok) (all_closed v)) (λ v row. refl)
     (λ v. blind-becomes (Code Ok) (all_closed (mask v)) (all_closed v) (all_closed-mask v)) (λ v. fair v {a = becomes (Code Ok) (all_closed v)} refl refl refl refl refl)

@@ -5,7 +5,8 @@ use Rattle.lists.proofs.ListLemmas.{length-map}
 use Rattle.ck_calls.specs.declared.function.Function.TheVariants.{GetTokenInfo}
 use Rattle.sessions.specs.declared.Session.{Session}
 use Rattle.ops.specs.Operations.{Operations}
-use Rattle.answers.specs.GetTokenInfo.{token_info_row, token_info, get_token_info}
+use Rattle.answers.specs.OpenSession.{slot_row}
+use Rattle.answers.specs.GetTokenInfo.{token_info, get_token_info}
 use Rattle.views.proofs.Checks.{View, mask, mask_session, shown, replies, IsProper, blind-reply, fair, proper-checked, set-masked}
 
 counted-mask : (n : ℕ) (ss : List (Session Operations)) → fold (λ a (x : Session Operations). a + cond x.read_write 1 0) n (map mask_session ss) ≡ fold (λ a x. a + cond x.read_write 1 0) n ss
@@ -20,5 +21,5 @@ blind-info v = rw (set-masked v.token_record.so.verifier, set-masked v.token_rec
 
 pub proper-get_token_info : (slot : ℕ) → IsProper (λ v r. get_token_info v slot) true
 proper-get_token_info slot =
-    proper-checked GetTokenInfo (λ v. token_info_row slot) (λ v. replies v (token_info v)) (λ v row. refl)
+    proper-checked GetTokenInfo (λ v. slot_row slot) (λ v. replies v (token_info v)) (λ v row. refl)
     blind-info (λ v. fair v {a = replies v (token_info v)} refl refl refl refl refl)

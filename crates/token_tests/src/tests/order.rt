@@ -40,6 +40,7 @@ fn told_of(fault: Fault) -> Result<Told, Fail> {
         Fault::KeyNotPermitted => Told::Code(Rv::KeyFunctionNotPermitted),
         Fault::NoOperation => NO_OPERATION,
         Fault::DataTaken => OPERATION_ACTIVE,
+        Fault::RandomLength => Told::Code(Rv::ArgumentsBad),
         Fault::DataLength | Fault::CounterEnd => Told::Code(Rv::DataLenRange),
         Fault::EncryptedDataLength => Told::Code(Rv::EncryptedDataLenRange),
         Fault::NoBuffer => Told::Length(16),

@@ -1,16 +1,16 @@
-use Rattle.std.proofs.Common.{◌≡◌, rules, Some, None, [], sym, ◌∙◌, ap, false, length}
+use Rattle.std.proofs.Common.{◌≡◌, rules, Some, None, [], sym, ◌∙◌, ap}
 use Rattle.std.specs.Prelude.{option_map}
 use Rattle.std.specs.Option.{option_copied}
 use Rattle.ck_types.specs.declared.rv.Rv.TheVariants as rv
 use Rattle.ck_calls.specs.declared.reply.Reply.TheVariants.{Code}
 use Rattle.precede.specs.Row.{code_of}
-use Rattle.streams.specs.declared.part.Part.TheVariants.{Update, Last}
+use Rattle.streams.specs.declared.part.Part.TheVariants.{Last}
 use Rattle.streams.specs.Lengths.{wanted}
 use Rattle.sessions.specs.Sessions.{session_at}
 use Rattle.ops.specs.Operations.{operation_in, operation_of}
 use Rattle.views.specs.Views.{Ciphers}
 use Rattle.answers.specs.CipherInit.{place_for, ends}
-use Rattle.answers.specs.Cipher.{has_taken, final_function}
+use Rattle.answers.specs.Cipher.{final_function}
 use Rattle.token_store.specs.Shown.{view_of}
 use Rattle.serve_ciphers.specs.Steps.{refused_row, asks_within}
 use Rattle.serve_ciphers.proofs.Ciphering.{seated-at, tested, final-refused, final-asks, gives-is, gives-with}

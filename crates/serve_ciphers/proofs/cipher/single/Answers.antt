@@ -1,10 +1,10 @@
-use Rattle.std.proofs.Common.{◌≡◌, rules, Some, None, [], sym, ◌∙◌, ap, false, length}
+use Rattle.std.proofs.Common.{◌≡◌, rules, Some, None, sym, ◌∙◌, ap, false, length}
 use Rattle.std.specs.Prelude.{option_map}
 use Rattle.std.specs.Option.{option_copied}
 use Rattle.ck_types.specs.declared.rv.Rv.TheVariants as rv
 use Rattle.ck_calls.specs.declared.reply.Reply.TheVariants.{Code}
 use Rattle.precede.specs.Row.{code_of}
-use Rattle.streams.specs.declared.part.Part.TheVariants.{Update, Last}
+use Rattle.streams.specs.declared.part.Part.TheVariants.{Last}
 use Rattle.streams.specs.Lengths.{wanted}
 use Rattle.sessions.specs.Sessions.{session_at}
 use Rattle.ops.specs.Operations.{operation_in, operation_of}

@@ -1,19 +1,16 @@
-use Rattle.std.proofs.Common.{◌≡◌, rules, Some, None, [], sym, ◌∙◌, ap, false, length}
+use Rattle.std.proofs.Common.{◌≡◌, rules, Some, sym, ◌∙◌, ap, length}
 use Rattle.std.specs.Prelude.{option_map}
 use Rattle.std.specs.Option.{option_copied}
-use Rattle.ck_types.specs.declared.rv.Rv.TheVariants as rv
-use Rattle.ck_calls.specs.declared.reply.Reply.TheVariants.{Code}
-use Rattle.precede.specs.Row.{code_of}
 use Rattle.streams.specs.declared.part.Part.TheVariants.{Update, Update}
 use Rattle.streams.specs.Lengths.{wanted}
 use Rattle.sessions.specs.Sessions.{session_at}
 use Rattle.ops.specs.Operations.{operation_in, operation_of}
 use Rattle.views.specs.Views.{Ciphers}
-use Rattle.answers.specs.CipherInit.{place_for, ends}
-use Rattle.answers.specs.Cipher.{has_taken, update_function}
+use Rattle.answers.specs.CipherInit.{place_for}
+use Rattle.answers.specs.Cipher.{update_function}
 use Rattle.token_store.specs.Shown.{view_of}
-use Rattle.serve_ciphers.specs.Steps.{refused_row, asks_within}
-use Rattle.serve_ciphers.proofs.Ciphering.{seated-at, tested, update-asks, gives-is, gives-with}
+use Rattle.serve_ciphers.specs.Steps.{asks_within}
+use Rattle.serve_ciphers.proofs.Ciphering.{seated-at, tested, update-asks, gives-is}
 use Rattle.serve_ciphers.proofs.cipher.update.Goals as goal
 
 pub returns-clause-serves : goal.returns-clause-serves

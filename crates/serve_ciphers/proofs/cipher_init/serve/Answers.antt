@@ -1,11 +1,11 @@
-use Rattle.std.proofs.Common.{◌≡◌, true, false, not, [], Some, None, is_some, is_none, refl, rules, sym, ◌∙◌, ap, subst}
+use Rattle.std.proofs.Common.{◌≡◌, true, false, Some, is_some, is_none, refl, rules, sym, ◌∙◌, ap, subst}
 use Rattle.ck_types.specs.declared.rv.Rv.TheVariants as rv
 use Rattle.ck_calls.specs.declared.reply.Reply.TheVariants.{Code}
 use Rattle.attrs.specs.Masking.{is_secret_key}
 use Rattle.attrs.specs.Objects.{flag, class_of, key_type_of}
 use Rattle.sessions.specs.Sessions.{session_at}
 use Rattle.ops.specs.Operations.{operation_in, started}
-use Rattle.answers.specs.CipherInit.{permission, place_for, is_aes, begins, cipher_init}
+use Rattle.answers.specs.CipherInit.{permission, place_for, is_aes, begins}
 use Rattle.token_store.specs.Found.{IsFound}
 use Rattle.token_store.specs.Shown.{view_of}
 use Rattle.token_store.proofs.Gaves.{gave-is, gave-quiet}
@@ -23,7 +23,7 @@ returns-then-not-is_secret_key g c = record {
       let o = c.in_ok-found.found.object in
       let found = subst (λ x. IsFound k d c.args.key x) c.in_ok-found.ensures.ok_part (c.in_ok-find.ensures.found sure k h fits) in
       let idle : is_some (operation_in (session_at d.sessions.sessions c.args.session) (place_for c.args.direction)) ≡ false = idle-is c.operation.result _ (rw c.place_for-place.ensures at c.operation.ensures) (sym c.is_some.ensures ∙ c.if-is_some.false) in
-      let is = by-key v c.args.session (ap is_none s.1) c.args.direction c.args.mechanism c.args.key c.in-Some.mechanism c.in_ok-cipher.cipher c.in_ok-cipher-2.cipher o c.in-Some.is idle (sym c.cipher_at.ensures ∙ c.in_ok-cipher.ensures.ok_part) (rw c.as_slice.ensures at (sym c.with_parameter.ensures ∙ c.in_ok-cipher-2.ensures.ok_part)) found.0 in
+      let is = by-key v c.args.session (ap is_none s.1) c.args.direction c.args.mechanism c.args.key c.in-Some.mechanism c.in_ok-cipher.cipher c.in_ok-cipher-2.cipher o c.in-Some.is idle (sym c.find_for.ensures ∙ c.in_ok-cipher.ensures.ok_part) (rw c.as_slice.ensures at (sym c.with_parameter.ensures ∙ c.in_ok-cipher-2.ensures.ok_part)) found.0 in
       let secret : is_secret_key (class_of o) ≡ false = sym c.is_secret_key.ensures ∙ c.if-not-is_secret_key.true in
       (rw (secret) at is, record { has = has-still _ _ _ k c.find.ensures.same c.find.ensures.ids h; leaves = λ left may. c.find.ensures.same.crash k left h.held may; desk = refl });
   counts = search rules;
@@ -41,7 +41,7 @@ returns-then-not-is_aes g c = record {
       let o = c.in_ok-found.found.object in
       let found = subst (λ x. IsFound k d c.args.key x) c.in_ok-found.ensures.ok_part (c.in_ok-find.ensures.found sure k h fits) in
       let idle : is_some (operation_in (session_at d.sessions.sessions c.args.session) (place_for c.args.direction)) ≡ false = idle-is c.operation.result _ (rw c.place_for-place.ensures at c.operation.ensures) (sym c.is_some.ensures ∙ c.if-is_some.false) in
-      let is = by-key v c.args.session (ap is_none s.1) c.args.direction c.args.mechanism c.args.key c.in-Some.mechanism c.in_ok-cipher.cipher c.in_ok-cipher-2.cipher o c.in-Some.is idle (sym c.cipher_at.ensures ∙ c.in_ok-cipher.ensures.ok_part) (rw c.as_slice.ensures at (sym c.with_parameter.ensures ∙ c.in_ok-cipher-2.ensures.ok_part)) found.0 in
+      let is = by-key v c.args.session (ap is_none s.1) c.args.direction c.args.mechanism c.args.key c.in-Some.mechanism c.in_ok-cipher.cipher c.in_ok-cipher-2.cipher o c.in-Some.is idle (sym c.find_for.ensures ∙ c.in_ok-cipher.ensures.ok_part) (rw c.as_slice.ensures at (sym c.with_parameter.ensures ∙ c.in_ok-cipher-2.ensures.ok_part)) found.0 in
       let secret : is_secret_key (class_of o) ≡ true = sym c.is_secret_key.ensures ∙ c.if-not-is_secret_key.false in
       let aes : is_aes (key_type_of o) ≡ false = sym c.is_aes.ensures ∙ c.if-not-is_aes.true in
       (rw (secret, aes) at is, record { has = has-still _ _ _ k c.find.ensures.same c.find.ensures.ids h; leaves = λ left may. c.find.ensures.same.crash k left h.held may; desk = refl });
@@ -60,7 +60,7 @@ returns-then-not-flag g c = record {
       let o = c.in_ok-found.found.object in
       let found = subst (λ x. IsFound k d c.args.key x) c.in_ok-found.ensures.ok_part (c.in_ok-find.ensures.found sure k h fits) in
       let idle : is_some (operation_in (session_at d.sessions.sessions c.args.session) (place_for c.args.direction)) ≡ false = idle-is c.operation.result _ (rw c.place_for-place.ensures at c.operation.ensures) (sym c.is_some.ensures ∙ c.if-is_some.false) in
-      let is = by-key v c.args.session (ap is_none s.1) c.args.direction c.args.mechanism c.args.key c.in-Some.mechanism c.in_ok-cipher.cipher c.in_ok-cipher-2.cipher o c.in-Some.is idle (sym c.cipher_at.ensures ∙ c.in_ok-cipher.ensures.ok_part) (rw c.as_slice.ensures at (sym c.with_parameter.ensures ∙ c.in_ok-cipher-2.ensures.ok_part)) found.0 in
+      let is = by-key v c.args.session (ap is_none s.1) c.args.direction c.args.mechanism c.args.key c.in-Some.mechanism c.in_ok-cipher.cipher c.in_ok-cipher-2.cipher o c.in-Some.is idle (sym c.find_for.ensures ∙ c.in_ok-cipher.ensures.ok_part) (rw c.as_slice.ensures at (sym c.with_parameter.ensures ∙ c.in_ok-cipher-2.ensures.ok_part)) found.0 in
       let secret : is_secret_key (class_of o) ≡ true = sym c.is_secret_key.ensures ∙ c.if-not-is_secret_key.false in
       let aes : is_aes (key_type_of o) ≡ true = sym c.is_aes.ensures ∙ c.if-not-is_aes.false in
       let permitted : flag o (permission c.args.direction) ≡ false = rw c.permission.ensures at (sym c.flag.ensures ∙ c.if-not-flag.true) in
@@ -80,7 +80,7 @@ returns g c = record {
       let o = c.in_ok-found.found.object in
       let found = subst (λ x. IsFound k d c.args.key x) c.in_ok-found.ensures.ok_part (c.in_ok-find.ensures.found sure k h fits) in
       let idle : is_some (operation_in (session_at d.sessions.sessions c.args.session) (place_for c.args.direction)) ≡ false = idle-is c.operation.result _ (rw c.place_for-place.ensures at c.operation.ensures) (sym c.is_some.ensures ∙ c.if-is_some.false) in
-      let is = by-key v c.args.session (ap is_none s.1) c.args.direction c.args.mechanism c.args.key c.in-Some.mechanism c.in_ok-cipher.cipher c.in_ok-cipher-2.cipher o c.in-Some.is idle (sym c.cipher_at.ensures ∙ c.in_ok-cipher.ensures.ok_part) (rw c.as_slice.ensures at (sym c.with_parameter.ensures ∙ c.in_ok-cipher-2.ensures.ok_part)) found.0 in
+      let is = by-key v c.args.session (ap is_none s.1) c.args.direction c.args.mechanism c.args.key c.in-Some.mechanism c.in_ok-cipher.cipher c.in_ok-cipher-2.cipher o c.in-Some.is idle (sym c.find_for.ensures ∙ c.in_ok-cipher.ensures.ok_part) (rw c.as_slice.ensures at (sym c.with_parameter.ensures ∙ c.in_ok-cipher-2.ensures.ok_part)) found.0 in
       let secret : is_secret_key (class_of o) ≡ true = sym c.is_secret_key.ensures ∙ c.if-not-is_secret_key.false in
       let aes : is_aes (key_type_of o) ≡ true = sym c.is_aes.ensures ∙ c.if-not-is_aes.false in
       let permitted : flag o (permission c.args.direction) ≡ true = rw c.permission.ensures at (sym c.flag.ensures ∙ c.if-not-flag.false) in

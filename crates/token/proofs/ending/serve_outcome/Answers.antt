@@ -1,4 +1,4 @@
-use Rattle.std.proofs.Common.{refl, sym, ◌∙◌, ap}
+use Rattle.std.proofs.Common.{sym, ◌∙◌, ap}
 use Rattle.answers.specs.Answers.{place_asked}
 use Rattle.token.specs.Endings.{desk_left, reply_at}
 use Rattle.token.proofs.Outcomes.{is_ciphered}

@@ -113,24 +113,32 @@ pub returns-in-Logout : goal.returns-in-Logout
 unfolding answer_to
 returns-in-Logout g c = call-at-desk g.K.Keep.terms c.args.app c.args.in_use c.args.call (call.Logout c.in-Logout.session) c.args.random.now c.in-Logout.is c.args.store.now c.args.desk.now _ c.serve-in-Logout.result c.settle-in-Logout.result refl c.settle-in-Logout.ensures c.serve-in-Logout.ensures
 
--- ---- calls that aren't served
-
 pub returns-in-GetMechanismList : goal.returns-in-GetMechanismList
 unfolding answer_to
-returns-in-GetMechanismList g c = call-refused g.K.Keep.terms c.args.app c.args.in_use c.args.call c.args.random.now FunctionNotSupported c.args.store.now c.args.desk.now c.code.result (λ v. search rules) refl c.code.ensures
+returns-in-GetMechanismList g c = call-at-desk g.K.Keep.terms c.args.app c.args.in_use c.args.call (call.GetMechanismList c.in-GetMechanismList.slot) c.args.random.now c.in-GetMechanismList.is c.args.store.now c.args.desk.now _ c.serve-in-GetMechanismList.result c.settle-in-GetMechanismList.result refl c.settle-in-GetMechanismList.ensures c.serve-in-GetMechanismList.ensures
+
+pub returns-in-GetMechanismInfo : goal.returns-in-GetMechanismInfo
+unfolding answer_to
+returns-in-GetMechanismInfo g c = call-at-desk g.K.Keep.terms c.args.app c.args.in_use c.args.call (call.GetMechanismInfo c.in-GetMechanismInfo.slot c.in-GetMechanismInfo.mechanism) c.args.random.now c.in-GetMechanismInfo.is c.args.store.now c.args.desk.now _ c.serve-in-GetMechanismInfo.result c.settle-in-GetMechanismInfo.result refl c.settle-in-GetMechanismInfo.ensures c.serve-in-GetMechanismInfo.ensures
+
+pub returns : goal.returns
+unfolding answer_to
+returns g c = call-at-desk g.K.Keep.terms c.args.app c.args.in_use c.args.call (call.GenerateRandom c.in-GenerateRandom.session c.in-GenerateRandom.len) c.args.random.now c.in-GenerateRandom.is c.args.store.now c.args.desk.now _ c.serve-in-GenerateRandom.result c.settle-in-GenerateRandom.result refl c.settle-in-GenerateRandom.ensures c.serve-in-GenerateRandom.ensures
+
+pub returns-in-GenerateKey : goal.returns-in-GenerateKey
+unfolding answer_to
+returns-in-GenerateKey g c = call-done g.K.Keep.terms c.args.app c.args.in_use c.args.call (call.GenerateKey c.in-GenerateKey.session c.in-GenerateKey.mechanism c.in-GenerateKey.template) c.args.random.now c.in-GenerateKey.is 1 c.args.store.now _ c.args.desk.now _ c.serve-in-GenerateKey.result c.settle-in-GenerateKey.result (omega arith) c.settle-in-GenerateKey.ensures c.serve-in-GenerateKey.ensures
+
+-- ---- calls that aren't served
 
 pub returns-in-SignInit : goal.returns-in-SignInit
 unfolding answer_to
-returns-in-SignInit g c = call-refused g.K.Keep.terms c.args.app c.args.in_use c.args.call c.args.random.now FunctionNotSupported c.args.store.now c.args.desk.now c.code-in-SignInit.result (λ v. search rules) refl c.code-in-SignInit.ensures
+returns-in-SignInit g c = call-refused g.K.Keep.terms c.args.app c.args.in_use c.args.call c.args.random.now FunctionNotSupported c.args.store.now c.args.desk.now c.code.result (λ v. search rules) refl c.code.ensures
 
 pub returns-in-VerifyInit : goal.returns-in-VerifyInit
 unfolding answer_to
 returns-in-VerifyInit g c = call-refused g.K.Keep.terms c.args.app c.args.in_use c.args.call c.args.random.now FunctionNotSupported c.args.store.now c.args.desk.now c.code-in-VerifyInit.result (λ v. search rules) refl c.code-in-VerifyInit.ensures
 
-pub returns-in-GenerateKey : goal.returns-in-GenerateKey
+pub returns-in-WrapKey : goal.returns-in-WrapKey
 unfolding answer_to
-returns-in-GenerateKey g c = call-refused g.K.Keep.terms c.args.app c.args.in_use c.args.call c.args.random.now FunctionNotSupported c.args.store.now c.args.desk.now c.code-in-GenerateKey.result (λ v. search rules) refl c.code-in-GenerateKey.ensures
-
-pub returns : goal.returns
-unfolding answer_to
-returns g c = call-refused g.K.Keep.terms c.args.app c.args.in_use c.args.call c.args.random.now FunctionNotSupported c.args.store.now c.args.desk.now c.code-in-GenerateRandom.result (λ v. search rules) refl c.code-in-GenerateRandom.ensures
+returns-in-WrapKey g c = call-refused g.K.Keep.terms c.args.app c.args.in_use c.args.call c.args.random.now FunctionNotSupported c.args.store.now c.args.desk.now c.code-in-WrapKey.result (λ v. search rules) refl c.code-in-WrapKey.ensures

@@ -1,4 +1,4 @@
-use Rattle.std.proofs.Common.{◌≡◌, rules, refl, sym}
+use Rattle.std.proofs.Common.{◌≡◌, rules, refl}
 use Rattle.desk.specs.Desks.{empty_desk}
 use Rattle.token.specs.Applications.{desk_at}
 use Rattle.token.proofs.Endings.{finishes-none}

@@ -6,20 +6,23 @@ use precede::Row as Fault;
 use precede::Row::{
     DataLength, DataTaken, EncryptedDataLength, NoBuffer, NoObject, NoOperation, NoSession, NoSlot,
     NotCopyable, NotDestroyable, NotModifiable, NotSerial, ObjectLimit, OperationActive,
-    PrivateObject, SessionLimit, SmallBuffer, SoLoggedIn, TemplateRefused, TokenObjectReadOnly,
-    UnknownFlag,
+    PrivateObject, RandomLength, SessionLimit, SmallBuffer, SoLoggedIn, TemplateRefused,
+    TokenObjectReadOnly, UnknownFlag, WrongMechanism, WrongParameter,
 };
 use scripts::Step;
 use scripts::Step::{
     CloseAllSessions, CloseSession, CopyObject, CreateObject, Decrypt, DecryptFinal, DecryptInit,
     DecryptUpdate, DestroyObject, Encrypt, EncryptFinal, EncryptInit, EncryptUpdate, FindObjects,
-    FindObjectsFinal, FindObjectsInit, GetAttributeValue, GetObjectSize, GetSessionInfo,
-    OpenSession, SetAttributeValue,
+    FindObjectsFinal, FindObjectsInit, GenerateKey, GenerateRandom, GetAttributeValue,
+    GetMechanismInfo, GetMechanismList, GetObjectSize, GetSessionInfo, OpenSession,
+    SetAttributeValue,
 };
 use scripts::given::*;
 
 /// Each call, with the fault that stands right after a pending question, and with that fault.
 pub(super) const SECONDS: &[(Fault, Step)] = &[
+    (NoSlot, GetMechanismList(1)),
+    (NoSlot, GetMechanismInfo(1, ECB_NUMBER)),
     (NoSlot, OpenSession(1, READ_WRITE)),
     (NoSession, CloseSession(NOWHERE)),
     (NoSlot, CloseAllSessions(1)),
@@ -41,10 +44,18 @@ pub(super) const SECONDS: &[(Fault, Step)] = &[
     (NoSession, Decrypt(NOWHERE, TEXT, Some(16))),
     (NoSession, DecryptUpdate(NOWHERE, TEXT, Some(16))),
     (NoSession, DecryptFinal(NOWHERE, Some(16))),
+    (NoSession, GenerateKey(NOWHERE, AES_KEY_GEN, KEY_HERE)),
+    (NoSession, GenerateRandom(NOWHERE, 1)),
 ];
 
 /// Neighbours of the tables of sessions and objects after the first two rows, and rows between which one can't hold.
 pub(super) const CASES: &[Case] = &[
+    (
+        NoSlot,
+        WrongMechanism,
+        GetMechanismInfo(0, UNKNOWN_MECHANISM),
+        GetMechanismInfo(1, UNKNOWN_MECHANISM),
+    ),
     (NoSlot, NotSerial, OpenSession(0, 2), OpenSession(1, 2)),
     (NotSerial, UnknownFlag, OpenSession(0, 5), OpenSession(0, 1)),
     (UnknownFlag, SessionLimit, OPEN, OpenSession(0, 7)),
@@ -167,6 +178,48 @@ pub(super) const CASES: &[Case] = &[
         NoOperation,
         FindObjectsFinal(WRITES),
         FindObjectsFinal(NOWHERE),
+    ),
+    (
+        NoSession,
+        WrongMechanism,
+        GenerateKey(WRITES, NO_KEY_GEN, KEY_HERE),
+        GenerateKey(NOWHERE, NO_KEY_GEN, KEY_HERE),
+    ),
+    (
+        WrongMechanism,
+        WrongParameter,
+        GenerateKey(WRITES, AES_KEY_GEN_WITH_PARAMETER, KEY_HERE),
+        GenerateKey(WRITES, NO_KEY_GEN_WITH_PARAMETER, KEY_HERE),
+    ),
+    (
+        WrongParameter,
+        TemplateRefused,
+        GenerateKey(WRITES, AES_KEY_GEN, REFUSED_KEY_ON_TOKEN),
+        GenerateKey(WRITES, AES_KEY_GEN_WITH_PARAMETER, REFUSED_KEY_ON_TOKEN),
+    ),
+    (
+        TemplateRefused,
+        TokenObjectReadOnly,
+        GenerateKey(READS, AES_KEY_GEN, KEY_ON_TOKEN),
+        GenerateKey(READS, AES_KEY_GEN, REFUSED_KEY_ON_TOKEN),
+    ),
+    (
+        TokenObjectReadOnly,
+        PrivateObject,
+        GenerateKey(WRITES, AES_KEY_GEN, PRIVATE_KEY_ON_TOKEN),
+        GenerateKey(READS, AES_KEY_GEN, PRIVATE_KEY_ON_TOKEN),
+    ),
+    (
+        PrivateObject,
+        ObjectLimit,
+        GenerateKey(WRITES, AES_KEY_GEN, KEY_HERE),
+        GenerateKey(WRITES, AES_KEY_GEN, PRIVATE_KEY_HERE),
+    ),
+    (
+        NoSession,
+        RandomLength,
+        GenerateRandom(WRITES, MANY_BYTES),
+        GenerateRandom(NOWHERE, MANY_BYTES),
     ),
 ];
 

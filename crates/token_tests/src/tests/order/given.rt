@@ -105,6 +105,51 @@ pub(super) const KEY_GENERATION: Option<GivenMechanism> = Some((0x1080, b""));
 
 pub(super) const KEY_GENERATION_WITH_PARAMETER: Option<GivenMechanism> = Some((0x1080, TEXT));
 
+/// That mechanism, to generate keys by, with a parameter too, and CKM_AES_ECB, which generates none.
+pub(super) const AES_KEY_GEN: GivenMechanism = (0x1080, b"");
+
+pub(super) const AES_KEY_GEN_WITH_PARAMETER: GivenMechanism = (0x1080, TEXT);
+
+pub(super) const NO_KEY_GEN_WITH_PARAMETER: GivenMechanism = (ECB_NUMBER, TEXT);
+
+pub(super) const NO_KEY_GEN: GivenMechanism = (ECB_NUMBER, b"");
+
+/// The number of no mechanism.
+pub(super) const UNKNOWN_MECHANISM: u64 = 0x250;
+
+/// More random bytes than are given at once.
+pub(super) const MANY_BYTES: u64 = 32_769;
+
+/// The number 16, as CKA_VALUE_LEN has it.
+const SIXTEEN: &[u8] = b"\x00\x00\x00\x00\x00\x00\x00\x10";
+
+/// Keys that are generated: of the session and of the token, public and private, and with a flag of no byte.
+pub(super) const KEY_HERE: Given = &[(AttrType::ValueLen, SIXTEEN), (AttrType::Private, NO)];
+
+pub(super) const PRIVATE_KEY_HERE: Given = &[
+    (AttrType::ValueLen, SIXTEEN),
+    (AttrType::Private, YES),
+];
+
+pub(super) const KEY_ON_TOKEN: Given = &[
+    (AttrType::ValueLen, SIXTEEN),
+    (AttrType::Private, NO),
+    (AttrType::Token, YES),
+];
+
+pub(super) const PRIVATE_KEY_ON_TOKEN: Given = &[
+    (AttrType::ValueLen, SIXTEEN),
+    (AttrType::Private, YES),
+    (AttrType::Token, YES),
+];
+
+pub(super) const REFUSED_KEY_ON_TOKEN: Given = &[
+    (AttrType::ValueLen, SIXTEEN),
+    (AttrType::Private, NO),
+    (AttrType::Token, YES),
+    (AttrType::Copyable, b""),
+];
+
 /// A text that is longer than the keystream of `TWO_BITS`.
 pub(super) const LONG_TEXT: &[u8] = &[0; 49];
 

@@ -1,5 +1,5 @@
-use Rattle.std.proofs.Common.{refl, [], ◌∷◌, sym, ◌∙◌, ap}
-use Rattle.std.specs.Prelude.{map, reverse}
+use Rattle.std.proofs.Common.{refl, [], ◌∷◌, sym, ◌∙◌}
+use Rattle.std.specs.Prelude.{map}
 use Rattle.std.proofs.lemmas.List.{reverse-append}
 use Rattle.lists.proofs.PlaceLemmas.{append_nil}
 use Rattle.lists.proofs.ListLemmas.{map-push}

@@ -1,4 +1,4 @@
-use Rattle.std.proofs.Common.{refl, sym, ◌∙◌}
+use Rattle.std.proofs.Common.{sym, ◌∙◌}
 use Rattle.token.specs.Applications.{desk_at}
 use Rattle.token.proofs.Called.{shows-called, says-called, leaves-called, blames-device, stays-called}
 use Rattle.token.proofs.token.Token.call.Goals as goal

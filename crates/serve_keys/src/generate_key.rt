@@ -1,0 +1,42 @@
+//! C_GenerateKey (PKCS #11 v3.1, 5.18).
+
+ghost use Rattle.std.specs.Prelude.{◌≡◌, ◌+◌, ◌<◌, ◌^◌, length};
+ghost use Rattle.ck_calls.specs.Need.{value_len_in};
+ghost use Rattle.answers.specs.GenerateKey.{generate_key};
+ghost use Rattle.token_store.specs.Refusing.{IsDone};
+
+use ck_calls::{Mechanism, Reply};
+use ck_types::Template;
+use desk::Desk;
+use keep::Keep;
+use mechanisms::{Purpose, find_for};
+use precede::Row;
+use serve_objects::add_object;
+use std::alloc::Global;
+use templates::generated;
+use token_store::{Refusal, Store};
+
+/// Makes a key of a template and of the call's random bytes: the first 16 make its CKA_UNIQUE_ID, and those that follow are
+/// its value. `CKR_MECHANISM_INVALID` where the mechanism generates no keys, `CKR_MECHANISM_PARAM_INVALID` where it has a
+/// parameter; the other codes are those of C_CreateObject.
+pub fn serve<K: Keep>(
+    alloc: Global,
+    desk: &mut Desk,
+    store: &mut Store<K>,
+    session: u64,
+    mechanism: Mechanism,
+    template: &Template,
+    random: &[u8],
+) -> Result<Reply, Refusal>
+    requires below { desk.old.handles.next_number < 2 ^ 63 }
+    requires random { length random.now ≡ 16 + value_len_in template.now }
+    ensures { IsDone K.terms 1 (λ v. generate_key v session mechanism template.now random.now) store.old store.new desk.old result desk.new }
+{
+    let state = desk.state(session).ok_or(Row::NoSession)?;
+    let generation = find_for(Purpose::Generation, mechanism.number).ok_or(Row::WrongMechanism)?;
+    if !mechanism.parameter.is_empty() {
+        return Err(Refusal::Row(Row::WrongParameter));
+    }
+    let object = generated(alloc, state, generation, template, random)?;
+    add_object(desk, store, session, state, object)
+}

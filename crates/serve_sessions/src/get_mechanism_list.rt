@@ -1,0 +1,37 @@
+//! C_GetMechanismList (PKCS #11 v3.1, 5.5).
+
+ghost use Rattle.std.specs.Prelude.{◌≡◌, IfOk};
+ghost use Rattle.mechanisms.specs.Table.{listed_numbers};
+ghost use Rattle.views.specs.Answering.{Replies};
+ghost use Rattle.answers.specs.Mechanisms.{get_mechanism_list};
+ghost use Rattle.token_store.specs.Refusing.{AtDesk};
+
+use crate::SLOT;
+use ck_calls::Reply;
+use ck_types::Items;
+use desk::Desk;
+use mechanisms::LISTED;
+use precede::Row;
+use std::alloc::{AllocError, Global};
+use token_store::Refusal;
+
+/// The numbers of the token's mechanisms, rising. `CKR_SLOT_ID_INVALID` where the slot isn't the one that there is.
+pub fn serve(alloc: Global, desk: &Desk, slot: u64) -> Result<Reply, Refusal>
+    ensures { AtDesk Replies (λ v. get_mechanism_list v slot) desk.now result desk.now }
+{
+    let _ = desk;
+    if slot != SLOT {
+        return Err(Refusal::Row(Row::NoSlot));
+    }
+    Ok(Reply::MechanismList(numbers(alloc)?))
+}
+
+fn numbers(alloc: Global) -> Result<Items<u64>, AllocError>
+    ensures { IfOk result (λ numbers. numbers ≡ listed_numbers) }
+{
+    let mut numbers = Items::new(alloc);
+    for mechanism in LISTED {
+        numbers.push(mechanism.number())?;
+    }
+    Ok(numbers)
+}
