@@ -38,8 +38,8 @@ pub fn cmac(key: &Key, message: &[u8]) -> [u8; 16]
     code_of_end(key, chain, &message[BLOCK_SIZE * before..])
 }
 
-/// C_(q + n) of a message (6.2, steps 5 and 6), from C_q and the bytes behind its first q blocks: n
-/// is `blocks`, and C_0 a block of zeros. Its last block is not one of them.
+/// C_(q + n) of a message's blocks before the last (6.2, steps 5 and 6), from C_q and the message's
+/// bytes behind its first q blocks: n is `blocks`, and C_0 is a block of zeros.
 pub fn chained_on(key: &Key, chain: Block, text: &[u8], blocks: usize) -> Block
     requires { 16 * blocks ≤ length text.now }
     ensures { (message : List ℕ) (q : ℕ) → text.now ≡ drop (16 * q) message
@@ -52,8 +52,8 @@ pub fn chained_on(key: &Key, chain: Block, text: &[u8], blocks: usize) -> Block
     chained
 }
 
-/// The code of a message (6.2, steps 4 and 6), from C_(n - 1), that of its blocks before the last,
-/// and the bytes behind them, at most 16.
+/// The code of a message of n blocks (6.2, steps 4 and 6), from C_(n - 1), which its blocks before
+/// the last are chained to, and the bytes behind these blocks, at most 16.
 pub fn code_of_end(key: &Key, chain: Block, rest: &[u8]) -> [u8; 16]
     requires { length rest.now ≤ 16 }
     ensures { (message : List ℕ) → chain ≡ chained key.now message (count_before_last message)
