@@ -1,25 +1,49 @@
 -- Messages by their blocks.
-use Rattle.std.proofs.Common.{◌≡◌, ℕ, ◌+◌, ◌-◌, ◌/◌, ◌<◌, List, [], ◌∷◌, ◌++◌, length, take, drop, set, get_or, replicate, if◌then◌else◌, ap, sym, ◌∙◌, arith, add-one, eq-eqb, Bool, inl, inr}
+use Rattle.std.proofs.Common.{◌≡◌, ℕ, zero, suc, ◌+◌, ◌-◌, ◌*◌, ◌/◌, ◌<◌, ◌≤◌, List, [], ◌∷◌, ◌++◌, length, take, drop, set, get_or, replicate, if◌then◌else◌, ap, refl, sym, ◌∙◌, arith, eq-eqb, Bool, inl, inr}
 use Rattle.std.proofs.lemmas.Bool.{ne_eqb, cases_eq}
-use Rattle.std.proofs.lemmas.List.{append_assoc, take_all, take_more, drop_more, drop-set, drop-replicate, length-take-le, set_at}
+use Rattle.std.proofs.lemmas.List.{append_assoc, take_all, take_more, take-append-le, drop_more, drop-append-le, drop-drop, drop-set, drop-replicate, length-drop, length-take-le, set_at}
 use Rattle.aes_block.specs.Bytes.{xor_bytes}
 use Rattle.aes_block.specs.Texts.{block_of}
 use Rattle.aes_block.specs.Encipher.{enciphered_block}
-use Rattle.aes_cmac.specs.Cmac.{first_subkey, second_subkey, block_count, last_block, chained}
+use Rattle.aes_cmac.specs.Cmac.{first_subkey, second_subkey, count_before_last, last_block, chained}
 
 -- a message of one block
 pub block_of-whole : (message : List ℕ) → length message ≡ 16 → block_of message 0 ≡ message
 unfolding block_of
 block_of-whole message size = take_all 16 message (omega arith)
 
--- a block further
-pub chained-more : (key message before : List ℕ) (i : ℕ) → before ≡ chained key message i
-    → enciphered_block key (xor_bytes before (block_of message i)) ≡ chained key message (i + 1)
+-- a block of what stands behind q blocks
+block_of-drop : (message : List ℕ) (q i : ℕ) → block_of (drop (16 * q) message) i ≡ block_of message (q + i)
+unfolding block_of
+block_of-drop message q i =
+    let sum : 16 * q + 16 * i ≡ 16 * (q + i) = omega arith in
+    ap (take 16) (drop-drop (16 * i) (16 * q) message ∙ ap (λ k. drop k message) sum)
+
+-- a whole block stays when more follows
+block_of-append : (message more : List ℕ) (i : ℕ) → 16 * i + 16 ≤ length message → block_of (message ++ more) i ≡ block_of message i
+unfolding block_of
+block_of-append message more i le =
+    ap (take 16) (drop-append-le (16 * i) message more (omega arith))
+    ∙ take-append-le 16 (drop (16 * i) message) more (omega (arith, length-drop (16 * i) message))
+
+-- and so does what whole blocks are chained to
+pub chained-append : (key message more : List ℕ) (i : ℕ) → 16 * i ≤ length message → chained key (message ++ more) i ≡ chained key message i
 unfolding chained
-chained-more key message before i is = rw add-one (ap (λ c. enciphered_block key (xor_bytes c (block_of message i))) is)
+chained-append key message more zero le = refl
+chained-append key message more (suc i) le =
+    λ t. enciphered_block key (xor_bytes (chained-append key message more i (omega arith) t) (block_of-append message more i (omega arith) t))
+
+-- a block further, behind q blocks
+pub chained-next : (key message text before : List ℕ) (q i : ℕ) → text ≡ drop (16 * q) message → before ≡ chained key message (q + i)
+    → enciphered_block key (xor_bytes before (block_of text i)) ≡ chained key message (q + (i + 1))
+unfolding chained
+chained-next key message text before q i behind is =
+    let next : suc (q + i) ≡ q + (i + 1) = omega arith in
+    (λ t. enciphered_block key (xor_bytes (is t) ((ap (λ l. block_of l i) behind ∙ block_of-drop message q i) t)))
+    ∙ ap (chained key message) next
 
 -- the blocks before the last, as the code counts them
-pub blocks_before : (message : List ℕ) → (length message - 1) / 16 ≡ block_count message - 1
+pub blocks_before : (message : List ℕ) → (length message - 1) / 16 ≡ count_before_last message
 blocks_before message =
     let count = λ (b : Bool). (if b then 1 else (length message + 15) / 16) - 1 in
     elim (cases_eq (length message) 0) [

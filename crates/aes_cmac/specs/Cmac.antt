@@ -33,6 +33,10 @@ second_subkey key = doubled (first_subkey key)
 abbrev pub block_count : List ℕ → ℕ
 block_count message = if length message == 0 then 1 else (length message + 15) / 16
 
+-- how many blocks stand before the last
+abbrev pub count_before_last : List ℕ → ℕ
+count_before_last message = block_count message - 1
+
 -- M_n, of the bytes that the message has behind the blocks before: a whole one with K1 added, another
 -- one with 1 0^j behind it and K2 added (step 4)
 unfoldable pub last_block : List ℕ → List ℕ → List ℕ
@@ -48,5 +52,5 @@ chained key message (suc i) = enciphered_block key (xor_bytes (chained key messa
 -- T = C_n (steps 6 and 7, with Tlen = 128)
 unfoldable pub cmac : List ℕ → List ℕ → List ℕ
 cmac key message =
-    let before = block_count message - 1 in
+    let before = count_before_last message in
     enciphered_block key (xor_bytes (chained key message before) (last_block key (drop (16 * before) message)))

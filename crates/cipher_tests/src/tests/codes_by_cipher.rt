@@ -3,7 +3,7 @@ use aes_cmac::cmac;
 use std::test::Fail;
 use vectors::SP_800_38B;
 
-mod vectors;
+pub(crate) mod vectors;
 
 #[test]
 fn codes_are_those_of_the_standards_examples(rt: HostRuntime) -> Result<(), Fail> {

@@ -2,7 +2,7 @@ use hmac_sha2::{HashFunction, Hmac, hmac224, hmac256, hmac384, hmac512, pbkdf2};
 use sha2::{Sha224, Sha256, Sha384, Sha512};
 use vectors::{Codes, DERIVATIONS, KEY_LENGTHS, RFC_4231};
 
-mod vectors;
+pub(crate) mod vectors;
 
 // The bytes of a code that is given by its first 128 bits.
 const TRUNCATED: usize = 16;
@@ -10,7 +10,7 @@ const TRUNCATED: usize = 16;
 static DIGITS: [u8; 16] = *b"0123456789abcdef";
 
 // Whether the digits spell the whole code, or its first 128 bits.
-fn spells(digits: &str, code: &[u8]) -> bool {
+pub(crate) fn spells(digits: &str, code: &[u8]) -> bool {
     let digits = digits.as_bytes();
     if digits.len() != 2 * code.len() && (digits.len() != 2 * TRUNCATED || code.len() < TRUNCATED) {
         return false;

@@ -1,0 +1,2 @@
+pub mod CodeLengths
+pub mod CmacLaw

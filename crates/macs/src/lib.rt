@@ -1,0 +1,43 @@
+//! Message authentication codes of messages that come in pieces: CKM_AES_CMAC, CKM_SHA224_HMAC,
+//! CKM_SHA256_HMAC, CKM_SHA384_HMAC and CKM_SHA512_HMAC (PKCS #11 v3.1, 5.13 and 5.15; SP 800-38B;
+//! FIPS 198-1), in memory that does not grow with the message.
+//!
+//! ```rust
+//! use macs::{Mac, Mechanism};
+//!
+//! let Some(mut mac) = Mac::new(Mechanism::AesCmac, b"sixteen byte key") else {
+//!     return;
+//! };
+//! mac.update(b"a piece of any length");
+//! mac.update(b"and the last one");
+//! let code = mac.code();
+//! assert_eq!(rt; code.as_slice().len(), mac.mechanism().code_len());
+//! ```
+//!
+//! Contracts see a `Mac` as one record for all mechanisms (`Authentication`): the mechanism, the key,
+//! and the message so far. The message takes no memory. What is kept of it is a block at most under
+//! CMAC, and the hash functions' states under HMAC.
+//!
+//! Proved, for every mechanism, key and message, however it is cut:
+//!
+//! - There is a `Mac` exactly where the key has a length of the mechanism's.
+//! - The code is that of the whole message by the mechanism's standard (`specs/Codes.antt`, over what
+//!   `aes_cmac` and `hmac_sha2` write down), and has the mechanism's length.
+//! - To make a code changes nothing: a message can go on behind it.
+//! - A copy stands where the `Mac` stands, and `has_taken` tells whether it has taken a byte.
+//! - No call takes memory, and none can fail but `Mac::new`, for the key's length.
+//!
+//! The time that CMAC takes depends on secrets, as that of `aes_block`. Keys and states are not
+//! overwritten when they are dropped.
+#![tactic(auto)]
+
+mod cmac_stream;
+mod code;
+mod hmac_stream;
+mod mac;
+mod mechanism;
+mod state;
+
+pub use code::{Code, LONGEST_CODE};
+pub use mac::Mac;
+pub use mechanism::Mechanism;
