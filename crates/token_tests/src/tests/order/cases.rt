@@ -155,7 +155,7 @@ pub(super) const CASES: &[Case] = &[
 
 /// The neighbours that can't both hold.
 pub(super) const LEFT_OUT: &[(Function, Fault, Fault)] = &[
-    // No call logs the SO in yet.
+    // Nobody logs in here: `pin_tests` has the cases in which the SO is logged in.
     (Function::OpenSession, UnknownFlag, SoLoggedIn),
     (Function::OpenSession, SoLoggedIn, SessionLimit),
     // Of an object that isn't there nothing else is known.
