@@ -20,29 +20,44 @@ mod FindObjects
 mod FindObjectsInit
 mod CipherInit
 mod Cipher
+mod MacInit
+mod Mac
+pub mod WrapKey
+pub mod UnwrapKey
 use Rattle.std.proofs.Common.{◌≡◌, ℕ, ◌^◌, Bool, true, false, cond, not, List, Option, Some, None, refl, ◌∙◌, ap}
 use Rattle.std.specs.Prelude.{◌||◌, nat_le, is_some}
 use Rattle.std.specs.Option.{option_map}
-use Rattle.ck_types.specs.declared.rv.Rv.TheVariants.{FunctionFailed, FunctionNotSupported}
+use Rattle.ck_types.specs.declared.rv.Rv.TheVariants.{FunctionFailed}
 use Rattle.ck_calls.specs.declared.call.Call.{Call}
 use Rattle.ck_calls.specs.declared.call.Call.TheVariants as call
 use Rattle.ck_calls.specs.declared.reply.Reply.TheVariants.{Code, ObjectSize}
 use Rattle.ck_calls.specs.Functions.{function_of}
 use Rattle.aes_modes.specs.declared.direction.Direction.TheVariants.{Encipher, Decipher}
 use Rattle.ops.specs.declared.place.Place.{Place}
-use Rattle.ops.specs.declared.place.Place.TheVariants as place
-use Rattle.views.specs.Outcomes.{Outcome}
+use Rattle.ops.specs.declared.place.MacPlace.TheVariants as mac_place
+use Rattle.views.specs.Outcomes.{Outcome, Output, BadPadding, Taken, Unwrapped, BadWrapping, Right, Wrong, Made, mask_outcome}
 use Rattle.precede.specs.declared.row.Row.TheVariants.{Busy}
 use Rattle.streams.specs.declared.part.Part.{Part}
-use Rattle.ops.specs.Operations.{Operation, mask_operation}
-use Rattle.views.specs.Views.{View, Question, Task, Ciphers, ChecksPin, MakesPin, ChangesPin, InitsToken, ResetsToken, mask, mask_question, mask_task}
+use Rattle.ops.specs.Operations.{Operation, mask_operation, mask_mac}
+use Rattle.ck_types.specs.declared.entry.Entry.{Entry}
+use Rattle.attrs.specs.Masking.{mask as mask_object}
+use Rattle.pin_record.specs.Records.{TokenRecord}
+use Rattle.streams.specs.declared.part.Part.TheVariants.{Update, Last}
+use Rattle.views.specs.Views.{View, Question, Task, Ciphers, Takes, Signs, Verifies, WrapsKey, UnwrapsKey, ChecksPin, MakesPin, ChangesPin, InitsToken, ResetsToken, mask, mask_question, mask_task}
 use Rattle.ck_calls.specs.declared.function.Function.{Function}
 use Rattle.ck_calls.specs.declared.function.Function.TheVariants as function
 use Rattle.views.proofs.Masks.{mask-twice}
 use Rattle.views.specs.Changes.{Stays, recorded}
 use Rattle.views.specs.Answering.{Said, Replies, Asks, Answer, Reveal, shown, mask_reveal, refuses, refuses_by, answered, is_closed, pin_checked_in}
 use Rattle.answers.specs.Cipher.{ciphered}
-use Rattle.answers.specs.Answers.{answer, answer_to, place_asked, ciphered_at, answer_outcome, answer_question, answer_result, is_pin_task, is_still_function}
+use Rattle.answers.specs.CipherInit.{place_for}
+use Rattle.answers.specs.Mac.{taken, signed, verified}
+use Rattle.answers.specs.WrapKey.{wrapped_result}
+use Rattle.answers.specs.Login.{login_result}
+use Rattle.answers.specs.InitPin.{init_pin_result}
+use Rattle.answers.specs.SetPin.{set_pin_result}
+use Rattle.answers.specs.InitToken.{init_token_result, reset_token_result}
+use Rattle.answers.specs.Answers.{answer, answer_to, answer_outcome, answer_question, answer_result, is_pin_task, is_key_task, is_still_function}
 use Rattle.views.specs.Refusals.{apart}
 use Rattle.views.proofs.Blind.{IsProper, IsFair, Leaves, blind-row, blind-refusal, fair, fair-row, fair-refusal}
 use Rattle.answers.proofs.Proper.GetTokenInfo.{proper-get_token_info}
@@ -71,10 +86,10 @@ use Rattle.answers.proofs.Proper.FindObjects.{proper-find_objects, proper-find_o
 use Rattle.answers.proofs.Proper.FindObjectsInit.{proper-find_objects_init}
 use Rattle.answers.proofs.Proper.CipherInit.{proper-cipher_init}
 use Rattle.answers.proofs.Proper.Cipher.{proper-single, proper-update, proper-final, blind-ciphered, plain-ciphered}
-
--- a call that isn't built
-proper-refused : {quiet : Bool} → IsProper (λ v r. refuses v FunctionNotSupported) quiet
-proper-refused = record { blind = λ v r. blind-refusal v FunctionNotSupported; fair = λ v r. fair-refusal v FunctionNotSupported refl }
+use Rattle.answers.proofs.Proper.MacInit.{proper-mac_init}
+use Rattle.answers.proofs.Proper.Mac.{proper-sign, proper-sign_final, proper-verify, proper-verify_final, proper-mac_update, blind-taken, blind-signed, blind-verified, over-taken, over-signed, over-verified, still-taken}
+use Rattle.answers.proofs.Proper.WrapKey.{proper-wrap_key, blind-wrapped, over-wrapped, still-wrapped}
+use Rattle.answers.proofs.Proper.UnwrapKey.{proper-unwrap_key, blind-unwrapped, over-unwrapped, record-unwrapped}
 
 pub proper-answer_to : (c : Call) (random : List ℕ) → IsProper (λ v r. answer_to v c random r) (is_still_function (function_of c))
 unfolding answer_to
@@ -107,9 +122,18 @@ proper-answer_to (call.DecryptInit session mechanism key) random = proper-cipher
 proper-answer_to (call.Decrypt session input room) random = proper-single Decipher session input room
 proper-answer_to (call.DecryptUpdate session input room) random = proper-update Decipher session input room
 proper-answer_to (call.DecryptFinal session room) random = proper-final Decipher session room
+proper-answer_to (call.SignInit session mechanism key) random = proper-mac_init mac_place.Sign session mechanism key
+proper-answer_to (call.Sign session input room) random = proper-sign session input room
+proper-answer_to (call.SignUpdate session input) random = proper-mac_update mac_place.Sign session input
+proper-answer_to (call.SignFinal session room) random = proper-sign_final session room
+proper-answer_to (call.VerifyInit session mechanism key) random = proper-mac_init mac_place.Verify session mechanism key
+proper-answer_to (call.Verify session input signature) random = proper-verify session input signature
+proper-answer_to (call.VerifyUpdate session input) random = proper-mac_update mac_place.Verify session input
+proper-answer_to (call.VerifyFinal session signature) random = proper-verify_final session signature
 proper-answer_to (call.GenerateKey session mechanism template) random = proper-generate_key session mechanism template random
+proper-answer_to (call.WrapKey session mechanism wrapping_key key room) random = proper-wrap_key session mechanism wrapping_key key room
+proper-answer_to (call.UnwrapKey session mechanism unwrapping_key wrapped template) random = proper-unwrap_key session mechanism unwrapping_key wrapped template random
 proper-answer_to (call.GenerateRandom session len) random = proper-generate_random session len random
-proper-answer_to _ random = proper-refused
 
 -- ---- calls
 
@@ -152,34 +176,50 @@ busy-answer v c random r q is = rw is refl
 
 -- ---- results
 
-shown-answered : (v : View) → shown (refuses (answered (mask v)) FunctionFailed) ≡ shown (refuses (answered v) FunctionFailed)
-shown-answered v = ap (λ u. record { says = Replies (Code FunctionFailed); view = u; change = Stays }) (mask-twice (answered v))
+-- a result shows what a key's value is only in the key
+unmasked : (f : Outcome → Answer) → ((o : List Entry) → f (Unwrapped (mask_object o)) ≡ f (Unwrapped o)) → (x : Outcome) → f (mask_outcome x) ≡ f x
+unmasked f same (Output bytes) = refl
+unmasked f same BadPadding = refl
+unmasked f same Taken = refl
+unmasked f same (Unwrapped o) = same o
+unmasked f same BadWrapping = refl
+unmasked f same Right = refl
+unmasked f same Wrong = refl
+unmasked f same Made = refl
 
-blind-ciphered_at : (v : View) (q : Question) (p : Option Place) (part : Part) (o : Operation) (input : List ℕ) (outcome : Outcome) → shown (ciphered_at (mask v) (mask_question q) p part (mask_operation o) input outcome) ≡ shown (ciphered_at v q p part o input outcome)
-blind-ciphered_at v q None part o input outcome = shown-answered v
-blind-ciphered_at v q (Some p) part o input outcome = blind-ciphered v q.session p part o input outcome
+-- it comes to a task that makes none
+unmasked-ciphered : (v : View) (s : ℕ) (p : Place) (part : Part) (o : Operation) (input : List ℕ) (x : Outcome) → ciphered v s p part o input (mask_outcome x) ≡ ciphered v s p part o input x
+unmasked-ciphered v s p Update o input x = unmasked (λ y. ciphered v s p Update o input y) (λ k. refl) x
+unmasked-ciphered v s p Last o input x = unmasked (λ y. ciphered v s p Last o input y) (λ k. refl) x
 
-blind-outcome : (v : View) (q : Question) (t : Task) (outcome : Outcome) (r : Reveal) → shown (answer_outcome (mask v) (mask_question q) (mask_task t) outcome (mask_reveal r)) ≡ shown (answer_outcome v q t outcome r)
-blind-outcome v q (Ciphers part o input) outcome r = blind-ciphered_at v q (place_asked q.function) part o input outcome
-blind-outcome v q (ChecksPin who verifier pin) outcome r = blind-login (answered v) who outcome r
-blind-outcome v q (MakesPin pin salt) outcome r = blind-init_pin (answered v) pin salt outcome r
-blind-outcome v q (ChangesPin who verifier pin new_pin salt) outcome r = blind-set_pin (answered v) who new_pin salt outcome r
-blind-outcome v q (InitsToken label pin salt) outcome r = blind-init_token (answered v) label pin salt outcome r
-blind-outcome v q (ResetsToken label verifier pin) outcome r = blind-reset_token (answered v) label outcome r
+blind-outcome : (v : View) (q : Question) (t : Task) (x : Outcome) (r : Reveal) → shown (answer_outcome (mask v) (mask_question q) (mask_task t) (mask_outcome x) (mask_reveal r)) ≡ shown (answer_outcome v q t x r)
+blind-outcome v q (Ciphers part o input) x r =
+    ap shown (unmasked-ciphered (mask v) q.session (place_for o.direction) part (mask_operation o) input x) ∙ blind-ciphered v q.session (place_for o.direction) part o input x
+blind-outcome v q (Takes p o input) x r = ap shown (unmasked (λ y. taken (mask v) q.session p (mask_mac o) input y) (λ k. refl) x) ∙ blind-taken v q.session p o input x
+blind-outcome v q (Signs o input) x r = ap shown (unmasked (λ y. signed (mask v) q.session y) (λ k. refl) x) ∙ blind-signed v q.session x
+blind-outcome v q (Verifies o input signature) x r = ap shown (unmasked (λ y. verified (mask v) q.session y) (λ k. refl) x) ∙ blind-verified v q.session x
+blind-outcome v q (WrapsKey key value) x r = ap shown (unmasked (λ y. wrapped_result (answered (mask v)) y) (λ k. refl) x) ∙ blind-wrapped (answered v) x
+blind-outcome v q (UnwrapsKey key wrapped state template random) x r = blind-unwrapped v q.session x
+blind-outcome v q (ChecksPin who verifier pin) x r = ap shown (unmasked (λ y. login_result (answered (mask v)) who y (mask_reveal r)) (λ k. refl) x) ∙ blind-login (answered v) who x r
+blind-outcome v q (MakesPin pin salt) x r = ap shown (unmasked (λ y. init_pin_result (answered (mask v)) pin salt y (mask_reveal r)) (λ k. refl) x) ∙ blind-init_pin (answered v) pin salt x r
+blind-outcome v q (ChangesPin who verifier pin new_pin salt) x r = ap shown (unmasked (λ y. set_pin_result (answered (mask v)) who new_pin salt y (mask_reveal r)) (λ k. refl) x) ∙ blind-set_pin (answered v) who new_pin salt x r
+blind-outcome v q (InitsToken label pin salt) x r = ap shown (unmasked (λ y. init_token_result (answered (mask v)) label pin salt y (mask_reveal r)) (λ k. refl) x) ∙ blind-init_token (answered v) label pin salt x r
+blind-outcome v q (ResetsToken label verifier pin) x r = ap shown (unmasked (λ y. reset_token_result (answered (mask v)) label y (mask_reveal r)) (λ k. refl) x) ∙ blind-reset_token (answered v) label x r
 
-pub shown-result : (v : View) (outcome : Outcome) (r : Reveal) → shown (answer_result (mask v) outcome (mask_reveal r)) ≡ shown (answer_result v outcome r)
+pub shown-result : (v : View) (outcome : Outcome) (r : Reveal) → shown (answer_result (mask v) (mask_outcome outcome) (mask_reveal r)) ≡ shown (answer_result v outcome r)
 unfolding answer_result
 shown-result v outcome r = out v.question where
-  out : (q : Option Question) → shown (answer_question (mask v) (option_map mask_question q) outcome (mask_reveal r)) ≡ shown (answer_question v q outcome r)
+  out : (q : Option Question) → shown (answer_question (mask v) (option_map mask_question q) (mask_outcome outcome) (mask_reveal r)) ≡ shown (answer_question v q outcome r)
   out None = blind-refusal v FunctionFailed
   out (Some q) = blind-outcome v q q.task outcome r
 
-over-ciphered_at : (v : View) (q : Question) (p : Option Place) (part : Part) (o : Operation) (input : List ℕ) (outcome : Outcome) → IsOver v (ciphered_at v q p part o input outcome)
-over-ciphered_at v q None part o input outcome = over-refused v FunctionFailed refl
-over-ciphered_at v q (Some p) part o input outcome = record { plain = plain-ciphered outcome; unasking = refl; over = refl; shows = refl }
-
 over-outcome : (v : View) (q : Question) (t : Task) (outcome : Outcome) (r : Reveal) → IsOver v (answer_outcome v q t outcome r)
-over-outcome v q (Ciphers part o input) outcome r = over-ciphered_at v q (place_asked q.function) part o input outcome
+over-outcome v q (Ciphers part o input) outcome r = record { plain = plain-ciphered outcome; unasking = refl; over = refl; shows = refl }
+over-outcome v q (Takes p o input) outcome r = over-taken v q.session p o input outcome
+over-outcome v q (Signs o input) outcome r = over-signed v q.session outcome
+over-outcome v q (Verifies o input signature) outcome r = over-verified v q.session outcome
+over-outcome v q (WrapsKey key value) outcome r = over-wrapped v outcome
+over-outcome v q (UnwrapsKey key wrapped state template random) outcome r = over-unwrapped v q.session outcome
 over-outcome v q (ChecksPin who verifier pin) outcome r = over-login v who outcome r
 over-outcome v q (MakesPin pin salt) outcome r = over-init_pin v pin salt outcome r
 over-outcome v q (ChangesPin who verifier pin new_pin salt) outcome r = over-set_pin v who new_pin salt outcome r
@@ -193,22 +233,33 @@ over-answer v outcome r = out v.question refl where
   out None e = record { plain = refl; unasking = refl; over = e; shows = refl }
   out (Some q) e = over-outcome v q q.task outcome r
 
--- a result of no PIN changes nothing that others see
-pub still-ciphered_at : (v : View) (q : Question) (p : Option Place) (part : Part) (o : Operation) (input : List ℕ) (outcome : Outcome) → (ciphered_at v q p part o input outcome).change ≡ Stays
-still-ciphered_at v q None part o input outcome = refl
-still-ciphered_at v q (Some p) part o input outcome = refl
+-- a result of no PIN changes no record
+pub record-outcome : (v : View) (q : Question) (t : Task) (outcome : Outcome) (r : Reveal) (old : TokenRecord) → is_pin_task t ≡ false → recorded (answer_outcome v q t outcome r).change old ≡ old
+record-outcome v q (Ciphers part o input) outcome r old quiet = refl
+record-outcome v q (Takes p o input) outcome r old quiet = ap (λ c. recorded c old) (still-taken v q.session p o input outcome)
+record-outcome v q (Signs o input) outcome r old quiet = refl
+record-outcome v q (Verifies o input signature) outcome r old quiet = refl
+record-outcome v q (WrapsKey key value) outcome r old quiet = ap (λ c. recorded c old) (still-wrapped (answered v) outcome)
+record-outcome v q (UnwrapsKey key wrapped state template random) outcome r old quiet = record-unwrapped (answered v) q.session outcome old
+record-outcome v q _ outcome r old quiet = let k : true ≡ false = quiet in cc
 
-still-outcome : (v : View) (q : Question) (t : Task) (outcome : Outcome) (r : Reveal) → is_pin_task t ≡ false → (answer_outcome v q t outcome r).change ≡ Stays
-still-outcome v q (Ciphers part o input) outcome r quiet = still-ciphered_at v q (place_asked q.function) part o input outcome
-still-outcome v q _ outcome r quiet = let k : true ≡ false = quiet in cc
+-- and where it makes no key nothing that others see
+still-outcome : (v : View) (q : Question) (t : Task) (outcome : Outcome) (r : Reveal) → is_pin_task t ≡ false → is_key_task t ≡ false → (answer_outcome v q t outcome r).change ≡ Stays
+still-outcome v q (Ciphers part o input) outcome r quiet made = refl
+still-outcome v q (Takes p o input) outcome r quiet made = still-taken v q.session p o input outcome
+still-outcome v q (Signs o input) outcome r quiet made = refl
+still-outcome v q (Verifies o input signature) outcome r quiet made = refl
+still-outcome v q (WrapsKey key value) outcome r quiet made = still-wrapped (answered v) outcome
+still-outcome v q (UnwrapsKey key wrapped state template random) outcome r quiet made = let k : true ≡ false = made in cc
+still-outcome v q _ outcome r quiet made = let k : true ≡ false = quiet in cc
 
 -- the answer to a result is that to the pending question's
 pub result-is : (v : View) (q : Question) (outcome : Outcome) (r : Reveal) → v.question ≡ Some q → answer_result v outcome r ≡ answer_outcome v q q.task outcome r
 unfolding answer_result
 result-is v q outcome r asked = ap (λ o. answer_question v o outcome r) asked
 
-pub still-result : (v : View) (q : Question) (outcome : Outcome) (r : Reveal) → v.question ≡ Some q → is_pin_task q.task ≡ false → (answer_result v outcome r).change ≡ Stays
-still-result v q outcome r asked quiet = ap (λ (a : Answer). a.change) (result-is v q outcome r asked) ∙ still-outcome v q q.task outcome r quiet
+pub still-result : (v : View) (q : Question) (outcome : Outcome) (r : Reveal) → v.question ≡ Some q → is_pin_task q.task ≡ false → is_key_task q.task ≡ false → (answer_result v outcome r).change ≡ Stays
+still-result v q outcome r asked quiet made = ap (λ (a : Answer). a.change) (result-is v q outcome r asked) ∙ still-outcome v q q.task outcome r quiet made
 
 pub over-result : (v : View) (outcome : Outcome) (r : Reveal) → (answer_result v outcome r).view.question ≡ None
 over-result v outcome r = (over-answer v outcome r).over

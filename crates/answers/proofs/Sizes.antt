@@ -27,6 +27,18 @@ both-true false b e = absurd cc
 
 -- ---- the size of what is shown
 
+pub value_len-mask : (o : List Entry) → value_len (mask_object o) ≡ value_len o
+value_len-mask o = at (is_masked o) refl where
+  at : (b : Bool) → is_masked o ≡ b → value_len (cond b (without attr.Value o) o) ≡ value_len o
+  at false h = refl
+  at true h =
+      let key : is_secret_key (class_of o) ≡ true = (both-true _ _ h).0 in
+      rw (
+        attribute-without attr.Value o (attr_type_number attr.Class) (λ e. absurd (omega (arith, e))),
+        attribute-without attr.Value o (attr_type_number attr.ValueLen) (λ e. absurd (omega (arith, e))),
+        key,
+      ) refl
+
 pub object_size-mask : (o : List Entry) → object_size (mask_object o) ≡ object_size o
 object_size-mask o = at (is_masked o) refl where
   at : (b : Bool) → is_masked o ≡ b → object_size (cond b (without attr.Value o) o) ≡ object_size o
@@ -118,7 +130,7 @@ key-length (Some t) value None is = absurd cc
 key-length None value len is = absurd cc
 
 -- a value's length is that of the attribute
-value_len-is : (c : Option ObjectClass) (es : List Entry) (value : List ℕ) → class_of es ≡ c → is_of_class c es ≡ true → attribute_of es attr.Value ≡ Some value → value_len es ≡ length value
+pub value_len-is : (c : Option ObjectClass) (es : List Entry) (value : List ℕ) → class_of es ≡ c → is_of_class c es ≡ true → attribute_of es attr.Value ≡ Some value → value_len es ≡ length value
 value_len-is None es value class is there = absurd cc
 value_len-is (Some Data) es value class is there = rw (class, there) refl
 value_len-is (Some SecretKey) es value class is there =

@@ -1,6 +1,6 @@
 -- What an application is answered, from its view alone: one definition for each call.
 use Rattle.std.specs.Prelude.{◌&&◌, not, ℕ, Bool, true, false, List, if◌then◌else◌, Option, Some, None}
-use Rattle.ck_types.specs.declared.rv.Rv.TheVariants.{FunctionFailed, FunctionNotSupported}
+use Rattle.ck_types.specs.declared.rv.Rv.TheVariants.{FunctionFailed}
 use Rattle.ck_calls.specs.declared.call.Call.{Call}
 use Rattle.ck_calls.specs.declared.call.Call.TheVariants as call
 use Rattle.ck_calls.specs.declared.function.Function.{Function}
@@ -10,9 +10,11 @@ use Rattle.precede.specs.declared.row.Row.TheVariants.{Busy}
 use Rattle.ops.specs.declared.place.Place.TheVariants as place
 use Rattle.views.specs.Outcomes.{Outcome}
 use Rattle.ops.specs.declared.place.Place.{Place}
-use Rattle.ops.specs.Operations.{Operation}
+use Rattle.ops.specs.declared.place.MacPlace.{MacPlace}
+use Rattle.ops.specs.declared.place.MacPlace.TheVariants as mac_place
+use Rattle.ops.specs.Operations.{Operation, MacOperation}
 use Rattle.streams.specs.declared.part.Part.{Part}
-use Rattle.views.specs.Views.{View, Question, Task, Ciphers, ChecksPin, MakesPin, ChangesPin, InitsToken, ResetsToken}
+use Rattle.views.specs.Views.{View, Question, Task, Ciphers, Takes, Signs, Verifies, WrapsKey, UnwrapsKey, ChecksPin, MakesPin, ChangesPin, InitsToken, ResetsToken}
 use Rattle.views.specs.Answering.{Answer, Reveal, refuses, refuses_by, answered, is_closed}
 use Rattle.answers.specs.GetTokenInfo.{get_token_info}
 use Rattle.answers.specs.Mechanisms.{get_mechanism_list, get_mechanism_info}
@@ -34,8 +36,12 @@ use Rattle.answers.specs.GetAttributeValue.{get_attribute_value}
 use Rattle.answers.specs.SetAttributeValue.{set_attribute_value}
 use Rattle.answers.specs.FindObjectsInit.{find_objects_init}
 use Rattle.answers.specs.FindObjects.{find_objects, find_objects_final}
-use Rattle.answers.specs.CipherInit.{cipher_init}
+use Rattle.answers.specs.CipherInit.{place_for, cipher_init}
 use Rattle.answers.specs.Cipher.{cipher_single, cipher_update, cipher_final, ciphered}
+use Rattle.answers.specs.MacInit.{mac_init}
+use Rattle.answers.specs.Mac.{sign, sign_final, verify, verify_final, mac_update, taken, signed, verified}
+use Rattle.answers.specs.WrapKey.{wrap_key, wrapped_result}
+use Rattle.answers.specs.UnwrapKey.{unwrap_key, unwrapped_result}
 
 -- a call with its random bytes
 unfoldable pub answer_to : View → Call → List ℕ → Reveal → Answer
@@ -68,34 +74,30 @@ answer_to v (call.DecryptInit session mechanism key) random reveal = cipher_init
 answer_to v (call.Decrypt session input room) random reveal = cipher_single Decipher v session input room
 answer_to v (call.DecryptUpdate session input room) random reveal = cipher_update Decipher v session input room
 answer_to v (call.DecryptFinal session room) random reveal = cipher_final Decipher v session room
+answer_to v (call.SignInit session mechanism key) random reveal = mac_init mac_place.Sign v session mechanism key
+answer_to v (call.Sign session input room) random reveal = sign v session input room
+answer_to v (call.SignUpdate session input) random reveal = mac_update mac_place.Sign v session input
+answer_to v (call.SignFinal session room) random reveal = sign_final v session room
+answer_to v (call.VerifyInit session mechanism key) random reveal = mac_init mac_place.Verify v session mechanism key
+answer_to v (call.Verify session input signature) random reveal = verify v session input signature
+answer_to v (call.VerifyUpdate session input) random reveal = mac_update mac_place.Verify v session input
+answer_to v (call.VerifyFinal session signature) random reveal = verify_final v session signature
 answer_to v (call.GenerateKey session mechanism template) random reveal = generate_key v session mechanism template random
+answer_to v (call.WrapKey session mechanism wrapping_key key room) random reveal = wrap_key v session mechanism wrapping_key key room
+answer_to v (call.UnwrapKey session mechanism unwrapping_key wrapped template) random reveal = unwrap_key v session mechanism unwrapping_key wrapped template random
 answer_to v (call.GenerateRandom session len) random reveal = generate_random v session len random
-answer_to v _ random reveal = refuses v FunctionNotSupported
 
 unfoldable pub answer : View → Call → List ℕ → Reveal → Answer
 answer v call random reveal = if is_closed v then refuses_by v Busy else answer_to v call random reveal
 
--- a question that no call asks
-abbrev pub unasked : View → Answer
-unasked v = refuses (answered v) FunctionFailed
-
--- the place of the operation whose data a call asks about
-abbrev pub place_asked : Function → Option Place
-place_asked function.Encrypt = Some place.Encrypt
-place_asked function.EncryptUpdate = Some place.Encrypt
-place_asked function.EncryptFinal = Some place.Encrypt
-place_asked function.Decrypt = Some place.Decrypt
-place_asked function.DecryptUpdate = Some place.Decrypt
-place_asked function.DecryptFinal = Some place.Decrypt
-place_asked _ = None
-
-abbrev pub ciphered_at : View → Question → Option Place → Part → Operation → List ℕ → Outcome → Answer
-ciphered_at v q None part o input outcome = unasked v
-ciphered_at v q (Some p) part o input outcome = ciphered v q.session p part o input outcome
-
 -- the answer to the result of the pending question, by its task
 abbrev pub answer_outcome : View → Question → Task → Outcome → Reveal → Answer
-answer_outcome v q (Ciphers part o input) outcome r = ciphered_at v q (place_asked q.function) part o input outcome
+answer_outcome v q (Ciphers part o input) outcome r = ciphered v q.session (place_for o.direction) part o input outcome
+answer_outcome v q (Takes p o input) outcome r = taken v q.session p o input outcome
+answer_outcome v q (Signs o input) outcome r = signed v q.session outcome
+answer_outcome v q (Verifies o input signature) outcome r = verified v q.session outcome
+answer_outcome v q (WrapsKey key value) outcome r = wrapped_result (answered v) outcome
+answer_outcome v q (UnwrapsKey key wrapped state template random) outcome r = unwrapped_result (answered v) q.session outcome
 answer_outcome v q (ChecksPin who verifier pin) outcome r = login_result (answered v) who outcome r
 answer_outcome v q (MakesPin pin salt) outcome r = init_pin_result (answered v) pin salt outcome r
 answer_outcome v q (ChangesPin who verifier pin new_pin salt) outcome r = set_pin_result (answered v) who new_pin salt outcome r
@@ -120,7 +122,21 @@ is_pin_function _ = false
 -- and what they ask
 abbrev pub is_pin_task : Task → Bool
 is_pin_task (Ciphers part o input) = false
-is_pin_task _ = true
+is_pin_task (Takes place o input) = false
+is_pin_task (Signs o input) = false
+is_pin_task (Verifies o input signature) = false
+is_pin_task (WrapsKey key value) = false
+is_pin_task (UnwrapsKey key wrapped state template random) = false
+is_pin_task (ChecksPin who verifier pin) = true
+is_pin_task (MakesPin pin salt) = true
+is_pin_task (ChangesPin who verifier pin new_pin salt) = true
+is_pin_task (InitsToken label pin salt) = true
+is_pin_task (ResetsToken label verifier pin) = true
+
+-- what makes an object
+abbrev pub is_key_task : Task → Bool
+is_key_task (UnwrapsKey key wrapped state template random) = true
+is_key_task _ = false
 
 -- the calls that may make, change or destroy an object
 abbrev pub may_change_objects : Function → Bool

@@ -14,4 +14,4 @@ pub use Rattle.ops.specs.Operations.{Operation, Operations}
 pub use Rattle.views.specs.Views.{View, TokenObject, SessionObject, seen_by}
 pub use Rattle.views.specs.Changes.{Stays, Insert, Replace, Remove, rewritten}
 pub use Rattle.views.specs.Answering.{Answer, Replies, replies, refuses, refuses_by, becomes, asks, answered, session_of, with_operation, place_of, object_at}
-pub use Rattle.views.specs.Checked.{checked, checked_by, reads, writes, state_in, flag_at, made_by, refuses_template}
+pub use Rattle.views.specs.Checked.{checked, checked_by, reads, writes, state_in, flag_at, is_aes, is_of_type, made_by, refuses_template}

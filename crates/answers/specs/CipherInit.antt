@@ -4,8 +4,6 @@ use Rattle.std.specs.Option.{unwrap_or}
 use Rattle.std.specs.Int.{w64, from_be_bytes}
 use Rattle.ck_types.specs.declared.attr_type.AttrType.{AttrType}
 use Rattle.ck_types.specs.declared.attr_type.AttrType.TheVariants as attr
-use Rattle.ck_types.specs.declared.key_type.KeyType.{KeyType}
-use Rattle.ck_types.specs.declared.key_type.KeyType.TheVariants.{GenericSecret, Aes}
 use Rattle.ck_types.specs.declared.mech_type.MechType.{MechType}
 use Rattle.ck_types.specs.declared.mech_type.MechType.TheVariants as mechanism
 use Rattle.mechanisms.specs.declared.purpose.Purpose.TheVariants.{Cipher}
@@ -23,7 +21,7 @@ use Rattle.precede.specs.Row.{code_of}
 use Rattle.ops.specs.declared.place.Place.{Place}
 use Rattle.ops.specs.declared.place.Place.TheVariants.{Encrypt, Decrypt}
 use Rattle.ops.specs.Operations.{started, operation_in}
-use Rattle.answers.specs.Calls.{Entry, Ok, Code, attribute_of, class_of, key_type_of, Row, View, Answer, refuses_by, becomes, session_of, with_operation, object_at, checked_by, flag_at}
+use Rattle.answers.specs.Calls.{Entry, Ok, Code, attribute_of, class_of, key_type_of, Row, View, Answer, refuses_by, becomes, session_of, with_operation, object_at, checked_by, flag_at, is_aes}
 
 -- ---- the two directions
 
@@ -69,11 +67,6 @@ with_parameter mechanism.Sha512Hmac parameter = None
 with_parameter mechanism.AesKeyWrap parameter = None
 with_parameter mechanism.AesKeyGen parameter = None
 with_parameter mechanism.GenericSecretKeyGen parameter = None
-
-abbrev pub is_aes : Option KeyType → Bool
-is_aes None = false
-is_aes (Some GenericSecret) = false
-is_aes (Some Aes) = true
 
 -- ---- the call
 

@@ -1,13 +1,15 @@
 -- C_CreateObject (PKCS #11 v3.1, 5.7).
-use Rattle.std.specs.Prelude.{ℕ, ◌+◌, Bool, false, ◌&&◌, not, nat_le, List, [], ◌∷◌, ◌++◌, length, if◌then◌else◌, Option, Some, is_some, is_none}
+use Rattle.std.specs.Prelude.{ℕ, ◌+◌, Bool, false, ◌&&◌, not, nat_le, List, [], ◌∷◌, ◌++◌, length, if◌then◌else◌, Option, Some, None, is_some, is_none}
 use Rattle.ck_types.specs.declared.attr_type.AttrType.TheVariants as attr
 use Rattle.ck_calls.specs.declared.function.Function.TheVariants.{CreateObject}
 use Rattle.ck_calls.specs.declared.reply.Reply.TheVariants.{Object}
 use Rattle.guard.specs.Access.{is_rw, is_visible}
+use Rattle.precede.specs.Table.{write}
 use Rattle.templates.specs.declared.call.Call.TheVariants.{Create}
 use Rattle.templates.specs.Faults.{template_fault}
 use Rattle.templates.specs.Made.{object_made, given_value}
 use Rattle.precede.specs.declared.row.Row.TheVariants.{NoSession, TemplateRefused, TokenObjectReadOnly, PrivateObject, ObjectLimit}
+use Rattle.views.specs.Checked.{by_rows}
 use Rattle.answers.specs.Calls.{Rv, Entry, SessionState, flag, Row, View, Stays, Insert, Answer, Replies, refuses_by, session_of, checked_by, state_in, made_by, refuses_template}
 
 -- A new object has the next handle. A token object is the last, and others see it without a handle; a session
@@ -38,6 +40,10 @@ makes_row v state fault o TokenObjectReadOnly = flag o attr.Token && not (is_rw 
 makes_row v state fault o PrivateObject = not (is_visible state o)
 makes_row v state fault o ObjectLimit = not (flag o attr.Token) && nat_le 256 (length v.own)
 makes_row v state fault o _ = false
+
+-- an object that is made is added, where these rows let it
+abbrev pub adds_where : View → ℕ → SessionState → List Entry → Answer
+adds_where v s state o = by_rows write (makes_row v state None o) (refuses_by v) (adds v s o)
 
 abbrev pub makes_says : View → Option Rv → Row → Answer
 makes_says v fault TemplateRefused = refuses_template v fault

@@ -13,10 +13,14 @@ pub mod FindObjectsInit
 pub mod FindObjects
 pub mod CipherInit
 pub mod Cipher
+pub mod MacInit
+pub mod Mac
 pub mod GetTokenInfo
 pub mod Mechanisms
 pub mod GenerateRandom
 pub mod GenerateKey
+pub mod WrapKey
+pub mod UnwrapKey
 pub mod Login
 pub mod Logout
 pub mod InitToken

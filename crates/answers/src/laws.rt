@@ -2,15 +2,15 @@
 
 ghost use Rattle.std.specs.Prelude.{◌≡◌, ℕ, List};
 ghost use Rattle.ck_calls.specs.declared.call.Call.{Call};
-ghost use Rattle.views.specs.Outcomes.{Outcome};
+ghost use Rattle.views.specs.Outcomes.{Outcome, mask_outcome};
 ghost use Rattle.views.specs.Views.{View, mask};
 ghost use Rattle.views.specs.Answering.{Reveal, mask_reveal, shown};
 ghost use Rattle.answers.specs.Answers.{answer, answer_result};
 
-/// What is shown of an answer depends on what is shown of the view, and of what comes in from outside,
-/// alone: no value that is kept back, of a masked key, of a key in use or of a PIN's verifier, is in a
+/// What is shown of an answer depends on what is shown of the view, of a result, and of what comes in from
+/// outside, alone: no value that is kept back, of a masked key, of a key in use or of a PIN's verifier, is in a
 /// reply, in the view after it or in what others see.
 pub fn blind_answers()
     ensures calls { (v : View) (call : Call) (random : List ℕ) (r : Reveal) → shown (answer (mask v) call random (mask_reveal r)) ≡ shown (answer v call random r) }
-    ensures results { (v : View) (outcome : Outcome) (r : Reveal) → shown (answer_result (mask v) outcome (mask_reveal r)) ≡ shown (answer_result v outcome r) }
+    ensures results { (v : View) (outcome : Outcome) (r : Reveal) → shown (answer_result (mask v) (mask_outcome outcome) (mask_reveal r)) ≡ shown (answer_result v outcome r) }
 {}

@@ -8,7 +8,7 @@ ghost use Rattle.handles.specs.Handles.{object_of, number_of, with_handle, witho
 ghost use Rattle.handles.specs.Handles.{IsTable as IsHandleTable};
 ghost use Rattle.sessions.specs.Sessions.{session_at, state_of, has_read_only, with_session, with_work, IsTable};
 ghost use Rattle.guard.specs.Access.{is_user_in};
-ghost use Rattle.ops.specs.Operations.{no_operations, operation_in, operation_of, search_in, with_operation, with_search};
+ghost use Rattle.ops.specs.Operations.{mac_in, mac_of, no_operations, operation_in, operation_of, search_in, with_mac, with_operation, with_search};
 ghost use Rattle.desk.specs.Desks.{DeskState, SameDesk, IsDiscreet, empty_desk, is_busy, own_at, replaced_own, closed, all_closed, logged_out_desk, with_question};
 ghost use Rattle.attrs.specs.Objects.{flag};
 ghost use Rattle.ck_types.specs.declared.attr_type.AttrType.TheVariants.{Private};
@@ -19,8 +19,9 @@ use attrs::Object;
 use ck_types::{AttrType, SessionState, UserType};
 use handles::Handles;
 use lists::NUMBER_LIMIT;
+use macs::Mac;
 use mech::Job;
-use ops::{Place, Places, Search};
+use ops::{MacPlace, Place, Places, Search};
 use sessions::Sessions;
 use std::alloc::{AllocError, Global};
 use std::marker::Model;
@@ -183,20 +184,37 @@ impl Desk {
         self.handles.retire_private();
     }
 
-    /// The operation at a place of a session.
+    /// The operation at a place of a session that enciphers or deciphers.
     pub fn operation(&self, session: u64, place: Place) -> Option<&Stream>
         ensures { option_map operation_of (option_copied result) ≡ operation_in (session_at self.now.sessions.sessions session) place }
     {
         self.sessions.work(session)?.get(place)
     }
 
-    /// Begins an operation at a place of a session, goes on with it, or ends the one that is there. Without such a session
+    /// Begins an operation that enciphers or deciphers at a place of a session, goes on with it, or ends the one that is there. Without such a session
     /// nothing changes.
     pub fn set_operation(&mut self, session: u64, place: Place, operation: Option<Stream>)
         ensures { self.new ≡ record self.old { sessions = with_operation self.old.sessions session place (option_map operation_of operation) } }
     {
         if let Some(places) = self.sessions.work_mut(session) {
             places.set(place, operation);
+        }
+    }
+
+    /// The operation at a place of a session that signs or verifies.
+    pub fn mac(&self, session: u64, place: MacPlace) -> Option<&Mac>
+        ensures { option_map mac_of (option_copied result) ≡ mac_in (session_at self.now.sessions.sessions session) place }
+    {
+        self.sessions.work(session)?.mac(place)
+    }
+
+    /// Begins an operation that signs or verifies at a place of a session, goes on with it, or ends the one that is there.
+    /// Without such a session nothing changes.
+    pub fn set_mac(&mut self, session: u64, place: MacPlace, operation: Option<Mac>)
+        ensures { self.new ≡ record self.old { sessions = with_mac self.old.sessions session place (option_map mac_of operation) } }
+    {
+        if let Some(places) = self.sessions.work_mut(session) {
+            places.set_mac(place, operation);
         }
     }
 
@@ -291,6 +309,13 @@ impl Desk {
         ensures table { IsHandleTable self.now.handles.next_number self.now.handles.entries }
     {
         self.handles.object_of(handle)
+    }
+
+    /// The number of the next handle.
+    pub fn next_handle(&self) -> u64
+        ensures { result ≡ self.now.handles.next_number }
+    {
+        self.handles.next_number()
     }
 
     /// Makes room for so many more handles of token objects. It fails only for want of memory.

@@ -229,7 +229,7 @@ const ARGUMENTS_BAD: &[u8] = b"\x00\x00\x00\x08\x00\x00\x00\x00\x00\x00\x00\x07"
 
 const NOT_SUPPORTED: &[u8] = b"\x00\x00\x00\x08\x00\x00\x00\x00\x00\x00\x00\x54";
 
-/// Frames whose payloads are no call that is built, and the replies to them.
+/// Frames whose payloads are no call, and the replies to them.
 const NO_CALLS: &[(&[u8], &[u8])] = &[
     // No byte, and one.
     (b"\x00\x00\x00\x00", ARGUMENTS_BAD),
@@ -245,10 +245,10 @@ const NO_CALLS: &[(&[u8], &[u8])] = &[
         b"\x00\x00\x00\x13\x00\x07\x00\x00\x00\x00\x00\x00\x00\x00\x00\x00\x00\x00\x00\x00\x00\x06\x00",
         ARGUMENTS_BAD,
     ),
-    // SignUpdate, which is not built yet.
+    // SignUpdate with a byte too few.
     (
-        b"\x00\x00\x00\x0e\x00\x20\x00\x00\x00\x00\x00\x00\x00\x01\x00\x00\x00\x00",
-        NOT_SUPPORTED,
+        b"\x00\x00\x00\x0d\x00\x20\x00\x00\x00\x00\x00\x00\x00\x01\x00\x00\x00",
+        ARGUMENTS_BAD,
     ),
 ];
 

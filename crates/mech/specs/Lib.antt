@@ -1,2 +1,3 @@
+pub mod Wrappings
 pub mod Runnable
 pub mod Works

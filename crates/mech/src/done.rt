@@ -7,6 +7,8 @@ ghost use Rattle.mech.specs.Runnable.{is_runnable};
 ghost use Rattle.mech.specs.Works.{outcome_of};
 
 use crate::job::Job;
+use crate::key_wrapping::{key_unwrapped, wrapped};
+use crate::message_codes::{signed, taken, verified};
 use crate::outcome::Outcome;
 use crate::work::Work;
 use aes_modes::ModeFault;
@@ -86,8 +88,14 @@ fn ciphered(alloc: Global, stream: Stream, part: Part, input: Bytes) -> Result<O
             }
         }
         Part::Last => match stream.last(alloc, input.as_slice()) {
-            Ok(output) => Ok(Outcome::Rest(Bytes::from_vec(output))),
-            Err(ModeFault::BadPad) => Ok(Outcome::BadPadding),
+            Ok(output) => {
+                let output = Bytes::from_vec(output);
+                Ok(Outcome::Rest {
+                    direction: stream.direction(),
+                    output,
+                })
+            }
+            Err(ModeFault::BadPad) => Ok(Outcome::BadPadding(stream.direction())),
             Err(_) => Err(Work::Cipher {
                 stream,
                 part,
@@ -139,7 +147,7 @@ fn token_reset(label: Label, verifier: &Verifier, pin: &[u8]) -> Outcome
     }
 }
 
-/// Does the work, or gives it back for want of memory, which a cipher's work alone takes.
+/// Does the work, or gives it back for want of memory, which the work of PINs never takes.
 fn work_done(alloc: Global, work: Work) -> Result<Outcome, Work>
     requires { IsTrue (is_runnable work) }
     ensures value { IfOk result (λ o. o ≡ outcome_of work) }
@@ -151,6 +159,21 @@ fn work_done(alloc: Global, work: Work) -> Result<Outcome, Work>
             part,
             input,
         } => ciphered(alloc, stream, part, input),
+        Work::Take { place, mac, input } => Ok(taken(place, mac, input.as_slice())),
+        Work::Sign { mac, input } => signed(alloc, mac, input),
+        Work::Verify {
+            mac,
+            input,
+            signature,
+        } => Ok(verified(mac, input.as_slice(), signature.as_slice())),
+        Work::Wrap { key, value } => wrapped(alloc, key, value),
+        Work::Unwrap {
+            key,
+            wrapped,
+            state,
+            template,
+            random,
+        } => key_unwrapped(alloc, key, wrapped, state, template, random),
         Work::CheckPin { who, verifier, pin } => Ok(pin_checked(who, &verifier, pin.as_slice())),
         Work::MakePin { pin, salt } => Ok(Outcome::PinMade(Verifier::made(pin.as_slice(), salt))),
         Work::ChangePin {

@@ -6,6 +6,8 @@
 //! memory, with the work as it was.
 //!
 //! - A cipher's work is a piece or the last data of a stream (PKCS #11 v3.1, 5.8 and 5.10).
+//! - The work of a message's code is a piece, its signature, or to verify one (PKCS #11 v3.1, 5.13 and 5.15).
+//! - A key's work is to wrap its value, or to unwrap one and make the key of it (PKCS #11 v3.1, 5.18).
 //! - A PIN's work is to check a PIN against a verifier, to make a new one's verifier, or both (C_Login,
 //!   C_InitPIN, C_SetPIN and C_InitToken; 5.5 and 5.6). It takes no memory. Tries are counted elsewhere,
 //!   before the check and after it, and nothing is claimed of the time that a check takes.
@@ -18,6 +20,8 @@
 
 mod done;
 mod job;
+mod key_wrapping;
+mod message_codes;
 mod outcome;
 mod work;
 

@@ -1,6 +1,10 @@
 //! What work gives.
 
+use aes_modes::Direction;
+use attrs::Object;
 use ck_types::{Bytes, Label, UserType};
+use macs::Mac;
+use ops::MacPlace;
 use pin_record::Verifier;
 use streams::Stream;
 
@@ -9,10 +13,23 @@ use streams::Stream;
 pub enum Outcome {
     /// What a piece adds to the output of a cipher, and the operation after it.
     Piece { output: Bytes, stream: Stream },
-    /// The rest of the output, for the last data.
-    Rest(Bytes),
-    /// No text is enciphered to the data: its padding is wrong.
-    BadPadding,
+    /// The rest of the output of an operation of this direction, for the last data.
+    Rest { direction: Direction, output: Bytes },
+    /// No text is enciphered to the data of an operation of this direction: its padding is wrong.
+    BadPadding(Direction),
+    /// The operation at a place that signs or verifies, after a piece.
+    Taken { place: MacPlace, mac: Mac },
+    /// The signature of all data.
+    Signature(Bytes),
+    /// The signature is that of all data, or it is not.
+    RightSignature,
+    WrongSignature,
+    /// The wrapped value of a key.
+    Wrapped(Bytes),
+    /// The key that is made of an unwrapped value.
+    Unwrapped(Object),
+    /// The bytes are the wrapping of no value.
+    BadWrapping,
     /// The PIN isn't the one that was checked against (C_Login, C_SetPIN, C_InitToken).
     WrongPin,
     /// The PIN is right (C_Login, PKCS #11 v3.1, 5.6).

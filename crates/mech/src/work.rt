@@ -1,6 +1,9 @@
 //! What is to be done.
 
-use ck_types::{Bytes, Label, UserType};
+use aes_block::Key;
+use ck_types::{Bytes, Label, SessionState, Template, UserType};
+use macs::Mac;
+use ops::MacPlace;
 use pin_record::Verifier;
 use streams::{Part, Stream};
 
@@ -14,6 +17,38 @@ pub enum Work {
         stream: Stream,
         part: Part,
         input: Bytes,
+    },
+    /// A piece for the operation at a place that signs or verifies (PKCS #11 v3.1, 5.13 and 5.15). The operation is a copy,
+    /// as that of a cipher.
+    Take {
+        place: MacPlace,
+        mac: Mac,
+        input: Bytes,
+    },
+    /// The last data of an operation that signs (PKCS #11 v3.1, 5.13).
+    Sign {
+        mac: Mac,
+        input: Bytes,
+    },
+    /// The last data of an operation that verifies, and the signature that is to be its (PKCS #11 v3.1, 5.15).
+    Verify {
+        mac: Mac,
+        input: Bytes,
+        signature: Bytes,
+    },
+    /// The value of a key is wrapped under a wrapping key (C_WrapKey, PKCS #11 v3.1, 5.18).
+    Wrap {
+        key: Key,
+        value: Bytes,
+    },
+    /// A wrapped value is unwrapped, and a key is made of it by a template in a session of this state. The random bytes make
+    /// its CKA_UNIQUE_ID (C_UnwrapKey, PKCS #11 v3.1, 5.18).
+    Unwrap {
+        key: Key,
+        wrapped: Bytes,
+        state: SessionState,
+        template: Template,
+        random: [u8; 16],
     },
     /// A PIN is checked against the verifier that stood when the check began (C_Login, PKCS #11 v3.1, 5.6).
     CheckPin {

@@ -4,12 +4,16 @@ use Rattle.std.specs.Option.{unwrap_or}
 use Rattle.aes_modes.specs.declared.direction.Direction.{Direction}
 use Rattle.streams.specs.declared.mechanism.Mechanism.{Mechanism}
 use Rattle.streams.specs.Streamed.{Streamed}
+use Rattle.macs.specs.declared.mechanism.Mechanism.{Mechanism as MacMechanism}
+use Rattle.macs.specs.Authentication.{Authentication}
 use Rattle.sessions.specs.declared.Session.{Session}
 use Rattle.sessions.specs.Sessions.{SessionTable, session_at, with_work}
 use Rattle.ops.specs.declared.place.Place.{Place}
-use Rattle.ops.specs.declared.place.Place.TheVariants.{Encrypt, Decrypt, Sign, Verify}
+use Rattle.ops.specs.declared.place.Place.TheVariants.{Encrypt, Decrypt}
+use Rattle.ops.specs.declared.place.MacPlace.{MacPlace}
+use Rattle.ops.specs.declared.place.MacPlace.TheVariants.{Sign, Verify}
 
--- An operation: its mechanism with parameter and its direction, the data that it has taken and the bytes that it has
+-- An operation that enciphers or deciphers: its mechanism with parameter and its direction, the data that it has taken and the bytes that it has
 -- given so far. It works under a copy of its key's value, which may be left out.
 pub record Operation : Type 0 where
   pub mechanism : Mechanism
@@ -33,12 +37,32 @@ operation_of s = record { mechanism = s.mechanism; direction = s.direction; take
 abbrev pub text_of : Operation → Streamed
 text_of o = record { mechanism = o.mechanism; direction = o.direction; key = unwrap_or o.key []; taken = o.taken; given = o.given }
 
+-- An operation that signs or verifies: its mechanism and the data that it has taken. It works under a copy of its key's
+-- value, which may be left out.
+pub record MacOperation : Type 0 where
+  pub mechanism : MacMechanism
+  pub taken : List ℕ
+  pub key : Option (List ℕ)
+
+abbrev pub mac_started : MacMechanism → Option (List ℕ) → MacOperation
+mac_started mechanism key = record { mechanism = mechanism; taken = []; key = key }
+
+abbrev pub mac_further : MacOperation → List ℕ → MacOperation
+mac_further o piece = record o { taken = o.taken ++ piece }
+
+-- the operation of a message in pieces, and the message of an operation, where its key isn't left out
+abbrev pub mac_of : Authentication → MacOperation
+mac_of a = record { mechanism = a.mechanism; taken = a.taken; key = Some a.key }
+
+abbrev pub message_of : MacOperation → Authentication
+message_of o = record { mechanism = o.mechanism; key = unwrap_or o.key []; taken = o.taken }
+
 -- what a session has under way: of a search, the handles that were not answered yet
 pub record Operations : Type 0 where
   pub encrypt : Option Operation
   pub decrypt : Option Operation
-  pub sign : Option Operation
-  pub verify : Option Operation
+  pub sign : Option MacOperation
+  pub verify : Option MacOperation
   pub find : Option (List ℕ)
 
 abbrev pub no_operations : Operations
@@ -49,15 +73,19 @@ no_operations = record { encrypt = None; decrypt = None; sign = None; verify = N
 abbrev pub operation_at : Operations → Place → Option Operation
 operation_at ops Encrypt = ops.encrypt
 operation_at ops Decrypt = ops.decrypt
-operation_at ops Sign = ops.sign
-operation_at ops Verify = ops.verify
+
+abbrev pub mac_at : Operations → MacPlace → Option MacOperation
+mac_at ops Sign = ops.sign
+mac_at ops Verify = ops.verify
 
 -- an operation stands at a place, or none; the others stay
 abbrev pub placed : Operations → Place → Option Operation → Operations
 placed ops Encrypt o = record ops { encrypt = o }
 placed ops Decrypt o = record ops { decrypt = o }
-placed ops Sign o = record ops { sign = o }
-placed ops Verify o = record ops { verify = o }
+
+abbrev pub mac_placed : Operations → MacPlace → Option MacOperation → Operations
+mac_placed ops Sign o = record ops { sign = o }
+mac_placed ops Verify o = record ops { verify = o }
 
 -- ---- in a session
 
@@ -71,6 +99,17 @@ placed_in t session (Some s) place o = with_work t session (placed s.work place 
 
 abbrev pub with_operation : SessionTable Operations → ℕ → Place → Option Operation → SessionTable Operations
 with_operation t session place o = placed_in t session (session_at t.sessions session) place o
+
+abbrev pub mac_in : Option (Session Operations) → MacPlace → Option MacOperation
+mac_in None place = None
+mac_in (Some s) place = mac_at s.work place
+
+abbrev pub mac_placed_in : SessionTable Operations → ℕ → Option (Session Operations) → MacPlace → Option MacOperation → SessionTable Operations
+mac_placed_in t session None place o = t
+mac_placed_in t session (Some s) place o = with_work t session (mac_placed s.work place o)
+
+abbrev pub with_mac : SessionTable Operations → ℕ → MacPlace → Option MacOperation → SessionTable Operations
+with_mac t session place o = mac_placed_in t session (session_at t.sessions session) place o
 
 -- ---- a search (PKCS #11 v3.1, 5.7.5)
 
@@ -92,3 +131,6 @@ with_search t session search = searching_in t session (session_at t.sessions ses
 -- all of an operation but the value of its key
 abbrev pub mask_operation : Operation → Operation
 mask_operation o = record { mechanism = o.mechanism; direction = o.direction; taken = o.taken; given = o.given; key = None }
+
+abbrev pub mask_mac : MacOperation → MacOperation
+mask_mac o = record { mechanism = o.mechanism; taken = o.taken; key = None }

@@ -1,8 +1,8 @@
 //! The operations of a session (PKCS #11 v3.1, 5.2): what it has under way, each at its place, with a copy of its key.
 //!
-//! Contracts see an operation as its mechanism with parameter and direction, the data that it has taken, the bytes that it
-//! has given, and the key, which the view of an application leaves out (`specs/Operations.antt`), and a search as the handles that
-//! it didn't answer yet.
+//! Contracts see an operation that enciphers or deciphers as its mechanism with parameter and direction, the data that it has
+//! taken, the bytes that it has given, and the key, which the view of an application leaves out (`specs/Operations.antt`); one
+//! that signs or verifies as its mechanism, the data and the key; and a search as the handles that it didn't answer yet.
 //!
 //! ```text
 //! places.set(Place::Encrypt, Some(Stream::new(mechanism, Direction::Encipher, key)));
@@ -14,6 +14,6 @@ mod place;
 mod places;
 mod search;
 
-pub use place::Place;
+pub use place::{MacPlace, Place};
 pub use places::Places;
 pub use search::Search;

@@ -1,13 +1,20 @@
 //! The places of a session's operations.
 
-/// Where an operation of a session stands (PKCS #11 v3.1, 5.2): one of each kind may be active at a time.
+/// Where an operation of a session stands that enciphers or deciphers (PKCS #11 v3.1, 5.2): one of each kind may be active at
+/// a time.
 #[derive(Clone, Copy, Debug, PartialEq, Eq)]
 pub enum Place {
     /// C_EncryptInit begins it.
     Encrypt,
     /// C_DecryptInit.
     Decrypt,
-    /// C_SignInit.
+}
+
+/// Where an operation of a session stands that signs or verifies (PKCS #11 v3.1, 5.2): one of each kind may be active at a
+/// time.
+#[derive(Clone, Copy, Debug, PartialEq, Eq)]
+pub enum MacPlace {
+    /// C_SignInit begins it.
     Sign,
     /// C_VerifyInit.
     Verify,

@@ -2,10 +2,11 @@
 
 ghost use Rattle.std.specs.Prelude.{◌≡◌, drop, option_map};
 ghost use Rattle.std.specs.Option.{option_copied};
-ghost use Rattle.ops.specs.Operations.{no_operations, operation_at, operation_of, placed};
+ghost use Rattle.ops.specs.Operations.{mac_at, mac_of, mac_placed, no_operations, operation_at, operation_of, placed};
 
-use crate::place::Place;
+use crate::place::{MacPlace, Place};
 use crate::search::Search;
+use macs::Mac;
 use sessions::Work;
 use std::marker::Model;
 use streams::Stream;
@@ -17,42 +18,60 @@ use streams::Stream;
 pub struct Places {
     encrypt: Option<Stream>,
     decrypt: Option<Stream>,
-    sign: Option<Stream>,
-    verify: Option<Stream>,
+    sign: Option<Mac>,
+    verify: Option<Mac>,
     find: Option<Search>,
 }
 
 impl Model for Places {
     ghost use Rattle.std.specs.Prelude.{option_map};
-    ghost use Rattle.ops.specs.Operations.{Operations, operation_of};
+    ghost use Rattle.ops.specs.Operations.{Operations, mac_of, operation_of};
 
     ghost Value = { Operations };
 
-    ghost view = { λ p. record { encrypt = option_map operation_of p.encrypt; decrypt = option_map operation_of p.decrypt; sign = option_map operation_of p.sign; verify = option_map operation_of p.verify; find = p.find } };
+    ghost view = { λ p. record { encrypt = option_map operation_of p.encrypt; decrypt = option_map operation_of p.decrypt; sign = option_map mac_of p.sign; verify = option_map mac_of p.verify; find = p.find } };
 }
 
 impl Places {
-    /// The operation at a place.
+    /// The operation at a place that enciphers or deciphers.
     pub fn get(&self, place: Place) -> Option<&Stream>
         ensures { option_map operation_of (option_copied result) ≡ operation_at self.now place }
     {
         match place {
             Place::Encrypt => self.encrypt.as_ref(),
             Place::Decrypt => self.decrypt.as_ref(),
-            Place::Sign => self.sign.as_ref(),
-            Place::Verify => self.verify.as_ref(),
         }
     }
 
-    /// An operation begins or goes on at a place, or the one that is there ends. The other places keep theirs.
+    /// An operation that enciphers or deciphers begins or goes on at a place, or the one that is there ends. The other places
+    /// keep theirs.
     pub fn set(&mut self, place: Place, operation: Option<Stream>)
         ensures { self.new ≡ placed self.old place (option_map operation_of operation) }
     {
         match place {
             Place::Encrypt => self.encrypt = operation,
             Place::Decrypt => self.decrypt = operation,
-            Place::Sign => self.sign = operation,
-            Place::Verify => self.verify = operation,
+        }
+    }
+
+    /// The operation at a place that signs or verifies.
+    pub fn mac(&self, place: MacPlace) -> Option<&Mac>
+        ensures { option_map mac_of (option_copied result) ≡ mac_at self.now place }
+    {
+        match place {
+            MacPlace::Sign => self.sign.as_ref(),
+            MacPlace::Verify => self.verify.as_ref(),
+        }
+    }
+
+    /// An operation that signs or verifies begins or goes on at a place, or the one that is there ends. The other places keep
+    /// theirs.
+    pub fn set_mac(&mut self, place: MacPlace, operation: Option<Mac>)
+        ensures { self.new ≡ mac_placed self.old place (option_map mac_of operation) }
+    {
+        match place {
+            MacPlace::Sign => self.sign = operation,
+            MacPlace::Verify => self.verify = operation,
         }
     }
 

@@ -29,14 +29,13 @@ pub fn call_of(alloc: Global, step: Step) -> Result<Call, Fail> {
         | Step::DecryptFinal(..) => decrypting_call_of(alloc, step),
         Step::GetMechanismList(slot) => Ok(Call::GetMechanismList { slot }),
         Step::GetMechanismInfo(slot, mechanism) => Ok(Call::GetMechanismInfo { slot, mechanism }),
-        Step::GenerateKey(session, given, template) => {
-            let mechanism = given_mechanism(alloc, given)?;
-            let template = template_of(alloc, template)?;
-            Ok(Call::GenerateKey {
-                session,
-                mechanism,
-                template,
-            })
+        Step::SignInit(..) | Step::Sign(..) | Step::SignUpdate(..) | Step::SignFinal(..) => {
+            signing_call_of(alloc, step)
+        }
+        Step::VerifyInit(..) | Step::Verify(..) | Step::VerifyUpdate(..) | Step::VerifyFinal(..) =>
+            verifying_call_of(alloc, step),
+        Step::GenerateKey(..) | Step::WrapKey(..) | Step::UnwrapKey(..) => {
+            key_call_of(alloc, step)
         }
         Step::GenerateRandom(session, len) => Ok(Call::GenerateRandom { session, len }),
         Step::FindObjectsInit(..)
@@ -143,6 +142,104 @@ fn decrypting_call_of(alloc: Global, step: Step) -> Result<Call, Fail> {
         }
         Step::DecryptFinal(session, room) => Ok(Call::DecryptFinal { session, room }),
         _ => Err("this decrypts nothing".into()),
+    }
+}
+
+/// The call of a step that signs.
+fn signing_call_of(alloc: Global, step: Step) -> Result<Call, Fail> {
+    match step {
+        Step::SignInit(session, given, key) => {
+            let mechanism = mechanism_of(alloc, given)?;
+            Ok(Call::SignInit {
+                session,
+                mechanism,
+                key,
+            })
+        }
+        Step::Sign(session, text, room) => {
+            let data = Bytes::from_slice(alloc, text)?;
+            Ok(Call::Sign {
+                session,
+                data,
+                room,
+            })
+        }
+        Step::SignUpdate(session, text) => {
+            let part = Bytes::from_slice(alloc, text)?;
+            Ok(Call::SignUpdate { session, part })
+        }
+        Step::SignFinal(session, room) => Ok(Call::SignFinal { session, room }),
+        _ => Err("this signs nothing".into()),
+    }
+}
+
+/// The call of a step that verifies.
+fn verifying_call_of(alloc: Global, step: Step) -> Result<Call, Fail> {
+    match step {
+        Step::VerifyInit(session, given, key) => {
+            let mechanism = mechanism_of(alloc, given)?;
+            Ok(Call::VerifyInit {
+                session,
+                mechanism,
+                key,
+            })
+        }
+        Step::Verify(session, text, signature) => {
+            let data = Bytes::from_slice(alloc, text)?;
+            let signature = Bytes::from_slice(alloc, signature)?;
+            Ok(Call::Verify {
+                session,
+                data,
+                signature,
+            })
+        }
+        Step::VerifyUpdate(session, text) => {
+            let part = Bytes::from_slice(alloc, text)?;
+            Ok(Call::VerifyUpdate { session, part })
+        }
+        Step::VerifyFinal(session, signature) => {
+            let signature = Bytes::from_slice(alloc, signature)?;
+            Ok(Call::VerifyFinal { session, signature })
+        }
+        _ => Err("this verifies nothing".into()),
+    }
+}
+
+/// The call of a step that makes, wraps or unwraps a key.
+fn key_call_of(alloc: Global, step: Step) -> Result<Call, Fail> {
+    match step {
+        Step::GenerateKey(session, given, template) => {
+            let mechanism = given_mechanism(alloc, given)?;
+            let template = template_of(alloc, template)?;
+            Ok(Call::GenerateKey {
+                session,
+                mechanism,
+                template,
+            })
+        }
+        Step::WrapKey(session, given, wrapping_key, key, room) => {
+            let mechanism = given_mechanism(alloc, given)?;
+            Ok(Call::WrapKey {
+                session,
+                mechanism,
+                wrapping_key,
+                key,
+                room,
+            })
+        }
+        Step::UnwrapKey(session, given, unwrapping_key, wrapped, template) => {
+            let mechanism = given_mechanism(alloc, given)?;
+            let wrapped_key = Bytes::from_slice(alloc, wrapped)?;
+            let template = template_of(alloc, template)?;
+            Ok(Call::UnwrapKey {
+                session,
+                mechanism,
+                unwrapping_key,
+                wrapped_key,
+                template,
+            })
+        }
+        _ => Err("this is no call of a key".into()),
     }
 }
 

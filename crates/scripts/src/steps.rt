@@ -64,6 +64,21 @@ pub enum Step {
     Decrypt(u64, &'static [u8], Option<u64>),
     DecryptUpdate(u64, &'static [u8], Option<u64>),
     DecryptFinal(u64, Option<u64>),
+    /// In a session, by a mechanism if there is one, under a key.
+    SignInit(u64, Option<GivenMechanism>, u64),
+    /// In a session, of a text, with the room for the signature.
+    Sign(u64, &'static [u8], Option<u64>),
+    SignUpdate(u64, &'static [u8]),
+    SignFinal(u64, Option<u64>),
+    VerifyInit(u64, Option<GivenMechanism>, u64),
+    /// In a session, of a text, with its signature.
+    Verify(u64, &'static [u8], &'static [u8]),
+    VerifyUpdate(u64, &'static [u8]),
+    VerifyFinal(u64, &'static [u8]),
+    /// In a session, by a mechanism, under a wrapping key, of a key, with the room for the wrapped key.
+    WrapKey(u64, GivenMechanism, u64, u64, Option<u64>),
+    /// In a session, by a mechanism, under an unwrapping key, of a wrapped key, by a template.
+    UnwrapKey(u64, GivenMechanism, u64, &'static [u8], Given),
     /// In a session, by a mechanism and a template.
     GenerateKey(u64, GivenMechanism, Given),
     /// In a session, so many bytes.

@@ -26,10 +26,12 @@ use Rattle.ops.specs.declared.place.Place.{Place}
 use Rattle.ops.specs.Operations.{Operation, Operations, operation_in, operation_of, placed_in, with_operation as in_sessions}
 use Rattle.views.specs.Views.{View, Ciphers}
 use Rattle.views.specs.Answering.{Said, Replies, Answer, becomes, unless, session_of, object_at, with_operation}
-use Rattle.answers.specs.CipherInit.{permission, place_for, cipher_at, with_parameter, is_aes, ends, begins, cipher_init}
+use Rattle.views.specs.Checked.{is_aes}
+use Rattle.answers.specs.CipherInit.{permission, place_for, cipher_at, with_parameter, ends, begins, cipher_init}
 use Rattle.answers.specs.Cipher.{single_function, update_function, final_function, has_taken, cipher_single, cipher_update, cipher_final}
 use Rattle.token_store.specs.Shown.{view_of, Fits, Gives}
-use Rattle.serve_ciphers.specs.Steps.{refused_row, asks_within}
+use Rattle.token_store.specs.Asking.{asks_within}
+use Rattle.serve_ciphers.specs.Steps.{refused_row}
 
 -- an operation begins, goes on or ends
 module _ (c : Contents) (d : DeskState) (session : ℕ) (place : Place) (operation : Option Operation) (reply : Reply) where

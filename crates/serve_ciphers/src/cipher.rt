@@ -1,31 +1,29 @@
 //! C_Encrypt, C_EncryptUpdate, C_EncryptFinal and C_Decrypt, C_DecryptUpdate, C_DecryptFinal (PKCS #11 v3.1, 5.2, 5.8 and
 //! 5.10).
 
-ghost use Rattle.std.specs.Prelude.{◌≡◌, ◌<◌, ◌^◌, IfOk, IsTrue, None};
-ghost use Rattle.ck_calls.specs.declared.reply.Reply.TheVariants.{Code};
-ghost use Rattle.keep.specs.Contents.{Contents};
-ghost use Rattle.mech.specs.Runnable.{is_runnable};
-ghost use Rattle.ops.specs.Operations.{with_operation};
+ghost use Rattle.std.specs.Prelude.{◌≡◌, ◌<◌, ◌^◌, IfOk, None, Some};
+ghost use Rattle.ck_calls.specs.declared.reply.Output.TheVariants.{Data};
+ghost use Rattle.ck_calls.specs.declared.reply.Reply.TheVariants.{Code, Output as OutputReply};
+ghost use Rattle.ops.specs.Operations.{operation_of, with_operation};
 ghost use Rattle.precede.specs.Row.{code_of};
 ghost use Rattle.ck_types.specs.declared.rv.Rv.TheVariants as rv;
 ghost use Rattle.token_store.specs.declared.out.Out.TheVariants.{Reply as OutReply};
-ghost use Rattle.answers.specs.Cipher.{cipher_final, cipher_single, cipher_update, ciphered_reply};
-ghost use Rattle.views.specs.Outcomes.{told_of};
+ghost use Rattle.answers.specs.Cipher.{cipher_final, cipher_single, cipher_update};
+ghost use Rattle.answers.specs.CipherInit.{place_for};
 ghost use Rattle.token_store.specs.Refusing.{AtDesk};
-ghost use Rattle.token_store.specs.Shown.{Fits, Gives, IsFor, said_of, task_of, view_of};
-ghost use Rattle.serve_ciphers.specs.Steps.{asks_within, operation_left, place_of};
+ghost use Rattle.token_store.specs.Shown.{IsFor, said_of};
 
 use crate::directions::{final_function, place_for, refused_row, single_function, update_function};
 use aes_modes::Direction;
-use ck_calls::{Function, Output, Reply};
+use ck_calls::{Output, Reply};
 use ck_types::{Bytes, Rv};
 use desk::Desk;
-use mech::{Outcome, Work};
+use mech::Work;
 use ops::Place;
 use precede::Row;
 use std::alloc::Global;
-use streams::Part;
-use token_store::{Out, Refusal, ask};
+use streams::{Part, Stream};
+use token_store::{Out, Refusal, ask_within};
 
 /// Takes all data at once: asks for what it is turned to, or tells the room for it, in bytes. It is the only data of its
 /// operation (`CKR_OPERATION_ACTIVE`), and of a length that the mechanism takes, with a counter for each block
@@ -153,72 +151,30 @@ fn end(desk: &mut Desk, session: u64, place: Place, row: Row) -> Out
     Out::Reply(Reply::Code(row.code(Rv::Ok)))
 }
 
-/// Asks for work where there is room for what is wanted, in bytes; else its length is told, and the operation stays.
-fn ask_within(
-    app: u64,
-    desk: &mut Desk,
-    function: Function,
-    session: u64,
-    work: Work,
-    wanted: u64,
-    room: Option<u64>,
-) -> Out
-    requires below { desk.old.next_question < 2 ^ 63 }
-    requires runnable { IsTrue (is_runnable work) }
-    ensures gives { (c : Contents) → Fits c desk.old.handles.entries → Gives (asks_within function session (task_of work) wanted room (view_of c desk.old)) desk.old.sessions.login c (said_of result) c desk.new }
-    ensures asker { IsFor app result }
+/// What a piece adds to the output. The operation that has taken it goes on.
+pub fn piece(desk: &mut Desk, session: u64, output: Bytes, stream: Stream) -> Reply
+    ensures reply { result ≡ OutputReply (Data output) }
+    ensures left { desk.new ≡ record desk.old { sessions = with_operation desk.old.sessions session (place_for stream.direction) (Some (operation_of stream)) } }
 {
-    let Some(room) = room else {
-        return Out::Reply(Reply::Output(Output::Length(wanted)));
-    };
-    if room < wanted {
-        return Out::Reply(Reply::BufferTooSmall(wanted));
-    }
-    Out::Ask(ask(app, desk, function, session, work))
+    let place = place_for(stream.direction());
+    desk.set_operation(session, place, Some(stream));
+    Reply::Output(Output::Data(output))
 }
 
-/// Where the operation stands of a call that takes data, by its function; other calls have none.
-pub fn place_of(function: Function) -> Option<Place>
-    ensures { result ≡ place_of function }
+/// The rest of the output. The operation ends.
+pub fn rest(desk: &mut Desk, session: u64, direction: Direction, output: Bytes) -> Reply
+    ensures reply { result ≡ OutputReply (Data output) }
+    ensures left { desk.new ≡ record desk.old { sessions = with_operation desk.old.sessions session (place_for direction) None } }
 {
-    match function {
-        Function::Encrypt | Function::EncryptUpdate | Function::EncryptFinal => {
-            Some(Place::Encrypt)
-        }
-        Function::Decrypt | Function::DecryptUpdate | Function::DecryptFinal => {
-            Some(Place::Decrypt)
-        }
-        _ => None,
-    }
+    desk.set_operation(session, place_for(direction), None);
+    Reply::Output(Output::Data(output))
 }
 
-/// The result of an operation's work. A piece leaves the operation that has taken it; else the operation ends. What no
-/// cipher gives is `CKR_FUNCTION_FAILED`.
-pub fn finish(desk: &mut Desk, session: u64, place: Place, outcome: Outcome) -> Reply
-    ensures reply { result ≡ ciphered_reply (told_of outcome) }
-    ensures left { desk.new ≡ record desk.old { sessions = with_operation desk.old.sessions session place (operation_left outcome) } }
+/// The padding is wrong: `CKR_ENCRYPTED_DATA_INVALID`. The operation ends.
+pub fn bad_padding(desk: &mut Desk, session: u64, direction: Direction) -> Reply
+    ensures reply { result ≡ Code rv.EncryptedDataInvalid }
+    ensures left { desk.new ≡ record desk.old { sessions = with_operation desk.old.sessions session (place_for direction) None } }
 {
-    match outcome {
-        Outcome::Piece { output, stream } => {
-            desk.set_operation(session, place, Some(stream));
-            Reply::Output(Output::Data(output))
-        }
-        Outcome::Rest(output) => {
-            desk.set_operation(session, place, None);
-            Reply::Output(Output::Data(output))
-        }
-        Outcome::BadPadding => {
-            desk.set_operation(session, place, None);
-            Reply::Code(Rv::EncryptedDataInvalid)
-        }
-        Outcome::WrongPin
-        | Outcome::RightPin(_)
-        | Outcome::PinMade(_)
-        | Outcome::PinChanged { .. }
-        | Outcome::TokenMade { .. }
-        | Outcome::TokenReset { .. } => {
-            desk.set_operation(session, place, None);
-            Reply::Code(Rv::FunctionFailed)
-        }
-    }
+    desk.set_operation(session, place_for(direction), None);
+    Reply::Code(Rv::EncryptedDataInvalid)
 }

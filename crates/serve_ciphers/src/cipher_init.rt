@@ -1,26 +1,20 @@
 //! C_EncryptInit and C_DecryptInit (PKCS #11 v3.1, 5.8 and 5.10).
 
-ghost use Rattle.std.specs.Prelude.{◌≡◌, true, Some};
-ghost use Rattle.ck_types.specs.declared.attr_type.AttrType.TheVariants as attr;
-ghost use Rattle.attrs.specs.Masking.{is_secret_key};
-ghost use Rattle.attrs.specs.Objects.{attribute_of, class_of, key_type_of};
-ghost use Rattle.answers.specs.CipherInit.{cipher_init, is_aes};
+ghost use Rattle.answers.specs.CipherInit.{cipher_init};
 ghost use Rattle.token_store.specs.Refusing.{IsDone};
 
 use crate::directions::{permission, place_for};
 use crate::parameter::with_parameter;
-use aes_block::Key;
 use aes_modes::Direction;
-use attrs::Object;
 use ck_calls::{Mechanism, Reply};
-use ck_types::{KeyType, ObjectClass, Rv};
+use ck_types::Rv;
 use desk::Desk;
 use keep::Keep;
 use mechanisms::{Purpose, find_for};
 use precede::Row;
 use std::alloc::Global;
 use streams::Stream;
-use token_store::{Refusal, Store, find};
+use token_store::{Refusal, Store, aes_key, find, is_aes, is_secret_key};
 
 /// Begins an operation of a direction under a copy of a key's value; without a mechanism the one that is under way ends.
 pub fn serve<K: Keep>(
@@ -55,38 +49,7 @@ pub fn serve<K: Keep>(
     if !found.object.flag(permission(direction)) {
         return Err(Refusal::Row(Row::KeyNotPermitted));
     }
-    let stream = Stream::new(cipher, direction, key_of(&found.object));
+    let stream = Stream::new(cipher, direction, aes_key(&found.object));
     desk.set_operation(session, place, Some(stream));
     Ok(Reply::Code(Rv::Ok))
-}
-
-fn is_secret_key(object: &Object) -> bool
-    ensures { result ≡ is_secret_key (class_of object.now) }
-{
-    match object.class() {
-        ObjectClass::SecretKey => true,
-        ObjectClass::Data => false,
-    }
-}
-
-fn is_aes(object: &Object) -> bool
-    ensures { result ≡ is_aes (key_type_of object.now) }
-{
-    match object.key_type() {
-        Some(KeyType::Aes) => true,
-        Some(KeyType::GenericSecret) | None => false,
-    }
-}
-
-/// The key that is the value of an AES key's object.
-fn key_of(object: &Object) -> Key
-    requires secret { is_secret_key (class_of object.now) ≡ true }
-    requires aes { is_aes (key_type_of object.now) ≡ true }
-    ensures { attribute_of object.now attr.Value ≡ Some result }
-{
-    let _entries = object.entries();
-    match Key::new(object.value()) {
-        Some(key) => key,
-        None => unreachable!(),
-    }
 }

@@ -4,7 +4,7 @@
 //! Both directions are served by the same functions. Each answers by the rows of its call's table. Its clauses say that the
 //! answer is the written one to what the application sees, or that it was refused and nothing has changed: `IsDone` where a
 //! key is read from the store, `AtDesk` where none is. Work with a key is a question: the call gives a job, and
-//! `cipher::finish` answers its outcome.
+//! `cipher::piece`, `cipher::rest` and `cipher::bad_padding` answer its outcome.
 //!
 //! ```text
 //! settle(cipher_init::serve(alloc, desk, store, Direction::Encipher, session, mechanism, key))

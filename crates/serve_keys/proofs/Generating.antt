@@ -20,7 +20,7 @@ use Rattle.ops.specs.Operations.{Operations}
 use Rattle.views.specs.Views.{View}
 use Rattle.views.specs.Answering.{session_of}
 use Rattle.answers.specs.GenerateKey.{generation_at, generate_key}
-use Rattle.serve_objects.specs.Adding.{adds_where}
+use Rattle.answers.specs.CreateObject.{adds_where}
 
 -- ---- the random bytes that the call takes are as many as the key wants
 

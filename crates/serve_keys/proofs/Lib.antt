@@ -1,1 +1,3 @@
 pub mod Generating
+pub mod Reading
+pub mod Wrapping

@@ -1,8 +1,8 @@
-//! Calls that make keys and random bytes (PKCS #11 v3.1, 5.18 and 5.19).
+//! Calls that make, wrap and unwrap keys, and give random bytes (PKCS #11 v3.1, 5.18 and 5.19).
 //!
 //! Each function answers by the rows of its call's table, and its one clause says that the answer is the written one to
 //! what the application sees, or that it was refused and nothing has changed: `AtDesk` where no store is asked, `IsDone`
-//! where one is.
+//! where one is, `IsDoneAs` where the call may ask a question. `unwrap_key::unwrapped` answers the outcome of its question.
 //!
 //! ```text
 //! settle(generate_random::serve(alloc, desk, session, len, random))
@@ -11,3 +11,5 @@
 
 pub mod generate_key;
 pub mod generate_random;
+pub mod unwrap_key;
+pub mod wrap_key;

@@ -18,7 +18,7 @@ use Rattle.views.specs.Answering.{session_of, object_at, place_of}
 use Rattle.answers.specs.CreateObject.{create_object}
 use Rattle.answers.specs.CopyObject.{copy_object}
 use Rattle.answers.specs.SetAttributeValue.{puts, set_attribute_value}
-use Rattle.serve_objects.specs.Adding.{adds_where}
+use Rattle.answers.specs.CreateObject.{adds_where}
 
 pub made-object : (fault : Option Rv) (made o : List Entry) → IsAnswered (Ok o) fault made → (fault ≡ None) × (made ≡ o)
 made-object (Some code) made o a = absurd a

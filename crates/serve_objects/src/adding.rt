@@ -3,7 +3,7 @@
 ghost use Rattle.std.specs.Prelude.{◌≡◌, ◌<◌, ◌^◌, true};
 ghost use Rattle.guard.specs.Access.{is_user, is_user_in};
 ghost use Rattle.keep.specs.Contents.{IsTokenObject};
-ghost use Rattle.serve_objects.specs.Adding.{adds_where};
+ghost use Rattle.answers.specs.CreateObject.{adds_where};
 ghost use Rattle.answers.specs.CreateObject.{adds_token_object};
 ghost use Rattle.views.specs.Views.{sees};
 ghost use Rattle.token_store.specs.Refusing.{IsDone};

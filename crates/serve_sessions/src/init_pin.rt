@@ -7,7 +7,7 @@ ghost use Rattle.answers.specs.Pins.{is_so};
 ghost use Rattle.token_store.specs.Refusing.{AtDesk, IsDone};
 ghost use Rattle.token_store.specs.Shown.{IsFor, said_of};
 
-use crate::recording::{is_pin_length, salt_of, store_record};
+use crate::recording::{is_pin_length, store_record};
 use ck_calls::{Function, Reply};
 use ck_types::{Bytes, Rv, UserType};
 use desk::Desk;
@@ -15,7 +15,7 @@ use keep::Keep;
 use mech::Work;
 use pin_record::{TRIES_LIMIT, Verifier};
 use precede::Row;
-use token_store::{Out, Refusal, Store, ask};
+use token_store::{Out, Refusal, Store, ask, random_block};
 
 fn is_so(login: Option<UserType>) -> bool
     ensures { result ≡ is_so login }
@@ -47,7 +47,7 @@ pub fn serve(
     if !is_pin_length(pin.as_slice()) {
         return Err(Refusal::Row(Row::PinLength));
     }
-    let salt = salt_of(random);
+    let salt = random_block(random);
     let work = Work::MakePin { pin, salt };
     Ok(Out::Ask(ask(app, desk, Function::InitPin, session, work)))
 }

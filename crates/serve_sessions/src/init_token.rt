@@ -7,7 +7,7 @@ ghost use Rattle.token_store.specs.Refusing.{IsDone, IsDoneAs};
 ghost use Rattle.token_store.specs.Shown.{IsFor, said_of};
 
 use crate::SLOT;
-use crate::recording::{ask_charged, is_pin_length, reset_to, salt_of, store_record};
+use crate::recording::{ask_charged, is_pin_length, reset_to, store_record};
 use ck_calls::{Function, Reply};
 use ck_types::{Bytes, Label, Rv, UserType};
 use desk::Desk;
@@ -15,7 +15,7 @@ use keep::Keep;
 use mech::Work;
 use pin_record::{Record, Verifier, end_check};
 use precede::Row;
-use token_store::{Out, Refusal, Store, ask};
+use token_store::{Out, Refusal, Store, ask, random_block};
 
 /// Begins a check of the SO's PIN, which is charged before it; or, where the token isn't initialised, asks for the
 /// verifier of this PIN, with random bytes as its salt: `CKR_SLOT_ID_INVALID`, `CKR_ARGUMENTS_BAD` for a label that hasn't
@@ -47,7 +47,7 @@ pub fn serve<K: Keep>(
         if !is_pin_length(pin.as_slice()) {
             return Err(Refusal::Row(Row::PinLength));
         }
-        let salt = salt_of(random);
+        let salt = random_block(random);
         let work = Work::InitToken { label, pin, salt };
         return Ok(Out::Ask(ask(app, desk, Function::InitToken, 0, work)));
     };

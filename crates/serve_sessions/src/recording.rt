@@ -26,16 +26,6 @@ pub(crate) fn is_pin_length(pin: &[u8]) -> bool
     4 <= pin.len() && pin.len() <= 64
 }
 
-/// The salt of a new verifier: the random bytes that the call takes.
-pub(crate) fn salt_of(random: &[u8]) -> [u8; 16]
-    requires { length random.now ≡ 16 }
-    ensures { result ≡ random.now }
-{
-    let mut salt = [0; 16];
-    salt.copy_from_slice(random);
-    salt
-}
-
 /// Asks for a check of a PIN. Its charge is stored first, and only then there is a job.
 pub(crate) fn ask_charged<K: Keep>(
     app: u64,

@@ -6,7 +6,7 @@ ghost use Rattle.answers.specs.SetPin.{owner, pin_changed, set_pin};
 ghost use Rattle.token_store.specs.Refusing.{IsDone, IsDoneAs};
 ghost use Rattle.token_store.specs.Shown.{IsFor, said_of};
 
-use crate::recording::{ask_charged, is_pin_length, salt_of, store_record};
+use crate::recording::{ask_charged, is_pin_length, store_record};
 use ck_calls::{Function, Reply};
 use ck_types::{Bytes, Rv, UserType};
 use desk::Desk;
@@ -14,7 +14,7 @@ use keep::Keep;
 use mech::Work;
 use pin_record::{Verifier, end_check};
 use precede::Row;
-use token_store::{Out, Refusal, Store};
+use token_store::{Out, Refusal, Store, random_block};
 
 /// Whose PIN is changed: that of who is logged in, and the user's where nobody is.
 fn owner(login: Option<UserType>) -> UserType
@@ -56,7 +56,7 @@ pub fn serve<K: Keep>(
     if record.is_locked(who) {
         return Err(Refusal::Row(Row::PinLocked));
     }
-    let salt = salt_of(random);
+    let salt = random_block(random);
     let work = Work::ChangePin {
         who,
         verifier,

@@ -10,7 +10,7 @@ use crate::cbc_encryption::CbcEncryption;
 use crate::ctr_stream::CtrStream;
 use crate::ecb_decryption::EcbDecryption;
 use crate::ecb_encryption::EcbEncryption;
-use aes_modes::ModeFault;
+use aes_modes::{Direction, ModeFault};
 use std::alloc::Global;
 
 /// A mechanism in a direction, with what it keeps.
@@ -40,6 +40,22 @@ impl State {
             State::CbcPadDecrypt(stream) => State::CbcPadDecrypt(stream.copied()),
             State::CtrEncrypt(stream) => State::CtrEncrypt(stream.copied()),
             State::CtrDecrypt(stream) => State::CtrDecrypt(stream.copied()),
+        }
+    }
+
+    /// The direction.
+    pub(crate) fn direction(&self) -> Direction
+        ensures { result ≡ (streamed self.now).direction }
+    {
+        match self {
+            State::EcbEncrypt(_)
+            | State::CbcEncrypt(_)
+            | State::CbcPadEncrypt(_)
+            | State::CtrEncrypt(_) => Direction::Encipher,
+            State::EcbDecrypt(_)
+            | State::CbcDecrypt(_)
+            | State::CbcPadDecrypt(_)
+            | State::CtrDecrypt(_) => Direction::Decipher,
         }
     }
 

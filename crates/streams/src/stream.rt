@@ -89,6 +89,13 @@ impl Stream {
         }
     }
 
+    /// Whether it enciphers or deciphers.
+    pub fn direction(&self) -> Direction
+        ensures { result ≡ self.now.direction }
+    {
+        self.state.direction()
+    }
+
     /// Whether data was taken: a byte at least.
     pub fn has_taken(&self) -> bool
         ensures { result ≡ not (length self.now.taken == 0) }

@@ -84,8 +84,8 @@ module _ {K : Type 0} (terms : Terms K) (app : ℕ) (in_use : Bool) (call x : Ca
   call-done writes old new before desk r out few told done = rw (is, told) (served-as terms Replies OutReply (IsFor app) writes answers old new before desk r (λ t. refl) few (for-reply app r) done)
 
   -- which may ask
-  pub call-checked : (old new : StoreState K) (before desk : DeskState) (r : Result Out Refusal) (out : Result Out Fault) → out ≡ settled (λ out. out) r → IfOk r (IsFor app) → IsDoneAs terms said_of 1 (λ c. answers) old new before r desk → IsCallServed old new before out desk
-  call-checked old new before desk r out told for done = rw (is, told) (served-as terms said_of (λ out. out) (IsFor app) 1 answers old new before desk r (λ t. refl) (omega arith) (for-out app r for) done)
+  pub call-asked : (writes : ℕ) → writes ≤ 1 → (old new : StoreState K) (before desk : DeskState) (r : Result Out Refusal) (out : Result Out Fault) → out ≡ settled (λ out. out) r → IfOk r (IsFor app) → IsDoneAs terms said_of writes (λ c. answers) old new before r desk → IsCallServed old new before out desk
+  call-asked writes few old new before desk r out told for done = rw (is, told) (served-as terms said_of (λ out. out) (IsFor app) writes answers old new before desk r (λ t. refl) few (for-out app r for) done)
 
   -- and at the desk alone
   at-desk : {T : Type 0} (tell : T → Said) (as_out : T → Out) (store : StoreState K) (before desk : DeskState) (r : Result T Refusal) (out : Result Out Fault) → ((t : T) → said_of (as_out t) ≡ tell t) → ((v : View) → (answers v).change ≡ Stays) → out ≡ settled as_out r → IfOk (settled as_out r) (IsFor app)
@@ -120,15 +120,3 @@ still-init_pin v s pin random = still-rows (init_pin_row v s pin NoSession) (ini
   still-rows false true d = refl
   still-rows false false true = refl
   still-rows false false false = refl
-
--- a call that is answered a code, and does nothing
-pub call-refused : {K : Type 0} (terms : Terms K) (app : ℕ) (in_use : Bool) (call : Call) (random : List ℕ) (code : Rv) (store : StoreState K) (desk : DeskState) (out : Result Out Fault) → ((v : View) → answer_to v call random (reveal_by_call call in_use) ≡ refuses v code) → set_apart (Code code) ≡ None → out ≡ Ok (OutReply (Code code))
-    → IsServed terms (IsFor app) (λ v. answer_to v call random (reveal_by_call call in_use)) store store desk out desk
-call-refused terms app in_use call random code store desk out is plain told = rw told (record {
-  serves = λ sure c h fits. gave-reply terms (answer_to (view_of c desk) call random (reveal_by_call call in_use)) c store store desk (Code code) h (λ d may. may) fits (is (view_of c desk));
-  says = tt;
-  counts = record { steady = λ s. s; doubt = omega arith; failures = omega arith; tried = omega arith; bounded = omega arith };
-  cause = λ device. (let k : Ok (OutReply (Code code)) ≡ Err faults.Device = device in cc);
-  plain = plain;
-  stays = tt;
-})

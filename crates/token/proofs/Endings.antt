@@ -2,9 +2,9 @@
 use Rattle.std.proofs.Common.{◌≡◌, ℕ, false, true, Option, Some, None, Result, Ok, Err, refl, sym, ◌∙◌, ap, subst, inl, arith}
 use Rattle.std.specs.Prelude.{IfErr, IfOk, IsSome, IsErrOf}
 use Rattle.std.specs.Option.{option_map}
-use Rattle.ck_types.specs.declared.rv.Rv.TheVariants.{DeviceError, FunctionFailed, PinIncorrect}
+use Rattle.ck_types.specs.declared.rv.Rv.{Rv}
+use Rattle.ck_types.specs.declared.rv.Rv.TheVariants.{DeviceError, FunctionFailed}
 use Rattle.ck_types.specs.declared.rv.Rv.TheVariants as rv
-use Rattle.ck_calls.specs.declared.function.Function.{Function}
 use Rattle.ck_calls.specs.declared.reply.Reply.{Reply}
 use Rattle.ck_calls.specs.declared.reply.Reply.TheVariants.{Code}
 use Rattle.precede.specs.Row.{code_of}
@@ -13,16 +13,14 @@ use Rattle.keep.specs.Keeping.{Counted, Terms}
 use Rattle.mech.specs.declared.job.Job.{Job}
 use Rattle.mech.specs.declared.outcome.Outcome.{Outcome}
 use Rattle.mech.specs.Works.{outcome_of}
-use Rattle.ops.specs.declared.place.Place.{Place}
 use Rattle.desk.specs.Desks.{DeskState, SameDesk}
 use Rattle.views.specs.declared.fault.Fault.{Fault}
 use Rattle.views.specs.declared.fault.Fault.TheVariants.{Memory, Device}
 use Rattle.views.specs.Outcomes.{told_of}
 use Rattle.views.specs.Views.{View}
-use Rattle.views.specs.Answering.{Replies, Answer, Reveal, answered, becomes, refuses, with_operation}
+use Rattle.views.specs.Answering.{Replies, Answer, Reveal, answered, refuses}
 use Rattle.views.specs.Refusals.{set_apart}
-use Rattle.answers.specs.Answers.{answer_outcome, answer_question, answer_result, place_asked}
-use Rattle.answers.specs.Cipher.{ciphered_reply}
+use Rattle.answers.specs.Answers.{answer_outcome, answer_question, answer_result}
 use Rattle.views.proofs.Checks.{plain-row}
 use Rattle.token_model.specs.Worlds.{reveal_by_outcome, value_of}
 use Rattle.token_store.specs.declared.refusal.Refusal.{Refusal}
@@ -32,15 +30,12 @@ use Rattle.token_store.specs.Shown.{objects_of, question_of, task_of, over, view
 use Rattle.token_store.specs.Stores.{StoreState, Has, Gave, Serves}
 use Rattle.token_store.proofs.Gaves.{gave-quiet, gave-reply}
 use Rattle.token_store.proofs.Refusals.{does_as-is}
-use Rattle.serve_ciphers.specs.Steps.{operation_left}
-use Rattle.serve_ciphers.proofs.Ciphering.{gives-with}
 use Rattle.token.specs.declared.ending.Others.{Others}
 use Rattle.token.specs.Applications.{Finishes, answer_to_job, by_job, reveal_by_job, told_result}
-use Rattle.token.specs.Endings.{EndsBy, desk_left, reply_at, settled_reply, under_way_of}
-use Rattle.token.proofs.Outcomes.{answer-ciphered, answer-wrong, by_place, is_ciphered, is_wrong, work-value}
-use Rattle.mech.specs.declared.outcome.Outcome.TheVariants as out
+use Rattle.token.specs.Endings.{EndsBy, settled_reply, under_way_of}
+use Rattle.token.proofs.Outcomes.{answer_by, answer-ends, ends_by, work-value}
 use Rattle.views.specs.Views.{sees}
-use Rattle.views.specs.Changes.{in_list}
+use Rattle.views.specs.Changes.{Stays, in_list}
 use Rattle.token_store.specs.Stores.{LeavesTried}
 
 -- ---- the outcome of a question that is over
@@ -62,51 +57,41 @@ module _ {K : Type 0} (terms : Terms K) where
   untouched : (store : StoreState K) → Counted terms store.keep store.keep 0 1
   untouched store = record { steady = λ s. s; doubt = omega arith; failures = omega arith; tried = omega arith; bounded = omega arith }
 
-  plain-ciphered : (x : Outcome) → set_apart (ciphered_reply (told_of x)) ≡ None
-  plain-ciphered (out.Piece output stream) = refl
-  plain-ciphered (out.Rest output) = refl
-  plain-ciphered out.BadPadding = refl
-  plain-ciphered out.WrongPin = refl
-  plain-ciphered (out.RightPin who) = refl
-  plain-ciphered (out.PinMade verifier) = refl
-  plain-ciphered (out.PinChanged who verifier) = refl
-  plain-ciphered (out.TokenMade label verifier) = refl
-  plain-ciphered (out.TokenReset label) = refl
+  -- an outcome is answered by what it is alone
+  pub ends-as : (s : ℕ) (x : Outcome) (others : Others) (old new : StoreState K) (before : DeskState) (r : Result Reply Refusal) (desk : DeskState) → IsDoneAs terms Replies 1 (λ c v. ends_by v (objects_of c) (under_way_of others) others.in_session s x) old new before r desk → EndsBy terms s x others old new before r desk
+  ends-as s x others old new before r desk done w q is session =
+      done-is 1 (λ c v. answer_by v (objects_of c) (under_way_of others) others.in_session q w x) (λ c v. ends_by v (objects_of c) (under_way_of others) others.in_session s x) old new before r desk
+      (λ c.
+      let v = view_of c before in
+      ap (answer_by v (objects_of c) (under_way_of others) others.in_session q w) is
+      ∙ answer-ends v (objects_of c) (under_way_of others) others.in_session q w
+      ∙ ap (ends_by v (objects_of c) (under_way_of others) others.in_session q.session) (sym is)
+      ∙ ap (λ n. ends_by v (objects_of c) (under_way_of others) others.in_session n x) session)
+      done
 
-  plain-at : (p : Option Place) (x : Outcome) → set_apart (reply_at p x) ≡ None
-  plain-at None x = refl
-  plain-at (Some place) x = plain-ciphered x
-
-  gave-at : (p : Option Place) (s : ℕ) (x : Outcome) (c : Contents) (store : StoreState K) (d : DeskState) → d.question ≡ None → Has terms store c → Fits c d.handles.entries → Gave terms (by_place (view_of c d) s p x) d.sessions.login c store store (Replies (reply_at p x)) (desk_left p s x d)
-  gave-at None s x c store d none h fits = gave-reply terms (refuses (answered (view_of c d)) FunctionFailed) c store store d (Code FunctionFailed) h (λ l may. may) fits (ap (λ v. refuses v FunctionFailed) (over-view c d none))
-  gave-at (Some place) s x c store d none h fits =
-      gave-quiet terms (by_place (view_of c d) s (Some place) x) d.sessions.login c store store (Replies (reply_at (Some place) x)) (desk_left (Some place) s x d) h (λ l may. may) refl
-      (subst (λ v. Gives (becomes (ciphered_reply (told_of x)) (with_operation v s place (operation_left x))) d.sessions.login c (Replies (reply_at (Some place) x)) c (desk_left (Some place) s x d)) (sym (over-view c d none)) (gives-with c d s place (operation_left x) (ciphered_reply (told_of x)) fits))
-
-  -- a cipher's
-  pub ends-ciphered : (f : Function) (s : ℕ) (x : Outcome) (others : Others) (store : StoreState K) (d desk : DeskState) (reply : Reply) → is_ciphered x ≡ true → d.question ≡ None → reply ≡ reply_at (place_asked f) x → desk ≡ desk_left (place_asked f) s x d → EndsBy terms f s x others store store d (Ok reply) desk
-  ends-ciphered f s x others store d desk reply ciphers none told left w q is function session =
-      let p = place_asked q.function in
-      let r : Contents → Reveal = λ c. reveal_by_outcome (task_of w) (told_of x) (objects_of c) (under_way_of others) others.in_session in
-      let reply-is : reply ≡ reply_at p x = told ∙ ap (λ g. reply_at (place_asked g) x) (sym function) in
-      let desk-is : desk ≡ desk_left p q.session x d = left ∙ ap (λ g. desk_left (place_asked g) s x d) (sym function) ∙ ap (λ n. desk_left p n x d) (sym session) in
-      rw (reply-is, desk-is) (record {
-        serves = λ sure c h fits. subst (λ a. Gave terms a d.sessions.login c store store (Replies (reply_at p x)) (desk_left p q.session x d)) (sym (answer-ciphered (view_of c d) q (r c) w x is ciphers)) (gave-at p q.session x c store d none h fits);
-        counts = untouched store;
-        cause = λ device. let k : Ok (reply_at p x) ≡ Err refusals.Device = device in cc;
-        plain = plain-at p x;
-        stays = tt;
-      })
-
-  -- a code, where the PIN is wrong
-  pub ends-wrong : (f : Function) (s : ℕ) (others : Others) (store : StoreState K) (d : DeskState) → d.question ≡ None → EndsBy terms f s out.WrongPin others store store d (Err (refusals.Code PinIncorrect)) d
-  ends-wrong f s others store d none w q is function session = record {
-    serves = λ sure c h fits. (answer-wrong (view_of c d) q (objects_of c) (under_way_of others) others.in_session w (ap is_wrong is) ∙ ap (λ v. refuses v PinIncorrect) (over-view c d none), record { has = h; leaves = λ l may. may; desk = refl });
+  -- it changes the desk alone
+  pub done-at-desk : (a : View → Answer) (store : StoreState K) (d desk : DeskState) (reply : Reply) → d.question ≡ None → set_apart reply ≡ None → ((v : View) → (a v).change ≡ Stays) → ((c : Contents) → Fits c d.handles.entries → Gives (a (view_of c d)) d.sessions.login c (Replies reply) c desk) → IsDoneAs terms Replies 1 (λ c v. a (answered v)) store store d (Ok reply) desk
+  done-at-desk a store d desk reply none plain still gives = record {
+    serves = λ sure c h fits. rw (over-view c d none) (gave-quiet terms (a (view_of c d)) d.sessions.login c store store (Replies reply) desk h (λ l may. may) (still (view_of c d)) (gives c fits));
     counts = untouched store;
-    cause = λ device. let k : Err (refusals.Code PinIncorrect) ≡ Err refusals.Device = device in cc;
-    plain = refl;
+    cause = λ device. let k : Ok reply ≡ Err refusals.Device = device in cc;
+    plain = plain;
+    stays = tt;
+  }
+
+  -- a code that changes nothing
+  pub done-code : (code : Rv) (store : StoreState K) (d : DeskState) → d.question ≡ None → set_apart (Code code) ≡ None → IsDoneAs terms Replies 1 (λ c v. refuses (answered v) code) store store d (Err (refusals.Code code)) d
+  done-code code store d none plain = record {
+    serves = λ sure c h fits. (ap (λ v. refuses v code) (over-view c d none), record { has = h; leaves = λ l may. may; desk = refl });
+    counts = untouched store;
+    cause = λ device. let k : Err (refusals.Code code) ≡ Err refusals.Device = device in cc;
+    plain = plain;
     stays = refl;
   }
+
+  -- what another crate has done at a view without a question
+  pub done-over : (f : Contents → View → Answer) (old new : StoreState K) (d desk : DeskState) (r : Result Reply Refusal) → d.question ≡ None → IsDoneAs terms Replies 1 f old new d r desk → IsDoneAs terms Replies 1 (λ c v. f c (answered v)) old new d r desk
+  done-over f old new d desk r none done = done-is 1 (λ c v. f c (answered v)) f old new d r desk (λ c. ap (f c) (over-view c d none)) done
 
 -- ---- and what is told of it
 
@@ -152,10 +137,10 @@ module _ {K : Type 0} (terms : Terms K) (job : Job) (others : Others) (old new :
       let f : Option Job → Answer = λ q. answer_question (record v { question = option_map (by_job job) (option_map question_of q) }) (option_map (by_job job) (option_map question_of q)) (value_of (task_of job.work)) (reveal c) in
       ap f asked
 
-  pub finishes-by : (f : Function) (s : ℕ) (j : Job) (x : Outcome) (mid desk : DeskState) (r : Result Reply Refusal) (out : Result Reply Fault) → before.question ≡ Some j → f ≡ j.function → s ≡ j.session → x ≡ outcome_of job.work → mid ≡ over before → out ≡ settled_reply r → EndsBy terms f s x others old new mid r desk → Finishes terms job reveal old new before out desk
-  finishes-by f s j x mid desk r out asked function session is mid-is told ends =
+  pub finishes-by : (s : ℕ) (j : Job) (x : Outcome) (mid desk : DeskState) (r : Result Reply Refusal) (out : Result Reply Fault) → before.question ≡ Some j → s ≡ j.session → x ≡ outcome_of job.work → mid ≡ over before → out ≡ settled_reply r → EndsBy terms s x others old new mid r desk → Finishes terms job reveal old new before out desk
+  finishes-by s j x mid desk r out asked session is mid-is told ends =
       let q = by_job job (question_of j) in
-      let done = ends job.work q is (sym function) (sym session) in
+      let done = ends job.work q is (sym session) in
       let value : told_of x ≡ value_of (task_of job.work) = ap told_of is ∙ work-value job.work in
       let answer : (c : Contents) → answer_to_job job (view_of c before) (reveal c) ≡ answer_outcome (view_of c mid) q (task_of job.work) (told_of x) (reveal_by_outcome (task_of job.work) (told_of x) (objects_of c) (under_way_of others) others.in_session) =
       λ c. job-answer c j asked

@@ -1,9 +1,8 @@
 -- The end of a question at its desk, by what the other applications have under way.
-use Rattle.std.specs.Prelude.{◌≡◌, ℕ, Option, Some, None, Result, Ok, Err}
+use Rattle.std.specs.Prelude.{◌≡◌, ℕ, Result, Ok, Err}
 use Rattle.ck_types.specs.declared.rv.Rv.TheVariants as rv
 use Rattle.ck_types.specs.declared.user_type.UserType.{UserType}
 use Rattle.ck_types.specs.declared.user_type.UserType.TheVariants.{So, User}
-use Rattle.ck_calls.specs.declared.function.Function.{Function}
 use Rattle.ck_calls.specs.declared.reply.Reply.{Reply}
 use Rattle.ck_calls.specs.declared.reply.Reply.TheVariants.{Code}
 use Rattle.precede.specs.Row.{code_of}
@@ -14,10 +13,6 @@ use Rattle.mech.specs.Works.{outcome_of}
 use Rattle.desk.specs.Desks.{DeskState}
 use Rattle.views.specs.declared.fault.Fault.{Fault}
 use Rattle.views.specs.declared.fault.Fault.TheVariants as faults
-use Rattle.ops.specs.declared.place.Place.{Place}
-use Rattle.ops.specs.Operations.{with_operation}
-use Rattle.answers.specs.Cipher.{ciphered_reply}
-use Rattle.serve_ciphers.specs.Steps.{operation_left}
 use Rattle.views.specs.Outcomes.{told_of}
 use Rattle.views.specs.Views.{Question}
 use Rattle.views.specs.Answering.{Replies}
@@ -35,19 +30,10 @@ abbrev pub under_way_of : Others → UserType → ℕ
 under_way_of o So = o.so_checks
 under_way_of o User = o.user_checks
 
--- what a cipher's outcome is told as, and what it leaves, at the place of its operation
-abbrev pub reply_at : Option Place → Outcome → Reply
-reply_at None outcome = Code rv.FunctionFailed
-reply_at (Some place) outcome = ciphered_reply (told_of outcome)
-
-abbrev pub desk_left : Option Place → ℕ → Outcome → DeskState → DeskState
-desk_left None session outcome d = d
-desk_left (Some place) session outcome d = record d { sessions = with_operation d.sessions session place (operation_left outcome) }
-
 -- The outcome of some work is answered as the definition of its question says.
-abbrev pub EndsBy : {K : Type 0} → Terms K → Function → ℕ → Outcome → Others → StoreState K → StoreState K → DeskState → Result Reply Refusal → DeskState → Type 0
-EndsBy terms function session outcome others old new before result desk =
-    (work : Work) (q : Question) → outcome ≡ outcome_of work → q.function ≡ function → q.session ≡ session
+abbrev pub EndsBy : {K : Type 0} → Terms K → ℕ → Outcome → Others → StoreState K → StoreState K → DeskState → Result Reply Refusal → DeskState → Type 0
+EndsBy terms session outcome others old new before result desk =
+    (work : Work) (q : Question) → outcome ≡ outcome_of work → q.session ≡ session
     → IsDoneAs terms Replies 1 (λ c v. answer_outcome v q (task_of work) (told_of outcome) (reveal_by_outcome (task_of work) (told_of outcome) (objects_of c) (under_way_of others) others.in_session)) old new before result desk
 
 -- what is told of it

@@ -2,15 +2,16 @@
 
 ghost use Rattle.std.specs.Prelude.{◌≡◌, None};
 ghost use Rattle.token.specs.Applications.{Finishes, reveal_by_job};
-ghost use Rattle.answers.specs.Answers.{place_asked};
-ghost use Rattle.token.specs.Endings.{EndsBy, desk_left, reply_at, settled_reply, under_way_of};
+ghost use Rattle.token.specs.Endings.{EndsBy, settled_reply, under_way_of};
 
-use ck_calls::{Function, Reply};
+use ck_calls::{Output, Reply};
 use ck_types::{Rv, UserType};
 use desk::Desk;
 use keep::Keep;
 use mech::{Done, Outcome};
 use serve_ciphers::cipher;
+use serve_keys::unwrap_key;
+use serve_macs::mac;
 use serve_sessions::{init_pin, init_token, login, set_pin};
 use token_store::{Refusal, Store};
 use views::Fault;
@@ -45,13 +46,13 @@ pub(crate) fn finish_at<K: Keep>(
 ) -> Result<Reply, Fault>
     ensures { Finishes K.terms done.job.value (reveal_by_job done.job.value (under_way_of others.now) others.now.in_session) store.old store.new desk.old result desk.new }
 {
-    let (function, session) = match desk.question() {
-        Some(question) => (question.function(), question.session()),
+    let session = match desk.question() {
+        Some(question) => question.session(),
         None => return Ok(Reply::Code(Rv::FunctionFailed)),
     };
     desk.end_question();
     match done.into_outcome() {
-        Ok(outcome) => settle_reply(serve_outcome(desk, store, function, session, outcome, others)),
+        Ok(outcome) => settle_reply(serve_outcome(desk, store, session, outcome, others)),
         Err(_) => Err(Fault::Memory),
     }
 }
@@ -60,20 +61,28 @@ pub(crate) fn finish_at<K: Keep>(
 fn serve_outcome<K: Keep>(
     desk: &mut Desk,
     store: &mut Store<K>,
-    function: Function,
     session: u64,
     outcome: Outcome,
     others: &Others,
 ) -> Result<Reply, Refusal>
     requires { desk.old.question ≡ None }
-    ensures { EndsBy K.terms function session outcome others.now store.old store.new desk.old result desk.new }
+    ensures { EndsBy K.terms session outcome others.now store.old store.new desk.old result desk.new }
 {
     match outcome {
-        Outcome::Piece { output, stream } => {
-            Ok(ciphered(desk, function, session, Outcome::Piece { output, stream }))
-        }
-        Outcome::Rest(output) => Ok(ciphered(desk, function, session, Outcome::Rest(output))),
-        Outcome::BadPadding => Ok(ciphered(desk, function, session, Outcome::BadPadding)),
+        // Encryption and decryption (PKCS #11 v3.1, 5.8 and 5.10).
+        Outcome::Piece { output, stream } => Ok(cipher::piece(desk, session, output, stream)),
+        Outcome::Rest { direction, output } => Ok(cipher::rest(desk, session, direction, output)),
+        Outcome::BadPadding(direction) => Ok(cipher::bad_padding(desk, session, direction)),
+        // Signing and verifying (5.13 and 5.15).
+        Outcome::Taken { place, mac } => Ok(mac::taken(desk, session, place, mac)),
+        Outcome::Signature(signature) => Ok(mac::signed(desk, session, signature)),
+        Outcome::RightSignature => Ok(mac::verified(desk, session, true)),
+        Outcome::WrongSignature => Ok(mac::verified(desk, session, false)),
+        // Key management (5.18).
+        Outcome::Wrapped(bytes) => Ok(Reply::Output(Output::Data(bytes))),
+        Outcome::Unwrapped(object) => unwrap_key::unwrapped(desk, store, session, object),
+        Outcome::BadWrapping => Err(Refusal::Code(Rv::WrappedKeyInvalid)),
+        // PINs (5.5 and 5.6).
         Outcome::WrongPin => Err(Refusal::Code(Rv::PinIncorrect)),
         Outcome::RightPin(who) => login::right(desk, store, who, others.checks(who)),
         Outcome::PinMade(verifier) => init_pin::made(desk, store, verifier, others.user_checks),
@@ -86,17 +95,6 @@ fn serve_outcome<K: Keep>(
         Outcome::TokenReset { label } => {
             init_token::reset(desk, store, label, others.so_checks, others.in_session)
         }
-    }
-}
-
-/// The outcome of a cipher, whose operation stands at its call's place.
-fn ciphered(desk: &mut Desk, function: Function, session: u64, outcome: Outcome) -> Reply
-    ensures reply { result ≡ reply_at (place_asked function) outcome }
-    ensures left { desk.new ≡ desk_left (place_asked function) session outcome desk.old }
-{
-    match cipher::place_of(function) {
-        Some(place) => cipher::finish(desk, session, place, outcome),
-        None => Reply::Code(Rv::FunctionFailed),
     }
 }
 

@@ -1,8 +1,6 @@
 //! One call of an application, at its desk: the one place where a call finds the function that serves it.
 
-ghost use Rattle.std.specs.Prelude.{◌≡◌, ◌<◌, ◌^◌, false, length, Ok};
-ghost use Rattle.ck_calls.specs.declared.reply.Reply.TheVariants.{Code};
-ghost use Rattle.token_store.specs.declared.out.Out.TheVariants.{Reply as OutReply};
+ghost use Rattle.std.specs.Prelude.{◌≡◌, false, length};
 ghost use Rattle.ck_calls.specs.Need.{random_bytes};
 ghost use Rattle.desk.specs.Desks.{is_busy};
 ghost use Rattle.token_model.specs.Worlds.{reveal_by_call};
@@ -15,9 +13,11 @@ use ck_calls::{Call, Reply};
 use ck_types::Rv;
 use desk::Desk;
 use keep::Keep;
+use ops::MacPlace;
 use precede::Row;
 use serve_ciphers::{cipher, cipher_init};
-use serve_keys::{generate_key, generate_random};
+use serve_keys::{generate_key, generate_random, unwrap_key, wrap_key};
+use serve_macs::{mac, mac_init};
 use serve_objects::{
     copy_object, create_object, destroy_object, get_attribute_value, get_object_size,
     set_attribute_value,
@@ -30,13 +30,6 @@ use serve_sessions::{
 use std::alloc::Global;
 use token_store::{Out, Store, settle, settle_asking};
 use views::Fault;
-
-/// A reply that is a code alone.
-fn code(rv: Rv) -> Result<Out, Fault>
-    ensures { result ≡ Ok (OutReply (Code rv)) }
-{
-    Ok(Out::Reply(Reply::Code(rv)))
-}
 
 /// A call with its random bytes.
 pub(crate) fn serve<K: Keep>(
@@ -52,12 +45,12 @@ pub(crate) fn serve<K: Keep>(
     ensures { IsServed K.terms (IsFor app) (λ v. answer v call random.now (reveal_by_call call in_use)) store.old store.new desk.old result desk.new }
 {
     if desk.is_busy() {
-        return code(Row::Busy.code(Rv::Ok));
+        return Ok(Out::Reply(Reply::Code(Row::Busy.code(Rv::Ok))));
     }
     dispatch(alloc, app, desk, store, call, random, in_use)
 }
 
-/// A call that is taken: an arm for each, and one for each section of the standard of those that aren't served yet.
+/// A call that is taken: an arm for each.
 fn dispatch<K: Keep>(
     alloc: Global,
     app: u64,
@@ -200,22 +193,89 @@ fn dispatch<K: Keep>(
         Call::DecryptFinal { session, room } => {
             settle_asking(cipher::last(alloc, app, desk, Direction::Decipher, session, room))
         }
-        // Signing and MACing (5.13), and verifying (5.15).
-        Call::SignInit { .. }
-        | Call::Sign { .. }
-        | Call::SignUpdate { .. }
-        | Call::SignFinal { .. } => code(Rv::FunctionNotSupported),
-        Call::VerifyInit { .. }
-        | Call::Verify { .. }
-        | Call::VerifyUpdate { .. }
-        | Call::VerifyFinal { .. } => code(Rv::FunctionNotSupported),
+        // Signing and MACing (5.13).
+        Call::SignInit {
+            session,
+            mechanism,
+            key,
+        } => settle(mac_init::serve(alloc, desk, store, MacPlace::Sign, session, mechanism, key)),
+        Call::Sign {
+            session,
+            data,
+            room,
+        } => settle_asking(mac::sign(app, desk, session, data, room)),
+        Call::SignUpdate { session, part } => {
+            settle_asking(mac::update(app, desk, MacPlace::Sign, session, part))
+        }
+        Call::SignFinal { session, room } => {
+            settle_asking(mac::sign_final(alloc, app, desk, session, room))
+        }
+        // Verifying signatures and MACs (5.15).
+        Call::VerifyInit {
+            session,
+            mechanism,
+            key,
+        } => settle(mac_init::serve(
+            alloc,
+            desk,
+            store,
+            MacPlace::Verify,
+            session,
+            mechanism,
+            key,
+        )),
+        Call::Verify {
+            session,
+            data,
+            signature,
+        } => settle_asking(mac::verify(app, desk, session, data, signature)),
+        Call::VerifyUpdate { session, part } => {
+            settle_asking(mac::update(app, desk, MacPlace::Verify, session, part))
+        }
+        Call::VerifyFinal { session, signature } => {
+            settle_asking(mac::verify_final(alloc, app, desk, session, signature))
+        }
         // Key management (5.18), and random numbers (5.19).
         Call::GenerateKey {
             session,
             mechanism,
             template,
         } => settle(generate_key::serve(alloc, desk, store, session, mechanism, &template, random)),
-        Call::WrapKey { .. } | Call::UnwrapKey { .. } => code(Rv::FunctionNotSupported),
+        Call::WrapKey {
+            session,
+            mechanism,
+            wrapping_key,
+            key,
+            room,
+        } => settle_asking(wrap_key::serve(
+            alloc,
+            app,
+            desk,
+            store,
+            session,
+            mechanism,
+            wrapping_key,
+            key,
+            room,
+        )),
+        Call::UnwrapKey {
+            session,
+            mechanism,
+            unwrapping_key,
+            wrapped_key,
+            template,
+        } => settle_asking(unwrap_key::serve(
+            alloc,
+            app,
+            desk,
+            store,
+            session,
+            mechanism,
+            unwrapping_key,
+            wrapped_key,
+            template,
+            random,
+        )),
         Call::GenerateRandom { session, len } => {
             settle(generate_random::serve(alloc, desk, session, len, random))
         }

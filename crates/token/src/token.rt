@@ -390,7 +390,14 @@ fn pin_checked(out: &Out) -> Option<UserType>
     match &job.work {
         Work::CheckPin { who, .. } | Work::ChangePin { who, .. } => Some(*who),
         Work::ResetToken { .. } => Some(UserType::So),
-        Work::Cipher { .. } | Work::MakePin { .. } | Work::InitToken { .. } => None,
+        Work::Cipher { .. }
+        | Work::Take { .. }
+        | Work::Sign { .. }
+        | Work::Verify { .. }
+        | Work::Wrap { .. }
+        | Work::Unwrap { .. }
+        | Work::MakePin { .. }
+        | Work::InitToken { .. } => None,
     }
 }
 

@@ -12,7 +12,7 @@ use Rattle.pin_record.specs.Records.{TokenRecord, is_initialized, initialized_re
 use Rattle.pin_record.specs.Charges.{Charges, EndsRight, SetsPin, Initializes, checks_of as checks_in, with_checks, with_stored, is_under_way, without, has_no_user_check, happens as pin_happens, after as pin_after}
 use Rattle.pin_record.proofs.Counting.{fewer, without-none}
 use Rattle.views.specs.Outcomes.{Outcome, Right, Wrong, Made}
-use Rattle.views.specs.Views.{Task, Ciphers, ChecksPin, MakesPin, ChangesPin, InitsToken, ResetsToken, Question, View}
+use Rattle.views.specs.Views.{Task, Ciphers, Takes, Signs, Verifies, WrapsKey, UnwrapsKey, ChecksPin, MakesPin, ChangesPin, InitsToken, ResetsToken, Question, View}
 use Rattle.views.specs.Changes.{Change, Records, recorded}
 use Rattle.views.specs.Answering.{Reveal, answered, pin_checked_by, has_session, refuses}
 use Rattle.answers.specs.Pins.{verifier_or, others, is_charged, stores, resets}
@@ -20,8 +20,8 @@ use Rattle.answers.specs.Login.{may_log_in, logged_in, right_pin, login_result}
 use Rattle.answers.specs.InitPin.{may_set_pin, init_pin_result}
 use Rattle.answers.specs.SetPin.{set_pin_result}
 use Rattle.answers.specs.InitToken.{is_in_use, may_init, init_token_result, reset_token_result}
-use Rattle.answers.specs.Answers.{answer_outcome, place_asked}
-use Rattle.answers.proofs.Proper.{still-ciphered_at}
+use Rattle.answers.specs.Answers.{answer_outcome, is_pin_task}
+use Rattle.answers.proofs.Proper.{record-outcome}
 use Rattle.token_model.specs.Worlds.{World, is_in_session, others_in_session, checking, others_checking, checks_of, without_checks, reveal_to_outcome, reveals_login}
 use Rattle.token_model.specs.Tries.{charges_of, ends, events_of_outcome, pending_check, checks_by, IsSound}
 use Rattle.token_model.proofs.UnderWay.{checking-over, under_way-is, checking-stays}
@@ -269,8 +269,17 @@ module _ (s : UserType → ℕ) (w : World) (sound : IsSound s w) (app : ℕ) wh
   becomes-reset label verifier pin Wrong own = charges-ended w app (Some So) own
   becomes-reset label verifier pin _ own = charges-ended w app (Some So) own
 
+  -- a result of no PIN leaves the record
+  becomes-same : (q : Question) (t : Task) (x : Outcome) → is_pin_task t ≡ false → checks_by app w.checks ≡ checks_of app None → ended w app (recorded (answer_outcome (w.views app) q t x (reveal_to_outcome w app t x)).change w.token_record) ≡ charges_of w
+  becomes-same q t x plain own = ap (ended w app) (record-outcome (w.views app) q t x (reveal_to_outcome w app t x) w.token_record plain) ∙ none-ended w.token_record own
+
   pub charges-outcome : (q : Question) (t : Task) (x : Outcome) → checks_by app w.checks ≡ checks_of app (pin_checked_by t) → Becomes w.token_record t x (answer_outcome (w.views app) q t x (reveal_to_outcome w app t x)).change
-  charges-outcome q (Ciphers part o input) x own = ap (λ c. ended w app (recorded c w.token_record)) (still-ciphered_at (w.views app) q (place_asked q.function) part o input x) ∙ none-ended w.token_record own
+  charges-outcome q (Ciphers part o input) x own = becomes-same q (Ciphers part o input) x refl own
+  charges-outcome q (Takes p o input) x own = becomes-same q (Takes p o input) x refl own
+  charges-outcome q (Signs o input) x own = becomes-same q (Signs o input) x refl own
+  charges-outcome q (Verifies o input signature) x own = becomes-same q (Verifies o input signature) x refl own
+  charges-outcome q (WrapsKey key value) x own = becomes-same q (WrapsKey key value) x refl own
+  charges-outcome q (UnwrapsKey key wrapped state template random) x own = becomes-same q (UnwrapsKey key wrapped state template random) x refl own
   charges-outcome q (ChecksPin who verifier pin) x own = becomes-login who verifier pin x own
   charges-outcome q (MakesPin pin salt) x own = becomes-made pin salt x own
   charges-outcome q (ChangesPin who verifier pin new_pin salt) x own = becomes-changed who verifier pin new_pin salt x own

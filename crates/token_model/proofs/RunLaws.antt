@@ -12,12 +12,12 @@ use Rattle.token_model.specs.declared.event.Event.{Event}
 use Rattle.token_model.specs.declared.event.Event.TheVariants.{Call, Finish, Gone}
 use Rattle.views.specs.declared.fault.Fault.{Fault}
 use Rattle.lists.specs.Places.{seen_place}
-use Rattle.views.specs.Views.{sees, Question, Task, Ciphers, View, mask}
+use Rattle.views.specs.Views.{sees, Question, Task, Ciphers, UnwrapsKey, WrapsKey, Verifies, Signs, Takes, View, mask}
 use Rattle.views.specs.Changes.{Change, Stays, Insert, Replace, Remove, Records, Resets, is_still, as_seen, replaced_at, removed_at}
 use Rattle.views.specs.Answering.{Answer}
 use Rattle.ck_calls.specs.declared.call.Call.{Call as CallType}
 use Rattle.ck_calls.specs.declared.function.Function.TheVariants as functions
-use Rattle.answers.specs.Answers.{answer, answer_result, is_pin_function, is_pin_task, may_change_objects, is_still_function}
+use Rattle.answers.specs.Answers.{answer, answer_result, is_pin_function, is_pin_task, is_key_task, may_change_objects, is_still_function}
 use Rattle.token_model.specs.Worlds.{World, is_init_token, answer_at, result_at, value_of, reveal_to_call, reveal_to_task, Move, Goes, Refuses, event_of, list_change, refused, happens, after, finished, finish_tells, finish_refusal, finish_refused, told, reply_to, replies}
 use Rattle.token_model.specs.Traces.{trace, replies_told, view_told, replies_to, NotSetApart, app_of, private_at, is_private, is_quiet_call, is_pin_event, IsQuiet, IsQuietMove, AllQuiet, own_moves, is_quiet_result, is_pin_question, is_private_result}
 use Rattle.answers.proofs.Proper.{still-answer, still-result}
@@ -46,9 +46,13 @@ quiet-still function a still quiet = step (is_pin_function function) (may_change
   step false true still quiet = still-change a.change quiet
   step false false still quiet = still refl
 
-quiet-finish : (app other : ℕ) (w : World) (q : Option Question) → (w.views other).question ≡ q → is_pin_question q ≡ false → app ≢ other → (finished w other q).views app ≡ w.views app
-quiet-finish app other w None asked plain differ = refl
-quiet-finish app other w (Some q) asked plain differ = rw (ne_eqb app other differ, still-result (w.views other) q (value_of q.task) (reveal_to_task w other q.task) asked plain) refl
+-- a quiet result
+quiet-result : (w : World) (other : ℕ) (q : Question) → (w.views other).question ≡ Some q → is_quiet_result w other (Some q) ≡ true → (result_at w other q).change ≡ Stays
+quiet-result w other q asked quiet = step (is_pin_task q.task) refl (is_key_task q.task) refl quiet where
+  step : (pin : Bool) → is_pin_task q.task ≡ pin → (key : Bool) → is_key_task q.task ≡ key → (not pin && (not key || is_still (result_at w other q).change)) ≡ true → (result_at w other q).change ≡ Stays
+  step true p key k quiet = absurd cc
+  step false p true k quiet = still-change (result_at w other q).change quiet
+  step false p false k quiet = still-result (w.views other) q (value_of q.task) (reveal_to_task w other q.task) asked p k
 
 -- a change of a private object is no change to one whose user isn't logged in
 unseen-place : (login : Option UserType) (os : List (List Entry)) (place : ℕ) → is_user_in login ≡ false → private_at os place ≡ true → seen_place (sees login) os place ≡ None
@@ -95,12 +99,11 @@ refused-views app w (Call other call random) ne = refl
 refused-views app w (Finish other) ne = quiet-refused app other w (w.views other).question (λ e. ne (sym e))
 refused-views app w (Gone other) ne = rw (ne_eqb app other (λ e. ne (sym e))) refl
 
--- a result that is quiet, or that changes a private object, is none of a PIN
-no-pin : (w : World) (other : ℕ) (q : Option Question) {A : Type 0} → (is_quiet_result w other q ≡ true) ⊎ A × (is_private_result w other q ≡ true) → is_pin_question q ≡ false
-no-pin w other None h = refl
-no-pin w other (Some q) h = elim h [
-  | inl quiet ↦ not-true (is_pin_task q.task) quiet
-  | inr hidden ↦ not-true (is_pin_task q.task) (and-left (not (is_pin_task q.task)) _ hidden.1)
+quiet-finish : (app other : ℕ) (w : World) (q : Option Question) → (w.views other).question ≡ q → (is_quiet_result w other q ≡ true) ⊎ (is_user_in (w.views app).sessions.login ≡ false) × (is_private_result w other q ≡ true) → app ≢ other → (finished w other q).views app ≡ w.views app
+quiet-finish app other w None asked h differ = refl
+quiet-finish app other w (Some q) asked h differ = elim h [
+  | inl quiet ↦ rw (ne_eqb app other differ, quiet-result w other q asked quiet) refl
+  | inr hidden ↦ rw (ne_eqb app other differ, unseen (w.views app).sessions.login w.objects (list_change w other (result_at w other q)) hidden.0 (and-right (not (is_pin_task q.task)) _ hidden.1)) refl
 ]
 
 pub quiet-views : (app : ℕ) (w : World) (m : Move) → IsQuiet app w (event_of m) → (happens w m).views app ≡ w.views app
@@ -110,7 +113,7 @@ quiet-views app w (Goes (Call other call random)) q =
       | inl quiet ↦ rw (ne_eqb app other (λ e. q.other (sym e)), quiet-still (function_of call) a (still-answer (w.views other) call random.items (reveal_to_call w other call)) quiet) refl
       | inr hidden ↦ rw (ne_eqb app other (λ e. q.other (sym e)), unseen (w.views app).sessions.login w.objects (list_change w other a) hidden.0 (and-right (not (is_pin_function (function_of call))) _ hidden.1)) refl
     ]
-quiet-views app w (Goes (Finish other)) q = quiet-finish app other w (w.views other).question refl (no-pin w other (w.views other).question q.quiet) (λ e. q.other (sym e))
+quiet-views app w (Goes (Finish other)) q = quiet-finish app other w (w.views other).question refl q.quiet (λ e. q.other (sym e))
 quiet-views app w (Goes (Gone other)) q = rw (ne_eqb app other (λ e. q.other (sym e))) refl
 quiet-views app w (Refuses event fault) q = refused-views app w event q.other
 
@@ -155,6 +158,11 @@ same-answer app v w c random plain same = ap (λ u. answer u c random (reveal_to
 
 same-reveal : (v w : World) (app : ℕ) (t : Task) → is_pin_task t ≡ false → reveal_to_task v app t ≡ reveal_to_task w app t
 same-reveal v w app (Ciphers part operation input) plain = refl
+same-reveal v w app (Takes place operation input) plain = refl
+same-reveal v w app (Signs operation input) plain = refl
+same-reveal v w app (Verifies operation input signature) plain = refl
+same-reveal v w app (WrapsKey key value) plain = refl
+same-reveal v w app (UnwrapsKey key wrapped state template random) plain = refl
 same-reveal v w app _ plain = let k : true ≡ false = plain in cc
 
 same-result : (app : ℕ) (v w : World) (q : Question) → is_pin_task q.task ≡ false → v.views app ≡ w.views app → result_at v app q ≡ result_at w app q

@@ -5,7 +5,7 @@ use Rattle.std.proofs.lemmas.Bool.{cases_eq, eq-eqb, ne_eqb}
 use Rattle.ck_types.specs.declared.rv.Rv.TheVariants.{HostMemory, DeviceError}
 use Rattle.ck_calls.specs.declared.call.Call.{Call as CallType}
 use Rattle.ck_calls.specs.declared.reply.Reply.{Reply}
-use Rattle.views.specs.Outcomes.{Outcome}
+use Rattle.views.specs.Outcomes.{Outcome, mask_outcome}
 use Rattle.ck_calls.specs.declared.reply.Reply.TheVariants.{Code}
 use Rattle.views.specs.declared.fault.Fault.{Fault}
 use Rattle.views.specs.declared.fault.Fault.TheVariants.{Memory, Device}
@@ -61,8 +61,8 @@ told-shown a b ms same = ap (λ rs. rs ++ replies_told (mask a.view) ms) (sym (s
 told-answer : (v : View) (c : CallType) (random : List ℕ) (r : Reveal) (ms : List Moment) → said (answer (mask v) c random (mask_reveal r)).says ++ replies_told (mask (answer (mask v) c random (mask_reveal r)).view) ms ≡ said (answer v c random r).says ++ replies_told (mask (answer v c random r).view) ms
 told-answer v c random r ms = told-shown (answer (mask v) c random (mask_reveal r)) (answer v c random r) ms (shown-answer v c random r)
 
-told-result : (v : View) (outcome : Outcome) (r : Reveal) (ms : List Moment) → said (answer_result (mask v) outcome (mask_reveal r)).says ++ replies_told (mask (answer_result (mask v) outcome (mask_reveal r)).view) ms ≡ said (answer_result v outcome r).says ++ replies_told (mask (answer_result v outcome r).view) ms
-told-result v outcome r ms = told-shown (answer_result (mask v) outcome (mask_reveal r)) (answer_result v outcome r) ms (shown-result v outcome r)
+told-result : (v : View) (outcome : Outcome) (r : Reveal) (ms : List Moment) → said (answer_result (mask v) (mask_outcome outcome) (mask_reveal r)).says ++ replies_told (mask (answer_result (mask v) (mask_outcome outcome) (mask_reveal r)).view) ms ≡ said (answer_result v outcome r).says ++ replies_told (mask (answer_result v outcome r).view) ms
+told-result v outcome r ms = told-shown (answer_result (mask v) (mask_outcome outcome) (mask_reveal r)) (answer_result v outcome r) ms (shown-result v outcome r)
 
 All-front : {A : Type 0} (P : A → Type 0) (xs ys : List A) → AllByRecursion P (xs ++ ys) → AllByRecursion P xs
 All-front P [] ys h = tt

@@ -10,13 +10,13 @@ use Rattle.ck_calls.specs.Functions.{function_of}
 use Rattle.ck_calls.specs.declared.reply.Reply.{Reply}
 use Rattle.ck_calls.specs.declared.reply.Reply.TheVariants.{Code}
 use Rattle.guard.specs.Access.{is_public, is_user_in}
-use Rattle.views.specs.Outcomes.{Outcome}
+use Rattle.views.specs.Outcomes.{Outcome, mask_outcome}
 use Rattle.token_model.specs.declared.event.Event.{Event}
 use Rattle.token_model.specs.declared.event.Event.TheVariants.{Call, Finish, Gone}
 use Rattle.views.specs.Views.{View, Question, mask, left}
 use Rattle.views.specs.Changes.{Change, Stays, Insert, Replace, Remove, Records, Resets, mask_change, seen, is_seen, is_still}
 use Rattle.views.specs.Answering.{Said, Replies, Asks, Answer, Reveal, mask_reveal}
-use Rattle.answers.specs.Answers.{answer, answer_result, is_pin_function, is_pin_task, may_change_objects}
+use Rattle.answers.specs.Answers.{answer, answer_result, is_pin_function, is_pin_task, is_key_task, may_change_objects}
 use Rattle.token_model.specs.Worlds.{World, Move, Goes, Refuses, event_of, value_of, reveal_to_call, reveal_to_task, answer_at, result_at, list_change, change_for, happens, after, replies}
 
 -- what an application does, what it gets, that it goes, and what it sees of others
@@ -34,10 +34,10 @@ abbrev pub saw_result : ℕ → World → ℕ → Option Question → List Momen
 saw_result app w other None = []
 saw_result app w other (Some q) = saw (w.views app) (change_for app w other (result_at w other q))
 
--- a result, with what it reveals
+-- a result, as it is shown, with what it reveals
 abbrev pub got : World → ℕ → Option Question → List Moment
 got w app None = []
-got w app (Some q) = Gets (value_of q.task) (mask_reveal (reveal_to_task w app q.task)) ∷ []
+got w app (Some q) = Gets (mask_outcome (value_of q.task)) (mask_reveal (reveal_to_task w app q.task)) ∷ []
 
 abbrev pub moments : ℕ → World → Move → List Moment
 moments app w (Goes (Call other call random)) =
@@ -99,9 +99,10 @@ pub record IsTold (app : ℕ) (w : World) (moves : List Move) : Type 0 where
 abbrev pub is_quiet_call : Function → Answer → Bool
 is_quiet_call function a = not (is_pin_function function) && (not (may_change_objects function) || is_still a.change)
 
+-- and a result where it is none of a PIN, and makes no token object
 abbrev pub is_quiet_result : World → ℕ → Option Question → Bool
 is_quiet_result w app None = true
-is_quiet_result w app (Some q) = not (is_pin_task q.task)
+is_quiet_result w app (Some q) = not (is_pin_task q.task) && (not (is_key_task q.task) || is_still (result_at w app q).change)
 
 abbrev pub is_quiet : World → Event → Bool
 is_quiet w (Call app call random) = is_quiet_call (function_of call) (answer_at w app call random.items)

@@ -8,7 +8,7 @@ use Rattle.pin_record.specs.Charges.{Charges, Event as PinEvent, Begins, EndsRig
 use Rattle.token_model.specs.declared.check.Check.{Check}
 use Rattle.token_model.specs.declared.event.Event.TheVariants.{Call, Finish, Gone}
 use Rattle.views.specs.Outcomes.{Outcome, Right, Made}
-use Rattle.views.specs.Views.{View, Task, Ciphers, ChecksPin, MakesPin, ChangesPin, InitsToken, ResetsToken, Question}
+use Rattle.views.specs.Views.{View, Task, Ciphers, Takes, Signs, Verifies, WrapsKey, UnwrapsKey, ChecksPin, MakesPin, ChangesPin, InitsToken, ResetsToken, Question}
 use Rattle.views.specs.Answering.{Reveal, pin_checked_by, pin_checked_in, has_session}
 use Rattle.answers.specs.Pins.{verifier_or}
 use Rattle.answers.specs.InitPin.{may_set_pin}
@@ -63,6 +63,11 @@ resets v r label _ = []
 
 abbrev pub sets : View → Reveal → Task → Outcome → List PinEvent
 sets v r (Ciphers part operation input) outcome = []
+sets v r (Takes place operation input) outcome = []
+sets v r (Signs operation input) outcome = []
+sets v r (Verifies operation input signature) outcome = []
+sets v r (WrapsKey key value) outcome = []
+sets v r (UnwrapsKey key wrapped state template random) outcome = []
 sets v r (ChecksPin who verifier pin) outcome = []
 sets v r (MakesPin pin salt) outcome = sets_new v r pin salt outcome
 sets v r (ChangesPin who verifier pin new_pin salt) outcome = sets_changed who new_pin salt outcome

@@ -10,9 +10,10 @@ use Rattle.ck_calls.specs.declared.function.Function.TheVariants as functions
 use Rattle.ck_calls.specs.Functions.{function_of}
 use Rattle.ck_calls.specs.declared.reply.Reply.{Reply}
 use Rattle.mech.specs.declared.work.Work.{Work}
-use Rattle.mech.specs.declared.work.Work.TheVariants.{Cipher, CheckPin, MakePin, ChangePin, InitToken, ResetToken}
+use Rattle.mech.specs.declared.work.Work.TheVariants.{Cipher, Take, Sign, Verify, Wrap, Unwrap, CheckPin, MakePin, ChangePin, InitToken, ResetToken}
 use Rattle.mech.specs.Works.{outcome_of}
-use Rattle.ops.specs.Operations.{text_of}
+use Rattle.ops.specs.Operations.{text_of, message_of}
+use Rattle.std.specs.Option.{unwrap_or}
 use Rattle.views.specs.Outcomes.{Outcome, Right, told_of}
 use Rattle.token_model.specs.declared.check.Check.{Check}
 use Rattle.token_model.specs.declared.event.Event.{Event}
@@ -20,7 +21,7 @@ use Rattle.token_model.specs.declared.event.Event.TheVariants.{Call, Finish, Gon
 use Rattle.views.specs.declared.fault.Fault.{Fault}
 use Rattle.pin_record.specs.Records.{TokenRecord}
 use Rattle.pin_record.specs.Charges.{is_same, without}
-use Rattle.views.specs.Views.{View, Task, Ciphers, ChecksPin, MakesPin, ChangesPin, InitsToken, ResetsToken, Question, sees, left}
+use Rattle.views.specs.Views.{View, Task, Ciphers, Takes, Signs, Verifies, WrapsKey, UnwrapsKey, ChecksPin, MakesPin, ChangesPin, InitsToken, ResetsToken, Question, sees, left}
 use Rattle.views.specs.Changes.{Change, changed, recorded, seen, in_list, as_seen}
 use Rattle.views.specs.Answering.{Said, Replies, Asks, Answer, Reveal, reveals_nothing, answered, pin_checked_in, has_session}
 use Rattle.views.specs.Refusals.{refusal}
@@ -99,6 +100,11 @@ with_view w app v = record w { in_session = seated app v w.in_session; views = �
 -- the work of a task on full views, and its result: what the mechanism makes of it
 abbrev pub work_of : Task → Work
 work_of (Ciphers part operation input) = Cipher (text_of operation) part input
+work_of (Takes place operation input) = Take place (message_of operation) input
+work_of (Signs operation input) = Sign (message_of operation) input
+work_of (Verifies operation input signature) = Verify (message_of operation) input signature
+work_of (WrapsKey key value) = Wrap (unwrap_or key []) (unwrap_or value [])
+work_of (UnwrapsKey key wrapped state template random) = Unwrap (unwrap_or key []) wrapped state template random
 work_of (ChecksPin who verifier pin) = CheckPin who verifier pin
 work_of (MakesPin pin salt) = MakePin pin salt
 work_of (ChangesPin who verifier pin new_pin salt) = ChangePin who verifier pin new_pin salt
@@ -139,6 +145,11 @@ if_right _ r = reveals_nothing
 -- by the task and its result
 abbrev pub reveal_by_outcome : Task → Outcome → List (List Entry) → (UserType → ℕ) → Bool → Reveal
 reveal_by_outcome (Ciphers part operation input) outcome objects under_way in_use = reveals_nothing
+reveal_by_outcome (Takes place operation input) outcome objects under_way in_use = reveals_nothing
+reveal_by_outcome (Signs operation input) outcome objects under_way in_use = reveals_nothing
+reveal_by_outcome (Verifies operation input signature) outcome objects under_way in_use = reveals_nothing
+reveal_by_outcome (WrapsKey key value) outcome objects under_way in_use = reveals_nothing
+reveal_by_outcome (UnwrapsKey key wrapped state template random) outcome objects under_way in_use = reveals_nothing
 reveal_by_outcome (ChecksPin who verifier pin) outcome objects under_way in_use = if_right outcome (reveals_login objects who (under_way who))
 reveal_by_outcome (MakesPin pin salt) outcome objects under_way in_use = reveals_checks (under_way User)
 reveal_by_outcome (ChangesPin who verifier pin new_pin salt) outcome objects under_way in_use = if_right outcome (reveals_checks (under_way who))

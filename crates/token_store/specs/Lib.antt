@@ -3,3 +3,4 @@ pub mod Stores
 pub mod Found
 pub mod Refusing
 pub mod Searching
+pub mod Asking

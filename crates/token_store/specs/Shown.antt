@@ -1,5 +1,5 @@
 -- What a token's parts show: the one place where ids become handles.
-use Rattle.std.specs.Prelude.{◌≡◌, ℕ, ◌≤◌, Bool, not, List, [], ◌∷◌, map, filter, Option, None}
+use Rattle.std.specs.Prelude.{◌≡◌, ℕ, ◌≤◌, Bool, not, List, [], ◌∷◌, map, filter, Option, Some, None}
 use Rattle.std.proofs.Common.{zero, suc}
 use Rattle.std.specs.Option.{option_map}
 use Rattle.std.specs.List.{AllByRecursion, remove}
@@ -12,13 +12,13 @@ use Rattle.handles.specs.Handles.{number_of}
 use Rattle.keep.specs.Contents.{Contents, Kept, with_object, with_record, after_reset}
 use Rattle.mech.specs.declared.job.Job.{Job}
 use Rattle.mech.specs.declared.work.Work.{Work}
-use Rattle.mech.specs.declared.work.Work.TheVariants.{Cipher, CheckPin, MakePin, ChangePin, InitToken, ResetToken}
+use Rattle.mech.specs.declared.work.Work.TheVariants.{Cipher, Take, Sign, Verify, Wrap, Unwrap, CheckPin, MakePin, ChangePin, InitToken, ResetToken}
 use Rattle.desk.specs.declared.own_object.OwnObject.{OwnObject}
 use Rattle.desk.specs.Desks.{DeskState}
-use Rattle.ops.specs.Operations.{operation_of}
+use Rattle.ops.specs.Operations.{operation_of, mac_of}
 use Rattle.token_store.specs.declared.out.Out.{Out}
 use Rattle.token_store.specs.declared.out.Out.TheVariants.{Reply as OutReply, Ask}
-use Rattle.views.specs.Views.{sees, TokenObject, SessionObject, Task, Ciphers, ChecksPin, MakesPin, ChangesPin, InitsToken, ResetsToken, Question, View}
+use Rattle.views.specs.Views.{sees, TokenObject, SessionObject, Task, Ciphers, Takes, Signs, Verifies, WrapsKey, UnwrapsKey, ChecksPin, MakesPin, ChangesPin, InitsToken, ResetsToken, Question, View}
 use Rattle.views.specs.Changes.{Change, Stays, Insert, Replace, Remove, Records, Resets, in_list}
 use Rattle.views.specs.Answering.{Said, Replies, Asks, Answer}
 
@@ -38,6 +38,11 @@ session_object e = record { object = e.object; handle = e.handle; session = e.se
 
 abbrev pub task_of : Work → Task
 task_of (Cipher stream part input) = Ciphers part (operation_of stream) input
+task_of (Take place mac input) = Takes place (mac_of mac) input
+task_of (Sign mac input) = Signs (mac_of mac) input
+task_of (Verify mac input signature) = Verifies (mac_of mac) input signature
+task_of (Wrap key value) = WrapsKey (Some key) (Some value)
+task_of (Unwrap key wrapped state template random) = UnwrapsKey (Some key) wrapped state template random
 task_of (CheckPin who verifier pin) = ChecksPin who verifier pin
 task_of (MakePin pin salt) = MakesPin pin salt
 task_of (ChangePin who verifier pin new_pin salt) = ChangesPin who verifier pin new_pin salt

@@ -18,13 +18,15 @@
 
 mod asking;
 mod finding;
+mod keys;
 mod out;
 mod refusal;
 mod searching;
 mod store;
 
-pub use asking::ask;
+pub use asking::{ask, ask_within, random_block};
 pub use finding::{Found, find};
+pub use keys::{aes_key, is_aes, is_of_type, is_secret_key};
 pub use out::Out;
 pub use refusal::{Refusal, settle, settle_asking};
 pub use searching::Match;

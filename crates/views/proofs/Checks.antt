@@ -42,7 +42,7 @@ blind-row v row = blind-refusal v (code_of Ok row)
 pub fair-row : {quiet : Bool} (v : View) (row : Row) → IsFair quiet v (refuses_by v row)
 fair-row v row = fair-refusal v (code_of Ok row) (plain-row row)
 
-blind-rows : (rows : List Row) (h k : Row → Bool) (f g : Row → Answer) (x y : Answer) → ((row : Row) → h row ≡ k row) → ((row : Row) → shown (f row) ≡ shown (g row)) → shown x ≡ shown y → shown (by_rows rows h f x) ≡ shown (by_rows rows k g y)
+pub blind-rows : (rows : List Row) (h k : Row → Bool) (f g : Row → Answer) (x y : Answer) → ((row : Row) → h row ≡ k row) → ((row : Row) → shown (f row) ≡ shown (g row)) → shown x ≡ shown y → shown (by_rows rows h f x) ≡ shown (by_rows rows k g y)
 blind-rows [] h k f g x y same says is = is
 blind-rows (row ∷ rows) h k f g x y same says is = blind-if (h row) (k row) (f row) (g row) _ _ (same row) (says row) (blind-rows rows h k f g x y same says is)
 

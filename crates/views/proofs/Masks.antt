@@ -12,8 +12,8 @@ use Rattle.pin_record.specs.Verifiers.{PinVerifier}
 use Rattle.pin_record.specs.Records.{TokenRecord, charged, with_tries, with_pin, tries_of, verifier_of}
 use Rattle.sessions.specs.declared.Session.{Session}
 use Rattle.sessions.specs.Sessions.{state_of, busy_at, login_among}
-use Rattle.ops.specs.Operations.{Operation, Operations, mask_operation}
-use Rattle.views.specs.Views.{TokenObject, SessionObject, Question, Task, Ciphers, ChecksPin, MakesPin, ChangesPin, InitsToken, ResetsToken, View, sees, seen_by, without_handle, left, mask_verifier, mask_record, mask_token_object, mask_session_object, mask_operations, mask_session, mask_task, mask_question, mask}
+use Rattle.ops.specs.Operations.{Operation, MacOperation, Operations, mask_operation, mask_mac}
+use Rattle.views.specs.Views.{TokenObject, SessionObject, Question, Task, Ciphers, Takes, Signs, Verifies, WrapsKey, UnwrapsKey, ChecksPin, MakesPin, ChangesPin, InitsToken, ResetsToken, View, sees, seen_by, without_handle, left, mask_verifier, mask_record, mask_token_object, mask_session_object, mask_operations, mask_session, mask_task, mask_question, mask}
 use Rattle.views.specs.Changes.{Change, Stays, Insert, Replace, Remove, Records, Resets, mask_change, seen, rewritten}
 use Rattle.views.specs.Answering.{session_of, object_at, first_object, is_handle, place_of}
 use Rattle.lists.proofs.ListLemmas.{map-push, map-twice, map-remove, find-map, filter-map, filter-equal, place-map}
@@ -36,8 +36,12 @@ pub operation-twice : (o : Option Operation) → option_map mask_operation (opti
 operation-twice None = refl
 operation-twice (Some o) = refl
 
+pub mac-twice : (o : Option MacOperation) → option_map mask_mac (option_map mask_mac o) ≡ option_map mask_mac o
+mac-twice None = refl
+mac-twice (Some o) = refl
+
 pub operations-twice : (ops : Operations) → mask_operations (mask_operations ops) ≡ mask_operations ops
-operations-twice ops = rw (operation-twice ops.encrypt, operation-twice ops.decrypt, operation-twice ops.sign, operation-twice ops.verify) refl
+operations-twice ops = rw (operation-twice ops.encrypt, operation-twice ops.decrypt, mac-twice ops.sign, mac-twice ops.verify) refl
 
 session-twice : (s : Session Operations) → mask_session (mask_session s) ≡ mask_session s
 session-twice s = ap (λ ops. record { number = s.number; read_write = s.read_write; work = ops }) (operations-twice s.work)
@@ -47,6 +51,11 @@ sessions-twice ss = map-twice mask_session ss session-twice
 
 task-twice : (t : Task) → mask_task (mask_task t) ≡ mask_task t
 task-twice (Ciphers part operation input) = refl
+task-twice (Takes place operation input) = refl
+task-twice (Signs operation input) = refl
+task-twice (Verifies operation input signature) = refl
+task-twice (WrapsKey key value) = refl
+task-twice (UnwrapsKey key wrapped state template random) = refl
 task-twice (ChecksPin who verifier pin) = refl
 task-twice (MakesPin pin salt) = refl
 task-twice (ChangesPin who verifier pin new_pin salt) = refl

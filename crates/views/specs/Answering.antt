@@ -16,9 +16,10 @@ use Rattle.precede.specs.Row.{code_of}
 use Rattle.sessions.specs.declared.Session.{Session}
 use Rattle.sessions.specs.Sessions.{session_at}
 use Rattle.ops.specs.declared.place.Place.{Place}
-use Rattle.ops.specs.Operations.{Operation, Operations, with_operation as in_sessions}
+use Rattle.ops.specs.declared.place.MacPlace.{MacPlace}
+use Rattle.ops.specs.Operations.{Operation, MacOperation, Operations, with_operation as in_sessions, with_mac as mac_in_sessions}
 use Rattle.lists.specs.Places.{first_place}
-use Rattle.views.specs.Views.{View, TokenObject, SessionObject, Task, Ciphers, ChecksPin, MakesPin, ChangesPin, InitsToken, ResetsToken, Question, mask, mask_question}
+use Rattle.views.specs.Views.{View, TokenObject, SessionObject, Task, Ciphers, Takes, Signs, Verifies, WrapsKey, UnwrapsKey, ChecksPin, MakesPin, ChangesPin, InitsToken, ResetsToken, Question, mask, mask_question}
 use Rattle.views.specs.Changes.{Change, Stays, Records, mask_change}
 
 -- a reply, or a question
@@ -33,6 +34,11 @@ mask_said (Asks question) = Asks (mask_question question)
 -- the PIN that a task checks
 abbrev pub pin_checked_by : Task → Option UserType
 pin_checked_by (Ciphers part operation input) = None
+pin_checked_by (Takes place operation input) = None
+pin_checked_by (Signs operation input) = None
+pin_checked_by (Verifies operation input signature) = None
+pin_checked_by (WrapsKey key value) = None
+pin_checked_by (UnwrapsKey key wrapped state template random) = None
 pin_checked_by (ChecksPin who verifier pin) = Some who
 pin_checked_by (MakesPin pin salt) = None
 pin_checked_by (ChangesPin who verifier pin new_pin salt) = Some who
@@ -119,9 +125,12 @@ session_of v s = session_at v.sessions.sessions s
 abbrev pub has_session : View → Bool
 has_session v = nat_lt 0 (length v.sessions.sessions)
 
--- an operation stands at a place of a session, or none
+-- an operation that enciphers or deciphers stands at a place of a session, or none; and one that signs or verifies
 abbrev pub with_operation : View → ℕ → Place → Option Operation → View
 with_operation v s place o = record v { sessions = in_sessions v.sessions s place o }
+
+abbrev pub with_mac : View → ℕ → MacPlace → Option MacOperation → View
+with_mac v s place o = record v { sessions = mac_in_sessions v.sessions s place o }
 
 -- ---- objects
 

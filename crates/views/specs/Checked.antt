@@ -1,9 +1,12 @@
 -- The rows of a call's table, in their order: the first that holds says what is answered, and the call's own answer
 -- comes after the last. The order stands in the table alone.
-use Rattle.std.specs.Prelude.{ℕ, Bool, false, Option, Some, None, List, [], ◌∷◌, is_none, if◌then◌else◌}
+use Rattle.std.specs.Prelude.{ℕ, ◌==◌, Bool, true, false, Option, Some, None, List, [], ◌∷◌, is_none, if◌then◌else◌}
 use Rattle.std.specs.Option.{unwrap_or}
 use Rattle.ck_types.specs.declared.attr_type.AttrType.{AttrType}
 use Rattle.ck_types.specs.declared.entry.Entry.{Entry}
+use Rattle.ck_types.specs.declared.key_type.KeyType.{KeyType}
+use Rattle.ck_types.specs.declared.key_type.KeyType.TheVariants.{GenericSecret, Aes}
+use Rattle.ck_types.specs.Numbers.{key_type_number}
 use Rattle.ck_types.specs.declared.rv.Rv.{Rv}
 use Rattle.ck_types.specs.declared.rv.Rv.TheVariants.{Ok}
 use Rattle.ck_types.specs.declared.session_state.SessionState.{SessionState}
@@ -44,6 +47,16 @@ state_in v s = state_of v.sessions.login (writes (session_of v s))
 -- a flag of an object
 abbrev pub flag_at : Option (List Entry) → AttrType → Bool
 flag_at o t = flag (unwrap_or o []) t
+
+-- a key is an AES key, and is of a type
+abbrev pub is_aes : Option KeyType → Bool
+is_aes None = false
+is_aes (Some GenericSecret) = false
+is_aes (Some Aes) = true
+
+abbrev pub is_of_type : KeyType → Option KeyType → Bool
+is_of_type t None = false
+is_of_type t (Some u) = key_type_number t == key_type_number u
 
 -- ---- a call that reads an object
 

@@ -1,14 +1,22 @@
 -- What the result of a question is, as it is told to the application that asked.
 use Rattle.std.specs.Prelude.{ℕ, List}
+use Rattle.ck_types.specs.declared.entry.Entry.{Entry}
+use Rattle.attrs.specs.Masking.{mask as mask_object}
 use Rattle.mech.specs.declared.outcome.Outcome.TheVariants as work
 use Rattle.mech.specs.declared.outcome.Outcome.{Outcome as WorkOutcome}
 
 pub data Outcome : Type 0 where
-  -- the output of a cipher
+  -- the output of a cipher, a signature, or a wrapped key
   Output : (bytes : List ℕ) → Outcome
   -- no text is enciphered to the data: its padding is wrong
   BadPadding : Outcome
-  -- the PIN is right, or wrong
+  -- a piece of a message was taken, of which nothing is told
+  Taken : Outcome
+  -- the key that was made of an unwrapped value
+  Unwrapped : (object : List Entry) → Outcome
+  -- the bytes are the wrapping of no value
+  BadWrapping : Outcome
+  -- the PIN or the signature is right, or wrong
   Right : Outcome
   Wrong : Outcome
   -- a verifier was made, of which nothing is told
@@ -17,11 +25,29 @@ pub data Outcome : Type 0 where
 -- what is told of what work gives: of a piece its output alone
 abbrev pub told_of : WorkOutcome → Outcome
 told_of (work.Piece output stream) = Output output
-told_of (work.Rest output) = Output output
-told_of work.BadPadding = BadPadding
+told_of (work.Rest direction output) = Output output
+told_of (work.BadPadding direction) = BadPadding
+told_of (work.Taken place mac) = Taken
+told_of (work.Signature signature) = Output signature
+told_of work.RightSignature = Right
+told_of work.WrongSignature = Wrong
+told_of (work.Wrapped bytes) = Output bytes
+told_of (work.Unwrapped object) = Unwrapped object
+told_of work.BadWrapping = BadWrapping
 told_of work.WrongPin = Wrong
 told_of (work.RightPin who) = Right
 told_of (work.PinMade verifier) = Made
 told_of (work.PinChanged who verifier) = Right
 told_of (work.TokenMade label verifier) = Made
 told_of (work.TokenReset label) = Right
+
+-- a result as it is shown: of a masked key the value is kept back
+abbrev pub mask_outcome : Outcome → Outcome
+mask_outcome (Output bytes) = Output bytes
+mask_outcome BadPadding = BadPadding
+mask_outcome Taken = Taken
+mask_outcome (Unwrapped object) = Unwrapped (mask_object object)
+mask_outcome BadWrapping = BadWrapping
+mask_outcome Right = Right
+mask_outcome Wrong = Wrong
+mask_outcome Made = Made

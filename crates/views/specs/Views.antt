@@ -3,6 +3,7 @@
 use Rattle.std.specs.Prelude.{ℕ, Bool, true, List, [], map, filter, Option, None}
 use Rattle.std.specs.Option.{option_map}
 use Rattle.ck_types.specs.declared.entry.Entry.{Entry}
+use Rattle.ck_types.specs.declared.session_state.SessionState.{SessionState}
 use Rattle.ck_types.specs.declared.user_type.UserType.{UserType}
 use Rattle.ck_calls.specs.declared.function.Function.{Function}
 use Rattle.attrs.specs.Masking.{mask as mask_object}
@@ -12,7 +13,8 @@ use Rattle.pin_record.specs.Records.{PinState, TokenRecord}
 use Rattle.sessions.specs.declared.Session.{Session}
 use Rattle.sessions.specs.Sessions.{SessionTable, state_of, no_sessions}
 use Rattle.streams.specs.declared.part.Part.{Part}
-use Rattle.ops.specs.Operations.{Operation, Operations, mask_operation}
+use Rattle.ops.specs.declared.place.MacPlace.{MacPlace}
+use Rattle.ops.specs.Operations.{Operation, MacOperation, Operations, mask_operation, mask_mac}
 
 -- ---- objects
 
@@ -44,6 +46,16 @@ seen_by login ts = filter (λ t. sees login t.object) ts
 pub data Task : Type 0 where
   -- what an operation makes of data, as a piece or as the last
   Ciphers : (part : Part) (operation : Operation) (input : List ℕ) → Task
+  -- C_SignUpdate and C_VerifyUpdate: the operation at a place takes a piece
+  Takes : (place : MacPlace) (operation : MacOperation) (input : List ℕ) → Task
+  -- C_Sign and C_SignFinal: the signature of the data
+  Signs : (operation : MacOperation) (input : List ℕ) → Task
+  -- C_Verify and C_VerifyFinal: whether a signature is that of the data
+  Verifies : (operation : MacOperation) (input signature : List ℕ) → Task
+  -- C_WrapKey: the wrapping of a key's value. The wrapping key and the value may be left out.
+  WrapsKey : (key value : Option (List ℕ)) → Task
+  -- C_UnwrapKey: the key that a template makes of the value which is wrapped in the bytes, in a session of this state
+  UnwrapsKey : (key : Option (List ℕ)) (wrapped : List ℕ) (state : SessionState) (template : List Entry) (random : List ℕ) → Task
   -- C_Login: whether a PIN is right, by the verifier that stood when the check began
   ChecksPin : (who : UserType) (verifier : PinVerifier) (pin : List ℕ) → Task
   -- C_InitPIN: the verifier of the user's new PIN, with this salt
@@ -113,8 +125,8 @@ mask_operations ops =
     record {
       encrypt = option_map mask_operation ops.encrypt;
       decrypt = option_map mask_operation ops.decrypt;
-      sign = option_map mask_operation ops.sign;
-      verify = option_map mask_operation ops.verify;
+      sign = option_map mask_mac ops.sign;
+      verify = option_map mask_mac ops.verify;
       find = ops.find;
     }
 
@@ -126,6 +138,11 @@ mask_sessions t = record { sessions = map mask_session t.sessions; login = t.log
 
 abbrev pub mask_task : Task → Task
 mask_task (Ciphers part operation input) = Ciphers part (mask_operation operation) input
+mask_task (Takes place operation input) = Takes place (mask_mac operation) input
+mask_task (Signs operation input) = Signs (mask_mac operation) input
+mask_task (Verifies operation input signature) = Verifies (mask_mac operation) input signature
+mask_task (WrapsKey key value) = WrapsKey None None
+mask_task (UnwrapsKey key wrapped state template random) = UnwrapsKey None wrapped state template random
 mask_task (ChecksPin who verifier pin) = ChecksPin who (mask_verifier verifier) pin
 mask_task (MakesPin pin salt) = MakesPin pin salt
 mask_task (ChangesPin who verifier pin new_pin salt) = ChangesPin who (mask_verifier verifier) pin new_pin salt

@@ -17,22 +17,21 @@ use Rattle.precede.specs.declared.row.Row.TheVariants.{NoSession, NoMechanism, O
 use Rattle.precede.specs.Row.{code_of}
 use Rattle.sessions.specs.declared.Session.{Session}
 use Rattle.ops.specs.declared.place.Place.{Place}
-use Rattle.ops.specs.declared.place.Place.TheVariants.{Encrypt, Decrypt, Sign, Verify}
+use Rattle.ops.specs.declared.place.Place.TheVariants.{Encrypt, Decrypt}
 use Rattle.ops.specs.Operations.{Operation, Operations, mask_operation, operation_in, placed, placed_in, started}
 use Rattle.views.specs.Views.{mask_operations, mask_sessions}
 use Rattle.views.specs.Answering.{with_operation}
 use Rattle.views.specs.Checked.{flag_at}
-use Rattle.answers.specs.CipherInit.{is_aes, permission, place_for, init_function, ends, cipher_in, init_row, init_says, begins, begins_under, cipher_init}
-use Rattle.views.proofs.Masks.{operation-twice, busy-mask}
+use Rattle.views.specs.Checked.{is_aes}
+use Rattle.answers.specs.CipherInit.{permission, place_for, init_function, ends, cipher_in, init_row, init_says, begins, begins_under, cipher_init}
+use Rattle.views.proofs.Masks.{operation-twice, mac-twice, busy-mask}
 use Rattle.views.proofs.Checks.{Entry, mask_object, Row, View, mask, mask_session, shown, session_of, object_at, tokens-twice, own-twice, question-twice, record-twice, mask-twice, session-mask, object-mask, IsProper, IsFair, blind-becomes, fair, blind-row, fair-row, blind-checked_by, fair-checked_by, row-session, none-masked, flag-masked}
 
 -- ---- the operation of a session, as it is seen
 
 placed-mask : (ops : Operations) (place : Place) (o p : Option Operation) → option_map mask_operation o ≡ option_map mask_operation p → mask_operations (placed (mask_operations ops) place o) ≡ mask_operations (placed ops place p)
-placed-mask ops Encrypt o p same = rw (same, operation-twice ops.decrypt, operation-twice ops.sign, operation-twice ops.verify) refl
-placed-mask ops Decrypt o p same = rw (same, operation-twice ops.encrypt, operation-twice ops.sign, operation-twice ops.verify) refl
-placed-mask ops Sign o p same = rw (same, operation-twice ops.encrypt, operation-twice ops.decrypt, operation-twice ops.verify) refl
-placed-mask ops Verify o p same = rw (same, operation-twice ops.encrypt, operation-twice ops.decrypt, operation-twice ops.sign) refl
+placed-mask ops Encrypt o p same = rw (same, operation-twice ops.decrypt, mac-twice ops.sign, mac-twice ops.verify) refl
+placed-mask ops Decrypt o p same = rw (same, operation-twice ops.encrypt, mac-twice ops.sign, mac-twice ops.verify) refl
 
 module _ (v : View) (session : ℕ) (place : Place) (o p : Option Operation) (same : option_map mask_operation o ≡ option_map mask_operation p) where
   with-masked : (s : Option (Session Operations)) → mask (record (mask v) { sessions = placed_in (mask_sessions v.sessions) session (option_map mask_session s) place o }) ≡ mask (record v { sessions = placed_in v.sessions session s place p })
@@ -55,8 +54,6 @@ operation-mask v s place = ap (λ x. operation_in x place) (session-mask v s) �
   of None place = refl
   of (Some x) Encrypt = refl
   of (Some x) Decrypt = refl
-  of (Some x) Sign = refl
-  of (Some x) Verify = refl
 
 pub blind-ends : (v : View) (s : ℕ) (place : Place) (row : Row) → shown (ends (mask v) s place row) ≡ shown (ends v s place row)
 blind-ends v s place row = blind-becomes (Code (code_of Ok row)) (with_operation (mask v) s place None) (with_operation v s place None) (with_operation-mask v s place None None refl)
@@ -67,11 +64,11 @@ is_some-masked : (o : Option Operation) → is_some (option_map mask_operation o
 is_some-masked None = refl
 is_some-masked (Some o) = refl
 
-class-masked : (o : Option (List Entry)) → is_secret_key (class_of (unwrap_or (option_map mask_object o) [])) ≡ is_secret_key (class_of (unwrap_or o []))
+pub class-masked : (o : Option (List Entry)) → is_secret_key (class_of (unwrap_or (option_map mask_object o) [])) ≡ is_secret_key (class_of (unwrap_or o []))
 class-masked None = refl
 class-masked (Some o) = ap is_secret_key (class_of-mask o)
 
-type-masked : (o : Option (List Entry)) → is_aes (key_type_at (number_of (attribute_of (unwrap_or (option_map mask_object o) []) attr.KeyType))) ≡ is_aes (key_type_at (number_of (attribute_of (unwrap_or o []) attr.KeyType)))
+pub type-masked : (o : Option (List Entry)) → is_aes (key_type_at (number_of (attribute_of (unwrap_or (option_map mask_object o) []) attr.KeyType))) ≡ is_aes (key_type_at (number_of (attribute_of (unwrap_or o []) attr.KeyType)))
 type-masked None = refl
 type-masked (Some o) = ap (λ a. is_aes (key_type_at (number_of a))) (attribute-mask o _ (λ e. absurd (omega (arith, e))))
 

@@ -11,7 +11,7 @@ use Rattle.sessions.specs.Sessions.{SessionTable, session_at}
 use Rattle.ops.specs.Operations.{Operations, search_in, searching_in, with_search}
 use Rattle.lists.proofs.ListLemmas.{find-map}
 use Rattle.views.specs.Views.{mask_operations, mask_sessions}
-use Rattle.views.proofs.Masks.{operation-twice, busy-mask}
+use Rattle.views.proofs.Masks.{operation-twice, mac-twice, busy-mask}
 use Rattle.answers.specs.FindObjects.{search_row, answered_at_once, gives_found, find_objects, find_objects_final}
 use Rattle.views.proofs.Checks.{Row, View, mask, mask_session, shown, session_of, becomes, tokens-twice, own-twice, sessions-twice, question-twice, record-twice, session-mask, IsProper, blind-becomes, fair, proper-checked, row-session}
 
@@ -24,7 +24,7 @@ search-mask v s = ap search_in (session-mask v s) ∙ of (session_of v s) where
   of (Some x) = refl
 
 search-twice : (ops : Operations) (search : Option (List ℕ)) → mask_operations (record (mask_operations ops) { find = search }) ≡ mask_operations (record ops { find = search })
-search-twice ops search = rw (operation-twice ops.encrypt, operation-twice ops.decrypt, operation-twice ops.sign, operation-twice ops.verify) refl
+search-twice ops search = rw (operation-twice ops.encrypt, operation-twice ops.decrypt, mac-twice ops.sign, mac-twice ops.verify) refl
 
 pub searching-mask : (t : SessionTable Operations) (s : ℕ) (search : Option (List ℕ)) → mask_sessions (with_search (mask_sessions t) s search) ≡ mask_sessions (with_search t s search)
 searching-mask t s search =

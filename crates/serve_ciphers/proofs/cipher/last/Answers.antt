@@ -12,7 +12,8 @@ use Rattle.views.specs.Views.{Ciphers}
 use Rattle.answers.specs.CipherInit.{place_for, ends}
 use Rattle.answers.specs.Cipher.{final_function}
 use Rattle.token_store.specs.Shown.{view_of}
-use Rattle.serve_ciphers.specs.Steps.{refused_row, asks_within}
+use Rattle.token_store.specs.Asking.{asks_within}
+use Rattle.serve_ciphers.specs.Steps.{refused_row}
 use Rattle.serve_ciphers.proofs.Ciphering.{seated-at, tested, final-refused, final-asks, gives-is, gives-with}
 use Rattle.serve_ciphers.proofs.cipher.last.Goals as goal
 

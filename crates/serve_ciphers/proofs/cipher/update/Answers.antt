@@ -9,7 +9,7 @@ use Rattle.views.specs.Views.{Ciphers}
 use Rattle.answers.specs.CipherInit.{place_for}
 use Rattle.answers.specs.Cipher.{update_function}
 use Rattle.token_store.specs.Shown.{view_of}
-use Rattle.serve_ciphers.specs.Steps.{asks_within}
+use Rattle.token_store.specs.Asking.{asks_within}
 use Rattle.serve_ciphers.proofs.Ciphering.{seated-at, tested, update-asks, gives-is}
 use Rattle.serve_ciphers.proofs.cipher.update.Goals as goal
 

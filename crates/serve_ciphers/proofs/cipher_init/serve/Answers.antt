@@ -5,7 +5,8 @@ use Rattle.attrs.specs.Masking.{is_secret_key}
 use Rattle.attrs.specs.Objects.{flag, class_of, key_type_of}
 use Rattle.sessions.specs.Sessions.{session_at}
 use Rattle.ops.specs.Operations.{operation_in, started}
-use Rattle.answers.specs.CipherInit.{permission, place_for, is_aes, begins}
+use Rattle.views.specs.Checked.{is_aes}
+use Rattle.answers.specs.CipherInit.{permission, place_for, begins}
 use Rattle.token_store.specs.Found.{IsFound}
 use Rattle.token_store.specs.Shown.{view_of}
 use Rattle.token_store.proofs.Gaves.{gave-is, gave-quiet}
@@ -86,7 +87,7 @@ returns g c = record {
       let permitted : flag o (permission c.args.direction) ≡ true = rw c.permission.ensures at (sym c.flag.ensures ∙ c.if-not-flag.false) in
       rw (c.set_operation-2.ensures, c.new-stream.ensures, c.place_for-place.ensures) (gave-is _ _ (begins c.args.direction v c.args.session c.in_ok-cipher-2.cipher o) _ k _ _ _ _ (rw (secret, aes, permitted) at is)
       (gave-quiet _ _ _ k _ _ _ _ (has-still _ _ _ k c.find.ensures.same c.find.ensures.ids h) (λ left may. c.find.ensures.same.crash k left h.held may) refl
-      (rw c.key_of.ensures (gives-with k d c.args.session (place_for c.args.direction) (Some (started c.in_ok-cipher-2.cipher c.args.direction (Some c.key_of.result))) (Code rv.Ok) fits))));
+      (rw c.aes_key.ensures (gives-with k d c.args.session (place_for c.args.direction) (Some (started c.in_ok-cipher-2.cipher c.args.direction (Some c.aes_key.result))) (Code rv.Ok) fits))));
   counts = search rules;
   cause = search rules;
   plain = refl;

@@ -1,21 +1,91 @@
-use Rattle.std.proofs.Common.{sym, ◌∙◌, ap}
-use Rattle.answers.specs.Answers.{place_asked}
-use Rattle.token.specs.Endings.{desk_left, reply_at}
-use Rattle.token.proofs.Outcomes.{is_ciphered}
-use Rattle.token.proofs.Endings.{ends-ciphered}
+use Rattle.std.proofs.Common.{Some, None, refl, true, false}
+use Rattle.ck_types.specs.declared.rv.Rv.TheVariants as rv
+use Rattle.ck_calls.specs.declared.reply.Output.TheVariants.{Data}
+use Rattle.ck_calls.specs.declared.reply.Reply.TheVariants.{Code, Output}
+use Rattle.mech.specs.declared.outcome.Outcome.TheVariants as out
+use Rattle.ops.specs.declared.place.MacPlace.TheVariants as place
+use Rattle.ops.specs.Operations.{operation_of, mac_of}
+use Rattle.views.specs.Outcomes.{Unwrapped}
+use Rattle.views.specs.Answering.{becomes, replies, with_operation, with_mac}
+use Rattle.answers.specs.CipherInit.{place_for}
+use Rattle.answers.specs.UnwrapKey.{unwrapped_result}
+use Rattle.serve_ciphers.proofs.Ciphering as ciphering
+use Rattle.serve_macs.proofs.Signing as signing
+use Rattle.token.proofs.Endings.{ends-as, done-at-desk, done-code, done-over}
 use Rattle.token.proofs.ending.serve_outcome.Goals as goal
+
+-- ---- a cipher's
 
 pub returns-in-Piece : goal.returns-in-Piece
 returns-in-Piece g c =
-    ends-ciphered g.K.Keep.terms c.args.function c.args.session c.args.outcome c.args.others.now c.args.store.now c.args.desk.now c.ciphered.new.desk c.ciphered.result (ap is_ciphered c.in-Piece.is) c.requires
-    (c.ciphered.ensures.reply ∙ ap (reply_at (place_asked c.args.function)) (sym c.in-Piece.is)) (c.ciphered.ensures.left ∙ ap (λ x. desk_left (place_asked c.args.function) c.args.session x c.args.desk.now) (sym c.in-Piece.is))
+    let s = c.args.session in
+    let x = out.Piece c.in-Piece.output c.in-Piece.stream in
+    let p = place_for c.in-Piece.stream.direction in
+    let o = Some (operation_of c.in-Piece.stream) in
+    let reply = Output (Data c.in-Piece.output) in
+    rw (c.in-Piece.is, c.piece.ensures.reply, c.piece.ensures.left) (ends-as g.K.Keep.terms s x c.args.others.now c.args.store.now _ c.args.desk.now _ _
+    (done-at-desk g.K.Keep.terms (λ v. becomes reply (with_operation v s p o)) c.args.store.now c.args.desk.now _ reply c.requires refl (λ v. refl) (λ k fits. ciphering.gives-with k c.args.desk.now s p o reply fits)))
 
 pub returns-in-Rest : goal.returns-in-Rest
 returns-in-Rest g c =
-    ends-ciphered g.K.Keep.terms c.args.function c.args.session c.args.outcome c.args.others.now c.args.store.now c.args.desk.now c.ciphered-in-Rest.new.desk c.ciphered-in-Rest.result (ap is_ciphered c.in-Rest.is) c.requires
-    (c.ciphered-in-Rest.ensures.reply ∙ ap (reply_at (place_asked c.args.function)) (sym c.in-Rest.is)) (c.ciphered-in-Rest.ensures.left ∙ ap (λ x. desk_left (place_asked c.args.function) c.args.session x c.args.desk.now) (sym c.in-Rest.is))
+    let s = c.args.session in
+    let x = out.Rest c.in-Rest.direction c.in-Rest.output in
+    let p = place_for c.in-Rest.direction in
+    let reply = Output (Data c.in-Rest.output) in
+    rw (c.in-Rest.is, c.rest.ensures.reply, c.rest.ensures.left) (ends-as g.K.Keep.terms s x c.args.others.now c.args.store.now _ c.args.desk.now _ _
+    (done-at-desk g.K.Keep.terms (λ v. becomes reply (with_operation v s p None)) c.args.store.now c.args.desk.now _ reply c.requires refl (λ v. refl) (λ k fits. ciphering.gives-with k c.args.desk.now s p None reply fits)))
 
 pub returns-in-BadPadding : goal.returns-in-BadPadding
 returns-in-BadPadding g c =
-    ends-ciphered g.K.Keep.terms c.args.function c.args.session c.args.outcome c.args.others.now c.args.store.now c.args.desk.now c.ciphered-in-BadPadding.new.desk c.ciphered-in-BadPadding.result (ap is_ciphered c.in-BadPadding.is) c.requires
-    (c.ciphered-in-BadPadding.ensures.reply ∙ ap (reply_at (place_asked c.args.function)) (sym c.in-BadPadding.is)) (c.ciphered-in-BadPadding.ensures.left ∙ ap (λ x. desk_left (place_asked c.args.function) c.args.session x c.args.desk.now) (sym c.in-BadPadding.is))
+    let s = c.args.session in
+    let x = out.BadPadding c.in-BadPadding.direction in
+    let p = place_for c.in-BadPadding.direction in
+    let reply = Code rv.EncryptedDataInvalid in
+    rw (c.in-BadPadding.is, c.bad_padding.ensures.reply, c.bad_padding.ensures.left) (ends-as g.K.Keep.terms s x c.args.others.now c.args.store.now _ c.args.desk.now _ _
+    (done-at-desk g.K.Keep.terms (λ v. becomes reply (with_operation v s p None)) c.args.store.now c.args.desk.now _ reply c.requires refl (λ v. refl) (λ k fits. ciphering.gives-with k c.args.desk.now s p None reply fits)))
+
+-- ---- a message's
+
+pub returns-in-Taken : goal.returns-in-Taken
+returns-in-Taken g c =
+    let s = c.args.session in
+    let x = out.Taken c.in-Taken.place c.in-Taken.mac in
+    let o = Some (mac_of c.in-Taken.mac) in
+    let reply = Code rv.Ok in
+    rw (c.in-Taken.is, c.taken.ensures.reply, c.taken.ensures.left) (ends-as g.K.Keep.terms s x c.args.others.now c.args.store.now _ c.args.desk.now _ _
+    (done-at-desk g.K.Keep.terms (λ v. becomes reply (with_mac v s c.in-Taken.place o)) c.args.store.now c.args.desk.now _ reply c.requires refl (λ v. refl) (λ k fits. signing.gives-with k c.args.desk.now s c.in-Taken.place o reply fits)))
+
+pub returns-in-Signature : goal.returns-in-Signature
+returns-in-Signature g c =
+    let s = c.args.session in
+    let x = out.Signature c.in-Signature.signature in
+    let reply = Output (Data c.in-Signature.signature) in
+    rw (c.in-Signature.is, c.signed.ensures.reply, c.signed.ensures.left) (ends-as g.K.Keep.terms s x c.args.others.now c.args.store.now _ c.args.desk.now _ _
+    (done-at-desk g.K.Keep.terms (λ v. becomes reply (with_mac v s place.Sign None)) c.args.store.now c.args.desk.now _ reply c.requires refl (λ v. refl) (λ k fits. signing.gives-with k c.args.desk.now s place.Sign None reply fits)))
+
+pub returns-in-RightSignature : goal.returns-in-RightSignature
+returns-in-RightSignature g c =
+    let s = c.args.session in
+    let reply = Code rv.Ok in
+    rw (c.in-RightSignature.is, c.verified.ensures.reply, c.verified.ensures.left) (ends-as g.K.Keep.terms s out.RightSignature c.args.others.now c.args.store.now _ c.args.desk.now _ _
+    (done-at-desk g.K.Keep.terms (λ v. becomes reply (with_mac v s place.Verify None)) c.args.store.now c.args.desk.now _ reply c.requires refl (λ v. refl) (λ k fits. signing.gives-with k c.args.desk.now s place.Verify None reply fits)))
+
+pub returns-in-WrongSignature : goal.returns-in-WrongSignature
+returns-in-WrongSignature g c =
+    let s = c.args.session in
+    let reply = Code rv.SignatureInvalid in
+    rw (c.in-WrongSignature.is, c.verified-in-WrongSignature.ensures.reply, c.verified-in-WrongSignature.ensures.left) (ends-as g.K.Keep.terms s out.WrongSignature c.args.others.now c.args.store.now _ c.args.desk.now _ _
+    (done-at-desk g.K.Keep.terms (λ v. becomes reply (with_mac v s place.Verify None)) c.args.store.now c.args.desk.now _ reply c.requires refl (λ v. refl) (λ k fits. signing.gives-with k c.args.desk.now s place.Verify None reply fits)))
+
+-- ---- a key's
+
+pub returns-in-Wrapped : goal.returns-in-Wrapped
+returns-in-Wrapped g c =
+    let reply = Output (Data c.in-Wrapped.bytes) in
+    rw (c.in-Wrapped.is) (ends-as g.K.Keep.terms c.args.session (out.Wrapped c.in-Wrapped.bytes) c.args.others.now c.args.store.now _ c.args.desk.now _ _
+    (done-at-desk g.K.Keep.terms (λ v. replies v reply) c.args.store.now c.args.desk.now c.args.desk.now reply c.requires refl (λ v. refl) (λ k fits. record { says = refl; view = refl; changes = refl; fits = fits })))
+
+pub returns-in-Unwrapped : goal.returns-in-Unwrapped
+returns-in-Unwrapped g c =
+    rw (c.in-Unwrapped.is) (ends-as g.K.Keep.terms c.args.session (out.Unwrapped c.in-Unwrapped.object) c.args.others.now c.args.store.now _ c.args.desk.now _ _
+    (done-over g.K.Keep.terms (λ k v. unwrapped_result v c.args.session (Unwrapped c.in-Unwrapped.object)) c.args.store.now _ c.args.desk.now _ _ c.requires c.unwrapped.ensures))

@@ -2,7 +2,7 @@ use Rattle.std.proofs.Common.{refl, rules, arith}
 use Rattle.ck_calls.specs.declared.call.Call.TheVariants as call
 use Rattle.ck_types.specs.declared.rv.Rv.TheVariants.{FunctionNotSupported}
 use Rattle.answers.specs.Answers.{answer_to}
-use Rattle.token.proofs.Dispatching.{call-done, call-checked, call-at-desk, call-asking, call-unchecked, call-refused, still-init_pin}
+use Rattle.token.proofs.Dispatching.{call-done, call-asked, call-at-desk, call-asking, call-unchecked, still-init_pin}
 use Rattle.token.proofs.serving.dispatch.Goals as goal
 
 pub returns-in-OpenSession : goal.returns-in-OpenSession
@@ -95,7 +95,7 @@ returns-in-GetTokenInfo g c = call-done g.K.Keep.terms c.args.app c.args.in_use 
 
 pub returns-in-InitToken : goal.returns-in-InitToken
 unfolding answer_to
-returns-in-InitToken g c = call-checked g.K.Keep.terms c.args.app c.args.in_use c.args.call (call.InitToken c.in-InitToken.slot c.in-InitToken.pin c.in-InitToken.label) c.args.random.now c.in-InitToken.is c.args.store.now _ c.args.desk.now _ c.serve-in-InitToken.result c.settle_asking.result c.settle_asking.ensures c.serve-in-InitToken.ensures.asker c.serve-in-InitToken.ensures.done
+returns-in-InitToken g c = call-asked g.K.Keep.terms c.args.app c.args.in_use c.args.call (call.InitToken c.in-InitToken.slot c.in-InitToken.pin c.in-InitToken.label) c.args.random.now c.in-InitToken.is 1 (omega arith) c.args.store.now _ c.args.desk.now _ c.serve-in-InitToken.result c.settle_asking.result c.settle_asking.ensures c.serve-in-InitToken.ensures.asker c.serve-in-InitToken.ensures.done
 
 pub returns-in-InitPin : goal.returns-in-InitPin
 unfolding answer_to
@@ -103,11 +103,11 @@ returns-in-InitPin g c = call-unchecked g.K.Keep.terms c.args.app c.args.in_use 
 
 pub returns-in-SetPin : goal.returns-in-SetPin
 unfolding answer_to
-returns-in-SetPin g c = call-checked g.K.Keep.terms c.args.app c.args.in_use c.args.call (call.SetPin c.in-SetPin.session c.in-SetPin.old_pin c.in-SetPin.new_pin) c.args.random.now c.in-SetPin.is c.args.store.now _ c.args.desk.now _ c.serve-in-SetPin.result c.settle_asking-in-SetPin.result c.settle_asking-in-SetPin.ensures c.serve-in-SetPin.ensures.asker c.serve-in-SetPin.ensures.done
+returns-in-SetPin g c = call-asked g.K.Keep.terms c.args.app c.args.in_use c.args.call (call.SetPin c.in-SetPin.session c.in-SetPin.old_pin c.in-SetPin.new_pin) c.args.random.now c.in-SetPin.is 1 (omega arith) c.args.store.now _ c.args.desk.now _ c.serve-in-SetPin.result c.settle_asking-in-SetPin.result c.settle_asking-in-SetPin.ensures c.serve-in-SetPin.ensures.asker c.serve-in-SetPin.ensures.done
 
 pub returns-in-Login : goal.returns-in-Login
 unfolding answer_to
-returns-in-Login g c = call-checked g.K.Keep.terms c.args.app c.args.in_use c.args.call (call.Login c.in-Login.session c.in-Login.user_type c.in-Login.pin) c.args.random.now c.in-Login.is c.args.store.now _ c.args.desk.now _ c.serve-in-Login.result c.settle_asking-in-Login.result c.settle_asking-in-Login.ensures c.serve-in-Login.ensures.asker c.serve-in-Login.ensures.done
+returns-in-Login g c = call-asked g.K.Keep.terms c.args.app c.args.in_use c.args.call (call.Login c.in-Login.session c.in-Login.user_type c.in-Login.pin) c.args.random.now c.in-Login.is 1 (omega arith) c.args.store.now _ c.args.desk.now _ c.serve-in-Login.result c.settle_asking-in-Login.result c.settle_asking-in-Login.ensures c.serve-in-Login.ensures.asker c.serve-in-Login.ensures.done
 
 pub returns-in-Logout : goal.returns-in-Logout
 unfolding answer_to
@@ -121,24 +121,50 @@ pub returns-in-GetMechanismInfo : goal.returns-in-GetMechanismInfo
 unfolding answer_to
 returns-in-GetMechanismInfo g c = call-at-desk g.K.Keep.terms c.args.app c.args.in_use c.args.call (call.GetMechanismInfo c.in-GetMechanismInfo.slot c.in-GetMechanismInfo.mechanism) c.args.random.now c.in-GetMechanismInfo.is c.args.store.now c.args.desk.now _ c.serve-in-GetMechanismInfo.result c.settle-in-GetMechanismInfo.result refl c.settle-in-GetMechanismInfo.ensures c.serve-in-GetMechanismInfo.ensures
 
-pub returns : goal.returns
+pub returns-in-GenerateRandom : goal.returns-in-GenerateRandom
 unfolding answer_to
-returns g c = call-at-desk g.K.Keep.terms c.args.app c.args.in_use c.args.call (call.GenerateRandom c.in-GenerateRandom.session c.in-GenerateRandom.len) c.args.random.now c.in-GenerateRandom.is c.args.store.now c.args.desk.now _ c.serve-in-GenerateRandom.result c.settle-in-GenerateRandom.result refl c.settle-in-GenerateRandom.ensures c.serve-in-GenerateRandom.ensures
+returns-in-GenerateRandom g c = call-at-desk g.K.Keep.terms c.args.app c.args.in_use c.args.call (call.GenerateRandom c.in-GenerateRandom.session c.in-GenerateRandom.len) c.args.random.now c.in-GenerateRandom.is c.args.store.now c.args.desk.now _ c.serve-in-GenerateRandom.result c.settle-in-GenerateRandom.result refl c.settle-in-GenerateRandom.ensures c.serve-in-GenerateRandom.ensures
 
 pub returns-in-GenerateKey : goal.returns-in-GenerateKey
 unfolding answer_to
 returns-in-GenerateKey g c = call-done g.K.Keep.terms c.args.app c.args.in_use c.args.call (call.GenerateKey c.in-GenerateKey.session c.in-GenerateKey.mechanism c.in-GenerateKey.template) c.args.random.now c.in-GenerateKey.is 1 c.args.store.now _ c.args.desk.now _ c.serve-in-GenerateKey.result c.settle-in-GenerateKey.result (omega arith) c.settle-in-GenerateKey.ensures c.serve-in-GenerateKey.ensures
 
--- ---- calls that aren't served
-
 pub returns-in-SignInit : goal.returns-in-SignInit
 unfolding answer_to
-returns-in-SignInit g c = call-refused g.K.Keep.terms c.args.app c.args.in_use c.args.call c.args.random.now FunctionNotSupported c.args.store.now c.args.desk.now c.code.result (λ v. search rules) refl c.code.ensures
+returns-in-SignInit g c = call-done g.K.Keep.terms c.args.app c.args.in_use c.args.call (call.SignInit c.in-SignInit.session c.in-SignInit.mechanism c.in-SignInit.key) c.args.random.now c.in-SignInit.is 0 c.args.store.now _ c.args.desk.now _ c.serve-in-SignInit.result c.settle-in-SignInit.result (omega arith) c.settle-in-SignInit.ensures c.serve-in-SignInit.ensures
 
 pub returns-in-VerifyInit : goal.returns-in-VerifyInit
 unfolding answer_to
-returns-in-VerifyInit g c = call-refused g.K.Keep.terms c.args.app c.args.in_use c.args.call c.args.random.now FunctionNotSupported c.args.store.now c.args.desk.now c.code-in-VerifyInit.result (λ v. search rules) refl c.code-in-VerifyInit.ensures
+returns-in-VerifyInit g c = call-done g.K.Keep.terms c.args.app c.args.in_use c.args.call (call.VerifyInit c.in-VerifyInit.session c.in-VerifyInit.mechanism c.in-VerifyInit.key) c.args.random.now c.in-VerifyInit.is 0 c.args.store.now _ c.args.desk.now _ c.serve-in-VerifyInit.result c.settle-in-VerifyInit.result (omega arith) c.settle-in-VerifyInit.ensures c.serve-in-VerifyInit.ensures
+
+pub returns-in-Sign : goal.returns-in-Sign
+unfolding answer_to
+returns-in-Sign g c = call-asking g.K.Keep.terms c.args.app c.args.in_use c.args.call (call.Sign c.in-Sign.session c.in-Sign.data c.in-Sign.room) c.args.random.now c.in-Sign.is c.args.store.now c.args.desk.now _ c.sign.result c.settle_asking-in-Sign.result refl c.settle_asking-in-Sign.ensures c.sign.ensures.asker c.sign.ensures.serves
+
+pub returns-in-SignUpdate : goal.returns-in-SignUpdate
+unfolding answer_to
+returns-in-SignUpdate g c = call-asking g.K.Keep.terms c.args.app c.args.in_use c.args.call (call.SignUpdate c.in-SignUpdate.session c.in-SignUpdate.part) c.args.random.now c.in-SignUpdate.is c.args.store.now c.args.desk.now _ c.update-in-SignUpdate.result c.settle_asking-in-SignUpdate.result refl c.settle_asking-in-SignUpdate.ensures c.update-in-SignUpdate.ensures.asker c.update-in-SignUpdate.ensures.serves
+
+pub returns-in-SignFinal : goal.returns-in-SignFinal
+unfolding answer_to
+returns-in-SignFinal g c = call-asking g.K.Keep.terms c.args.app c.args.in_use c.args.call (call.SignFinal c.in-SignFinal.session c.in-SignFinal.room) c.args.random.now c.in-SignFinal.is c.args.store.now c.args.desk.now _ c.sign_final.result c.settle_asking-in-SignFinal.result refl c.settle_asking-in-SignFinal.ensures c.sign_final.ensures.asker c.sign_final.ensures.serves
+
+pub returns-in-Verify : goal.returns-in-Verify
+unfolding answer_to
+returns-in-Verify g c = call-asking g.K.Keep.terms c.args.app c.args.in_use c.args.call (call.Verify c.in-Verify.session c.in-Verify.data c.in-Verify.signature) c.args.random.now c.in-Verify.is c.args.store.now c.args.desk.now _ c.verify.result c.settle_asking-in-Verify.result refl c.settle_asking-in-Verify.ensures c.verify.ensures.asker c.verify.ensures.serves
+
+pub returns-in-VerifyUpdate : goal.returns-in-VerifyUpdate
+unfolding answer_to
+returns-in-VerifyUpdate g c = call-asking g.K.Keep.terms c.args.app c.args.in_use c.args.call (call.VerifyUpdate c.in-VerifyUpdate.session c.in-VerifyUpdate.part) c.args.random.now c.in-VerifyUpdate.is c.args.store.now c.args.desk.now _ c.update-in-VerifyUpdate.result c.settle_asking-in-VerifyUpdate.result refl c.settle_asking-in-VerifyUpdate.ensures c.update-in-VerifyUpdate.ensures.asker c.update-in-VerifyUpdate.ensures.serves
+
+pub returns-in-VerifyFinal : goal.returns-in-VerifyFinal
+unfolding answer_to
+returns-in-VerifyFinal g c = call-asking g.K.Keep.terms c.args.app c.args.in_use c.args.call (call.VerifyFinal c.in-VerifyFinal.session c.in-VerifyFinal.signature) c.args.random.now c.in-VerifyFinal.is c.args.store.now c.args.desk.now _ c.verify_final.result c.settle_asking-in-VerifyFinal.result refl c.settle_asking-in-VerifyFinal.ensures c.verify_final.ensures.asker c.verify_final.ensures.serves
 
 pub returns-in-WrapKey : goal.returns-in-WrapKey
 unfolding answer_to
-returns-in-WrapKey g c = call-refused g.K.Keep.terms c.args.app c.args.in_use c.args.call c.args.random.now FunctionNotSupported c.args.store.now c.args.desk.now c.code-in-WrapKey.result (λ v. search rules) refl c.code-in-WrapKey.ensures
+returns-in-WrapKey g c = call-asked g.K.Keep.terms c.args.app c.args.in_use c.args.call (call.WrapKey c.in-WrapKey.session c.in-WrapKey.mechanism c.in-WrapKey.wrapping_key c.in-WrapKey.key c.in-WrapKey.room) c.args.random.now c.in-WrapKey.is 0 (omega arith) c.args.store.now _ c.args.desk.now _ c.serve-in-WrapKey.result c.settle_asking-in-WrapKey.result c.settle_asking-in-WrapKey.ensures c.serve-in-WrapKey.ensures.asker c.serve-in-WrapKey.ensures.done
+
+pub returns-in-UnwrapKey : goal.returns-in-UnwrapKey
+unfolding answer_to
+returns-in-UnwrapKey g c = call-asked g.K.Keep.terms c.args.app c.args.in_use c.args.call (call.UnwrapKey c.in-UnwrapKey.session c.in-UnwrapKey.mechanism c.in-UnwrapKey.unwrapping_key c.in-UnwrapKey.wrapped_key c.in-UnwrapKey.template) c.args.random.now c.in-UnwrapKey.is 0 (omega arith) c.args.store.now _ c.args.desk.now _ c.serve-in-UnwrapKey.result c.settle_asking-in-UnwrapKey.result c.settle_asking-in-UnwrapKey.ensures c.serve-in-UnwrapKey.ensures.asker c.serve-in-UnwrapKey.ensures.done

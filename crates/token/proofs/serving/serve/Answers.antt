@@ -5,7 +5,7 @@ use Rattle.token.proofs.Dispatching.{answer-is, busy-is, serves-is}
 use Rattle.token.proofs.serving.serve.Goals as goal
 
 pub returns-then-is_busy : goal.returns-then-is_busy
-returns-then-is_busy g c = rw (c.code-then-is_busy.ensures, c.code.ensures) (record {
+returns-then-is_busy g c = rw (c.code.ensures) (record {
   serves = λ sure k h fits. gave-reply _ _ k _ _ c.args.desk.now _ h (λ d may. may) fits (busy-is k c.args.desk.now c.args.call c.args.random.now (reveal_by_call c.args.call c.args.in_use) (sym c.is_busy.ensures ∙ c.if-is_busy.true));
   says = search rules;
   counts = search rules;

@@ -1,0 +1,187 @@
+//! C_UnwrapKey (PKCS #11 v3.1, 5.18).
+
+ghost use Rattle.std.specs.Prelude.{◌≡◌, ◌<◌, ◌^◌, ◌-◌, [], IfOk, length, true};
+ghost use Rattle.guard.specs.Access.{is_user};
+ghost use Rattle.views.specs.Outcomes.{Unwrapped};
+ghost use Rattle.answers.specs.UnwrapKey.{is_wrapped_length, unwrap_key, unwraps, unwrapped_result};
+ghost use Rattle.templates.specs.declared.call.Call.TheVariants as templates_call;
+ghost use Rattle.templates.specs.Faults.{template_fault};
+ghost use Rattle.views.specs.Checked.{state_in};
+ghost use Rattle.token_store.specs.Refusing.{AtDesk, IsDone, IsDoneAs};
+ghost use Rattle.token_store.specs.Shown.{IsFor, said_of};
+ghost use Rattle.serve_keys.specs.Objects.{object_in};
+ghost use Rattle.serve_keys.specs.Unwrapping.{asks_for_key};
+
+use aes_block::Key;
+use attrs::Object;
+use ck_calls::{Function, Mechanism, Reply};
+use ck_types::{AttrType, Bytes, Rv, SessionState, Template};
+use desk::Desk;
+use guard::is_read_write;
+use keep::Keep;
+use lists::NUMBER_LIMIT;
+use mech::Work;
+use mechanisms::{Purpose, find_for};
+use precede::Row;
+use serve_objects::add_object;
+use std::alloc::Global;
+use templates::{unwrap_fault, unwraps_private_key, unwraps_token_key};
+use token_store::{
+    Found, Out, Refusal, Store, aes_key, ask, find, is_aes, is_secret_key, random_block,
+};
+
+/// Asks for the key that a template makes of the value which is wrapped in the bytes, under an unwrapping key. The call's
+/// random bytes make its CKA_UNIQUE_ID. `CKR_SESSION_HANDLE_INVALID`, `CKR_MECHANISM_INVALID`,
+/// `CKR_MECHANISM_PARAM_INVALID`, `CKR_UNWRAPPING_KEY_HANDLE_INVALID`, `CKR_UNWRAPPING_KEY_TYPE_INCONSISTENT`,
+/// `CKR_KEY_FUNCTION_NOT_PERMITTED`, `CKR_WRAPPED_KEY_LEN_RANGE`; the other codes are those of C_CreateObject.
+pub fn serve<K: Keep>(
+    alloc: Global,
+    app: u64,
+    desk: &mut Desk,
+    store: &mut Store<K>,
+    session: u64,
+    mechanism: Mechanism,
+    unwrapping_key: u64,
+    wrapped_key: Bytes,
+    template: Template,
+    random: &[u8],
+) -> Result<Out, Refusal>
+    requires below { desk.old.next_question < 2 ^ 63 }
+    requires random { length random.now ≡ 16 }
+    ensures done { IsDoneAs K.terms said_of 0 (λ c v. unwrap_key v session mechanism unwrapping_key wrapped_key template random.now) store.old store.new desk.old result desk.new }
+    ensures asker { IfOk result (IsFor app) }
+{
+    let key = find(alloc, desk, store, unwrapping_key)?;
+    ask_unwrapped(
+        app,
+        desk,
+        session,
+        mechanism,
+        key,
+        wrapped_key,
+        template,
+        random,
+    )
+}
+
+/// Asks for the unwrapping under what was found, where the rows of the call's table let it.
+fn ask_unwrapped(
+    app: u64,
+    desk: &mut Desk,
+    session: u64,
+    mechanism: Mechanism,
+    key: Option<Found>,
+    wrapped_key: Bytes,
+    template: Template,
+    random: &[u8],
+) -> Result<Out, Refusal>
+    requires below { desk.old.next_question < 2 ^ 63 }
+    requires random { length random.now ≡ 16 }
+    ensures serves { AtDesk said_of (λ v. unwraps v session mechanism (object_in key) wrapped_key template random.now (state_in v session) (template_fault (templates_call.Unwrap (length wrapped_key - 8)) (state_in v session) [] template)) desk.old result desk.new }
+    ensures asker { IfOk result (IsFor app) }
+{
+    let state = desk.state(session).ok_or(Row::NoSession)?;
+    let _ = find_for(Purpose::Wrapping, mechanism.number).ok_or(Row::WrongMechanism)?;
+    if !mechanism.parameter.is_empty() {
+        return Err(Refusal::Row(Row::WrongParameter));
+    }
+    let key = key.ok_or(Row::NoUnwrappingKey)?.object;
+    if !is_secret_key(&key) {
+        return Err(Refusal::Row(Row::NoUnwrappingKey));
+    }
+    if !is_aes(&key) {
+        return Err(Refusal::Row(Row::WrongUnwrappingKeyType));
+    }
+    if !key.flag(AttrType::Unwrap) {
+        return Err(Refusal::Row(Row::KeyNotPermitted));
+    }
+    if !is_wrapped_length(wrapped_key.len()) {
+        return Err(Refusal::Row(Row::WrappedLength));
+    }
+    ask_for_key(
+        app,
+        desk,
+        session,
+        state,
+        aes_key(&key),
+        wrapped_key,
+        template,
+        random,
+    )
+}
+
+/// Whether so many bytes are the wrapping of a value that a key can have: 24 to 520, and whole halves of a block.
+fn is_wrapped_length(len: usize) -> bool
+    ensures { result ≡ is_wrapped_length len }
+{
+    24 <= len && len <= 520 && len % 8 == 0
+}
+
+/// Whether the user is logged in.
+fn is_user(state: SessionState) -> bool
+    ensures { result ≡ is_user state }
+{
+    match state {
+        SessionState::RoUser | SessionState::RwUser => true,
+        SessionState::RoPublic | SessionState::RwPublic | SessionState::RwSo => false,
+    }
+}
+
+/// Asks for the key of a template, where the template makes one, a session in this state may and there is room.
+fn ask_for_key(
+    app: u64,
+    desk: &mut Desk,
+    session: u64,
+    state: SessionState,
+    key: Key,
+    wrapped: Bytes,
+    template: Template,
+    random: &[u8],
+) -> Result<Out, Refusal>
+    requires below { desk.old.next_question < 2 ^ 63 }
+    requires random { length random.now ≡ 16 }
+    requires wrapped { is_wrapped_length (length wrapped) ≡ true }
+    ensures serves { AtDesk said_of (λ v. asks_for_key v session state key wrapped template random.now) desk.old result desk.new }
+    ensures asker { IfOk result (IsFor app) }
+{
+    if let Some(code) = unwrap_fault(state, &template, wrapped.len() - 8) {
+        return Err(Refusal::Code(code));
+    }
+    let is_token = unwraps_token_key(&template);
+    if is_token && !is_read_write(state) {
+        return Err(Refusal::Row(Row::TokenObjectReadOnly));
+    }
+    if unwraps_private_key(&template) && !is_user(state) {
+        return Err(Refusal::Row(Row::PrivateObject));
+    }
+    if !is_token && desk.has_all_objects() {
+        return Err(Refusal::Row(Row::ObjectLimit));
+    }
+    let work = Work::Unwrap {
+        key,
+        wrapped,
+        state,
+        template,
+        random: random_block(random),
+    };
+    Ok(Out::Ask(ask(app, desk, Function::UnwrapKey, session, work)))
+}
+
+/// Adds the key that was made of the unwrapped value, and gives its handle. `CKR_FUNCTION_FAILED` where there is no such
+/// session or no handle is left; the other codes are those of C_CreateObject.
+pub fn unwrapped<K: Keep>(
+    desk: &mut Desk,
+    store: &mut Store<K>,
+    session: u64,
+    object: Object,
+) -> Result<Reply, Refusal>
+    ensures { IsDone K.terms 1 (λ v. unwrapped_result v session (Unwrapped object)) store.old store.new desk.old result desk.new }
+{
+    let Some(state) = desk.state(session) else {
+        return Err(Refusal::Code(Rv::FunctionFailed));
+    };
+    if desk.next_handle() < NUMBER_LIMIT {
+        return add_object(desk, store, session, state, object);
+    }
+    Err(Refusal::Code(Rv::FunctionFailed))
+}

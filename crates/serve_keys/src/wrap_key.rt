@@ -1,0 +1,157 @@
+//! C_WrapKey (PKCS #11 v3.1, 5.18).
+
+ghost use Rattle.std.specs.Prelude.{◌≡◌, ◌<◌, ◌^◌, ◌&&◌, not, IfOk, Some, length, true};
+ghost use Rattle.ck_types.specs.declared.attr_type.AttrType.TheVariants as attr;
+ghost use Rattle.attrs.specs.Masking.{is_secret_key};
+ghost use Rattle.attrs.specs.Objects.{attribute_of, class_of, flag};
+ghost use Rattle.keep.specs.Contents.{Contents};
+ghost use Rattle.keep.specs.Keeping.{Counted, HasCause, Stays};
+ghost use Rattle.mech.specs.Wrappings.{is_value_length};
+ghost use Rattle.answers.specs.GetObjectSize.{value_len};
+ghost use Rattle.answers.specs.WrapKey.{wrap_key, wraps};
+ghost use Rattle.token_store.specs.Found.{IsFound};
+ghost use Rattle.token_store.specs.Refusing.{AtDesk, IsDoneAs};
+ghost use Rattle.token_store.specs.Shown.{Fits, IsFor, said_of};
+ghost use Rattle.token_store.specs.Stores.{Has};
+ghost use Rattle.serve_keys.specs.Objects.{object_in};
+
+use attrs::Object;
+use ck_calls::{Function, Mechanism};
+use ck_types::{AttrType, Bytes};
+use desk::Desk;
+use keep::{Keep, KeepFault};
+use mech::Work;
+use mechanisms::{Purpose, find_for};
+use precede::Row;
+use std::alloc::Global;
+use token_store::{Found, Out, Refusal, Store, aes_key, ask_within, find, is_aes, is_secret_key};
+
+/// How many bytes a wrapped key has more than its value.
+const WRAPPING_BYTES: u64 = 8;
+
+/// Asks for the wrapping of a key's value under a wrapping key, or tells the room for it, in bytes:
+/// `CKR_SESSION_HANDLE_INVALID`, `CKR_MECHANISM_INVALID`, `CKR_MECHANISM_PARAM_INVALID`, `CKR_WRAPPING_KEY_HANDLE_INVALID`,
+/// `CKR_KEY_HANDLE_INVALID`, `CKR_WRAPPING_KEY_TYPE_INCONSISTENT`, `CKR_KEY_FUNCTION_NOT_PERMITTED`,
+/// `CKR_KEY_UNEXTRACTABLE`, `CKR_KEY_NOT_WRAPPABLE` where only a trusted key may wrap it, `CKR_KEY_SIZE_RANGE`.
+pub fn serve<K: Keep>(
+    alloc: Global,
+    app: u64,
+    desk: &mut Desk,
+    store: &mut Store<K>,
+    session: u64,
+    mechanism: Mechanism,
+    wrapping_key: u64,
+    key: u64,
+    room: Option<u64>,
+) -> Result<Out, Refusal>
+    requires { desk.old.next_question < 2 ^ 63 }
+    ensures done { IsDoneAs K.terms said_of 0 (λ c v. wrap_key v session mechanism wrapping_key key room) store.old store.new desk.old result desk.new }
+    ensures asker { IfOk result (IsFor app) }
+{
+    let (wrapping_key, key) = find_both(alloc, desk, store, wrapping_key, key)?;
+    ask_wrapped(
+        alloc,
+        app,
+        desk,
+        session,
+        mechanism,
+        wrapping_key,
+        key,
+        room,
+    )
+}
+
+/// Copies of the objects under two handles, where the application sees them.
+fn find_both<K: Keep>(
+    alloc: Global,
+    desk: &Desk,
+    store: &mut Store<K>,
+    first: u64,
+    second: u64,
+) -> Result<(Option<Found>, Option<Found>), KeepFault>
+    ensures found { K.terms.doubt store.new.keep ≡ 0 → (c : Contents) → Has K.terms store.old c → Fits c desk.now.handles.entries → IfOk result (λ both. IsFound c desk.now first both.0 × IsFound c desk.now second both.1) }
+    ensures same { Stays K.terms store.old.keep store.new.keep }
+    ensures ids { store.new.ids ≡ store.old.ids }
+    ensures counts { Counted K.terms store.old.keep store.new.keep 0 0 }
+    ensures cause { HasCause (K.terms.failures store.old.keep) (K.terms.failures store.new.keep) result }
+{
+    let first = find(alloc, desk, store, first)?;
+    let second = find(alloc, desk, store, second)?;
+    Ok((first, second))
+}
+
+/// Asks for the wrapping of what was found, where the rows of the call's table let it.
+fn ask_wrapped(
+    alloc: Global,
+    app: u64,
+    desk: &mut Desk,
+    session: u64,
+    mechanism: Mechanism,
+    wrapping_key: Option<Found>,
+    key: Option<Found>,
+    room: Option<u64>,
+) -> Result<Out, Refusal>
+    requires { desk.old.next_question < 2 ^ 63 }
+    ensures serves { AtDesk said_of (λ v. wraps v session mechanism (object_in wrapping_key) (object_in key) room) desk.old result desk.new }
+    ensures asker { IfOk result (IsFor app) }
+{
+    let _ = desk.state(session).ok_or(Row::NoSession)?;
+    let _ = find_for(Purpose::Wrapping, mechanism.number).ok_or(Row::WrongMechanism)?;
+    if !mechanism.parameter.is_empty() {
+        return Err(Refusal::Row(Row::WrongParameter));
+    }
+    let wrapping_key = wrapping_key.ok_or(Row::NoWrappingKey)?.object;
+    if !is_secret_key(&wrapping_key) {
+        return Err(Refusal::Row(Row::NoWrappingKey));
+    }
+    let key = key.ok_or(Row::NoKey)?.object;
+    if !is_secret_key(&key) {
+        return Err(Refusal::Row(Row::NoKey));
+    }
+    if !is_aes(&wrapping_key) {
+        return Err(Refusal::Row(Row::WrongWrappingKeyType));
+    }
+    if !wrapping_key.flag(AttrType::Wrap) {
+        return Err(Refusal::Row(Row::KeyNotPermitted));
+    }
+    if !key.flag(AttrType::Extractable) {
+        return Err(Refusal::Row(Row::KeyUnextractable));
+    }
+    if lacks_trust(&wrapping_key, &key) {
+        return Err(Refusal::Row(Row::KeyNotWrappable));
+    }
+    let value = value_of(&key);
+    if !is_value_length(value.len()) {
+        return Err(Refusal::Row(Row::KeyLength));
+    }
+    let wanted = value.len() as u64 + WRAPPING_BYTES;
+    let work = Work::Wrap {
+        key: aes_key(&wrapping_key),
+        value: Bytes::from_slice(alloc, value)?,
+    };
+    Ok(ask_within(app, desk, Function::WrapKey, session, work, wanted, room))
+}
+
+/// Whether a key may be wrapped by trusted keys alone, and the wrapping key is none (PKCS #11 v3.1, 4.10).
+fn lacks_trust(wrapping_key: &Object, key: &Object) -> bool
+    ensures { result ≡ (flag key.now attr.WrapWithTrusted && not (flag wrapping_key.now attr.Trusted)) }
+{
+    key.flag(AttrType::WrapWithTrusted) && !wrapping_key.flag(AttrType::Trusted)
+}
+
+/// The value of a key.
+fn value_of(key: &Object) -> &[u8]
+    requires { is_secret_key (class_of key.now) ≡ true }
+    ensures value { attribute_of key.now attr.Value ≡ Some result.now }
+    ensures length { value_len key.now ≡ length result.now }
+{
+    let _entries = key.entries();
+    key.value()
+}
+
+/// Whether so many bytes can be wrapped: two or more whole halves of a block (RFC 3394, 2).
+fn is_value_length(len: usize) -> bool
+    ensures { result ≡ is_value_length len }
+{
+    16 <= len && len % 8 == 0
+}

@@ -1,0 +1,192 @@
+//! C_Sign, C_SignUpdate, C_SignFinal and C_Verify, C_VerifyUpdate, C_VerifyFinal (PKCS #11 v3.1, 5.2, 5.13 and 5.15).
+
+ghost use Rattle.std.specs.Prelude.{◌≡◌, ◌<◌, ◌^◌, ◌==◌, IfOk, None, Some, if◌then◌else◌, length};
+ghost use Rattle.ck_types.specs.declared.rv.Rv.TheVariants as rv;
+ghost use Rattle.ck_calls.specs.declared.reply.Output.TheVariants.{Data};
+ghost use Rattle.ck_calls.specs.declared.reply.Reply.TheVariants.{Code, Output as OutputReply};
+ghost use Rattle.macs.specs.Codes.{code_length};
+ghost use Rattle.ops.specs.declared.place.MacPlace.TheVariants as places;
+ghost use Rattle.ops.specs.Operations.{mac_of, with_mac};
+ghost use Rattle.precede.specs.Row.{code_of};
+ghost use Rattle.answers.specs.Mac.{mac_update, sign, sign_final, verify, verify_final};
+ghost use Rattle.token_store.specs.declared.out.Out.TheVariants.{Reply as OutReply};
+ghost use Rattle.token_store.specs.Refusing.{AtDesk};
+ghost use Rattle.token_store.specs.Shown.{IsFor, said_of};
+
+use crate::places::update_function;
+use ck_calls::{Function, Output, Reply};
+use ck_types::{Bytes, Rv};
+use desk::Desk;
+use macs::Mac;
+use mech::Work;
+use ops::MacPlace;
+use precede::Row;
+use std::alloc::Global;
+use token_store::{Out, Refusal, ask, ask_within};
+
+/// C_Sign: takes all data at once, and asks for its signature, or tells the room for it, in bytes. It is the only data of its
+/// operation (`CKR_OPERATION_ACTIVE`); else the operation ends.
+pub fn sign(
+    app: u64,
+    desk: &mut Desk,
+    session: u64,
+    input: Bytes,
+    room: Option<u64>,
+) -> Result<Out, Refusal>
+    requires { desk.old.next_question < 2 ^ 63 }
+    ensures serves { AtDesk said_of (λ v. sign v session input room) desk.old result desk.new }
+    ensures asker { IfOk result (IsFor app) }
+{
+    let _ = desk.state(session).ok_or(Row::NoSession)?;
+    let mac = desk.mac(session, MacPlace::Sign).ok_or(Row::NoOperation)?;
+    if mac.has_taken() {
+        return Ok(end(desk, session, MacPlace::Sign, Row::DataTaken));
+    }
+    let wanted = mac.mechanism().code_len() as u64;
+    let mac = mac.copied();
+    let work = Work::Sign { mac, input };
+    Ok(ask_within(app, desk, Function::Sign, session, work, wanted, room))
+}
+
+/// C_SignFinal: ends the data, and asks for its signature, or tells the room for it, in bytes.
+pub fn sign_final(
+    alloc: Global,
+    app: u64,
+    desk: &mut Desk,
+    session: u64,
+    room: Option<u64>,
+) -> Result<Out, Refusal>
+    requires { desk.old.next_question < 2 ^ 63 }
+    ensures serves { AtDesk said_of (λ v. sign_final v session room) desk.old result desk.new }
+    ensures asker { IfOk result (IsFor app) }
+{
+    let _ = desk.state(session).ok_or(Row::NoSession)?;
+    let mac = desk.mac(session, MacPlace::Sign).ok_or(Row::NoOperation)?;
+    let wanted = mac.mechanism().code_len() as u64;
+    let mac = mac.copied();
+    let work = Work::Sign {
+        mac,
+        input: Bytes::from_vec(Vec::new(alloc)),
+    };
+    Ok(ask_within(app, desk, Function::SignFinal, session, work, wanted, room))
+}
+
+/// C_Verify: takes all data at once, and asks whether a signature is its. It is the only data of its operation
+/// (`CKR_OPERATION_ACTIVE`), and the signature has the length of the mechanism's (`CKR_SIGNATURE_LEN_RANGE`); else the
+/// operation ends.
+pub fn verify(
+    app: u64,
+    desk: &mut Desk,
+    session: u64,
+    input: Bytes,
+    signature: Bytes,
+) -> Result<Out, Refusal>
+    requires { desk.old.next_question < 2 ^ 63 }
+    ensures serves { AtDesk said_of (λ v. verify v session input signature) desk.old result desk.new }
+    ensures asker { IfOk result (IsFor app) }
+{
+    let _ = desk.state(session).ok_or(Row::NoSession)?;
+    let mac = desk.mac(session, MacPlace::Verify).ok_or(Row::NoOperation)?;
+    if mac.has_taken() {
+        return Ok(end(desk, session, MacPlace::Verify, Row::DataTaken));
+    }
+    if !has_its_length(mac, signature.as_slice()) {
+        return Ok(end(desk, session, MacPlace::Verify, Row::SignatureLength));
+    }
+    let mac = mac.copied();
+    let work = Work::Verify {
+        mac,
+        input,
+        signature,
+    };
+    Ok(Out::Ask(ask(app, desk, Function::Verify, session, work)))
+}
+
+/// C_VerifyFinal: ends the data, and asks whether a signature is its. The signature has the length of the mechanism's
+/// (`CKR_SIGNATURE_LEN_RANGE`); else the operation ends.
+pub fn verify_final(
+    alloc: Global,
+    app: u64,
+    desk: &mut Desk,
+    session: u64,
+    signature: Bytes,
+) -> Result<Out, Refusal>
+    requires { desk.old.next_question < 2 ^ 63 }
+    ensures serves { AtDesk said_of (λ v. verify_final v session signature) desk.old result desk.new }
+    ensures asker { IfOk result (IsFor app) }
+{
+    let _ = desk.state(session).ok_or(Row::NoSession)?;
+    let mac = desk.mac(session, MacPlace::Verify).ok_or(Row::NoOperation)?;
+    if !has_its_length(mac, signature.as_slice()) {
+        return Ok(end(desk, session, MacPlace::Verify, Row::SignatureLength));
+    }
+    let mac = mac.copied();
+    let work = Work::Verify {
+        mac,
+        input: Bytes::from_vec(Vec::new(alloc)),
+        signature,
+    };
+    Ok(Out::Ask(ask(app, desk, Function::VerifyFinal, session, work)))
+}
+
+/// C_SignUpdate and C_VerifyUpdate: asks for a piece of any length to be taken.
+pub fn update(
+    app: u64,
+    desk: &mut Desk,
+    place: MacPlace,
+    session: u64,
+    input: Bytes,
+) -> Result<Out, Refusal>
+    requires { desk.old.next_question < 2 ^ 63 }
+    ensures serves { AtDesk said_of (λ v. mac_update place v session input) desk.old result desk.new }
+    ensures asker { IfOk result (IsFor app) }
+{
+    let _ = desk.state(session).ok_or(Row::NoSession)?;
+    let mac = desk.mac(session, place).ok_or(Row::NoOperation)?;
+    let mac = mac.copied();
+    let work = Work::Take { place, mac, input };
+    Ok(Out::Ask(ask(app, desk, update_function(place), session, work)))
+}
+
+/// Whether a signature is as long as those of an operation.
+fn has_its_length(mac: &Mac, signature: &[u8]) -> bool
+    ensures { result ≡ (length signature.now == code_length mac.now.mechanism) }
+{
+    signature.len() == mac.mechanism().code_len()
+}
+
+/// The operation at a place ends, with the code of a row.
+fn end(desk: &mut Desk, session: u64, place: MacPlace, row: Row) -> Out
+    ensures out { result ≡ OutReply (Code (code_of rv.Ok row)) }
+    ensures ended { desk.new ≡ record desk.old { sessions = with_mac desk.old.sessions session place None } }
+{
+    desk.set_mac(session, place, None);
+    Out::Reply(Reply::Code(row.code(Rv::Ok)))
+}
+
+/// A piece was taken. The operation that has taken it goes on.
+pub fn taken(desk: &mut Desk, session: u64, place: MacPlace, mac: Mac) -> Reply
+    ensures reply { result ≡ Code rv.Ok }
+    ensures left { desk.new ≡ record desk.old { sessions = with_mac desk.old.sessions session place (Some (mac_of mac)) } }
+{
+    desk.set_mac(session, place, Some(mac));
+    Reply::Code(Rv::Ok)
+}
+
+/// The signature of all data. The operation ends.
+pub fn signed(desk: &mut Desk, session: u64, signature: Bytes) -> Reply
+    ensures reply { result ≡ OutputReply (Data signature) }
+    ensures left { desk.new ≡ record desk.old { sessions = with_mac desk.old.sessions session places.Sign None } }
+{
+    desk.set_mac(session, MacPlace::Sign, None);
+    Reply::Output(Output::Data(signature))
+}
+
+/// Whether the signature is that of all data (`CKR_SIGNATURE_INVALID`). The operation ends.
+pub fn verified(desk: &mut Desk, session: u64, right: bool) -> Reply
+    ensures reply { result ≡ Code (if right then rv.Ok else rv.SignatureInvalid) }
+    ensures left { desk.new ≡ record desk.old { sessions = with_mac desk.old.sessions session places.Verify None } }
+{
+    desk.set_mac(session, MacPlace::Verify, None);
+    Reply::Code(if right { Rv::Ok } else { Rv::SignatureInvalid })
+}
