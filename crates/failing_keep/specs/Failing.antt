@@ -1,4 +1,4 @@
--- What contracts see of a keeper that fails once.
+-- What contracts see of a keeper that fails.
 use Rattle.std.specs.Prelude.{ℕ}
 use Rattle.failing_keep.specs.declared.Failure.{Failure}
 
@@ -11,3 +11,8 @@ pub record FailingState (K : Type 0) : Type 0 where
   pub failures : ℕ
   -- how many writes were tried
   pub tried : ℕ
+
+pub record UnreadState (K : Type 0) : Type 0 where
+  -- the keeper that is asked
+  pub keep : K
+  pub failures : ℕ

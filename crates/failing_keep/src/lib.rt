@@ -1,5 +1,7 @@
-//! A keeper for tests: it passes on what it is asked, and fails once.
+//! Keepers for tests. Each passes on what it is asked: `FailingKeep` fails once, `UnreadKeep` at each read of an object.
 #![tactic(auto)]
+
+mod unread_keep;
 
 ghost use Rattle.std.specs.Prelude.{◌≡◌, ◌≤◌, IfErr, IfOk, IsErrOf};
 ghost use Rattle.keep.specs.declared.keep.KeepFault.TheVariants.{Damaged, Device};
@@ -10,6 +12,7 @@ use keep::{Keep, KeepFault, WriteCount};
 use pin_record::Record;
 use std::alloc::Global;
 use std::marker::Model;
+pub use unread_keep::UnreadKeep;
 
 /// How a keeper fails.
 #[derive(Clone, Copy, Debug, PartialEq, Eq)]

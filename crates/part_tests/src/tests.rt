@@ -1,10 +1,12 @@
 mod access;
+mod caches;
 mod given;
 mod handle_table;
 mod keepers;
 mod matching;
 mod messages;
 mod objects;
+mod old_forms;
 mod order;
 mod records;
 mod session_table;

@@ -44,17 +44,26 @@ fn token_object(alloc: Global, byte: u8) -> Result<Object, Fail> {
     object_of(alloc, ObjectClass::Data, &given)
 }
 
-/// Inserts a token object with this value.
-fn insert<K: Keep>(alloc: Global, keep: &mut K, byte: u8) -> Result<u64, Fail> {
+/// What comes of it to insert a token object with this value.
+pub(super) fn inserted<K: Keep>(
+    alloc: Global,
+    keep: &mut K,
+    byte: u8,
+) -> Result<Result<u64, KeepFault>, Fail> {
     let object = token_object(alloc, byte)?;
     if !object.flag(AttrType::Token) {
         return Err("a token object".into());
     }
-    Ok(keep.insert(&object)?)
+    Ok(keep.insert(&object))
+}
+
+/// Inserts a token object with this value.
+pub(super) fn insert<K: Keep>(alloc: Global, keep: &mut K, byte: u8) -> Result<u64, Fail> {
+    Ok(inserted(alloc, keep, byte)??)
 }
 
 /// Replaces an object by one with this value.
-fn replace<K: Keep>(
+pub(super) fn replace<K: Keep>(
     alloc: Global,
     keep: &mut K,
     id: u64,
@@ -94,7 +103,7 @@ const STEPS: [Step; 12] = [
 ];
 
 /// The id and the value of each object, in the order in which they were made.
-type Rows = Vec<(u64, u8)>;
+pub(super) type Rows = Vec<(u64, u8)>;
 
 /// Takes a step with the keeper and with a plain list.
 fn take<K: Keep>(
@@ -124,7 +133,7 @@ fn take<K: Keep>(
 }
 
 /// What the keeper has.
-fn rows_of<K: Keep>(alloc: Global, keep: &mut K) -> Result<Rows, Fail> {
+pub(super) fn rows_of<K: Keep>(alloc: Global, keep: &mut K) -> Result<Rows, Fail> {
     let mut rows = Vec::new(alloc);
     for id in keep.ids(alloc)? {
         let object = keep.object(alloc, id)?;
@@ -137,12 +146,20 @@ fn rows_of<K: Keep>(alloc: Global, keep: &mut K) -> Result<Rows, Fail> {
 }
 
 /// Whether the keeper has just these.
-fn has_rows<K: Keep>(alloc: Global, keep: &mut K, rows: &[(u64, u8)]) -> Result<bool, Fail> {
+pub(super) fn has_rows<K: Keep>(
+    alloc: Global,
+    keep: &mut K,
+    rows: &[(u64, u8)],
+) -> Result<bool, Fail> {
     Ok(rows_of(alloc, keep)?.as_slice() == rows)
 }
 
 /// How many rows the steps leave, each of which the keeper takes as a plain list does.
-fn rows_after_steps<K: Keep>(rt: &impl Abort, alloc: Global, keep: &mut K) -> Result<usize, Fail> {
+pub(super) fn rows_after_steps<K: Keep>(
+    rt: &impl Abort,
+    alloc: Global,
+    keep: &mut K,
+) -> Result<usize, Fail> {
     let mut rows = Vec::new(alloc);
     for number in 0..300 {
         let step = STEPS[number % 12];
@@ -185,7 +202,7 @@ fn an_id_is_never_used_again(rt: HostRuntime) -> Result<(), Fail> {
     Ok(())
 }
 
-fn use_ids<K: Keep>(rt: &impl Abort, alloc: Global, keep: &mut K) -> Result<(), Fail> {
+pub(super) fn use_ids<K: Keep>(rt: &impl Abort, alloc: Global, keep: &mut K) -> Result<(), Fail> {
     expect_ids(rt, alloc, keep, &[1, 2])?;
     keep.remove(2)?;
     expect_ids(rt, alloc, keep, &[3])?;
@@ -212,7 +229,11 @@ fn an_id_that_is_not_there_is_a_counted_failure(rt: HostRuntime) -> Result<(), F
     Ok(())
 }
 
-fn expect_failures<K: Keep>(rt: &impl Abort, alloc: Global, keep: &mut K) -> Result<(), Fail> {
+pub(super) fn expect_failures<K: Keep>(
+    rt: &impl Abort,
+    alloc: Global,
+    keep: &mut K,
+) -> Result<(), Fail> {
     const IDS: &[(u64, u64)] = &[(0, 3), (2, 6), (GREATEST_ID, 9), (u64::MAX, 12)];
     for (id, failures) in IDS {
         let is_refused = is_refused(alloc, keep, *id)?;
@@ -222,7 +243,7 @@ fn expect_failures<K: Keep>(rt: &impl Abort, alloc: Global, keep: &mut K) -> Res
 }
 
 /// A token's record with an SO PIN of so many tries, and no user PIN.
-fn record_with_tries(alloc: Global, tries: u8) -> Result<Record, Fail> {
+pub(super) fn record_with_tries(alloc: Global, tries: u8) -> Result<Record, Fail> {
     let mut bytes = Vec::new(alloc);
     bytes.extend_from_slice(&[2, 1])?;
     bytes.extend_from_slice(&[b'x'; 32])?;
@@ -256,7 +277,11 @@ const CHARGES: &[(UserType, u64, Result<Option<u8>, KeepFault>, u8)] = &[
     (UserType::User, 1, Ok(None), 10),
 ];
 
-fn expect_charges<K: Keep>(rt: &impl Abort, alloc: Global, keep: &mut K) -> Result<(), Fail> {
+pub(super) fn expect_charges<K: Keep>(
+    rt: &impl Abort,
+    alloc: Global,
+    keep: &mut K,
+) -> Result<(), Fail> {
     for (who, id, wanted, tries) in CHARGES {
         let got = charge_and_read_byte(alloc, keep, *who, *id)?;
         let record = record_with_tries(alloc, *tries)?;

@@ -1,5 +1,4 @@
 use Rattle.std.proofs.Common.{◌≡◌, sym, ◌∙◌, ap, subst}
-use Rattle.failing_keep.specs.Failing.{FailingState}
 use Rattle.failing_keep.proofs.FailingKeepKeep.set_record.Goals as goal
 
 pub returns-in-Ok-clause-ok : goal.returns-in-Ok-clause-ok

@@ -1,0 +1,210 @@
+-- What the opening of a store makes of a connection, from its steps.
+use Rattle.std.proofs.Common.{◌≡◌, ◌≢◌, ◌⊎◌, inl, inr, Bool, true, false, not, Ok, Err, Result, IfOk, IfErr, OnErr, IsErrOf, IsTrue, refl, sym, ap, subst, ◌∙◌, arith, ◌≤◌}
+use Rattle.sqlite_trees.specs.View.{doubt}
+use Rattle.sqlite.specs.Tree.{Trees}
+use Rattle.sqlite.specs.Effect.{Database}
+use Rattle.sqlite.specs.Store.{Ghosts}
+use Rattle.sqlite.specs.State.{State, HasCleanDisk}
+use Rattle.sqlite.specs.Held.{state}
+use Rattle.pin_record.specs.Records.{TokenRecord, new_record}
+use Rattle.keep.specs.Contents.{Contents, new_contents}
+use Rattle.keep.specs.declared.keep.KeepFault.{KeepFault}
+use Rattle.keep.specs.declared.keep.KeepFault.TheVariants.{Damaged}
+use Rattle.keep_sql.specs.Tables.{no_schema, token_schema}
+use Rattle.keep_sql.specs.Store.{Stores, IsAt, Holds, IsReady, OnlyReads, Sees, SeesTables, ShowsNow, Unwritten, ReadsAs}
+use Rattle.keep_sql.specs.SqlState.{SqlState, sql_terms}
+use Rattle.keep_sql.specs.Opening.{Adopts, AllDecode, IsOurs, NotOpened, Opened, has_tables}
+use Rattle.keep_sql.proofs.Lift.{at_again, held_on, one_contents, reads_one}
+use Rattle.keep_sql.proofs.Queries.{reads_stay, sees_held}
+use Rattle.keep_sql.proofs.Opens.{not_both, not_none, same_record, stored_decodes}
+
+-- ---- a store that has tables is read
+
+module _ (old new : State) (ready : IsReady old) (sees : Sees old old.now) (there : has_tables old.now.schema ≡ true) (reads : OnlyReads old new) where
+  ours_read : old.now.schema ≡ token_schema → SeesTables old old.now
+  ours_read both = λ clean up. (sees clean up, both)
+
+  was_clean : HasCleanDisk new → HasCleanDisk old
+  was_clean clean = omega (arith, reads.clean)
+
+  checked_ok : (r : TokenRecord) → (HasCleanDisk new → (db : Database) → SeesTables old db → IsTrue new.is_open × AllDecode db.trees r) → Opened old new r
+  checked_ok r found = record {
+    clean = reads.clean;
+    held = λ c h clean.
+        let at = h (was_clean clean) (ready (was_clean clean)) in
+        let both = found clean old.now (sees_held old c h) in
+        (both.0, at_again old new c at (reads.sees old.now (sees_held old c h) clean both.0).0, same_record old.now.trees c r at.stores both.1);
+    fresh = λ none clean. absurd (not_none old there none);
+    decodes = λ both clean. found clean old.now (ours_read both);
+  }
+
+  checked_err : (fault : KeepFault) → (HasCleanDisk new → (db : Database) → SeesTables old db → (r : TokenRecord) → AllDecode db.trees r → fault ≢ Damaged) → NotOpened old new fault
+  checked_err fault undamaged = record {
+    clean = reads.clean;
+    same = λ ours clean up. elim ours [
+      | inl none ↦ absurd (not_none old there none)
+      | inr both ↦
+          let at = sees (was_clean clean) (ready (was_clean clean)) in
+          let shows = (reads.sees old.now (ours_read both) clean up).0 in
+          (shows.now, shows.settled ∙ sym at.settled, shows.autocommit ∙ sym at.autocommit)
+    ];
+    crash = λ ours clean left may. elim ours [ inl none ↦ absurd (not_none old there none) | inr both ↦ inl (reads.crash clean old.now (ours_read both) left may) ];
+    held = (reads_stay old new reads).held;
+    left = λ c h clean left may. reads.crash clean old.now (sees_held old c h) left may;
+    undamaged = λ c h clean. undamaged clean old.now (sees_held old c h) c.token_record (stored_decodes old.now.trees c (h (was_clean clean) (ready (was_clean clean))).stores);
+    fresh = λ none clean. absurd (not_none old there none);
+  }
+
+  pub checked : (r : Result TokenRecord KeepFault) → (HasCleanDisk new → (db : Database) → SeesTables old db → IfOk r (λ x. IsTrue new.is_open × AllDecode db.trees x))
+      → (HasCleanDisk new → (db : Database) → SeesTables old db → (x : TokenRecord) → AllDecode db.trees x → IsErrOf r Damaged → ⊥) → IfOk r (Opened old new) × IfErr r (NotOpened old new)
+  checked (Ok x) found undamaged = (checked_ok x found, tt)
+  checked (Err fault) found undamaged = (tt, checked_err fault (λ clean db tables x all is. undamaged clean db tables x all (ap Err is)))
+
+-- ---- a store that has none is made
+
+module _ (old new : State) (ready : IsReady old) (sees : Sees old old.now) (there : has_tables old.now.schema ≡ false) (clean_on : doubt old.is_clean ≤ doubt new.is_clean) where
+  still_clean : HasCleanDisk new → HasCleanDisk old
+  still_clean clean = omega (arith, clean_on)
+
+  -- then no contents were held
+  none_held : (c : Contents) → Holds old c → HasCleanDisk new → ⊥
+  none_held c h clean = not_both old there (h (still_clean clean) (ready (still_clean clean))).schema
+
+  pub made : (r : Result TokenRecord KeepFault) → (old.now.schema ≡ no_schema → HasCleanDisk new → IfOk r (λ x. IsTrue new.is_open × IsAt new (new_contents new_record) × (x ≡ new_record)))
+      → ((db : Database) → IsReady old → Sees old db → HasCleanDisk new → IsTrue new.is_open → OnErr r (ShowsNow new db))
+      → (old.now.schema ≡ no_schema → HasCleanDisk new → (left : Trees) → new.may_leave left → old.may_leave left ⊎ Stores left (new_contents new_record))
+      → (IsErrOf r Damaged → ⊥) → IfOk r (Opened old new) × IfErr r (NotOpened old new)
+  made (Ok x) fresh same crash undamaged = (
+    record {
+      clean = clean_on;
+      held = λ c h clean. absurd (none_held c h clean);
+      fresh = fresh;
+      decodes = λ both clean. absurd (not_both old there both);
+    },
+    tt,
+  )
+  made (Err fault) fresh same crash undamaged = (
+    tt,
+    record {
+      clean = clean_on;
+      same = λ ours clean up.
+          let at = sees (still_clean clean) (ready (still_clean clean)) in
+          let shows = same old.now ready sees clean up in
+          (shows.now, shows.settled ∙ sym at.settled, shows.autocommit ∙ sym at.autocommit);
+      crash = λ ours clean left may. elim ours [
+        | inl none ↦ elim (crash none clean left may) [ inl before ↦ inl before | inr whole ↦ inr (none, whole) ]
+        | inr both ↦ absurd (not_both old there both)
+      ];
+      held = λ c h clean up. absurd (none_held c h clean);
+      left = λ c h clean left may. absurd (none_held c h clean);
+      undamaged = λ c h clean. absurd (none_held c h clean);
+      fresh = λ none clean is. undamaged (ap Err is);
+    },
+  )
+
+-- ---- after a call that found the connection open
+
+module _ (old mid new : State) (kept : Unwritten old mid) (ready : IsReady mid) (sees : Sees old old.now) where
+  mid_sees : Sees mid old.now
+  mid_sees = kept.sees old.now sees
+
+  pub seen_again : Sees mid mid.now
+  seen_again clean up = let at = mid_sees clean up in record { now = refl; settled = at.settled ∙ sym at.now; autocommit = at.autocommit }
+
+  same_now : HasCleanDisk mid → mid.now ≡ old.now
+  same_now clean = (mid_sees clean (ready clean)).now
+
+  opened_on : (r : TokenRecord) → Opened mid new r → Opened old new r
+  opened_on r it = record {
+    clean = omega (arith, kept.clean, it.clean);
+    held = λ c h clean. it.held c (held_on old mid c kept h) clean;
+    fresh = λ none clean. it.fresh (ap (λ (d : Database). d.schema) (same_now (mid_clean clean)) ∙ none) clean;
+    decodes = λ both clean. subst (λ (d : Database). IsTrue new.is_open × AllDecode d.trees r) (same_now (mid_clean clean)) (it.decodes (ap (λ (d : Database). d.schema) (same_now (mid_clean clean)) ∙ both) clean);
+  }
+    where
+      mid_clean : HasCleanDisk new → HasCleanDisk mid
+      mid_clean clean = omega (arith, it.clean)
+
+  not_opened_on : (fault : KeepFault) → NotOpened mid new fault → NotOpened old new fault
+  not_opened_on fault it = record {
+    clean = omega (arith, kept.clean, it.clean);
+    same = λ ours clean up.
+        let both = it.same (still_ours clean ours) clean up in
+        let was = sees (old_clean clean) (kept.was_open (mid_clean clean) (ready (mid_clean clean))) in
+        let at = mid_sees (mid_clean clean) (ready (mid_clean clean)) in
+        (both.0 ∙ at.now, both.1 ∙ at.settled ∙ sym was.settled, both.2 ∙ at.autocommit ∙ sym was.autocommit);
+    crash = λ ours clean left may. elim (it.crash (still_ours clean ours) clean left may) [
+      | inl before ↦ inl (kept.crash (mid_clean clean) left before)
+      | inr whole ↦ inr (sym (ap (λ (d : Database). d.schema) (same_now (mid_clean clean))) ∙ whole.0, whole.1)
+    ];
+    held = λ c h. it.held c (held_on old mid c kept h);
+    left = λ c h clean left may. kept.crash (mid_clean clean) left (it.left c (held_on old mid c kept h) clean left may);
+    undamaged = λ c h clean. it.undamaged c (held_on old mid c kept h) clean;
+    fresh = λ none clean. it.fresh (ap (λ (d : Database). d.schema) (same_now (mid_clean clean)) ∙ none) clean;
+  }
+    where
+      mid_clean : HasCleanDisk new → HasCleanDisk mid
+      mid_clean clean = omega (arith, it.clean)
+
+      old_clean : HasCleanDisk new → HasCleanDisk old
+      old_clean clean = omega (arith, kept.clean, it.clean)
+
+      still_ours : HasCleanDisk new → IsOurs old.now.schema → IsOurs mid.now.schema
+      still_ours clean ours = subst (λ (d : Database). IsOurs d.schema) (sym (same_now (mid_clean clean))) ours
+
+  pub then_opened : (r : Result TokenRecord KeepFault) → IfOk r (Opened mid new) → IfOk r (Opened old new)
+  then_opened (Ok x) it = opened_on x it
+  then_opened (Err fault) it = tt
+
+  pub then_not_opened : (r : Result TokenRecord KeepFault) → IfErr r (NotOpened mid new) → IfErr r (NotOpened old new)
+  then_not_opened (Ok x) it = tt
+  then_not_opened (Err fault) it = not_opened_on fault it
+
+-- ---- a refusal before anything was done
+
+pub not_tried : (old new : State) (fault : KeepFault) → Unwritten old new → Sees old old.now → fault ≢ Damaged → NotOpened old new fault
+not_tried old new fault kept sees sound = record {
+  clean = kept.clean;
+  same = λ ours clean up.
+      let old_clean : HasCleanDisk old = omega (arith, kept.clean) in
+      let was = sees old_clean (kept.was_open clean up) in
+      let at = kept.sees old.now sees clean up in
+      (at.now, at.settled ∙ sym was.settled, at.autocommit ∙ sym was.autocommit);
+  crash = λ ours clean left may. inl (kept.crash clean left may);
+  held = λ c h. held_on old new c kept h;
+  left = λ c h clean left may. kept.crash clean left may;
+  undamaged = λ c h clean. sound;
+  fresh = λ none clean. sound;
+}
+
+pub not_touched : (s : State) (fault : KeepFault) → fault ≢ Damaged → NotOpened s s fault
+not_touched s fault sound = record {
+  clean = omega arith;
+  same = λ ours clean up. (refl, refl, refl);
+  crash = λ ours clean left may. inl may;
+  held = λ c h. h;
+  left = λ c h clean left may. may;
+  undamaged = λ c h clean. sound;
+  fresh = λ none clean. sound;
+}
+
+not_is : (b : Bool) → true ≡ not b → b ≡ false
+not_is true is = absurd (cc)
+not_is false is = refl
+
+-- an open connection with no transaction
+pub autocommits : (s : State) → true ≡ not s.in_transaction → (IsTrue s.is_open → s.now ≡ s.committed) → Sees s s.now
+autocommits s mode settled = λ clean up. record { now = refl; settled = sym (settled up); autocommit = not_is s.in_transaction mode }
+
+-- ---- the keeper that is made
+
+module _ {S : Type 0} (g : Ghosts S) (k : SqlState S) (c : Contents) (clean : HasCleanDisk (state g k.conn)) (up : IsTrue (state g k.conn).is_open) (at : IsAt (state g k.conn) c) (same : k.token_record ≡ c.token_record)
+    (alone : (db : Trees) → IsTrue (state g k.conn).is_open → (state g k.conn).may_leave db → db ≡ (state g k.conn).committed.trees) where
+  pub adopts : Adopts (sql_terms g) k c
+  adopts = record {
+    held = (λ _ _. at, same);
+    only = λ d h. one_contents (state g k.conn).now.trees d c (h.0 clean up).stores at.stores;
+    alone = λ left may.
+        let trees : may.1.0 ≡ (state g k.conn).now.trees = alone may.1.0 up may.1.1 ∙ ap (λ (d : Database). d.trees) at.settled in
+        reads_one (state g k.conn).now.trees c left at.stores (subst (λ (t : Trees). ReadsAs t left) trees may.1.2);
+  }

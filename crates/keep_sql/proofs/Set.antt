@@ -1,0 +1,52 @@
+-- UPDATE record as a step of the contents.
+use Rattle.std.proofs.Common.{◌≡◌, ℕ, List, [], codes, None, Ok, refl, ap, subst, ◌∙◌}
+use Rattle.sqlite.specs.Schema.{Schema}
+use Rattle.sqlite.specs.Command.TheVariants.{Update}
+use Rattle.sqlite.specs.Effect.{Database}
+use Rattle.sqlite.specs.Does.{Tally, Does}
+use Rattle.sqlite.specs.State.{State, mode_of}
+use Rattle.sqlite_tied.specs.Compute.{everything}
+use Rattle.sqlite.specs.Listing.{understood}
+use Rattle.sqlite.proofs.Callers.{IsPlain}
+use Rattle.pin_record.specs.Records.{TokenRecord}
+use Rattle.pin_record.specs.Stored.{IsRecord}
+use Rattle.keep.specs.Contents.{Contents, with_record}
+use Rattle.keep.specs.ContentsLaws.{IsSound-with_record}
+use Rattle.keep_sql.specs.Tables.{token_schema, record_table}
+use Rattle.keep_sql.specs.Store.{Stores}
+use Rattle.keep_sql.proofs.Texts.{set_is}
+use Rattle.keep_sql.proofs.Insert.{went}
+use Rattle.keep_sql.proofs.Steps.{concluded}
+use Rattle.keep_sql.proofs.Update.{set_query, set_params, updates}
+use Rattle.keep_sql.proofs.Lift.{IsStep}
+
+set_plain : IsPlain (understood token_schema (codes "UPDATE record SET body = ?1"))
+unfolding understood everything
+set_plain = (refl, refl)
+
+set_does : (r : TokenRecord) (is : IsRecord r) (s : State) (text : List ℕ) (c : Contents) (tally : Tally) (after : Database) → s.now.schema ≡ token_schema → Stores s.now.trees c
+    → Does s.step_limit (mode_of s) (set_params r) s.now text None (Update 0 (record { lets = []; body = set_query })) (Ok (tally, after)) → (after.schema ≡ token_schema) × Stores after.trees (with_record r c)
+set_does r is s text c tally after has it h =
+    let done = went (subst (λ (x : Schema). Does s.step_limit (mode_of s) (set_params r) (record s.now { schema = x }) text None (Update 0 (record { lets = []; body = set_query })) (Ok (tally, after))) has h) in
+    let end = concluded s.step_limit record_table (set_params r) (mode_of s) done.0 tally after done.2 in
+    let all = updates s.step_limit s.now.trees c.token_record r done.0 it.record_is done.1 in (
+      ap (λ (d : Database). d.schema) end.0,
+      record {
+        record_is = ap (λ (d : Database). d.trees 0) end.0 ∙ all.0;
+        objects_are = ap (λ (d : Database). d.trees 1) end.0 ∙ all.1 ∙ it.objects_are;
+        count_is = ap (λ (d : Database). d.trees 2) end.0 ∙ all.2 ∙ it.count_is;
+        sound = IsSound-with_record r c it.sound;
+        is_record = is;
+        are_objects = it.are_objects;
+      },
+    )
+
+pub set_step : (r : TokenRecord) → IsRecord r → IsStep (codes "UPDATE record SET body = ?1") (set_params r) (Update 0 (record { lets = []; body = set_query })) (with_record r)
+set_step r is = record {
+  is = set_is;
+  plain = set_plain;
+  writes = λ old new text count h. h;
+  no_commit = λ e. absurd (cc);
+  no_release = λ name e. absurd (cc);
+  does = set_does r is;
+}

@@ -1,0 +1,20 @@
+use Rattle.std.proofs.Common.{◌∙◌, sym}
+use Rattle.sqlite.specs.Held.{state}
+use Rattle.keep_sql.proofs.Outcomes.{checked, made}
+use Rattle.keep_sql.proofs.opening.open_ready.Goals as goal
+
+pub returns-then-has_tables-clause-opened : goal.returns-then-has_tables-clause-opened
+returns-then-has_tables-clause-opened g c = λ ready sees.
+    (checked (state g.S.Store c.args.conn.now) (state g.S.Store c.check.new.conn) ready sees (sym c.has_tables.ensures ∙ c.if-has_tables.true) c.check.ensures.same c.check.result c.check.ensures.ok c.check.ensures.undamaged).0
+
+pub returns-then-has_tables-clause-not_opened : goal.returns-then-has_tables-clause-not_opened
+returns-then-has_tables-clause-not_opened g c = λ ready sees.
+    (checked (state g.S.Store c.args.conn.now) (state g.S.Store c.check.new.conn) ready sees (sym c.has_tables.ensures ∙ c.if-has_tables.true) c.check.ensures.same c.check.result c.check.ensures.ok c.check.ensures.undamaged).1
+
+pub returns-else-has_tables-clause-opened : goal.returns-else-has_tables-clause-opened
+returns-else-has_tables-clause-opened g c = λ ready sees.
+    (made (state g.S.Store c.args.conn.now) (state g.S.Store c.create.new.conn) ready sees (sym c.has_tables.ensures ∙ c.if-has_tables.false) c.create.ensures.clean c.create.result c.create.ensures.made c.create.ensures.same c.create.ensures.crash c.create.ensures.undamaged).0
+
+pub returns-else-has_tables-clause-not_opened : goal.returns-else-has_tables-clause-not_opened
+returns-else-has_tables-clause-not_opened g c = λ ready sees.
+    (made (state g.S.Store c.args.conn.now) (state g.S.Store c.create.new.conn) ready sees (sym c.has_tables.ensures ∙ c.if-has_tables.false) c.create.ensures.clean c.create.result c.create.ensures.made c.create.ensures.same c.create.ensures.crash c.create.ensures.undamaged).1

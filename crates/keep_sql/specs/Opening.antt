@@ -1,0 +1,65 @@
+-- What the opening of a store makes of a connection.
+use Rattle.std.specs.Prelude.{◌≡◌, ◌≢◌, ◌⊎◌, ◌≤◌, ◌||◌, Bool, List, [], ◌∷◌, map, All, bytes_eq, codes, IsTrue, Option, Some}
+use Rattle.std.specs.List.{list_any}
+use Rattle.sqlite.specs.Table.{Table}
+use Rattle.sqlite_value.specs.Order.{Row, column}
+use Rattle.sqlite.specs.Schema.{Schema}
+use Rattle.sqlite.specs.Tree.{Trees, rowid}
+use Rattle.sqlite_trees.specs.View.{doubt}
+use Rattle.sqlite.specs.State.{State, HasCleanDisk}
+use Rattle.pin_record.specs.Records.{TokenRecord, new_record}
+use Rattle.keep.specs.declared.keep.KeepFault.{KeepFault}
+use Rattle.keep.specs.declared.keep.KeepFault.TheVariants.{Damaged}
+use Rattle.keep.specs.Contents.{Contents, new_contents}
+use Rattle.keep.specs.Keeping.{Terms}
+use Rattle.keep_sql.specs.Tables.{no_schema, token_schema}
+use Rattle.keep_sql.specs.Store.{Holds, IsAt, Stores}
+use Rattle.keep_sql.specs.Rows.{ShowRecord, ShowsObject}
+
+-- the columns that are shown of a table: the body, and the id and the body
+abbrev pub bodies : List Row → List Row
+bodies = map (λ r. column r 2 ∷ [])
+
+abbrev pub ids_and_bodies : List Row → List Row
+ids_and_bodies = map (λ r. rowid r ∷ column r 2 ∷ [])
+
+-- The record's table is one row, the body of this record, and each row of the other table is an id above 0 with the body of a token
+-- object.
+pub record AllDecode (trees : Trees) (r : TokenRecord) : Type 0 where
+  pub record_is : ShowRecord (bodies (trees 0)) r
+  pub objects_are : All ShowsObject (ids_and_bodies (trees 1))
+
+-- the table has the name of one of the two
+abbrev pub is_token_table : Table → Bool
+is_token_table t = bytes_eq t.name (codes "record") || bytes_eq t.name (codes "objects")
+
+abbrev pub has_tables : Schema → Bool
+has_tables schema = list_any is_token_table schema.tables
+
+-- no table, or the two
+abbrev pub IsOurs : Schema → Type 0
+IsOurs schema = (schema ≡ no_schema) ⊎ (schema ≡ token_schema)
+
+-- The store is open. It holds what it held, or, where it had no table, a new token's contents; and what it holds decodes.
+pub record Opened (old new : State) (r : TokenRecord) : Type 0 where
+  pub clean : doubt old.is_clean ≤ doubt new.is_clean
+  pub held : (c : Contents) → Holds old c → HasCleanDisk new → IsTrue new.is_open × IsAt new c × (r ≡ c.token_record)
+  pub fresh : old.now.schema ≡ no_schema → HasCleanDisk new → IsTrue new.is_open × IsAt new (new_contents new_record) × (r ≡ new_record)
+  pub decodes : old.now.schema ≡ token_schema → HasCleanDisk new → IsTrue new.is_open × AllDecode old.now.trees r
+
+-- It is refused, and as it was. A crash leaves what it could leave before, or, where there was no table, the whole of a new store. What
+-- holds contents, or has no table, isn't called damaged.
+pub record NotOpened (old new : State) (fault : KeepFault) : Type 0 where
+  pub clean : doubt old.is_clean ≤ doubt new.is_clean
+  pub same : IsOurs old.now.schema → HasCleanDisk new → IsTrue new.is_open → (new.now ≡ old.now) × (new.committed ≡ old.committed) × (new.in_transaction ≡ old.in_transaction)
+  pub crash : IsOurs old.now.schema → HasCleanDisk new → (left : Trees) → new.may_leave left → old.may_leave left ⊎ ((old.now.schema ≡ no_schema) × Stores left (new_contents new_record))
+  pub held : (c : Contents) → Holds old c → Holds new c
+  pub left : (c : Contents) → Holds old c → HasCleanDisk new → (left : Trees) → new.may_leave left → old.may_leave left
+  pub undamaged : (c : Contents) → Holds old c → HasCleanDisk new → fault ≢ Damaged
+  pub fresh : old.now.schema ≡ no_schema → HasCleanDisk new → fault ≢ Damaged
+
+-- a keeper as it is opened over a store that holds contents: it holds these and no others, and a crash leaves them alone
+pub record Adopts {K : Type 0} (terms : Terms K) (k : K) (c : Contents) : Type 0 where
+  pub held : terms.holds k c
+  pub only : (d : Contents) → terms.holds k d → d ≡ c
+  pub alone : (left : Option Contents) → terms.may_leave k left → left ≡ Some c

@@ -1,0 +1,35 @@
+-- What a row of an answer shows.
+use Rattle.std.specs.Prelude.{◌≡◌, ℕ, ℤ, pos, negsuc, ◌<◌, List, [], ◌∷◌}
+use Rattle.sqlite_value.specs.declared.value.Value.TheVariants.{Int, Blob}
+use Rattle.sqlite_value.specs.Order.{Row, column}
+use Rattle.sqlite.specs.Edit.{id_in}
+use Rattle.attrs.specs.Objects.{IsObject}
+use Rattle.pin_record.specs.Records.{TokenRecord}
+use Rattle.pin_record.specs.Stored.{IsRecord}
+use Rattle.keep.specs.Contents.{IsTokenObject}
+use Rattle.keep_sql.specs.Store.{Body, encoded, encoded_record}
+
+abbrev pub natural : ℤ → ℕ
+natural (pos n) = n
+natural (negsuc n) = 0
+
+-- the number in the first column
+abbrev pub first_number : Row → ℕ
+first_number row = natural (id_in (column row 0))
+
+-- the id and the body of a token object
+pub record ShowsObject (row : Row) : Type 0 where
+  pub id : ℕ
+  pub object : Body
+  pub id_is : column row 0 ≡ Int (pos id)
+  pub above : 0 < id
+  pub body_is : column row 1 ≡ Blob (encoded object)
+  pub is_object : IsObject object
+  pub is_token : IsTokenObject object
+
+-- one row alone, which is the body of the record
+pub record ShowRecord (rows : List Row) (r : TokenRecord) : Type 0 where
+  pub row : Row
+  pub alone : rows ≡ row ∷ []
+  pub body_is : column row 0 ≡ Blob (encoded_record r)
+  pub is_record : IsRecord r

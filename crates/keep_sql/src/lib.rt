@@ -1,0 +1,46 @@
+//! A durable keeper of a token's objects and its record, over the crate `sqlite`.
+//!
+//! - `SqlKeep` is a `Keep` (`keep`) over a connection. `SqlKeep::open` opens a file, `SqlKeep::in_memory`
+//!   makes a store in memory, `SqlKeep::from_connection` takes any connection, and `close` gives it back.
+//!
+//! A store has two tables, both STRICT:
+//!
+//! ```text
+//! CREATE TABLE record(id INTEGER PRIMARY KEY CHECK (id = 1), body BLOB NOT NULL) STRICT
+//! CREATE TABLE objects(id INTEGER PRIMARY KEY AUTOINCREMENT, body BLOB NOT NULL) STRICT
+//! ```
+//!
+//! A body is the stored form of the record (`pin_record`) or of a token object (`attrs`). Ids rise by one,
+//! and sqlite's own table of counters keeps the last that was given, so none returns.
+//!
+//! A store with neither table is new, and gets both and a record that isn't initialised in one transaction.
+//! Where one of them is there, both are taken to be there as they stand here, and each body is read: one
+//! that doesn't decode, a record that isn't just one row, or an id below 1 is `KeepFault::Damaged`, and
+//! nothing is written. Once a store is open each change is one statement, and a reset one transaction of
+//! two. What sqlite refuses, its want of memory included, is a counted `KeepFault::Device`; a body that
+//! finds no memory is `KeepFault::Memory`. After a fault the store is as it was. Each call first asks
+//! whether the connection is open: one that sqlite has shut after a fault of the disk is never written again.
+//!
+//! What contracts say of contents holds of an honest store: as long as nobody else writes the file and the
+//! disk returns what was written (`doubt` is 0; in memory always), and where the store was opened on no
+//! table or on these two. After an acknowledged change a crash leaves the change alone, after a fault what
+//! it could leave before, or the whole change (`keep`).
+//!
+//! ```text
+//! let mut keep = SqlKeep::open(&rt, "token.db", Wary)?;
+//! let id = keep.insert(&object)?;
+//! let read = keep.object(alloc, id)?; // equal to object
+//! drop(keep.close().close()); // copies sqlite's log into the file
+//! ```
+#![tactic(auto)]
+
+mod changes;
+mod files;
+mod listing;
+mod opening;
+mod rows;
+mod sql_keep;
+mod statements;
+mod transactions;
+
+pub use sql_keep::SqlKeep;

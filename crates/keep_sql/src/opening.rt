@@ -1,0 +1,131 @@
+//! Opening a store: a new one is made, and another one is read through.
+
+ghost use Rattle.std.specs.Prelude.{◌≡◌, ◌≤◌, ◌⊎◌, true, false, All, IsTrue, IfOk, IfErr, OnOk, OnErr, IsErrOf, bytes_eq};
+ghost use Rattle.sqlite.specs.Effect.{Database};
+ghost use Rattle.sqlite.specs.Tree.{Trees};
+ghost use Rattle.sqlite_trees.specs.View.{doubt};
+ghost use Rattle.sqlite.specs.State.{HasCleanDisk};
+ghost use Rattle.sqlite.specs.Held.{state};
+ghost use Rattle.pin_record.specs.Records.{TokenRecord, new_record};
+ghost use Rattle.keep.specs.declared.keep.KeepFault.TheVariants.{Damaged};
+ghost use Rattle.keep.specs.Contents.{new_contents};
+ghost use Rattle.keep_sql.specs.Tables.{no_schema};
+ghost use Rattle.keep_sql.specs.Store.{IsAt, IsReady, OnlyReads, Sees, SeesTables, ShowsNow, Stores};
+ghost use Rattle.keep_sql.specs.Rows.{ShowRecord, ShowsObject};
+ghost use Rattle.keep_sql.specs.Opening.{AllDecode, NotOpened, Opened, bodies, has_tables as has_tables_in, ids_and_bodies, is_token_table as is_one_of_two};
+
+use crate::listing::read_all;
+use crate::rows::{check_rows, only_record};
+use crate::statements::ensure_open;
+use crate::transactions::run_three;
+use keep::KeepFault;
+use pin_record::Record;
+use sqlite::{Alter, Connection};
+use sqlite_schema::schema::Table;
+use std::alloc::Global;
+
+fn is_token_table(table: &Table) -> bool
+    ensures { result ≡ is_one_of_two table.now }
+{
+    let name = table.name.as_slice();
+    name == b"record".as_slice() || name == b"objects".as_slice()
+}
+
+/// Whether one of the two tables is there, by its name.
+fn has_tables<S: Alter>(conn: &Connection<S>) -> bool
+    ensures { result ≡ has_tables_in (state S.Store conn.now).now.schema }
+{
+    let tables = conn.schema().tables.as_slice();
+    tables.iter().any(|table| is_token_table(table))
+}
+
+/// Makes both tables and a record that isn't initialised, and answers it.
+fn create<S: Alter>(alloc: Global, conn: &mut Connection<S>) -> Result<Record, KeepFault>
+    ensures clean { doubt (state S.Store conn.old).is_clean ≤ doubt (state S.Store conn.new).is_clean }
+    ensures made { (state S.Store conn.old).now.schema ≡ no_schema → HasCleanDisk (state S.Store conn.new)
+        → IfOk result (λ r. IsTrue (state S.Store conn.new).is_open × IsAt (state S.Store conn.new) (new_contents new_record) × (r ≡ new_record)) }
+    ensures same { (db : Database) → IsReady (state S.Store conn.old) → Sees (state S.Store conn.old) db → HasCleanDisk (state S.Store conn.new) → IsTrue (state S.Store conn.new).is_open
+        → OnErr result (ShowsNow (state S.Store conn.new) db) }
+    ensures crash { (state S.Store conn.old).now.schema ≡ no_schema → HasCleanDisk (state S.Store conn.new) → (left : Trees) → (state S.Store conn.new).may_leave left
+        → (state S.Store conn.old).may_leave left ⊎ Stores left (new_contents new_record) }
+    ensures undamaged { IsErrOf result Damaged → ⊥ }
+{
+    let record = Record::new();
+    let bytes = pin_record::encode(alloc, &record)?;
+    match run_three(
+        conn,
+        "CREATE TABLE record(id INTEGER PRIMARY KEY CHECK (id = 1), body BLOB NOT NULL) STRICT",
+        "CREATE TABLE objects(id INTEGER PRIMARY KEY AUTOINCREMENT, body BLOB NOT NULL) STRICT",
+        "INSERT INTO record VALUES (1, ?1)",
+        bytes.as_slice(),
+    ) {
+        Ok(true) => Ok(record),
+        Ok(false) => Err(KeepFault::Device),
+        Err(_) => Err(KeepFault::Device),
+    }
+}
+
+/// The record, which stands in the only row of its table.
+fn read_record<S: Alter>(conn: &mut Connection<S>) -> Result<Record, KeepFault>
+    ensures same { OnlyReads (state S.Store conn.old) (state S.Store conn.new) }
+    ensures ok { HasCleanDisk (state S.Store conn.new) → (db : Database) → SeesTables (state S.Store conn.old) db → IfOk result (ShowRecord (bodies (db.trees 0))) }
+    ensures undamaged { HasCleanDisk (state S.Store conn.new) → (db : Database) → SeesTables (state S.Store conn.old) db → (r : TokenRecord) → ShowRecord (bodies (db.trees 0)) r → IsErrOf result Damaged → ⊥ }
+{
+    match read_all(conn, "SELECT body FROM record") {
+        Ok(rows) => only_record(rows.as_slice()),
+        Err(_) => Err(KeepFault::Device),
+    }
+}
+
+/// Tests the id and the body of each object.
+fn check_objects<S: Alter>(alloc: Global, conn: &mut Connection<S>) -> Result<(), KeepFault>
+    ensures same { OnlyReads (state S.Store conn.old) (state S.Store conn.new) }
+    ensures open { HasCleanDisk (state S.Store conn.new) → (db : Database) → SeesTables (state S.Store conn.old) db → OnOk result (IsTrue (state S.Store conn.new).is_open) }
+    ensures ok { HasCleanDisk (state S.Store conn.new) → (db : Database) → SeesTables (state S.Store conn.old) db → OnOk result (All ShowsObject (ids_and_bodies (db.trees 1))) }
+    ensures undamaged { HasCleanDisk (state S.Store conn.new) → (db : Database) → SeesTables (state S.Store conn.old) db → All ShowsObject (ids_and_bodies (db.trees 1)) → IsErrOf result Damaged → ⊥ }
+{
+    match read_all(conn, "SELECT id, body FROM objects") {
+        Ok(rows) => check_rows(alloc, rows.as_slice()),
+        Err(_) => Err(KeepFault::Device),
+    }
+}
+
+/// Reads the whole store, and answers the record.
+fn check<S: Alter>(alloc: Global, conn: &mut Connection<S>) -> Result<Record, KeepFault>
+    ensures same { OnlyReads (state S.Store conn.old) (state S.Store conn.new) }
+    ensures ok { HasCleanDisk (state S.Store conn.new) → (db : Database) → SeesTables (state S.Store conn.old) db → IfOk result (λ r. IsTrue (state S.Store conn.new).is_open × AllDecode db.trees r) }
+    ensures undamaged { HasCleanDisk (state S.Store conn.new) → (db : Database) → SeesTables (state S.Store conn.old) db → (r : TokenRecord) → AllDecode db.trees r → IsErrOf result Damaged → ⊥ }
+{
+    let record = read_record(conn)?;
+    check_objects(alloc, conn)?;
+    Ok(record)
+}
+
+/// Opens a store over a connection that is open.
+fn open_ready<S: Alter>(alloc: Global, conn: &mut Connection<S>) -> Result<Record, KeepFault>
+    ensures opened { IsReady (state S.Store conn.old) → Sees (state S.Store conn.old) (state S.Store conn.old).now → IfOk result (Opened (state S.Store conn.old) (state S.Store conn.new)) }
+    ensures not_opened { IsReady (state S.Store conn.old) → Sees (state S.Store conn.old) (state S.Store conn.old).now → IfErr result (NotOpened (state S.Store conn.old) (state S.Store conn.new)) }
+{
+    if has_tables(conn) {
+        check(alloc, conn)
+    } else {
+        create(alloc, conn)
+    }
+}
+
+/// Opens a store, and answers its record.
+pub(crate) fn open_store<S: Alter>(
+    alloc: Global,
+    conn: &mut Connection<S>,
+) -> Result<Record, KeepFault>
+    ensures opened { IfOk result (Opened (state S.Store conn.old) (state S.Store conn.new)) }
+    ensures not_opened { IfErr result (NotOpened (state S.Store conn.old) (state S.Store conn.new)) }
+{
+    if !conn.is_autocommit() {
+        return Err(KeepFault::Device);
+    }
+    match ensure_open(conn, "SELECT 1") {
+        Ok(()) => open_ready(alloc, conn),
+        Err(_) => Err(KeepFault::Device),
+    }
+}

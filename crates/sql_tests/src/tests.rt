@@ -1,0 +1,4 @@
+mod crashes;
+mod damage;
+mod given;
+mod reopening;
