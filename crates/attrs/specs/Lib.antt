@@ -6,3 +6,5 @@ pub mod MaskingLaws
 pub mod Sameness
 pub mod Stored
 pub mod StoredLaws
+pub mod OldStored
+pub mod OldStoredLaws

@@ -20,23 +20,23 @@ stored_entry_canonical =
     mapped_canonical (pair number32 byte_string) (λ p. record { number = p.0; value = p.1 }) (λ e. (e.number, e.value)) (λ x. refl) (λ y. refl)
     (pair_canonical number32 byte_string number32_canonical byte_string_canonical)
 
-stored_entries_canonical : IsCanonical stored_entries
+pub stored_entries_canonical : IsCanonical stored_entries
 stored_entries_canonical = counted_canonical number16 stored_entry number16_canonical stored_entry_canonical
 
-small_fit : (es : List Entry) → AllByRecursion IsSmall es → AllByRecursion stored_entry.Fits es
+pub small_fit : (es : List Entry) → AllByRecursion IsSmall es → AllByRecursion stored_entry.Fits es
 small_fit [] small = tt
 small_fit (e ∷ es) small = let s : IsSmall e = small.0 in ((omega (arith, s.number_small), omega (arith, s.value_small)), small_fit es small.1)
 
 pub object_fits : (es : List Entry) → IsObject es → stored_entries.Fits es
 object_fits es is = let s = IsObject-small es is in (omega (arith, s.1), small_fit es s.0)
 
-if_object_some : (o : Option (List Entry)) (es : List Entry) → if_object o ≡ Some es → (o ≡ Some es) × IsObject es
+pub if_object_some : (o : Option (List Entry)) (es : List Entry) → if_object o ≡ Some es → (o ≡ Some es) × IsObject es
 if_object_some None es e = absurd cc
 if_object_some (Some xs) es e =
     let h = when_ok (is_object xs) (Some xs) es e in
     (h.1, subst IsObject (some_is xs es h.1) h.0)
 
-IsBytes-rest : (b : ℕ) (bytes : List ℕ) → IsBytes (b ∷ bytes) → IsBytes bytes
+pub IsBytes-rest : (b : ℕ) (bytes : List ℕ) → IsBytes (b ∷ bytes) → IsBytes bytes
 IsBytes-rest b bytes h i = h (suc i)
 
 pub object_stored-sound : (bytes : List ℕ) (es : List Entry) → IsBytes bytes → object_stored bytes ≡ Some es → bytes ≡ stored_form es

@@ -9,7 +9,7 @@
 //! - `attributes` is the table of attributes: the form of each, which objects have it, and what a
 //!   template may say of it in each of the calls that make or change an object.
 //! - `encode` and `decode` are the stored form. Each object has one: `decode` accepts just what
-//!   `encode` writes. `size` is its length.
+//!   `encode` writes. `size` is its length. `decode_old` reads the form that older stores have.
 //!
 //! What others may see of an object is a definition, `mask` of `specs/Masking.antt`: the object without
 //! the value of a sensitive or unextractable key.
@@ -24,6 +24,7 @@
 mod check;
 mod fault;
 mod object;
+mod old_stored;
 mod stored;
 mod table;
 
@@ -34,5 +35,6 @@ pub use check::{
 pub use ck_types::Template;
 pub use fault::DecodeFault;
 pub use object::Object;
+pub use old_stored::decode_old;
 pub use stored::{decode, encode, size};
 pub use table::{AttributeRow, DefaultValue, Form, Holder, Rule, attributes};

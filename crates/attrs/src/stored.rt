@@ -45,7 +45,7 @@ fn decode_entries(
     Ok((entries, rest))
 }
 
-fn decode_all(alloc: Global, bytes: &[u8]) -> Result<Vec<Entry>, CodecFault>
+pub(crate) fn decode_all(alloc: Global, bytes: &[u8]) -> Result<Vec<Entry>, CodecFault>
     ensures { DecodesFormat (λ x. x.items) result (whole stored_entries bytes.now) }
 {
     let (front, rest) = split_first(bytes, 2)?;

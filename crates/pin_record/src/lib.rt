@@ -12,7 +12,8 @@
 //!   the last right one and those under way, however checks overlap, and no more than ten fail in a row:
 //!   `laws::ten_tries` proves it.
 //! - `token_flags` is how a token shows its PINs (PKCS #11 v3.1, 3.2: `CK_TOKEN_INFO`).
-//! - `encode` and `decode` are the stored form. Each record has one, and `decode` accepts nothing else.
+//! - `encode` and `decode` are the stored form. Each record has one, and `decode` accepts nothing else. `decode_old` reads the
+//!   form that older tokens stored.
 //!
 //! What applications may learn of a record is a definition, `record_view` of `specs/Records.antt`. No
 //! verifier is in it. But for `encode`, nothing here takes memory. Nothing is claimed of the time that
@@ -40,11 +41,12 @@ mod pin;
 mod record;
 mod stored;
 mod verifier;
+mod version;
 
 pub use checks::{begin_check, end_check};
 pub use fault::DecodeFault;
 pub use flags::token_flags;
 pub use pin::TRIES_LIMIT;
 pub use record::Record;
-pub use stored::{decode, encode};
+pub use stored::{decode, decode_old, encode};
 pub use verifier::{OLD_ROUNDS, ROUNDS, Verifier};

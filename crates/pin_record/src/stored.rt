@@ -1,19 +1,18 @@
 //! The stored form of a record.
 
-ghost use Rattle.std.specs.Prelude.{◌≡◌, ◌++◌, IfOk, OnOk, OnSome, Some, length};
+ghost use Rattle.std.specs.Prelude.{◌≡◌, ◌++◌, IfOk, OnOk, Some};
 ghost use Rattle.ck_types.specs.Format.{first_bytes, optional};
 ghost use Rattle.pin_record.specs.declared.record.Record.{Record as ARecord};
-ghost use Rattle.pin_record.specs.Stored.{IsRecord, Decodes, Reads, byte, flag_byte, pin_form, record_form, record_stored, stored_form, verifier_form};
+ghost use Rattle.pin_record.specs.declared.version.Version.TheVariants.{Two};
+ghost use Rattle.pin_record.specs.Stored.{IsOldRecord, IsRecord, Decodes, Reads, byte, flag_byte, old_form, old_verifier_form, pin_form, record_form, record_old_stored, record_stored, record_stored_in, stored_form, verifier_form, verifier_form_in};
 
 use crate::fault::DecodeFault;
 use crate::pin::{Pin, TRIES_LIMIT};
 use crate::record::Record;
-use crate::verifier::Verifier;
+use crate::verifier::{OLD_ROUNDS, Verifier};
+use crate::version::Version;
 use ck_types::{Label, UserType};
 use std::alloc::{AllocError, Global};
-
-/// The format of the stored form, its first byte.
-const FORMAT: u8 = 2;
 
 fn decode_byte(bytes: &[u8]) -> Option<(u8, &[u8])>
     ensures { Reads (λ x. (x.0, x.1.now)) result (byte.decode bytes.now) }
@@ -47,14 +46,32 @@ fn decode_verifier(bytes: &[u8]) -> Option<(Verifier, &[u8])>
     Some((verifier, rest))
 }
 
-fn decode_optional(bytes: &[u8]) -> Option<(Option<Verifier>, &[u8])>
-    ensures { Reads (λ x. (x.0, x.1.now)) result ((optional verifier_form).decode bytes.now) }
+fn decode_old_verifier(bytes: &[u8]) -> Option<(Verifier, &[u8])>
+    ensures { Reads (λ x. (x.0, x.1.now)) result (old_verifier_form.decode bytes.now) }
+{
+    let (salt, rest) = split_array::<16>(bytes)?;
+    let (key, rest) = split_array::<32>(rest)?;
+    let verifier = Verifier::from_parts(salt, OLD_ROUNDS, key)?;
+    Some((verifier, rest))
+}
+
+fn decode_verifier_in(version: Version, bytes: &[u8]) -> Option<(Verifier, &[u8])>
+    ensures { Reads (λ x. (x.0, x.1.now)) result ((verifier_form_in version).decode bytes.now) }
+{
+    match version {
+        Version::One => decode_old_verifier(bytes),
+        Version::Two => decode_verifier(bytes),
+    }
+}
+
+fn decode_optional(version: Version, bytes: &[u8]) -> Option<(Option<Verifier>, &[u8])>
+    ensures { Reads (λ x. (x.0, x.1.now)) result ((optional (verifier_form_in version)).decode bytes.now) }
 {
     match bytes {
         [0, rest @ ..] => Some((None, rest)),
         [1, rest @ ..] => {
             // `?` isn't proved at a pair of a value with a model and a borrow.
-            let Some((verifier, rest)) = decode_verifier(rest) else {
+            let Some((verifier, rest)) = decode_verifier_in(version, rest) else {
                 return None;
             };
             Some((Some(verifier), rest))
@@ -63,10 +80,10 @@ fn decode_optional(bytes: &[u8]) -> Option<(Option<Verifier>, &[u8])>
     }
 }
 
-fn decode_pin(bytes: &[u8]) -> Option<(Pin, &[u8])>
-    ensures { Reads (λ x. (x.0, x.1.now)) result (pin_form.decode bytes.now) }
+fn decode_pin(version: Version, bytes: &[u8]) -> Option<(Pin, &[u8])>
+    ensures { Reads (λ x. (x.0, x.1.now)) result ((pin_form version).decode bytes.now) }
 {
-    let Some((verifier, rest)) = decode_optional(bytes) else {
+    let Some((verifier, rest)) = decode_optional(version, bytes) else {
         return None;
     };
     let (tries, rest) = decode_byte(rest)?;
@@ -77,19 +94,19 @@ fn decode_pin(bytes: &[u8]) -> Option<(Pin, &[u8])>
     Some((pin, rest))
 }
 
-fn decode_record(bytes: &[u8]) -> Option<(Record, &[u8])>
-    ensures { Reads (λ x. (x.0, x.1.now)) result (record_form.decode bytes.now) }
+fn decode_record(version: Version, bytes: &[u8]) -> Option<(Record, &[u8])>
+    ensures { Reads (λ x. (x.0, x.1.now)) result ((record_form version).decode bytes.now) }
 {
-    let (format, rest) = decode_byte(bytes)?;
-    if format != FORMAT {
+    let (number, rest) = decode_byte(bytes)?;
+    if number != version.number() {
         return None;
     }
     let (initialized, rest) = decode_byte(rest)?;
     let (label, rest) = split_array::<32>(rest)?;
-    let Some((so, rest)) = decode_pin(rest) else {
+    let Some((so, rest)) = decode_pin(version, rest) else {
         return None;
     };
-    let Some((user, rest)) = decode_pin(rest) else {
+    let Some((user, rest)) = decode_pin(version, rest) else {
         return None;
     };
     if initialized != flag_byte(so.verifier().is_some()) {
@@ -106,11 +123,11 @@ fn flag_byte(initialized: bool) -> u8
     if initialized { 1 } else { 0 }
 }
 
-#[tactic(auto, unfolding(crate::specs::Stored::record_stored))]
-fn decoded(bytes: &[u8]) -> Result<Record, DecodeFault>
-    ensures { Decodes result (record_stored bytes.now) }
+#[tactic(auto, unfolding(crate::specs::Stored::record_stored_in))]
+fn decoded(version: Version, bytes: &[u8]) -> Result<Record, DecodeFault>
+    ensures { Decodes result (record_stored_in version bytes.now) }
 {
-    match decode_record(bytes) {
+    match decode_record(version, bytes) {
         Some((record, [])) => Ok(record),
         Some(_) | None => Err(DecodeFault::Form),
     }
@@ -123,7 +140,17 @@ pub fn decode(bytes: &[u8]) -> Result<Record, DecodeFault>
     ensures only { (r : ARecord) → IsRecord r → bytes.now ≡ stored_form r → Decodes result (Some r) }
     ensures exact { Decodes result (record_stored bytes.now) }
 {
-    decoded(bytes)
+    decoded(Version::Two, bytes)
+}
+
+/// The record that an older token stored so, with a verifier's rounds `OLD_ROUNDS`. `Form` where the bytes are no record's
+/// stored form of format 1. No memory is taken.
+pub fn decode_old(bytes: &[u8]) -> Result<Record, DecodeFault>
+    ensures found { IfOk result (λ r. IsOldRecord r × (bytes.now ≡ old_form r)) }
+    ensures only { (r : ARecord) → IsOldRecord r → bytes.now ≡ old_form r → Decodes result (Some r) }
+    ensures exact { Decodes result (record_old_stored bytes.now) }
+{
+    decoded(Version::One, bytes)
 }
 
 fn encode_verifier(verifier: &Verifier, out: &mut Vec<u8>) -> Result<(), AllocError>
@@ -137,8 +164,8 @@ fn encode_verifier(verifier: &Verifier, out: &mut Vec<u8>) -> Result<(), AllocEr
 }
 
 fn encode_pin(pin: &Pin, out: &mut Vec<u8>) -> Result<(), AllocError>
-    ensures bytes { OnOk result (out.new.items ≡ out.old.items ++ pin_form.encode pin.now) }
-    ensures fits { OnOk result (pin_form.Fits pin.now) }
+    ensures bytes { OnOk result (out.new.items ≡ out.old.items ++ (pin_form Two).encode pin.now) }
+    ensures fits { OnOk result ((pin_form Two).Fits pin.now) }
 {
     match pin.verifier() {
         None => out.push(0)?,
@@ -157,7 +184,7 @@ pub fn encode(alloc: Global, record: &Record) -> Result<Vec<u8>, AllocError>
     ensures fits { OnOk result (IsRecord «record».now) }
 {
     let mut out = Vec::new(alloc);
-    out.push(FORMAT)?;
+    out.push(Version::Two.number())?;
     out.push(flag_byte(record.is_initialized()))?;
     out.extend_from_slice(record.label().as_slice())?;
     encode_pin(record.pin(UserType::So), &mut out)?;
