@@ -1,5 +1,5 @@
 -- What a token becomes by one message, and by more.
-use Rattle.std.proofs.Common.{◌≡◌, ℕ, ◌+◌, ◌≤◌, List, [], ◌∷◌, ◌++◌, length, None, Ok, Err, refl, sym, ◌∙◌, ap, subst, append_assoc, arith}
+use Rattle.std.proofs.Common.{◌≡◌, ◌≢◌, ℕ, ◌+◌, ◌≤◌, List, [], ◌∷◌, ◌++◌, length, None, Result, Ok, Err, IfOk, OnOk, refl, sym, ◌∙◌, ap, subst, append_assoc, arith}
 use Rattle.std.proofs.lemmas.List.{length-append}
 use Rattle.rand_chacha.specs.ChaCha.{ChaCha}
 use Rattle.ck_calls.specs.declared.call.Call.{Call as CallType}
@@ -8,11 +8,13 @@ use Rattle.ck_calls.specs.Need.{random_bytes}
 use Rattle.keep.specs.Keeping.{Terms}
 use Rattle.wire.specs.declared.fault.WireFault.{WireFault}
 use Rattle.wire.specs.declared.fault.WireFault.TheVariants as faults
+use Rattle.wire.specs.Messages.{Reads}
 use Rattle.views.specs.Refusals.{set_apart}
 use Rattle.token_model.specs.Worlds.{World, after}
 use Rattle.token.specs.Applications.{HasJobs, TokenState, Shows}
 use Rattle.token.specs.Runs.{MayLeave, AccountsFor}
 use Rattle.token.proofs.Accounts.{accounts-none, accounts-more, accounts-plain}
+use Rattle.line.specs.declared.fault.LineFault.{LineFault}
 use Rattle.line.specs.Words.{taken}
 use Rattle.line.specs.Lines.{Message, Calls, Finishes, acts_of, words_past, acts, words_after, refusal_of, calls_in, answers, Moved, Leads}
 use Rattle.line.proofs.Moving.{moved-none, moved-then}
@@ -108,3 +110,11 @@ module _ {K : Type 0} (terms : Terms K) (app : ℕ) where
           answered = ap (λ y. y ++ qs) first.answered ∙ ap (λ y. answers ms first.told ++ y) second.answered ∙ sym (answers-append ms ns first.told second.told first.each);
         };
   }
+
+-- what is said of a payload that is no call is said of the reply to it
+pub if-refusal : {X : Type 0} (P : Reply → Type 0) (fault : WireFault) (read : Result X WireFault) (r : Result Reply LineFault) → Reads (Err fault) read → IfOk r (λ reply. reply ≡ refusal_of fault) → OnOk r (fault ≢ faults.Memory) → (read ≡ Err fault → P (refusal_of fault)) → IfOk r P
+if-refusal P fault read (Err why) exact is told p = tt
+if-refusal P faults.Memory read (Ok reply) exact is told p = absurd (told refl)
+if-refusal P faults.UnknownFunction read (Ok reply) exact is told p = subst P (sym is) (p exact)
+if-refusal P faults.Malformed read (Ok reply) exact is told p = subst P (sym is) (p exact)
+if-refusal P faults.TooLong read (Ok reply) exact is told p = subst P (sym is) (p exact)

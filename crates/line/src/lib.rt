@@ -18,11 +18,13 @@
 #![tactic(auto)]
 
 mod fault;
+mod refusal;
 mod serve;
 mod watched;
 mod words;
 
 pub use fault::LineFault;
+pub use refusal::reply_to_fault;
 pub use serve::serve_one;
 pub use watched::Watched;
 pub use words::Words;

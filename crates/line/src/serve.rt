@@ -15,10 +15,10 @@ ghost use Rattle.line.specs.Parts.{Answers, Sends, TakesPart};
 ghost use Rattle.line.specs.Serve.{ReadsBy, Serves, WritesBy};
 
 use crate::fault::LineFault;
+use crate::refusal::reply_to_fault;
 use crate::watched::{Watched, is_interrupted};
 use crate::words::Words;
 use ck_calls::{Call, Reply, need};
-use ck_types::Rv;
 use keep::Keep;
 use std::alloc::Global;
 use std::io::{Read, Write};
@@ -131,10 +131,7 @@ fn answer<K: Keep>(
             let random = words.take(alloc, need(&call))?;
             Ok(answer_call(alloc, token, app, call, random))
         }
-        Err(WireFault::UnknownFunction) => Ok(Reply::Code(Rv::FunctionNotSupported)),
-        Err(WireFault::Malformed) => Ok(Reply::Code(Rv::ArgumentsBad)),
-        Err(WireFault::TooLong) => Ok(Reply::Code(Rv::ArgumentsBad)),
-        Err(WireFault::Memory) => Err(LineFault::Memory),
+        Err(fault) => reply_to_fault(fault),
     }
 }
 

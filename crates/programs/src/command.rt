@@ -18,12 +18,25 @@ pub(crate) fn command<'a>(alloc: Global) -> Result<Command<'a>, Error> {
     let stdio = Command::new(alloc, "stdio")
         .about("Answers the frames of standard input on standard output, as application 0")
         .arg(seed)?;
+    let p11call = Command::new(alloc, "p11call")
+        .about("Sends calls to a daemon: one a line, in hexadecimal, and prints their replies so")
+        .arg(socket(alloc))?;
     let command = Command::new(alloc, "tokend")
         .about("A PKCS #11 software token")
         .version(VERSION)
         .subcommand_required(true)
-        .subcommand(stdio)?;
+        .subcommand(stdio)?
+        .subcommand(p11call)?;
     Ok(command)
+}
+
+/// The option that names a daemon's socket.
+fn socket<'a>(alloc: Global) -> Arg<'a> {
+    Arg::new(alloc, "socket")
+        .long("socket")
+        .action(ArgAction::Set)
+        .required(true)
+        .help("The path of the daemon's socket")
 }
 
 /// The seed that is given, or zeros.

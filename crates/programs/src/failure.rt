@@ -5,10 +5,15 @@ ghost use Rattle.programs.specs.Statuses.{status_of, IsStatus};
 
 use line::LineFault;
 use thiserror::Error;
+use wire::WireFault;
 
 /// Why a run failed. Its text stands on the output for errors.
 #[derive(Clone, Copy, Debug, PartialEq, Eq, Error)]
 pub(crate) enum Failure {
+    #[error("cannot open the store")]
+    Store,
+    #[error("cannot use the socket")]
+    Socket,
     #[error("bad input")]
     BadInput,
     #[error("out of memory")]
@@ -24,9 +29,21 @@ impl Failure {
         ensures known { IsStatus result }
     {
         match self {
+            Failure::Store => 3,
+            Failure::Socket => 4,
             Failure::BadInput => 5,
             Failure::Memory => 6,
             Failure::Line => 7,
+        }
+    }
+}
+
+/// Of what came from a socket.
+impl From<WireFault> for Failure {
+    fn from(fault: WireFault) -> Failure {
+        match fault {
+            WireFault::Memory => Failure::Memory,
+            _ => Failure::Socket,
         }
     }
 }

@@ -13,9 +13,11 @@
 mod args;
 mod command;
 mod failure;
+mod p11call;
 mod run;
 
 pub use args::refuse_args;
+pub use p11call::ask;
 pub use run::tokend_with;
 
 #[cfg(test)]

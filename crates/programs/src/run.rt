@@ -6,6 +6,7 @@ ghost use Rattle.programs.specs.Statuses.{IsStatus};
 
 use crate::command::{command, seed_of};
 use crate::failure::Failure;
+use crate::p11call::ask_all;
 use clap::error::ErrorKind;
 use clap::{ArgMatches, Error};
 use keep::ListKeep;
@@ -13,6 +14,8 @@ use line::{Watched, Words, serve_one};
 use pin_record::Record;
 use std::alloc::Global;
 use std::io::{Read, Write};
+use std::net::Net;
+use std::os::unix::net::UnixStream;
 use token::Token;
 
 /// The application of standard input.
@@ -37,14 +40,28 @@ fn stdio<I: Read, O: Write>(
     Ok(())
 }
 
-fn run<I: Read, O: Write>(
-    alloc: Global,
+fn p11call<R: AllocGlobal + Net, I: Read, O: Write>(
+    rt: &R,
+    matches: &ArgMatches<'_>,
+    input: &mut I,
+    output: &mut O,
+) -> Result<(), Failure> {
+    let path = matches.get_str("socket").ok_or(Failure::Socket)?;
+    let Ok(mut stream) = UnixStream::connect(rt, path) else {
+        return Err(Failure::Socket);
+    };
+    ask_all(rt.alloc(), input, output, &mut stream)
+}
+
+fn run<R: AllocGlobal + Net, I: Read, O: Write>(
+    rt: &R,
     matches: &ArgMatches<'_>,
     input: &mut I,
     output: &mut O,
 ) -> Result<(), Failure> {
     match matches.subcommand() {
-        Some(("stdio", matches)) => stdio(alloc, matches, input, output),
+        Some(("stdio", matches)) => stdio(rt.alloc(), matches, input, output),
+        Some(("p11call", matches)) => p11call(rt, matches, input, output),
         _ => Err(Failure::BadInput),
     }
 }
@@ -72,7 +89,7 @@ fn tell<O: Write, E: Write>(error: &Error, output: &mut O, errors: &mut E) -> u8
 }
 
 /// Runs the command line `args`, whose first word is the program's name, and answers the exit status.
-pub fn tokend_with<'a, R: AllocGlobal, I: Read, O: Write, E: Write>(
+pub fn tokend_with<'a, R: AllocGlobal + Net, I: Read, O: Write, E: Write>(
     rt: &R,
     args: &'a [String],
     input: &mut I,
@@ -90,7 +107,7 @@ pub fn tokend_with<'a, R: AllocGlobal, I: Read, O: Write, E: Write>(
         Ok(matches) => matches,
         Err(error) => return tell(&error, output, errors),
     };
-    match run(alloc, &matches, input, output) {
+    match run(rt, &matches, input, output) {
         Ok(()) => 0,
         Err(failure) => {
             let _ = writeln!(errors, "tokend: {failure}");

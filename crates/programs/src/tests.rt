@@ -1,5 +1,8 @@
-use crate::{refuse_args, tokend_with};
-use std::io::{Error, ErrorKind};
+ghost use Rattle.std.specs.Prelude.{None};
+
+use crate::{ask, refuse_args, tokend_with};
+use std::alloc::Global;
+use std::io::{self, Error, ErrorKind, Read, Write};
 use std::test::*;
 
 /// What a command line answered and wrote.
@@ -146,5 +149,99 @@ fn arguments_that_cannot_be_read_have_their_status_and_text(rt: HostRuntime) -> 
         assert_eq!(rt; ended, *status);
         assert!(rt; errors.as_slice() == *text);
     }
+    Ok(())
+}
+
+/// A stream that gives these bytes, and takes others.
+#[derive(Drop)]
+struct Peer<'a> {
+    gives: &'a [u8],
+    taken: Vec<u8>,
+}
+
+impl Read for Peer<'_> {
+    ghost remaining = { λ peer. None };
+
+    fn read(&mut self, bytes: &mut [u8]) -> io::Result<usize> {
+        self.gives.read(bytes)
+    }
+}
+
+impl Write for Peer<'_> {
+    ghost contents = { λ peer. None };
+
+    fn write(&mut self, bytes: &[u8]) -> io::Result<usize> {
+        self.taken.write(bytes)
+    }
+
+    fn flush(&mut self) -> io::Result<()> {
+        Ok(())
+    }
+}
+
+/// What `ask` answers, writes and sends to a peer that gives these bytes.
+fn asked(alloc: Global, mut input: &[u8], gives: &[u8]) -> Result<(u8, Vec<u8>, Vec<u8>), Fail> {
+    let mut output = Vec::<u8>::new(alloc);
+    let mut peer = Peer {
+        gives,
+        taken: Vec::new(alloc),
+    };
+    let status = ask(alloc, &mut input, &mut output, &mut peer);
+    Ok((status, output, peer.taken))
+}
+
+/// Lines of an input, what the peer gives, and the status and the lines of the output.
+const ASKED: &[(&[u8], &[u8], u8, &[u8])] = &[
+    (b"", b"", 0, b""),
+    (b"000\n", SESSION_ONE, 5, b""),
+    (b"0007 0000", SESSION_ONE, 5, b""),
+    (b"xy\n", SESSION_ONE, 5, b""),
+    (
+        b"000700000000000000000000000000000006\n",
+        SESSION_ONE,
+        0,
+        b"00000000000000000000000000000001\n",
+    ),
+    (
+        b"00070000000000000000000000000000000A\r\nAF",
+        b"\x00\x00\x00\x01\xAB\x00\x00\x00\x02\xcd\xef",
+        0,
+        b"ab\ncdef\n",
+    ),
+    (
+        b"0007\n0008\n",
+        b"\x00\x00\x00\x01\xAB\x00\x00\x00\x02\xcd",
+        4,
+        b"ab\n",
+    ),
+    (b"0007\n", b"\xff\xff\xff\xff", 4, b""),
+];
+
+#[test]
+fn calls_are_asked_in_hexadecimal(rt: HostRuntime) -> Result<(), Fail> {
+    for (input, gives, status, output) in ASKED {
+        let ended = asked(rt.alloc(), input, gives)?;
+        let is_so = ended.0 == *status && ended.1.as_slice() == *output;
+        assert!(rt; is_so, "{input:?}");
+    }
+    Ok(())
+}
+
+#[test]
+fn a_call_is_sent_as_a_frame(rt: HostRuntime) -> Result<(), Fail> {
+    let line = b"000700000000000000000000000000000006\n";
+    let (_, _, sent) = asked(rt.alloc(), line, SESSION_ONE)?;
+    assert!(rt; sent.as_slice() == OPEN_SESSION);
+    Ok(())
+}
+
+#[test]
+fn a_socket_that_is_not_there_has_its_status_and_text(rt: HostRuntime) -> Result<(), Fail> {
+    let ended = run(&rt, &["p11call", "--socket", "/nowhere/tokend"], b"")?;
+    assert_eq!(rt; ended.status, 4);
+    assert_eq!(rt;
+        ended.errors.as_slice(),
+        b"tokend: cannot use the socket\n".as_slice()
+    );
     Ok(())
 }

@@ -2,6 +2,7 @@
 
 ghost use Rattle.std.specs.Prelude.{◌≡◌, IfOk};
 ghost use Rattle.mechanisms.specs.Table.{listed_numbers};
+ghost use Rattle.desk.specs.Desks.{DeskState};
 ghost use Rattle.views.specs.Answering.{Replies};
 ghost use Rattle.answers.specs.Mechanisms.{get_mechanism_list};
 ghost use Rattle.token_store.specs.Refusing.{AtDesk};
@@ -9,17 +10,15 @@ ghost use Rattle.token_store.specs.Refusing.{AtDesk};
 use crate::SLOT;
 use ck_calls::Reply;
 use ck_types::Items;
-use desk::Desk;
 use mechanisms::LISTED;
 use precede::Row;
 use std::alloc::{AllocError, Global};
 use token_store::Refusal;
 
 /// The numbers of the token's mechanisms, rising. `CKR_SLOT_ID_INVALID` where the slot isn't the one that there is.
-pub fn serve(alloc: Global, desk: &Desk, slot: u64) -> Result<Reply, Refusal>
-    ensures { AtDesk Replies (λ v. get_mechanism_list v slot) desk.now result desk.now }
+pub fn serve(alloc: Global, slot: u64) -> Result<Reply, Refusal>
+    ensures { (d : DeskState) → AtDesk Replies (λ v. get_mechanism_list v slot) d result d }
 {
-    let _ = desk;
     if slot != SLOT {
         return Err(Refusal::Row(Row::NoSlot));
     }

@@ -67,9 +67,9 @@ fn dispatch<K: Keep>(
     match call {
         // Slot and token management (PKCS #11 v3.1, 5.5).
         Call::GetTokenInfo { slot } => settle(get_token_info::serve(desk, store, slot)),
-        Call::GetMechanismList { slot } => settle(get_mechanism_list::serve(alloc, desk, slot)),
+        Call::GetMechanismList { slot } => settle(get_mechanism_list::serve(alloc, slot)),
         Call::GetMechanismInfo { slot, mechanism } => {
-            settle(get_mechanism_info::serve(desk, slot, mechanism))
+            settle(get_mechanism_info::serve(slot, mechanism))
         }
         Call::InitToken { slot, pin, label } => settle_asking(init_token::serve(
             app, desk, store, slot, pin, label, random, in_use,

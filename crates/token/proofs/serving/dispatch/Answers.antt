@@ -115,11 +115,11 @@ returns-in-Logout g c = call-at-desk g.K.Keep.terms c.args.app c.args.in_use c.a
 
 pub returns-in-GetMechanismList : goal.returns-in-GetMechanismList
 unfolding answer_to
-returns-in-GetMechanismList g c = call-at-desk g.K.Keep.terms c.args.app c.args.in_use c.args.call (call.GetMechanismList c.in-GetMechanismList.slot) c.args.random.now c.in-GetMechanismList.is c.args.store.now c.args.desk.now _ c.serve-in-GetMechanismList.result c.settle-in-GetMechanismList.result refl c.settle-in-GetMechanismList.ensures c.serve-in-GetMechanismList.ensures
+returns-in-GetMechanismList g c = call-at-desk g.K.Keep.terms c.args.app c.args.in_use c.args.call (call.GetMechanismList c.in-GetMechanismList.slot) c.args.random.now c.in-GetMechanismList.is c.args.store.now c.args.desk.now _ c.serve-in-GetMechanismList.result c.settle-in-GetMechanismList.result refl c.settle-in-GetMechanismList.ensures (c.serve-in-GetMechanismList.ensures c.args.desk.now)
 
 pub returns-in-GetMechanismInfo : goal.returns-in-GetMechanismInfo
 unfolding answer_to
-returns-in-GetMechanismInfo g c = call-at-desk g.K.Keep.terms c.args.app c.args.in_use c.args.call (call.GetMechanismInfo c.in-GetMechanismInfo.slot c.in-GetMechanismInfo.mechanism) c.args.random.now c.in-GetMechanismInfo.is c.args.store.now c.args.desk.now _ c.serve-in-GetMechanismInfo.result c.settle-in-GetMechanismInfo.result refl c.settle-in-GetMechanismInfo.ensures c.serve-in-GetMechanismInfo.ensures
+returns-in-GetMechanismInfo g c = call-at-desk g.K.Keep.terms c.args.app c.args.in_use c.args.call (call.GetMechanismInfo c.in-GetMechanismInfo.slot c.in-GetMechanismInfo.mechanism) c.args.random.now c.in-GetMechanismInfo.is c.args.store.now c.args.desk.now _ c.serve-in-GetMechanismInfo.result c.settle-in-GetMechanismInfo.result refl c.settle-in-GetMechanismInfo.ensures (c.serve-in-GetMechanismInfo.ensures c.args.desk.now)
 
 pub returns-in-GenerateRandom : goal.returns-in-GenerateRandom
 unfolding answer_to
