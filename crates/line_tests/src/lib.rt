@@ -1,9 +1,13 @@
 //! Tests of `line`: frames in, frames out, over readers and writers that give and take little, and fail,
-//! over a keeper that fails, and with the calls of ciphers, of mechanisms, of keys and of random bytes.
+//! over a keeper that fails, and with each call; those of ciphers, of mechanisms, of keys and of random bytes byte for byte.
 #![tactic(auto)]
 
 #[cfg(test)]
 mod ciphers;
+#[cfg(test)]
+mod codes;
+#[cfg(test)]
+mod every_call;
 #[cfg(test)]
 mod failures;
 #[cfg(test)]

@@ -22,7 +22,7 @@ impl Server for NewLine {
 }
 
 /// The frames of the calls.
-fn frames_of(alloc: Global, calls: &[Call]) -> Result<Vec<u8>, Fail> {
+pub(crate) fn frames_of(alloc: Global, calls: &[Call]) -> Result<Vec<u8>, Fail> {
     let mut frames = Vec::new(alloc);
     for call in calls {
         frames.extend_from_slice(&write_call(alloc, call)?)?;

@@ -11,3 +11,4 @@ mod resets;
 mod searches;
 mod stored;
 mod tries;
+mod trusted_keys;

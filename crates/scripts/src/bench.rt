@@ -1,6 +1,7 @@
 //! A bench for scripts: a token that takes the steps of rows one after the other.
 
 use crate::calls::call_of;
+use crate::keepers::cached_list;
 use crate::random::random_for;
 use crate::replies::reply_of;
 use crate::steps::{Row, Step, Told};
@@ -146,5 +147,6 @@ pub fn expect_told(
 
 /// Sees that a new token goes as the rows say by calls one after the other.
 pub fn play(alloc: Global, rows: &[Row]) -> Result<(), Fail> {
-    Bench::new(alloc)?.play(rows)
+    Bench::new(alloc)?.play(rows)?;
+    BenchOver::over(alloc, cached_list(alloc, Record::new())?)?.play(rows)
 }

@@ -49,6 +49,27 @@ pub const TWO_BITS: Option<GivenMechanism> = Some((
     b"\x00\x00\x00\x00\x00\x00\x00\x02\x00\x00\x00\x00\x00\x00\x00\x00\x00\x00\x00\x00\x00\x00\x00\x01",
 ));
 
+/// CKM_AES_CMAC, CKM_SHA256_HMAC, CKM_AES_KEY_WRAP and CKM_AES_KEY_GEN.
+pub const AES_CMAC: Option<GivenMechanism> = Some((0x108a, b""));
+
+pub const SHA256_HMAC: Option<GivenMechanism> = Some((0x251, b""));
+
+pub const AES_KEY_WRAP: GivenMechanism = (0x2109, b"");
+
+pub const AES_KEY_GEN: GivenMechanism = (0x1080, b"");
+
+/// The key of SP 800-38B, D.1, a message, and its code.
+const CMAC_KEY_BYTES: &[u8] = b"\x2b\x7e\x15\x16\x28\xae\xd2\xa6\xab\xf7\x15\x88\x09\xcf\x4f\x3c";
+
+pub const BLOCK: &[u8] = b"\x6b\xc1\xbe\xe2\x2e\x40\x9f\x96\xe9\x3d\x7e\x11\x73\x93\x17\x2a";
+
+pub const CODE_OF_BLOCK: &[u8] =
+    b"\x07\x0a\x16\xb4\x6b\x4d\x41\x44\xf7\x9b\xdd\x9d\xd0\x4a\x28\x7c";
+
+/// What the key of FIPS 197, C.1, makes of the text of the same, which is the vector of RFC 3394, 4.1.
+pub const WRAPPED: &[u8] =
+    b"\x1f\xa6\x8b\x0a\x81\x12\xb4\x47\xae\xf3\x4b\xd8\xfb\x5a\x7b\x82\x9d\x3e\x86\x23\x71\xd2\xcf\xe5";
+
 pub const NO: &[u8] = b"\x00";
 
 pub const YES: &[u8] = b"\x01";
@@ -103,6 +124,31 @@ pub const TOKEN_KEY: Given = &[
     (AttrType::Value, KEY_BYTES),
     (AttrType::Private, NO),
     (AttrType::Token, YES),
+];
+
+/// Public AES keys of a session: that of SP 800-38B, one that wraps and unwraps, and the key that the vector wraps.
+pub const CMAC_KEY: Given = &[
+    (AttrType::Class, SECRET_KEY),
+    (AttrType::KeyType, AES),
+    (AttrType::Value, CMAC_KEY_BYTES),
+    (AttrType::Private, NO),
+];
+
+pub const WRAPPING_KEY: Given = &[
+    (AttrType::Class, SECRET_KEY),
+    (AttrType::KeyType, AES),
+    (AttrType::Value, KEY_BYTES),
+    (AttrType::Private, NO),
+    (AttrType::Wrap, YES),
+    (AttrType::Unwrap, YES),
+];
+
+pub const EXTRACTABLE_KEY: Given = &[
+    (AttrType::Class, SECRET_KEY),
+    (AttrType::KeyType, AES),
+    (AttrType::Value, TEXT),
+    (AttrType::Private, NO),
+    (AttrType::Extractable, YES),
 ];
 
 pub const NOTHING: Given = &[];

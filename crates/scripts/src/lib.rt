@@ -3,10 +3,12 @@
 //! and the step.
 //!
 //! - `given` names what many scripts speak of: applications, keys, texts, templates and codes.
+//! - `EVERY_CALL` has rows of all calls, each answered with CKR_OK.
 //! - `Row`, `Step` and `Told` are the vocabulary; `call_of` and `reply_of` make a call and a reply of them.
 //! - `Bench` is a token that takes steps one after the other. `play` plays rows on a new one, `run` gives them to a new
-//!   token as one list of events, and `play_and_run` does both. `BenchOver` and `run_over` take a keeper, where a token
-//!   starts from a store.
+//!   token as one list of events, and `play_and_run` does both, each over a list and over a list behind a cache. `BenchOver` and
+//!   `run_over` take a keeper, as one that has a record of `record_with`.
+//! - `expect_neighbours` sees that the cases of a test have all neighbours of the tables of faults.
 //! - `expect_long_chain` and `expect_each_mechanism` give long texts to a `Server` at once and in pieces, there and back.
 //!
 //! ```text
@@ -20,16 +22,24 @@
 
 mod bench;
 mod calls;
+mod every_call;
 pub mod given;
+mod keepers;
+mod order;
 mod random;
 mod replies;
 mod runs;
 mod steps;
+mod stored;
 mod texts;
 
 pub use bench::{Bench, BenchOver, expect_told, play};
 pub use calls::call_of;
+pub use every_call::EVERY_CALL;
+pub use keepers::{cached, cached_list};
+pub use order::{LeftOut, Pair, expect_neighbours};
 pub use replies::reply_of;
-pub use runs::{play_and_run, play_and_run_questions, run, run_over, with_finishes};
+pub use runs::{play_and_run, play_and_run_questions, replies_to, run, run_over, with_finishes};
 pub use steps::{Asked, Given, GivenMechanism, Row, Step, Told, Values};
+pub use stored::record_with;
 pub use texts::{NewToken, Server, add_output, expect_each_mechanism, expect_long_chain};

@@ -8,7 +8,8 @@ use std::alloc::Global;
 use std::test::Fail;
 
 /// What a token is given for random bytes, again and again.
-const RANDOM: &[u8; 16] = b"\x76\xb8\xe0\xad\xa0\xf1\x3d\x90\x40\x5d\x6a\xe5\x53\x86\xbd\x28";
+pub(crate) const RANDOM: &[u8; 16] =
+    b"\x76\xb8\xe0\xad\xa0\xf1\x3d\x90\x40\x5d\x6a\xe5\x53\x86\xbd\x28";
 
 /// As many random bytes as the call takes.
 pub(crate) fn random_for(alloc: Global, call: &Call) -> Result<Vec<u8>, Fail>

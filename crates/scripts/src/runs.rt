@@ -5,6 +5,7 @@ ghost use Rattle.token_model.specs.Events.{HasRandom};
 
 use crate::bench::{expect_told, play};
 use crate::calls::call_of;
+use crate::keepers::cached_list;
 use crate::random::random_for;
 use crate::replies::reply_of;
 use crate::steps::{Row, Step, Told};
@@ -18,7 +19,8 @@ use token::{Event, Token};
 /// Sees that a new token that takes all rows as one list of events gives the replies that they say, and that no question
 /// is left.
 pub fn run(alloc: Global, rows: &[Row]) -> Result<(), Fail> {
-    run_over(alloc, ListKeep::new(alloc, Record::new()), rows)
+    run_over(alloc, ListKeep::new(alloc, Record::new()), rows)?;
+    run_over(alloc, cached_list(alloc, Record::new())?, rows)
 }
 
 /// And one over this keeper.
@@ -59,7 +61,7 @@ pub fn with_finishes(alloc: Global, rows: &[Row]) -> Result<Vec<Row>, Fail> {
 }
 
 /// What a new token over the keeper replies to the events, which leave no question. Calls are given their random bytes here.
-pub(crate) fn replies_to<K: Keep>(
+pub fn replies_to<K: Keep>(
     alloc: Global,
     keep: K,
     events: Vec<Event>,

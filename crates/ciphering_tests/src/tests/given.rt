@@ -84,10 +84,7 @@ pub(super) const BEFORE: &[Row] = &[
     ),
 ];
 
-/// The first block of the text of SP 800-38A, appendix F.
-pub(super) const BLOCK: &[u8] = b"\x6b\xc1\xbe\xe2\x2e\x40\x9f\x96\xe9\x3d\x7e\x11\x73\x93\x17\x2a";
-
-/// That block by CBC and by CTR with 128 bits (F.2.1 and F.5.1).
+/// `BLOCK`, the first of the text of SP 800-38A, appendix F, by CBC and by CTR with 128 bits (F.2.1 and F.5.1).
 pub(super) const CHAINED: &[u8] =
     b"\x76\x49\xab\xac\x81\x19\xb2\x46\xce\xe9\x8e\x9b\x12\xe9\x19\x7d";
 

@@ -5,14 +5,12 @@ mod cases;
 use super::given::*;
 use super::stored::{bench_over, record_with};
 use cases::{CASES, Case, LEFT_OUT, SECONDS, Store};
-use ck_calls::Function;
 use ck_types::Rv;
 use pin_record::Record;
-use precede::{Row as Fault, rows};
+use precede::Row as Fault;
 use scripts::given::*;
-use scripts::{Bench, Step, Told, call_of};
+use scripts::{Bench, Pair, Step, Told, expect_neighbours};
 use std::alloc::Global;
-use std::process::Abort;
 use std::test::*;
 
 /// What is told of a call whose first fault this is.
@@ -99,49 +97,16 @@ fn a_check_under_way_comes_before_every_fault(rt: HostRuntime) -> Result<(), Fai
     expect_busy(&mut bench)
 }
 
-fn function_of(alloc: Global, step: Step) -> Result<Function, Fail> {
-    let call = call_of(alloc, step)?;
-    Ok(Function::of(&call))
-}
-
-/// Whether one of the cases has these faults of the function, or they are left out.
-fn has_case(alloc: Global, function: Function, first: Fault, second: Fault) -> Result<bool, Fail> {
+/// The faults of the cases, each two with the call that has both.
+fn pairs(alloc: Global) -> Result<Vec<Pair>, Fail> {
+    let mut pairs = Vec::new(alloc);
     for case in CASES {
-        let is_pair = case.first == first && case.second == second;
-        if is_pair && function_of(alloc, case.both)? == function {
-            return Ok(true);
-        }
+        pairs.push((case.first, case.second, case.both))?;
     }
-    Ok(LEFT_OUT.iter().any(|out| *out == (function, first, second)))
-}
-
-/// Sees that each fault has a case with the one before it, or that they are left out.
-fn expect_cases(
-    rt: &impl Abort,
-    alloc: Global,
-    function: Function,
-    before: Fault,
-    rest: &[Fault],
-) -> Result<(), Fail> {
-    let mut first = before;
-    for second in rest {
-        let has_case = has_case(alloc, function, first, *second)?;
-        assert!(rt; has_case, "{function:?}: {first:?}, {second:?}");
-        first = *second;
-    }
-    Ok(())
+    Ok(pairs)
 }
 
 #[test]
 fn each_pair_of_neighbours_has_a_case_or_is_left_out(rt: HostRuntime) -> Result<(), Fail> {
-    for (fault, step) in SECONDS {
-        let function = function_of(rt.alloc(), *step)?;
-        match rows(function.number()) {
-            [Fault::Busy, second, rest @ ..] if second == fault => {
-                expect_cases(&rt, rt.alloc(), function, *fault, rest)?
-            }
-            _ => return Err("a table that begins otherwise".into()),
-        }
-    }
-    Ok(())
+    expect_neighbours(rt.alloc(), SECONDS, &pairs(rt.alloc())?, LEFT_OUT)
 }

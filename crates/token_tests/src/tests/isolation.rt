@@ -67,14 +67,29 @@ fn nothing_is_told_of_an_object_without_its_session_and_handle(
     play(rt.alloc(), ROWS)
 }
 
-/// The key of the token, but for its value.
+/// A sensitive and unextractable key of the token that wraps and unwraps, and the same but for its value.
+const ONE_KEY: Given = &[
+    (AttrType::Class, SECRET_KEY),
+    (AttrType::KeyType, AES),
+    (AttrType::Value, KEY_BYTES),
+    (AttrType::Private, NO),
+    (AttrType::Token, YES),
+    (AttrType::Wrap, YES),
+    (AttrType::Unwrap, YES),
+];
+
 const OTHER_KEY: Given = &[
     (AttrType::Class, SECRET_KEY),
     (AttrType::KeyType, AES),
     (AttrType::Value, TEXT),
     (AttrType::Private, NO),
     (AttrType::Token, YES),
+    (AttrType::Wrap, YES),
+    (AttrType::Unwrap, YES),
 ];
+
+/// What a key is unwrapped as.
+const UNWRAPPED: Given = &[(AttrType::KeyType, AES), (AttrType::Private, NO)];
 
 /// The calls of A that are compared.
 const ASKED: &[Step] = &[
@@ -99,12 +114,19 @@ const ASKED: &[Step] = &[
     Step::EncryptInit(1, ECB, 1),
     Step::Encrypt(1, TEXT, None),
     Step::Encrypt(1, TEXT, Some(3)),
+    Step::SignInit(1, AES_CMAC, 1),
+    Step::Sign(1, TEXT, None),
+    Step::Sign(1, TEXT, Some(3)),
+    Step::VerifyInit(1, AES_CMAC, 1),
+    Step::Verify(1, TEXT, b"short"),
+    Step::WrapKey(1, AES_KEY_WRAP, 1, 1, None),
+    Step::UnwrapKey(1, AES_KEY_WRAP, 1, b"short", UNWRAPPED),
     Step::CreateObject(1, TOKEN_DATA),
     Step::DestroyObject(1, 2),
     Step::GetObjectSize(1, 3),
 ];
 
-/// A bench with a sensitive and unextractable key of A.
+/// A bench with a key of A.
 fn with_key(alloc: Global, key: Given) -> Result<Bench, Fail> {
     let mut bench = Bench::new(alloc)?;
     open_with_key(&mut bench, key)?;
@@ -155,7 +177,7 @@ fn encipher_alike(one: &mut Bench, other: &mut Bench) -> Result<bool, Fail> {
 
 #[test]
 fn what_an_application_cannot_see_is_in_none_of_its_replies(rt: HostRuntime) -> Result<(), Fail> {
-    let mut one = with_key(rt.alloc(), TOKEN_KEY)?;
+    let mut one = with_key(rt.alloc(), ONE_KEY)?;
     let mut other = with_key_beside_others(rt.alloc(), OTHER_KEY)?;
     expect_same(&rt, &mut one, &mut other)?;
     // The keys do differ, which a result that is asked for shows.

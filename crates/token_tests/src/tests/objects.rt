@@ -87,6 +87,21 @@ const FIXED_DATA: Given = &[
     (AttrType::Modifiable, NO),
 ];
 
+/// Data with a key's attribute, with two labels, and with one label twice.
+const DATA_WITH_KEY_TYPE: Given = &[(AttrType::Class, DATA), (AttrType::KeyType, AES)];
+
+const DATA_WITH_TWO_LABELS: Given = &[
+    (AttrType::Class, DATA),
+    (AttrType::Label, b"a"),
+    (AttrType::Label, b"b"),
+];
+
+const DATA_WITH_A_LABEL_TWICE: Given = &[
+    (AttrType::Class, DATA),
+    (AttrType::Label, b"a"),
+    (AttrType::Label, b"a"),
+];
+
 const UNTRUSTED_DATA: Given = &[(AttrType::Class, DATA), (AttrType::Trusted, NO)];
 
 const PRIVATE: Given = &[(AttrType::Private, YES)];
@@ -120,6 +135,8 @@ fn a_template_that_makes_nothing_has_its_code(rt: HostRuntime) -> Result<(), Fai
         (A, Step::CreateObject(1, KEY_OF_17_BYTES), INVALID),
         (A, Step::CreateObject(1, PRIVATE_KEY), NOT_LOGGED_IN),
         (A, Step::CreateObject(1, UNTRUSTED_DATA), INCONSISTENT),
+        (A, Step::CreateObject(1, DATA_WITH_KEY_TYPE), INCONSISTENT),
+        (A, Step::CreateObject(1, DATA_WITH_TWO_LABELS), INCONSISTENT),
         (A, Step::CreateObject(1, AES_KEY), Told::Object(1)),
         (A, Step::CopyObject(1, 1, EXTRACTABLE), READ_ONLY_ATTRIBUTE),
         (
@@ -138,6 +155,11 @@ fn a_template_that_makes_nothing_has_its_code(rt: HostRuntime) -> Result<(), Fai
             READ_ONLY_ATTRIBUTE,
         ),
         (A, Step::CopyObject(1, 1, PRIVATE), NOT_LOGGED_IN),
+        (
+            A,
+            Step::CreateObject(1, DATA_WITH_A_LABEL_TWICE),
+            Told::Object(2),
+        ),
     ];
     play(rt.alloc(), ROWS)
 }

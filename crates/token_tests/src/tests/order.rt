@@ -3,21 +3,42 @@
 mod cases;
 mod cipher_cases;
 mod given;
+mod mac_cases;
+mod wrap_cases;
 
 use cases::{CASES, LEFT_OUT, SECONDS};
 use cipher_cases::{DECRYPTING_CASES, ENCRYPTING_CASES};
-use ck_calls::Function;
 use ck_types::Rv;
 use given::{BEFORE, BEGUN, Case, WRITES};
-use precede::{Row as Fault, rows};
+use mac_cases::{SIGNING_CASES, VERIFYING_CASES};
+use precede::Row as Fault;
 use scripts::given::*;
-use scripts::{Bench, Step, Told, call_of};
+use scripts::{Bench, Pair, Step, Told, expect_neighbours};
 use std::alloc::Global;
-use std::process::Abort;
 use std::test::*;
+use wrap_cases::{UNWRAPPING_CASES, WRAPPING_CASES};
+
+/// The cases of all tables.
+const ALL_CASES: &[&[Case]] = &[
+    CASES,
+    ENCRYPTING_CASES,
+    DECRYPTING_CASES,
+    SIGNING_CASES,
+    VERIFYING_CASES,
+    WRAPPING_CASES,
+    UNWRAPPING_CASES,
+];
+
+/// How long the output of a call is: a block, a code of CKM_AES_CMAC, or the wrapping of a key of 16 bytes.
+fn output_len(step: Step) -> u64 {
+    match step {
+        Step::WrapKey(..) => 24,
+        _ => 16,
+    }
+}
 
 /// What is told of a call whose first fault this is.
-fn told_of(fault: Fault) -> Result<Told, Fail> {
+fn told_of(fault: Fault, step: Step) -> Result<Told, Fail> {
     Ok(match fault {
         Fault::Busy => FAILED,
         Fault::NoSlot => NO_SLOT,
@@ -43,9 +64,25 @@ fn told_of(fault: Fault) -> Result<Told, Fail> {
         Fault::RandomLength => Told::Code(Rv::ArgumentsBad),
         Fault::DataLength | Fault::CounterEnd => Told::Code(Rv::DataLenRange),
         Fault::EncryptedDataLength => Told::Code(Rv::EncryptedDataLenRange),
-        Fault::NoBuffer => Told::Length(16),
-        Fault::SmallBuffer => Told::BufferTooSmall(16),
-        _ => return Err("no call that is built has this fault".into()),
+        Fault::SignatureLength => Told::Code(Rv::SignatureLenRange),
+        Fault::NoBuffer => Told::Length(output_len(step)),
+        Fault::SmallBuffer => Told::BufferTooSmall(output_len(step)),
+        _ => return told_of_wrapping(fault),
+    })
+}
+
+/// The same of a call that wraps or unwraps.
+fn told_of_wrapping(fault: Fault) -> Result<Told, Fail> {
+    Ok(match fault {
+        Fault::NoWrappingKey => Told::Code(Rv::WrappingKeyHandleInvalid),
+        Fault::WrongWrappingKeyType => Told::Code(Rv::WrappingKeyTypeInconsistent),
+        Fault::KeyUnextractable => Told::Code(Rv::KeyUnextractable),
+        Fault::KeyNotWrappable => Told::Code(Rv::KeyNotWrappable),
+        Fault::KeyLength => Told::Code(Rv::KeySizeRange),
+        Fault::NoUnwrappingKey => Told::Code(Rv::UnwrappingKeyHandleInvalid),
+        Fault::WrongUnwrappingKeyType => Told::Code(Rv::UnwrappingKeyTypeInconsistent),
+        Fault::WrappedLength | Fault::WrappedLengthOfType => Told::Code(Rv::WrappedKeyLenRange),
+        _ => return Err("no call of these has this fault".into()),
     })
 }
 
@@ -61,7 +98,7 @@ fn prepare(bench: &mut Bench, fault: Fault) -> Result<(), Fail> {
     bench.play(BEFORE)?;
     match fault {
         Fault::SessionLimit => bench.fill((A, OPEN), 9, 64),
-        Fault::ObjectLimit => bench.fill((A, OBJECT), 6, 261),
+        Fault::ObjectLimit => bench.fill((A, OBJECT), 12, 267),
         _ => Ok(()),
     }
 }
@@ -69,8 +106,8 @@ fn prepare(bench: &mut Bench, fault: Fault) -> Result<(), Fail> {
 /// Sees that the second fault is told where it holds alone, and the first where both do.
 fn expect_order(bench: &mut Bench, case: Case) -> Result<(), Fail> {
     let (first, second, alone, both) = case;
-    bench.expect(second, (A, alone, told_of(second)?))?;
-    bench.expect((first, second), (A, both, told_of(first)?))
+    bench.expect(second, (A, alone, told_of(second, alone)?))?;
+    bench.expect((first, second), (A, both, told_of(first, both)?))
 }
 
 /// Sees the order in each case, each on a bench of its own.
@@ -93,10 +130,22 @@ fn of_two_faults_of_a_cipher_the_first_is_told(rt: HostRuntime) -> Result<(), Fa
     expect_orders(rt.alloc(), DECRYPTING_CASES)
 }
 
+#[test]
+fn of_two_faults_of_a_code_the_first_is_told(rt: HostRuntime) -> Result<(), Fail> {
+    expect_orders(rt.alloc(), SIGNING_CASES)?;
+    expect_orders(rt.alloc(), VERIFYING_CASES)
+}
+
+#[test]
+fn of_two_faults_of_a_wrapping_the_first_is_told(rt: HostRuntime) -> Result<(), Fail> {
+    expect_orders(rt.alloc(), WRAPPING_CASES)?;
+    expect_orders(rt.alloc(), UNWRAPPING_CASES)
+}
+
 /// Sees that each call with its second fault is told that.
 fn expect_seconds(bench: &mut Bench) -> Result<(), Fail> {
     for (fault, step) in SECONDS {
-        bench.expect(fault, (A, *step, told_of(*fault)?))?;
+        bench.expect(fault, (A, *step, told_of(*fault, *step)?))?;
     }
     Ok(())
 }
@@ -118,50 +167,18 @@ fn a_pending_question_comes_before_every_fault(rt: HostRuntime) -> Result<(), Fa
     expect_busy(&mut bench)
 }
 
-fn function_of(alloc: Global, step: Step) -> Result<Function, Fail> {
-    let call = call_of(alloc, step)?;
-    Ok(Function::of(&call))
-}
-
-/// Whether one of the cases has these faults of the function, or they are left out.
-fn has_case(alloc: Global, function: Function, first: Fault, second: Fault) -> Result<bool, Fail> {
-    for cases in [CASES, ENCRYPTING_CASES, DECRYPTING_CASES] {
-        for (one, other, _, both) in cases {
-            if *one == first && *other == second && function_of(alloc, *both)? == function {
-                return Ok(true);
-            }
+/// The faults of all cases, each two with the call that has both.
+fn pairs(alloc: Global) -> Result<Vec<Pair>, Fail> {
+    let mut pairs = Vec::new(alloc);
+    for cases in ALL_CASES {
+        for (first, second, _, both) in *cases {
+            pairs.push((*first, *second, *both))?;
         }
     }
-    Ok(LEFT_OUT.iter().any(|out| *out == (function, first, second)))
-}
-
-/// Sees that each fault has a case with the one before it, or that they are left out.
-fn expect_cases(
-    rt: &impl Abort,
-    alloc: Global,
-    function: Function,
-    before: Fault,
-    rest: &[Fault],
-) -> Result<(), Fail> {
-    let mut first = before;
-    for second in rest {
-        let has_case = has_case(alloc, function, first, *second)?;
-        assert!(rt; has_case, "{function:?}: {first:?}, {second:?}");
-        first = *second;
-    }
-    Ok(())
+    Ok(pairs)
 }
 
 #[test]
 fn each_pair_of_neighbours_has_a_case_or_is_left_out(rt: HostRuntime) -> Result<(), Fail> {
-    for (fault, step) in SECONDS {
-        let function = function_of(rt.alloc(), *step)?;
-        match rows(function.number()) {
-            [Fault::Busy, second, rest @ ..] if second == fault => {
-                expect_cases(&rt, rt.alloc(), function, *fault, rest)?
-            }
-            _ => return Err("a table that begins otherwise".into()),
-        }
-    }
-    Ok(())
+    expect_neighbours(rt.alloc(), SECONDS, &pairs(rt.alloc())?, LEFT_OUT)
 }

@@ -10,7 +10,7 @@ use precede::Row::{
 };
 use scripts::Step::{GetTokenInfo, InitPin, InitToken, Login, Logout, OpenSession, SetPin};
 use scripts::given::*;
-use scripts::{Row, Step, Told};
+use scripts::{LeftOut, Row, Step, Told};
 
 /// What the token starts from: a new store, one with both PINs, and one with both PINs locked.
 #[derive(Clone, Copy)]
@@ -259,7 +259,7 @@ pub(super) const CASES: &[Case] = &[
 ];
 
 /// The neighbours that can't both hold.
-pub(super) const LEFT_OUT: &[(Function, Fault, Fault)] = &[
+pub(super) const LEFT_OUT: &[LeftOut] = &[
     // The length of a new PIN is tested where the token isn't initialised, the tries where it is.
     (Function::InitToken, PinLength, PinLocked),
     // Of a session that isn't there nothing else is known.

@@ -1,4 +1,5 @@
-//! The faults, two at a time, that the calls of each table are given; those of ciphers stand in `cipher_cases`.
+//! The faults, two at a time, that the calls of each table are given; those of the others stand in `cipher_cases`, `mac_cases`
+//! and `wrap_cases`.
 
 use super::given::*;
 use ck_calls::Function;
@@ -9,15 +10,16 @@ use precede::Row::{
     PrivateObject, RandomLength, SessionLimit, SmallBuffer, SoLoggedIn, TemplateRefused,
     TokenObjectReadOnly, UnknownFlag, WrongMechanism, WrongParameter,
 };
-use scripts::Step;
 use scripts::Step::{
     CloseAllSessions, CloseSession, CopyObject, CreateObject, Decrypt, DecryptFinal, DecryptInit,
     DecryptUpdate, DestroyObject, Encrypt, EncryptFinal, EncryptInit, EncryptUpdate, FindObjects,
     FindObjectsFinal, FindObjectsInit, GenerateKey, GenerateRandom, GetAttributeValue,
     GetMechanismInfo, GetMechanismList, GetObjectSize, GetSessionInfo, OpenSession,
-    SetAttributeValue,
+    SetAttributeValue, Sign, SignFinal, SignInit, SignUpdate, UnwrapKey, Verify, VerifyFinal,
+    VerifyInit, VerifyUpdate, WrapKey,
 };
 use scripts::given::*;
+use scripts::{LeftOut, Step};
 
 /// Each call, with the fault that stands right after a pending question, and with that fault.
 pub(super) const SECONDS: &[(Fault, Step)] = &[
@@ -44,7 +46,23 @@ pub(super) const SECONDS: &[(Fault, Step)] = &[
     (NoSession, Decrypt(NOWHERE, TEXT, Some(16))),
     (NoSession, DecryptUpdate(NOWHERE, TEXT, Some(16))),
     (NoSession, DecryptFinal(NOWHERE, Some(16))),
+    (NoSession, SignInit(NOWHERE, AES_CMAC, KEY)),
+    (NoSession, Sign(NOWHERE, TEXT, Some(16))),
+    (NoSession, SignUpdate(NOWHERE, TEXT)),
+    (NoSession, SignFinal(NOWHERE, Some(16))),
+    (NoSession, VerifyInit(NOWHERE, AES_CMAC, KEY)),
+    (NoSession, Verify(NOWHERE, TEXT, TEXT)),
+    (NoSession, VerifyUpdate(NOWHERE, TEXT)),
+    (NoSession, VerifyFinal(NOWHERE, TEXT)),
     (NoSession, GenerateKey(NOWHERE, AES_KEY_GEN, KEY_HERE)),
+    (
+        NoSession,
+        WrapKey(NOWHERE, AES_KEY_WRAP, WRAPS, OPEN_KEY, None),
+    ),
+    (
+        NoSession,
+        UnwrapKey(NOWHERE, AES_KEY_WRAP, WRAPS, WRAPPED, UNWRAPPED),
+    ),
     (NoSession, GenerateRandom(NOWHERE, 1)),
 ];
 
@@ -182,14 +200,14 @@ pub(super) const CASES: &[Case] = &[
     (
         NoSession,
         WrongMechanism,
-        GenerateKey(WRITES, NO_KEY_GEN, KEY_HERE),
-        GenerateKey(NOWHERE, NO_KEY_GEN, KEY_HERE),
+        GenerateKey(WRITES, CIPHER, KEY_HERE),
+        GenerateKey(NOWHERE, CIPHER, KEY_HERE),
     ),
     (
         WrongMechanism,
         WrongParameter,
         GenerateKey(WRITES, AES_KEY_GEN_WITH_PARAMETER, KEY_HERE),
-        GenerateKey(WRITES, NO_KEY_GEN_WITH_PARAMETER, KEY_HERE),
+        GenerateKey(WRITES, CIPHER_WITH_PARAMETER, KEY_HERE),
     ),
     (
         WrongParameter,
@@ -224,7 +242,7 @@ pub(super) const CASES: &[Case] = &[
 ];
 
 /// The neighbours that can't both hold.
-pub(super) const LEFT_OUT: &[(Function, Fault, Fault)] = &[
+pub(super) const LEFT_OUT: &[LeftOut] = &[
     // Nobody logs in here: `pin_tests` has the cases in which the SO is logged in.
     (Function::OpenSession, UnknownFlag, SoLoggedIn),
     (Function::OpenSession, SoLoggedIn, SessionLimit),
@@ -239,6 +257,8 @@ pub(super) const LEFT_OUT: &[(Function, Fault, Fault)] = &[
     (Function::Decrypt, NoOperation, DataTaken),
     (Function::EncryptFinal, NoOperation, DataLength),
     (Function::DecryptFinal, NoOperation, DataLength),
+    (Function::Sign, NoOperation, DataTaken),
+    (Function::Verify, NoOperation, DataTaken),
     // The row of encrypted data is for decryptions, which have the same tables.
     (Function::Encrypt, DataLength, EncryptedDataLength),
     (Function::Encrypt, EncryptedDataLength, NoBuffer),
@@ -254,4 +274,7 @@ pub(super) const LEFT_OUT: &[(Function, Fault, Fault)] = &[
     (Function::Decrypt, NoBuffer, SmallBuffer),
     (Function::DecryptUpdate, NoBuffer, SmallBuffer),
     (Function::DecryptFinal, NoBuffer, SmallBuffer),
+    (Function::Sign, NoBuffer, SmallBuffer),
+    (Function::SignFinal, NoBuffer, SmallBuffer),
+    (Function::WrapKey, NoBuffer, SmallBuffer),
 ];

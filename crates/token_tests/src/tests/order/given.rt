@@ -2,7 +2,10 @@
 
 use ck_types::AttrType;
 use precede::Row as Fault;
-use scripts::Step::{CreateObject, DecryptInit, DecryptUpdate, EncryptInit, EncryptUpdate};
+use scripts::Step::{
+    CreateObject, DecryptInit, DecryptUpdate, EncryptInit, EncryptUpdate, SignInit, SignUpdate,
+    VerifyInit, VerifyUpdate,
+};
 use scripts::given::*;
 use scripts::{Given, GivenMechanism, Row, Step, Told};
 
@@ -16,7 +19,8 @@ pub(super) const READS: u64 = 2;
 
 pub(super) const NOWHERE: u64 = 99;
 
-/// Sessions that encrypt and decrypt at once: by CKM_AES_ECB without data and with fifteen bytes taken, by CKM_AES_CTR with
+/// Sessions that encrypt and decrypt at once: by CKM_AES_ECB without data and with fifteen bytes taken, which also sign and
+/// verify so by CKM_AES_CMAC; by CKM_AES_CTR with
 /// two counter bits without data and with a byte taken, and by CKM_AES_CBC_PAD without data; and one that decrypts by it,
 /// with a block taken.
 pub(super) const BEGUN: u64 = 3;
@@ -31,8 +35,8 @@ pub(super) const PADS: u64 = 7;
 
 pub(super) const PADDED: u64 = 8;
 
-/// The objects: an AES key, another that may neither encrypt nor decrypt, a key of another type that may do neither, data
-/// that may be neither copied, changed nor destroyed, data without such bars, and none.
+/// The objects: an AES key, another that may do nothing, a key of another type that may do nothing, data that may be neither
+/// copied, changed nor destroyed, data without such bars, and none.
 pub(super) const KEY: u64 = 1;
 
 pub(super) const IDLE_KEY: u64 = 2;
@@ -43,7 +47,21 @@ pub(super) const BARRED: u64 = 4;
 
 pub(super) const FREE: u64 = 5;
 
-pub(super) const MISSING: u64 = 9;
+pub(super) const MISSING: u64 = 99;
+
+/// More keys: one that wraps and unwraps, one that may be wrapped, one that only a trusted key wraps, one that none wraps, and
+/// secrets that are too short, which every key may wrap and which a trusted one may.
+pub(super) const WRAPS: u64 = 6;
+
+pub(super) const OPEN_KEY: u64 = 7;
+
+pub(super) const KEY_FOR_TRUSTED: u64 = 8;
+
+pub(super) const CLOSED_KEY_FOR_TRUSTED: u64 = 9;
+
+pub(super) const SHORT_KEY: u64 = 10;
+
+pub(super) const SHORT_KEY_FOR_TRUSTED: u64 = 11;
 
 const MAKES_IDLE_KEY: Given = &[
     (AttrType::Class, SECRET_KEY),
@@ -53,6 +71,8 @@ const MAKES_IDLE_KEY: Given = &[
     (AttrType::Token, YES),
     (AttrType::Encrypt, NO),
     (AttrType::Decrypt, NO),
+    (AttrType::Sign, NO),
+    (AttrType::Verify, NO),
 ];
 
 const MAKES_GENERIC_KEY: Given = &[
@@ -63,6 +83,65 @@ const MAKES_GENERIC_KEY: Given = &[
     (AttrType::Token, YES),
     (AttrType::Encrypt, NO),
     (AttrType::Decrypt, NO),
+    (AttrType::Sign, NO),
+    (AttrType::Verify, NO),
+];
+
+const MAKES_WRAPS: Given = &[
+    (AttrType::Class, SECRET_KEY),
+    (AttrType::KeyType, AES),
+    (AttrType::Value, KEY_BYTES),
+    (AttrType::Private, NO),
+    (AttrType::Token, YES),
+    (AttrType::Wrap, YES),
+    (AttrType::Unwrap, YES),
+];
+
+const MAKES_OPEN_KEY: Given = &[
+    (AttrType::Class, SECRET_KEY),
+    (AttrType::KeyType, AES),
+    (AttrType::Value, TEXT),
+    (AttrType::Private, NO),
+    (AttrType::Token, YES),
+    (AttrType::Extractable, YES),
+];
+
+const MAKES_KEY_FOR_TRUSTED: Given = &[
+    (AttrType::Class, SECRET_KEY),
+    (AttrType::KeyType, AES),
+    (AttrType::Value, TEXT),
+    (AttrType::Private, NO),
+    (AttrType::Token, YES),
+    (AttrType::Extractable, YES),
+    (AttrType::WrapWithTrusted, YES),
+];
+
+const MAKES_CLOSED_KEY_FOR_TRUSTED: Given = &[
+    (AttrType::Class, SECRET_KEY),
+    (AttrType::KeyType, AES),
+    (AttrType::Value, TEXT),
+    (AttrType::Private, NO),
+    (AttrType::Token, YES),
+    (AttrType::WrapWithTrusted, YES),
+];
+
+const MAKES_SHORT_KEY: Given = &[
+    (AttrType::Class, SECRET_KEY),
+    (AttrType::KeyType, GENERIC_SECRET),
+    (AttrType::Value, b"a short one"),
+    (AttrType::Private, NO),
+    (AttrType::Token, YES),
+    (AttrType::Extractable, YES),
+];
+
+const MAKES_SHORT_KEY_FOR_TRUSTED: Given = &[
+    (AttrType::Class, SECRET_KEY),
+    (AttrType::KeyType, GENERIC_SECRET),
+    (AttrType::Value, b"a short one"),
+    (AttrType::Private, NO),
+    (AttrType::Token, YES),
+    (AttrType::Extractable, YES),
+    (AttrType::WrapWithTrusted, YES),
 ];
 
 const MAKES_BARRED: Given = &[
@@ -105,14 +184,17 @@ pub(super) const KEY_GENERATION: Option<GivenMechanism> = Some((0x1080, b""));
 
 pub(super) const KEY_GENERATION_WITH_PARAMETER: Option<GivenMechanism> = Some((0x1080, TEXT));
 
-/// That mechanism, to generate keys by, with a parameter too, and CKM_AES_ECB, which generates none.
-pub(super) const AES_KEY_GEN: GivenMechanism = (0x1080, b"");
-
+/// The same, to generate keys by, and CKM_AES_ECB, by which no key is made or wrapped.
 pub(super) const AES_KEY_GEN_WITH_PARAMETER: GivenMechanism = (0x1080, TEXT);
 
-pub(super) const NO_KEY_GEN_WITH_PARAMETER: GivenMechanism = (ECB_NUMBER, TEXT);
+pub(super) const CIPHER_WITH_PARAMETER: GivenMechanism = (ECB_NUMBER, TEXT);
 
-pub(super) const NO_KEY_GEN: GivenMechanism = (ECB_NUMBER, b"");
+pub(super) const CIPHER: GivenMechanism = (ECB_NUMBER, b"");
+
+/// CKM_AES_CMAC and CKM_AES_KEY_WRAP with parameters, which they haven't.
+pub(super) const CMAC_WITH_PARAMETER: Option<GivenMechanism> = Some((0x108a, TEXT));
+
+pub(super) const KEY_WRAP_WITH_PARAMETER: GivenMechanism = (0x2109, TEXT);
 
 /// The number of no mechanism.
 pub(super) const UNKNOWN_MECHANISM: u64 = 0x250;
@@ -150,6 +232,32 @@ pub(super) const REFUSED_KEY_ON_TOKEN: Given = &[
     (AttrType::Copyable, b""),
 ];
 
+/// Keys that are unwrapped, and what is no wrapping of an AES key, but of a longer one.
+pub(super) const UNWRAPPED: Given = &[(AttrType::KeyType, AES), (AttrType::Private, NO)];
+
+pub(super) const PRIVATE_UNWRAPPED: Given = &[(AttrType::KeyType, AES), (AttrType::Private, YES)];
+
+pub(super) const UNWRAPPED_ON_TOKEN: Given = &[
+    (AttrType::KeyType, AES),
+    (AttrType::Private, NO),
+    (AttrType::Token, YES),
+];
+
+pub(super) const PRIVATE_UNWRAPPED_ON_TOKEN: Given = &[
+    (AttrType::KeyType, AES),
+    (AttrType::Private, YES),
+    (AttrType::Token, YES),
+];
+
+pub(super) const REFUSED_UNWRAPPED_ON_TOKEN: Given = &[
+    (AttrType::KeyType, AES),
+    (AttrType::Private, NO),
+    (AttrType::Token, YES),
+    (AttrType::Copyable, b""),
+];
+
+pub(super) const LONG_WRAPPED: &[u8] = &[0; 48];
+
 /// A text that is longer than the keystream of `TWO_BITS`.
 pub(super) const LONG_TEXT: &[u8] = &[0; 49];
 
@@ -182,12 +290,44 @@ pub(super) const BEFORE: &[Row] = &[
     ),
     (A, CreateObject(WRITES, MAKES_BARRED), Told::Object(BARRED)),
     (A, CreateObject(WRITES, TOKEN_DATA), Told::Object(FREE)),
+    (A, CreateObject(WRITES, MAKES_WRAPS), Told::Object(WRAPS)),
+    (
+        A,
+        CreateObject(WRITES, MAKES_OPEN_KEY),
+        Told::Object(OPEN_KEY),
+    ),
+    (
+        A,
+        CreateObject(WRITES, MAKES_KEY_FOR_TRUSTED),
+        Told::Object(KEY_FOR_TRUSTED),
+    ),
+    (
+        A,
+        CreateObject(WRITES, MAKES_CLOSED_KEY_FOR_TRUSTED),
+        Told::Object(CLOSED_KEY_FOR_TRUSTED),
+    ),
+    (
+        A,
+        CreateObject(WRITES, MAKES_SHORT_KEY),
+        Told::Object(SHORT_KEY),
+    ),
+    (
+        A,
+        CreateObject(WRITES, MAKES_SHORT_KEY_FOR_TRUSTED),
+        Told::Object(SHORT_KEY_FOR_TRUSTED),
+    ),
     (A, EncryptInit(BEGUN, ECB, KEY), OK),
     (A, DecryptInit(BEGUN, ECB, KEY), OK),
     (A, EncryptInit(TAKEN, ECB, KEY), OK),
     (A, EncryptUpdate(TAKEN, ODD_TEXT, Some(0)), Told::Data(b"")),
     (A, DecryptInit(TAKEN, ECB, KEY), OK),
     (A, DecryptUpdate(TAKEN, ODD_TEXT, Some(0)), Told::Data(b"")),
+    (A, SignInit(BEGUN, AES_CMAC, KEY), OK),
+    (A, VerifyInit(BEGUN, AES_CMAC, KEY), OK),
+    (A, SignInit(TAKEN, AES_CMAC, KEY), OK),
+    (A, SignUpdate(TAKEN, ODD_TEXT), OK),
+    (A, VerifyInit(TAKEN, AES_CMAC, KEY), OK),
+    (A, VerifyUpdate(TAKEN, ODD_TEXT), OK),
     (A, EncryptInit(COUNTS, TWO_BITS, KEY), OK),
     (A, DecryptInit(COUNTS, TWO_BITS, KEY), OK),
     (A, EncryptInit(COUNTED, TWO_BITS, KEY), OK),

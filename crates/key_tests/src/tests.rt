@@ -1,0 +1,5 @@
+mod codes;
+mod given;
+mod signing;
+mod verifying;
+mod wrapping;

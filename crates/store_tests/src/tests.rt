@@ -1,0 +1,7 @@
+mod ciphers;
+mod every_call;
+mod given;
+mod keepers;
+mod many_objects;
+mod objects;
+mod pins;
