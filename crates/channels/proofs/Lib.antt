@@ -1,0 +1,5 @@
+pub mod Arrives
+pub mod Crosses
+pub mod EndsCross
+pub mod Reaches
+pub mod Rows

@@ -1,0 +1,85 @@
+// The rule of the inward channel.
+ghost use Rattle.std.specs.Prelude.{◌≡◌};
+
+use crate::messages::{Event, Inward};
+use crossbeam_channel::protocol::{Join, Lesson, Outcome, Protocol, Split};
+use std::collections::LinkedList;
+
+/// What a pass of the inward channel knows. No value of it is seats.
+pub enum InwardView {
+    /// The token's: how many seats were seats, what was taken, and what seats that have ended sent in all.
+    Taking {
+        seats: u64,
+        taken: LinkedList<(u64, Event)>,
+        ended: LinkedList<LinkedList<Event>>,
+    },
+    /// A seat's: its number and the events that it sent.
+    Sending {
+        seat: u64,
+        sent: LinkedList<Event>,
+    },
+    Spent,
+}
+
+pub struct InwardRule;
+
+impl Protocol<Inward, InwardView> for InwardRule {
+    ghost use Rattle.std.specs.Prelude.{[]};
+    ghost use Rattle.channels.specs.declared.inward.InwardView.TheVariants.{Taking};
+    ghost use Rattle.channels.specs.Inward.{InwardRule};
+
+    ghost holds = { InwardRule };
+
+    ghost first = { Taking 0 [] [] };
+}
+
+/// A seat puts a message.
+pub struct Puts;
+
+impl Outcome<Inward, InwardView> for Puts {
+    ghost use Rattle.channels.specs.Inward.{after_put};
+
+    ghost then = { λ v x w. w ≡ after_put v x };
+}
+
+impl Lesson<Inward, InwardView> for Puts {
+    ghost fact = { λ v items. Unit {0} };
+}
+
+/// The token takes a message.
+pub struct Takes;
+
+impl Outcome<Inward, InwardView> for Takes {
+    ghost use Rattle.channels.specs.Inward.{after_take};
+
+    ghost then = { λ v x w. w ≡ after_take v x };
+}
+
+impl Lesson<Inward, InwardView> for Takes {
+    ghost use Rattle.channels.specs.Inward.{SentInAll};
+
+    ghost fact = { SentInAll };
+}
+
+/// A seat's pass is seats from the token's.
+pub struct AddsSeat;
+
+impl Split<InwardView> for AddsSeat {
+    ghost use Rattle.channels.specs.Inward.{one_more, next_sending};
+
+    ghost left = { one_more };
+
+    ghost right = { next_sending };
+}
+
+/// The pass of a seat that has ended is taken in.
+pub struct Ends;
+
+impl Join<InwardView> for Ends {
+    ghost use Rattle.channels.specs.Inward.{with_ended};
+    ghost use Rattle.channels.specs.declared.inward.InwardView.TheVariants.{Spent};
+
+    ghost both = { with_ended };
+
+    ghost spent = { Spent };
+}

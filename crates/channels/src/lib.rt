@@ -1,0 +1,30 @@
+//! The channels between the token and the seats, each under a rule.
+//!
+//! One bounded channel goes inward, from four seats to the token, and one outward to each seat. A rule says of all messages
+//! of a channel, on their way or not: what each seat put is what the token took of it and then what is on its way, in
+//! order; and what the token gave a seat is what the seat got and then what is on its way, in order. Each end has a pass,
+//! a value with no bytes by which contracts know what it has put or taken. No rule speaks of two channels, nor of what an
+//! event does.
+//!
+//! - `messages` are what passes; `inward` and `outward` the two rules.
+//! - `Inbox` is the token's end of the inward channel, `Outbox` its end of one outward channel, and `Port` a seat's two ends.
+//!
+//! No clause says that a message comes, or that a call returns.
+//!
+//! ```text
+//! let mut inbox = Inbox::open(alloc)?;
+//! let (mut outbox, outward, outward_pass) = Outbox::open(alloc)?;
+//! let (inward, inward_pass) = inbox.add_seat()?;
+//! let mut port = Port { seat: 0, inward, inward_pass, outward, outward_pass };
+//! port.put(&rt, Inward::End { seat: 0 });
+//! inbox.take(&rt);
+//! ```
+#![tactic(auto)]
+
+pub mod inbox;
+pub mod inward;
+pub mod messages;
+pub mod outbox;
+pub mod outward;
+mod passing;
+pub mod port;

@@ -1,0 +1,80 @@
+// The token's end of one outward channel.
+ghost use Rattle.std.specs.Prelude.{◌≡◌, ◌<◌, ◌++◌, [], ◌∷◌, List, IsTrue, IfOk};
+ghost use Rattle.crossbeam_channel.specs.Claims.{view, IsSeatAt};
+ghost use Rattle.crossbeam_channel.specs.Ends.{sends_on, receives_on};
+ghost use Rattle.channels.specs.Outward.{answer_in, answers_in, given_of, got_of};
+ghost use Rattle.channels.specs.declared.messages.Outward.{Outward};
+ghost use Rattle.channels.specs.declared.outward.OutwardView.TheVariants.{Giving, Getting};
+
+use crate::messages::Outward;
+use crate::outward::{Gives, OutwardRule, OutwardView, Sides, Total};
+use crossbeam_channel::{Pass, RuledReceiver, RuledSender, bounded_with};
+use std::alloc::{AllocError, Global};
+use std::sync::Wait;
+
+/// The token's end of one seat's channel.
+#[derive(Drop)]
+pub struct Outbox {
+    pub outward: RuledSender<Outward, OutwardView, OutwardRule>,
+    pub outward_pass: Pass<Outward, OutwardView>,
+    pub ghost outward_pass_is: { IsSeatAt (sends_on outward) outward_pass },
+    pub ghost gives: { view outward_pass ≡ Giving (given_of (view outward_pass)) },
+}
+
+impl Outbox {
+    /// Both ends of a new channel of capacity 1.
+    pub fn open(
+        alloc: Global,
+    ) -> Result<
+        (
+            Outbox,
+            RuledReceiver<Outward, OutwardView, OutwardRule>,
+            Pass<Outward, OutwardView>,
+        ),
+        AllocError,
+    >
+        ensures ends { IfOk result (λ r. (receives_on r.1 ≡ sends_on r.0.outward) × IsSeatAt (receives_on r.1) r.2) }
+        ensures views { IfOk result (λ r. (given_of (view r.0.outward_pass) ≡ []) × (view r.2 ≡ Getting [])) }
+    {
+        let (outward, other, mut outward_pass) = bounded_with::<
+            Outward,
+            OutwardView,
+            OutwardRule,
+            Global,
+        >(alloc, 1)?;
+        let theirs = outward.another::<Sides>(&mut outward_pass);
+        Ok((
+            Outbox {
+                outward,
+                outward_pass,
+            },
+            other,
+            theirs,
+        ))
+    }
+
+    /// Gives a message to the seat. False where the channel has ended.
+    pub fn give<R: Wait>(&mut self, rt: &R, message: Outward) -> bool
+        ensures same { sends_on self.new.outward ≡ sends_on self.old.outward }
+        ensures given { IsTrue result → given_of (view self.new.outward_pass) ≡ given_of (view self.old.outward_pass) ++ answer_in message }
+        ensures none { answer_in message ≡ [] → given_of (view self.new.outward_pass) ≡ given_of (view self.old.outward_pass) }
+    {
+        self.outward
+            .send_as::<Gives, R>(rt, &mut self.outward_pass, message)
+            .is_ok()
+    }
+
+    /// Takes in the pass of a seat that has ended. What was given is what the seat got, and what it left.
+    pub fn close(self, outward_pass: Pass<Outward, OutwardView>) -> Pass<Outward, OutwardView>
+        requires outward_pass { IsSeatAt (sends_on self.outward) outward_pass }
+        requires gets { view outward_pass ≡ Getting (got_of (view outward_pass)) }
+        ensures given { given_of (view result) ≡ given_of (view self.outward_pass) }
+        ensures got { got_of (view result) ≡ got_of (view outward_pass) }
+        ensures left { (items : List Outward) × (given_of (view self.outward_pass) ≡ got_of (view outward_pass) ++ answers_in items) }
+    {
+        let mut pass = self.outward_pass;
+        self.outward.absorb::<Sides>(&mut pass, outward_pass);
+        self.outward.learn_as::<Total>(&mut pass);
+        pass
+    }
+}

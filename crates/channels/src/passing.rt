@@ -1,0 +1,127 @@
+// What a seat does at its ends.
+ghost use Rattle.std.specs.Prelude.{◌≡◌, ◌++◌, [], ◌∷◌, IsTrue, IfNone, IfSome};
+ghost use Rattle.crossbeam_channel.specs.Claims.{view, IsSeatAt};
+ghost use Rattle.crossbeam_channel.specs.Ends.{sends_on, receives_on};
+ghost use Rattle.channels.specs.Inward.{from, said, sent_of};
+ghost use Rattle.channels.specs.Outward.{answer_in, got_of};
+ghost use Rattle.channels.specs.declared.inward.InwardView.TheVariants.{Sending};
+ghost use Rattle.channels.specs.declared.outward.OutwardView.TheVariants.{Getting};
+ghost use Rattle.channels.specs.Same.{SamePort};
+
+use crate::inward::Puts;
+use crate::messages::{Inward, Outward};
+use crate::outward::Gets;
+use crate::port::{Ends, Port, SeatEnds};
+use std::sync::Wait;
+use std::thread;
+
+impl Port {
+    /// A seat's ends, in its thread.
+    pub fn enter(ends: SeatEnds) -> Port
+        requires inward_pass { IsSeatAt (sends_on ends.inward) ends.inward_pass }
+        requires outward_pass { IsSeatAt (receives_on ends.outward) ends.outward_pass }
+        requires tells { view ends.inward_pass ≡ Sending ends.seat (sent_of (view ends.inward_pass)) }
+        requires gets { view ends.outward_pass ≡ Getting (got_of (view ends.outward_pass)) }
+        ensures { (result.seat ≡ ends.seat) × (result.inward ≡ ends.inward) × (result.inward_pass ≡ ends.inward_pass) × (result.outward ≡ ends.outward) × (result.outward_pass ≡ ends.outward_pass) }
+    {
+        let Ends {
+            seat,
+            inward,
+            inward_pass,
+            outward,
+            outward_pass,
+        } = ends;
+        Port {
+            seat,
+            inward,
+            inward_pass,
+            outward,
+            outward_pass,
+        }
+    }
+
+    /// Its ends, to leave its thread with.
+    pub fn leave(self) -> SeatEnds
+        ensures same { (result.seat ≡ self.seat) × (result.inward ≡ self.inward) × (result.inward_pass ≡ self.inward_pass) × (result.outward ≡ self.outward) × (result.outward_pass ≡ self.outward_pass) }
+        ensures inward_pass { IsSeatAt (sends_on result.inward) result.inward_pass }
+        ensures outward_pass { IsSeatAt (receives_on result.outward) result.outward_pass }
+        ensures tells { view result.inward_pass ≡ Sending result.seat (sent_of (view result.inward_pass)) }
+        ensures gets { view result.outward_pass ≡ Getting (got_of (view result.outward_pass)) }
+    {
+        let Port {
+            seat,
+            inward,
+            inward_pass,
+            outward,
+            outward_pass,
+        } = self;
+        Ends {
+            seat,
+            inward,
+            inward_pass,
+            outward,
+            outward_pass,
+        }
+    }
+
+    /// Puts a message of this seat. False where the channel has ended.
+    pub fn put<R: Wait>(&mut self, rt: &R, message: Inward) -> bool
+        requires { from message ≡ self.old.seat }
+        ensures same { SamePort self.old self.new }
+        ensures sent { IsTrue result → sent_of (view self.new.inward_pass) ≡ sent_of (view self.old.inward_pass) ++ said message }
+        ensures got { got_of (view self.new.outward_pass) ≡ got_of (view self.old.outward_pass) }
+    {
+        self.inward
+            .send_as::<Puts, R>(rt, &mut self.inward_pass, message)
+            .is_ok()
+    }
+
+    /// Gets a message for this seat. None where the channel has ended.
+    pub fn get<R: Wait>(&mut self, rt: &R) -> Option<Outward>
+        ensures same { SamePort self.old self.new }
+        ensures sent { sent_of (view self.new.inward_pass) ≡ sent_of (view self.old.inward_pass) }
+        ensures got { IfSome result (λ x. got_of (view self.new.outward_pass) ≡ got_of (view self.old.outward_pass) ++ answer_in x) }
+    {
+        match self.get_patiently(rt) {
+            Some(x) => Some(x),
+            None => self.wait(rt),
+        }
+    }
+
+    pub fn wait<R: Wait>(&mut self, rt: &R) -> Option<Outward>
+        ensures same { SamePort self.old self.new }
+        ensures sent { sent_of (view self.new.inward_pass) ≡ sent_of (view self.old.inward_pass) }
+        ensures got { IfSome result (λ x. got_of (view self.new.outward_pass) ≡ got_of (view self.old.outward_pass) ++ answer_in x) }
+    {
+        self.outward
+            .recv_as::<Gets, R>(rt, &mut self.outward_pass)
+            .ok()
+    }
+
+    pub fn get_patiently<R: Wait>(&mut self, rt: &R) -> Option<Outward>
+        ensures same { SamePort self.old self.new }
+        ensures sent { sent_of (view self.new.inward_pass) ≡ sent_of (view self.old.inward_pass) }
+        ensures none { IfNone result (view self.new.outward_pass ≡ view self.old.outward_pass) }
+        ensures got { IfSome result (λ x. got_of (view self.new.outward_pass) ≡ got_of (view self.old.outward_pass) ++ answer_in x) }
+    {
+        'turns: for _ in 0..40 {
+            if let Some(x) = self.try_get(rt) {
+                return Some(x);
+            }
+            thread::yield_now();
+        }
+        None
+    }
+
+    /// Gets a message, if there is one.
+    pub fn try_get<R: Wait>(&mut self, rt: &R) -> Option<Outward>
+        ensures same { SamePort self.old self.new }
+        ensures sent { sent_of (view self.new.inward_pass) ≡ sent_of (view self.old.inward_pass) }
+        ensures none { IfNone result (view self.new.outward_pass ≡ view self.old.outward_pass) }
+        ensures got { IfSome result (λ x. got_of (view self.new.outward_pass) ≡ got_of (view self.old.outward_pass) ++ answer_in x) }
+    {
+        self.outward
+            .try_recv_as::<Gets, R>(rt, &mut self.outward_pass)
+            .ok()
+    }
+}

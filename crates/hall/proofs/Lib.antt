@@ -1,0 +1,4 @@
+pub mod Joins
+pub mod MoreHistory
+pub mod PendingJobs
+pub mod ProperExchanges

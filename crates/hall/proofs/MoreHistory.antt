@@ -1,0 +1,206 @@
+-- One event more in a history.
+use Rattle.std.proofs.Common.{◌≡◌, ◌≢◌, ℕ, ◌%◌, zero, suc, ◌+◌, ◌<◌, ◌≤◌, ◌⊎◌, List, [], ◌∷◌, ◌++◌, length, map, sym, refl, ap, ◌∙◌, subst, inl, inr, ⊎_elim, append_assoc, append-nil, arith, Option, Some, None, set}
+use Rattle.std.specs.List.{slice_get}
+use Rattle.std.proofs.lemmas.List.{map-append}
+use Rattle.std.proofs.lemmas.Bool.{cases_eq}
+use Rattle.ck_calls.specs.declared.reply.Reply.{Reply as ReplyType}
+use Rattle.crossbeam_channel.specs.Claims.{view}
+use Rattle.crossbeam_channel.specs.Ends.{sends_on}
+use Rattle.lists.proofs.ListLemmas.{map-push}
+use Rattle.mech.specs.declared.job.Job.{Job}
+use Rattle.token_model.specs.Worlds.{World, Move, Goes, Refuses, event_of, happens, after, replies}
+use Rattle.token_model.proofs.Told.{is_told}
+use Rattle.token_model.proofs.Tries.{sound-run}
+use Rattle.token_model.specs.Traces.{NotSetApart}
+use Rattle.token_store.specs.declared.out.Out.{Out}
+use Rattle.token.specs.Applications.{HasJobs, asked_by, jobs_of}
+use Rattle.token.specs.Runs.{AccountsFor, IsRun, Lasting, LeftAfter, LeftBy}
+use Rattle.token.proofs.Accounts.{accounts-more, accounts-none}
+use Rattle.channels.specs.Lists.{of, last}
+use Rattle.channels.specs.Outward.{given_of}
+use Rattle.channels.specs.declared.messages.Event.{Event}
+use Rattle.channels.specs.declared.outbox.Outbox.{Outbox}
+use Rattle.channels.proofs.Rows.{of-append, of-one, of-other}
+use Rattle.hall.specs.Exchanges.{Exchange, app_of, answers, asks, listed, pending, Suits, Follows, IsProper}
+use Rattle.hall.specs.Histories.{Allowed, AllProper, Counts, HasServed, History, HistorySuits, IsHistory, RunSoFar, Takes, Tells, Unfolds, as_event, model_events, move_in, moved_by, moves_in, own_job, replies_in, taken_in, told_by, told_in, waiting}
+use Rattle.hall.specs.Outboxes.{OutboxesGave, SameOutboxes}
+use Rattle.hall.proofs.PendingJobs.{allowed_after, event_moved_by, jobs_after, other_after, out_after, own_after, tells_is}
+use Rattle.hall.proofs.ProperExchanges.{answers-append, last_snoc, proper_front}
+
+-- ---- a history that is one longer
+
+pub taken_in-append : (ts : History) (t : ℕ × Exchange) → taken_in (ts ++ t ∷ []) ≡ taken_in ts ++ (t.0, t.1.0) ∷ []
+taken_in-append [] t = refl
+taken_in-append (x ∷ xs) t = ap (λ l. (x.0, x.1.0) ∷ l) (taken_in-append xs t)
+
+told_in-append : (ts : History) (t : ℕ × Exchange) → told_in (ts ++ t ∷ []) ≡ told_in ts ++ told_by (app_of t.1.0) t.1.1
+told_in-append [] t = append-nil (told_by (app_of t.1.0) t.1.1)
+told_in-append (x ∷ xs) t = ap (λ l. told_by (app_of x.1.0) x.1.1 ++ l) (told_in-append xs t) ∙ sym (append_assoc (told_by (app_of x.1.0) x.1.1) (told_in xs) (told_by (app_of t.1.0) t.1.1))
+
+HistorySuits-append : (ts : History) (t : ℕ × Exchange) → HistorySuits ts → Suits t.1.0 t.1.1 → HistorySuits (ts ++ t ∷ [])
+HistorySuits-append [] t a b = (b, tt)
+HistorySuits-append (x ∷ xs) t a b = (a.0, HistorySuits-append xs t a.1 b)
+
+unfolds-append : (w : World) (ts : History) (t : ℕ × Exchange) → Unfolds w ts → Tells (after w (moves_in ts)) t.1.0 t.1.1 → Unfolds w (ts ++ t ∷ [])
+unfolds-append w [] t u tells = (tells, tt)
+unfolds-append w (x ∷ xs) t u tells = (u.0, unfolds-append (happens w (move_in x.1)) xs t u.1 tells)
+
+of_here : (ts : History) (s : ℕ) (d : Exchange) → of s (ts ++ (s, d) ∷ []) ≡ of s ts ++ d ∷ []
+of_here ts s d = of-append s ts ((s, d) ∷ []) ∙ ap (λ l. of s ts ++ l) (of-one s s d refl)
+
+of_else : (ts : History) (s t : ℕ) (d : Exchange) → t ≢ s → of s (ts ++ (t, d) ∷ []) ≡ of s ts
+of_else ts s t d ne = of-append s ts ((t, d) ∷ []) ∙ ap (λ l. of s ts ++ l) (of-other s t d ne) ∙ append-nil (of s ts)
+
+-- the front of a history of proper seats is one
+proper_before : (ts : History) (t : ℕ × Exchange) → AllProper (ts ++ t ∷ []) → AllProper ts
+proper_before ts t proper s = proper_front s (of s ts) (of s (t ∷ [])) (subst (λ (l : List Exchange). IsProper s l) (of-append s ts (t ∷ [])) (proper s))
+
+-- the last event follows what its seat did before
+proper_last : (ts : History) (s : ℕ) (d : Exchange) → AllProper (ts ++ (s, d) ∷ []) → Follows (last (of s ts)) d.0 × (app_of d.0 % 4 ≡ s)
+proper_last ts s d proper = let p = proper s (of s ts) d [] (of_here ts s d) in (p.0, p.1)
+
+-- ---- moves
+
+after-append : (w : World) (ms : List Move) (m : Move) → after w (ms ++ m ∷ []) ≡ happens (after w ms) m
+after-append w [] m = refl
+after-append w (x ∷ ms) m = after-append (happens w x) ms m
+
+left-append : (prior : Option Lasting → Type 0) (w : World) (ms : List Move) (m : Move) (x : Option Lasting) → LeftBy (LeftAfter prior w ms) (after w ms) m x → LeftAfter prior w (ms ++ m ∷ []) x
+left-append prior w [] m x l = l
+left-append prior w (y ∷ ms) m x l = left-append (LeftBy prior w y) (happens w y) ms m x l
+
+-- what could be left before may be known to be less
+left-more : (p q : Option Lasting → Type 0) (w : World) (m : Move) (x : Option Lasting) → (p x → q x) → LeftBy p w m x → LeftBy q w m x
+left-more p q w (Goes event) x f (inl l) = inl (f l.0, l.1)
+left-more p q w (Goes event) x f (inr l) = inr l
+left-more p q w (Refuses event fault) x f (inl l) = inl (f l)
+left-more p q w (Refuses event fault) x f (inr l) = inr l
+
+-- ---- the run goes on
+
+module _ (showing showing' : World → Type 0) (prior left left' : Option Lasting → Type 0) (w : World) (ts : History) (s : ℕ) (e : Event) (o : Option Out) where
+  waits_more : (out : List (ℕ × Job)) (v : World) → ((a : ℕ) → jobs_of a out ≡ waiting a (last (of (a % 4) ts))) → Follows (last (of s ts)) e → app_of e % 4 ≡ s → Tells v e o
+      → (a : ℕ) → jobs_of a (out_after e o out) ≡ waiting a (last (of (a % 4) (ts ++ (s, (e, o)) ∷ [])))
+  waits_more out v waits follows own tells a = elim (cases_eq (a % 4) s) [
+    | inl is ↦
+        let now : last (of (a % 4) (ts ++ (s, (e, o)) ∷ [])) ≡ Some (e, o) = ap (λ n. last (of n (ts ++ (s, (e, o)) ∷ []))) is ∙ ap last (of_here ts s (e, o)) ∙ last_snoc (of s ts) (e, o) in
+        own_after v out (last (of s ts)) e o a follows (waits a ∙ ap (λ n. waiting a (last (of n ts))) is) tells ∙ ap (waiting a) (sym now)
+    | inr differ ↦ other_after out e o a (λ is. differ (ap (λ n. n % 4) is ∙ own)) ∙ waits a ∙ ap (λ l. waiting a (last l)) (sym (of_else ts (a % 4) s (e, o) (λ x. differ (sym x))))
+  ]
+
+  pub run_more : ((v : World) → showing v → Allowed v e → Takes showing' left left' v e o) → Follows (last (of s ts)) e → app_of e % 4 ≡ s
+      → RunSoFar showing prior left w ts → RunSoFar showing' prior left' w (ts ++ (s, (e, o)) ∷ [])
+  run_more turn follows own so =
+      let v = after w (moves_in ts) in
+      let m = moved_by (as_event e) o in
+      let owns : jobs_of (app_of e) so.out ≡ waiting (app_of e) (last (of s ts)) = so.waits (app_of e) ∙ ap (λ n. waiting (app_of e) (last (of n ts))) own in
+      let takes : Takes showing' left left' v e o = turn v so.shows (allowed_after v so.out so.jobs (last (of s ts)) e follows owns) in
+      let moves : moves_in (ts ++ (s, (e, o)) ∷ []) ≡ moves_in ts ++ m ∷ [] = map-push (λ x. move_in x.1) ts (s, (e, o)) in
+      let next : after w (moves_in (ts ++ (s, (e, o)) ∷ [])) ≡ happens v m = ap (after w) moves ∙ after-append w (moves_in ts) m in
+      record {
+        unfolds = unfolds-append w ts (s, (e, o)) so.unfolds takes.tells;
+        shows = subst showing' (sym next) takes.shows;
+        leaves = λ l may. subst (λ ms. LeftAfter prior w ms l) (sym moves) (left-append prior w (moves_in ts) m l (left-more left (LeftAfter prior w (moves_in ts)) v m l (so.leaves l) (takes.leaves l may)));
+        out = out_after e o so.out;
+        jobs = subst (λ u. HasJobs u (out_after e o so.out)) (sym next) (jobs_after v so.out so.jobs (last (of s ts)) e o follows owns takes.tells);
+        waits = waits_more so.out v so.waits follows own takes.tells;
+      }
+
+pub run_none : (showing : World → Type 0) (prior : Option Lasting → Type 0) (w : World) → showing w → HasJobs w [] → RunSoFar showing prior prior w []
+run_none showing prior w sh idle = record {
+  unfolds = tt;
+  shows = sh;
+  leaves = λ l may. may;
+  out = [];
+  jobs = idle;
+  waits = λ app. refl;
+}
+
+-- ---- a whole history is a run of the token's
+
+took_is : (ts : History) → map event_of (moves_in ts) ++ [] ≡ model_events ts
+took_is [] = refl
+took_is (x ∷ xs) = let a = event_moved_by (as_event x.1.0) x.1.1 in let b = took_is xs in λ i. a i ∷ b i
+
+replied_is : (w : World) (ts : History) → Unfolds w ts → told_in ts ≡ replies w (moves_in ts)
+replied_is w [] u = refl
+replied_is w (x ∷ xs) u = let a = sym (tells_is w x.1.0 x.1.1 u.0) in let b = replied_is (happens w (move_in x.1)) xs u.1 in λ i. a i ++ b i
+
+no_jobs : (w : World) (out : List (ℕ × Job)) → HasJobs w out → ((app : ℕ) → jobs_of app out ≡ []) → HasJobs w []
+no_jobs w out h none app = ap (map asked_by) (sym (none app)) ∙ h app
+
+pub history_is : (showing : World → Type 0) (prior left : Option Lasting → Type 0) (w : World) (ts : History) → ((s : ℕ) → pending (last (of s ts)) ≡ None)
+    → RunSoFar showing prior left w ts → IsHistory showing prior left w ts
+history_is showing prior left w ts settled so =
+    let replied = replied_is w ts so.unfolds in
+    record {
+      unfolds = so.unfolds;
+      run = record {
+        moves = moves_in ts;
+        took = took_is ts;
+        replied = replied;
+        shows = so.shows;
+        jobs = no_jobs (after w (moves_in ts)) so.out so.jobs (λ app. so.waits app ∙ ap (own_job app) (settled (app % 4)));
+        leaves = so.leaves;
+        private = λ app none. is_told app w (moves_in ts) (subst (λ l. NotSetApart app l) replied none);
+        tries = λ s sound. sound-run s w (moves_in ts) sound;
+      };
+      moves = refl;
+    }
+
+-- ---- what has been served
+
+module _ {T : Type 0} (doubt failures : T → ℕ) (shows : T → World → Type 0) (leaves : T → Option Lasting → Type 0) where
+  pub served_more : (m n k : T) (ts : History) (s : ℕ) (e : Event) (o : Option Out) → HasServed doubt failures shows leaves m n ts → Suits e o
+      → Counts (doubt n) (doubt k) (failures n) (failures k) (replies_in (told_by (app_of e) o))
+      → (doubt k ≡ 0 → (w : World) → shows n w → Allowed w e → Takes (shows k) (leaves n) (leaves k) w e o) → HasServed doubt failures shows leaves m k (ts ++ (s, (e, o)) ∷ [])
+  served_more m n k ts s e o was suits counts turn = record {
+    suited = HistorySuits-append ts (s, (e, o)) was.suited suits;
+    counts = record {
+      doubt = let a = was.counts.doubt in let b = counts.doubt in omega (arith, a, b);
+      failures = let a = was.counts.failures in let b = counts.failures in omega (arith, a, b);
+      accounts = subst (λ (l : List ReplyType). AccountsFor (failures m) (failures k) l) (sym (ap replies_in (told_in-append ts (s, (e, o))) ∙ map-append (λ r. r.1) (told_in ts) (told_by (app_of e) o)))
+          (accounts-more (failures m) (failures n) (failures k) (replies_in (told_in ts)) (replies_in (told_by (app_of e) o)) was.counts.accounts counts.accounts counts.failures);
+    };
+    runs = λ sure w sh idle proper.
+        let honest : doubt n ≡ 0 = let b = counts.doubt in omega (arith, b, sure) in
+        let f = proper_last ts s (e, o) proper in
+        run_more (shows n) (shows k) (leaves m) (leaves n) (leaves k) w ts s e o (turn sure) f.0 f.1 (was.runs honest w sh idle (proper_before ts (s, (e, o)) proper));
+  }
+
+  pub served_none : (m : T) → HasServed doubt failures shows leaves m m []
+  served_none m = record {
+    suited = tt;
+    counts = record { doubt = omega arith; failures = omega arith; accounts = accounts-none (failures m) (failures m) (omega arith) };
+    runs = λ sure w sh idle proper. run_none (shows m) (leaves m) w sh idle;
+  }
+
+-- ---- the token's ends of the outward channels
+
+same_some : {A : Type 0} (x y : A) → Some x ≡ Some y → x ≡ y
+same_some x y e = cc
+
+get_set : {A : Type 0} (xs : List A) (i j : ℕ) (a b : A) → slice_get (set xs i a) j ≡ Some b → ((j ≡ i) × (a ≡ b)) ⊎ ((j ≢ i) × (slice_get xs j ≡ Some b))
+get_set [] i j a b e = absurd (let h : None ≡ Some b = e in cc)
+get_set (x ∷ xs) zero zero a b e = inl (refl, let h : Some a ≡ Some b = e in cc)
+get_set (x ∷ xs) zero (suc j) a b e = inr ((λ h. omega arith), e)
+get_set (x ∷ xs) (suc i) zero a b e = inr ((λ h. omega arith), e)
+get_set (x ∷ xs) (suc i) (suc j) a b e = ⊎_elim (λ (t : (j ≡ i) × (a ≡ b)). inl (ap suc t.0, t.1)) (λ (t : (j ≢ i) × (slice_get xs j ≡ Some b)). let n = t.0 in inr ((λ h. n (omega arith)), t.1)) (get_set xs i j a b e)
+
+pub outboxes_gave : (outboxes : List Outbox) (ts : History) (s : ℕ) (l m : Outbox) (e : Event) (o : Option Out)
+    → OutboxesGave outboxes ts → slice_get outboxes s ≡ Some l → given_of (view m.outward_pass) ≡ given_of (view l.outward_pass) ++ listed o → OutboxesGave (set outboxes s m) (ts ++ (s, (e, o)) ∷ [])
+outboxes_gave outboxes ts s l m e o was at is t x at' =
+    ⊎_elim
+    (λ (h : (t ≡ s) × (m ≡ x)).
+    subst (λ (y : ℕ × Outbox). given_of (view y.1.outward_pass) ≡ answers (of y.0 (ts ++ (s, (e, o)) ∷ []))) (λ i. (sym h.0 i, h.1 i))
+    (is ∙ ap (λ k. k ++ listed o) (was s l at) ∙ ap (λ k. answers (of s ts) ++ k) (sym (append-nil (listed o))) ∙ sym (answers-append (of s ts) ((e, o) ∷ [])) ∙ ap answers (sym (of_here ts s (e, o)))))
+    (λ (h : (t ≢ s) × (slice_get outboxes t ≡ Some x)). was t x h.1 ∙ ap answers (sym (of_else ts t s (e, o) (λ z. h.0 (sym z)))))
+    (get_set outboxes s t m x at')
+
+map_set : {A B : Type 0} (f : A → B) (xs : List A) (s : ℕ) (l m : A) → slice_get xs s ≡ Some l → f m ≡ f l → map f (set xs s m) ≡ map f xs
+map_set f [] s l m at is = refl
+map_set f (x ∷ xs) zero l m at is = ap (λ k. k ∷ map f xs) (is ∙ ap f (sym (same_some x l at)))
+map_set f (x ∷ xs) (suc s) l m at is = ap (λ k. f x ∷ k) (map_set f xs s l m at is)
+
+pub same_outboxes : (outboxes : List Outbox) (s : ℕ) (l m : Outbox) → slice_get outboxes s ≡ Some l → sends_on m.outward ≡ sends_on l.outward → SameOutboxes outboxes (set outboxes s m)
+same_outboxes outboxes s l m at is = map_set (λ (x : Outbox). sends_on x.outward) outboxes s l m at is

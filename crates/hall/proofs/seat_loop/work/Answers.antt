@@ -1,0 +1,9 @@
+use Rattle.std.proofs.Common.{◌∙◌}
+use Rattle.hall.proofs.seat_loop.work.Goals as goal
+
+pub returns-in-Reply-clause-exchanges : goal.returns-in-Reply-clause-exchanges
+returns-in-Reply-clause-exchanges g c = (
+  c.run-done.result,
+  c.run-done.ensures,
+  (c.in_ok-reply.ensures.sent ∙ c.tell.ensures.sent c.if-not-tell.false, (let h = c.in_ok-reply.ensures.got in let t = c.tell.ensures.got in cc)),
+)

@@ -1,0 +1,17 @@
+use Rattle.std.proofs.Common.{◌≡◌}
+use Rattle.crossbeam_channel.specs.Claims.{view}
+use Rattle.crossbeam_channel.specs.Ends.{sends_on}
+use Rattle.channels.specs.Inward.{seats_of, taken_of, ended_of}
+use Rattle.hall.specs.Histories.{HasServed, History, taken_in}
+use Rattle.hall.specs.Outboxes.{OutboxesGave, SameOutboxes}
+use Rattle.hall.proofs.serving.serve_seats.Given as goal
+
+abbrev pub invariant-loop : goal.invariant-loop
+invariant-loop g l =
+    (goal.iterator-loop g).can_next l.iterator' × (goal.iterator-loop g).is_finite l.iterator'
+    × (sends_on l.inbox.sender ≡ sends_on l.fn.inbox.sender)
+    × (seats_of (view l.inbox.inward_pass) ≡ seats_of (view l.fn.inbox.inward_pass))
+    × (ended_of (view l.inbox.inward_pass) ≡ ended_of (view l.fn.inbox.inward_pass))
+    × SameOutboxes l.fn.outboxes l.outboxes
+    × ((history : History) × (taken_of (view l.inbox.inward_pass) ≡ taken_in history) × OutboxesGave l.outboxes history
+    × HasServed g.M.Machine.doubt g.M.Machine.failures g.M.Machine.shows g.M.Machine.leaves l.fn.machine l.machine history)

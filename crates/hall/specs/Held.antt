@@ -1,0 +1,80 @@
+-- What is known when all seats have ended.
+use Rattle.std.specs.Prelude.{◌≡◌, ℕ, ◌<◌, ◌≤◌, List, [], ◌∷◌, ◌++◌, length, Option, None}
+use Rattle.ck_calls.specs.declared.reply.Reply.{Reply}
+use Rattle.crossbeam_channel.specs.Claims.{view}
+use Rattle.crossbeam_channel.specs.Ends.{sends_on, receives_on}
+use Rattle.token_store.specs.declared.out.Out.{Out}
+use Rattle.channels.specs.Lists.{of, last}
+use Rattle.channels.specs.Inward.{sent_of, taken_of, ended_of}
+use Rattle.channels.specs.Outward.{got_of, given_of}
+use Rattle.channels.specs.declared.messages.Event.{Event}
+use Rattle.channels.specs.declared.inward.InwardView.{InwardView}
+use Rattle.channels.specs.declared.outward.OutwardView.{OutwardView}
+use Rattle.channels.specs.declared.inbox.Inbox.{Inbox}
+use Rattle.channels.specs.declared.outbox.Outbox.{Outbox}
+use Rattle.channels.specs.declared.port.Port.{Port}
+use Rattle.hall.specs.SeatEvents.{asked_in, heard_in}
+use Rattle.hall.specs.Exchanges.{Exchange, IsProper, AllSuit, events, answers, pending}
+use Rattle.hall.specs.Histories.{History, AllProper, taken_in}
+use Rattle.hall.specs.Tells.{Grows}
+use Rattle.hall.specs.declared.seats.SeatEvent.{SeatEvent}
+
+-- ---- starting
+
+-- the ends of seat s beside the token's: what its thread sends on and receives on is the token's, and nothing was used
+abbrev pub Ready : {C D : Type 0} → ℕ → ℕ → C → C → D → D → InwardView → OutwardView → Type 0
+Ready s seat inward inbox outward outbox inward_view outward_view = (seat ≡ s) × (inward ≡ inbox) × (outward ≡ outbox) × (sent_of inward_view ≡ []) × (got_of outward_view ≡ [])
+
+-- the same of a port
+abbrev pub IsPortOf : Inbox → Outbox → ℕ → Port → Type 0
+IsPortOf inbox outbox s port = Ready s port.seat (sends_on port.inward) (sends_on inbox.sender) (receives_on port.outward) (sends_on outbox.outward) (view port.inward_pass) (view port.outward_pass)
+
+-- the ends with which a thread was started are those of a port: number, channels and views
+abbrev pub StartedWith : {C D : Type 0} → ℕ → ℕ → C → C → D → D → InwardView → InwardView → OutwardView → OutwardView → Type 0
+StartedWith seat seat' inward inward' outward outward' inward_view inward_view' outward_view outward_view' = (seat' ≡ seat) × (inward' ≡ inward) × (outward' ≡ outward) × (inward_view' ≡ inward_view) × (outward_view' ≡ outward_view)
+
+-- ---- ending
+
+-- A seat has ended, and the token's ends know what it did: it was given the answers that it got, and more perhaps. The
+-- pass of its outward channel knows what it got.
+pub record HasEnded (old : Inbox) (outbox : Outbox) (new : Inbox) (pass : OutwardView) (asked0 asked1 : Option (List SeatEvent)) (heard0 heard1 : Option (List (ℕ × Reply))) : Type 0 where
+  pub exchanges : List Exchange
+  pub proper : IsProper (length (ended_of (view old.inward_pass))) exchanges
+  pub suited : AllSuit exchanges
+  pub settled : pending (last exchanges) ≡ None
+  pub known : ended_of (view new.inward_pass) ≡ ended_of (view old.inward_pass) ++ events exchanges ∷ []
+  pub rest : List Out
+  pub given : given_of (view outbox.outward_pass) ≡ answers exchanges ++ rest
+  pub got : got_of pass ≡ answers exchanges
+  pub asked : Grows asked0 (asked_in exchanges) asked1
+  pub heard : Grows heard0 (heard_in exchanges) heard1
+
+-- what seat s did is what was taken of it, and it got the first of the answers that it was given
+pub record IsKnown (taken : List (ℕ × Event)) (s : ℕ) (given : List Out) (pass : OutwardView) (asked0 asked1 : Option (List SeatEvent)) (heard0 heard1 : Option (List (ℕ × Reply))) : Type 0 where
+  pub exchanges : List Exchange
+  pub proper : IsProper s exchanges
+  pub suited : AllSuit exchanges
+  pub settled : pending (last exchanges) ≡ None
+  pub sent : of s taken ≡ events exchanges
+  pub rest : List Out
+  pub given_is : given ≡ answers exchanges ++ rest
+  pub got : got_of pass ≡ answers exchanges
+  pub asked : Grows asked0 (asked_in exchanges) asked1
+  pub heard : Grows heard0 (heard_in exchanges) heard1
+
+-- ---- one history
+
+-- What seat s did is what the history has of it: what it got, as the pass of its outward channel knows it, are its answers
+-- there, and what it tells grew by its events and replies there.
+pub record IsPartOf (history : History) (s : ℕ) (pass : OutwardView) (asked0 asked1 : Option (List SeatEvent)) (heard0 heard1 : Option (List (ℕ × Reply))) : Type 0 where
+  pub got : got_of pass ≡ answers (of s history)
+  pub asked : Grows asked0 (asked_in (of s history)) asked1
+  pub heard : Grows heard0 (heard_in (of s history)) heard1
+
+-- The history is an interleaving of what the four seats put, as the token's pass of the inward channel knows it: each event
+-- once, those of one seat in its order, and none of another seat. Each seat kept to its order, and has no job left.
+pub record Interleaves (history : History) (pass : InwardView) : Type 0 where
+  pub taken : taken_of pass ≡ taken_in history
+  pub only : (s : ℕ) → 4 ≤ s → of s history ≡ []
+  pub proper : AllProper history
+  pub settled : (s : ℕ) → pending (last (of s history)) ≡ None

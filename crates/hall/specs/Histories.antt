@@ -1,0 +1,142 @@
+-- Histories: events of all seats in one order, each with its seat and what it was answered; and what the token's model says
+-- of them.
+use Rattle.std.specs.Prelude.{◌≡◌, ◌==◌, if◌then◌else◌, ℕ, ◌%◌, ◌≤◌, List, [], ◌∷◌, ◌++◌, map, Option, Some, None}
+use Rattle.ck_calls.specs.declared.reply.Reply.{Reply as ReplyType}
+use Rattle.mech.specs.declared.job.Job.{Job}
+use Rattle.views.specs.Refusals.{apart}
+use Rattle.token_model.specs.declared.event.Event.{Event as ModelEvent}
+use Rattle.token_model.specs.declared.event.Event.TheVariants.{Call as ModelCall, Finish as ModelFinish, Gone as ModelGone}
+use Rattle.token_model.specs.Worlds.{World, Move, Goes, says_called, reply_to, happens, after}
+use Rattle.token_store.specs.declared.out.Out.{Out}
+use Rattle.token_store.specs.declared.out.Out.TheVariants.{Reply, Ask}
+use Rattle.token_store.specs.Shown.{IsFor, said_of}
+use Rattle.token.specs.Applications.{HasJobs, IsOpen, jobs_of, moved}
+use Rattle.token.specs.Runs.{AccountsFor, IsRun, Lasting, LeftAfter, LeftBy}
+use Rattle.channels.specs.Lists.{of, last}
+use Rattle.channels.specs.declared.messages.Event.{Event}
+use Rattle.channels.specs.declared.messages.Event.TheVariants.{Call, Finish, Gone}
+use Rattle.hall.specs.Exchanges.{Exchange, IsProper, Suits, app_of, pending}
+
+abbrev pub History : Type 0
+History = List (ℕ × Exchange)
+
+-- its events, each with its seat
+abbrev pub taken_in : History → List (ℕ × Event)
+taken_in [] = []
+taken_in (x ∷ xs) = (x.0, x.1.0) ∷ taken_in xs
+
+abbrev pub AllProper : History → Type 0
+AllProper xs = (s : ℕ) → IsProper s (of s xs)
+
+abbrev pub HistorySuits : History → Type 0
+HistorySuits [] = Unit {0}
+HistorySuits (x ∷ xs) = Suits x.1.0 x.1.1 × HistorySuits xs
+
+-- ---- in the words of the token's model
+
+-- the event, of which a result is that of the application's job
+abbrev pub as_event : Event → ModelEvent
+as_event (Call c) = ModelCall c.app c.call c.words
+as_event (Finish app done) = ModelFinish app
+as_event (Gone app) = ModelGone app
+
+abbrev pub model_events : History → List ModelEvent
+model_events xs = map (λ x. as_event x.1.0) xs
+
+-- how it took place: as the model says, or refused by a fault set apart, which is read off the answer
+abbrev pub moved_by : ModelEvent → Option Out → Move
+moved_by event None = Goes event
+moved_by event (Some out) = moved event (apart (said_of out))
+
+abbrev pub move_in : Exchange → Move
+move_in x = moved_by (as_event x.0) x.1
+
+abbrev pub moves_in : History → List Move
+moves_in xs = map (λ x. move_in x.1) xs
+
+-- the replies, each with its application
+abbrev pub told_out : ℕ → Out → List (ℕ × ReplyType)
+told_out app (Reply reply) = (app, reply) ∷ []
+told_out app (Ask job) = []
+
+abbrev pub told_by : ℕ → Option Out → List (ℕ × ReplyType)
+told_by app None = []
+told_by app (Some out) = told_out app out
+
+abbrev pub told_in : History → List (ℕ × ReplyType)
+told_in [] = []
+told_in (x ∷ xs) = told_by (app_of x.1.0) x.1.1 ++ told_in xs
+
+-- What is answered to an event is what the model says there; a job is the application's, and a result is of the job of
+-- its pending question.
+abbrev pub TellsResult : World → ℕ → Job → Out → Type 0
+TellsResult w app job (Reply reply) = IsOpen w app job × (reply_to w (moved (ModelFinish app) (apart (said_of (Reply reply)))) ≡ (app, reply) ∷ [])
+TellsResult w app job (Ask other) = ⊥
+
+abbrev pub Tells : World → Event → Option Out → Type 0
+Tells w (Call c) (Some out) = (said_of out ≡ says_called w c.app c.call c.words.items (apart (said_of out))) × IsFor c.app out
+Tells w (Finish app done) (Some out) = TellsResult w app done.job.value out
+Tells w (Gone app) None = Unit {0}
+Tells w (Call c) None = ⊥
+Tells w (Finish app done) None = ⊥
+Tells w (Gone app) (Some out) = ⊥
+
+-- and so for each event, in the world that those before it made
+abbrev pub Unfolds : World → History → Type 0
+Unfolds w [] = Unit {0}
+Unfolds w (x ∷ xs) = Tells w x.1.0 x.1.1 × Unfolds (happens w (move_in x.1)) xs
+
+-- An event took place in the world: what is answered to it is what the model says, what showed the world shows the next,
+-- and a crash leaves no more than the event's change.
+pub record Takes (showing : World → Type 0) (prior left : Option Lasting → Type 0) (w : World) (event : Event) (answer : Option Out) : Type 0 where
+  pub tells : Tells w event answer
+  pub shows : showing (happens w (moved_by (as_event event) answer))
+  pub leaves : (l : Option Lasting) → left l → LeftBy prior w (moved_by (as_event event) answer) l
+
+-- what an event needs: a result, that it is of the job of the pending question
+abbrev pub Allowed : World → Event → Type 0
+Allowed w (Call c) = Unit {0}
+Allowed w (Finish app done) = IsOpen w app done.job.value
+Allowed w (Gone app) = Unit {0}
+
+-- no lie of the disk and no failure is forgotten, and for each CKR_DEVICE_ERROR a failure was counted
+pub record Counts (doubt_old doubt_new failures_old failures_new : ℕ) (said : List ReplyType) : Type 0 where
+  pub doubt : doubt_old ≤ doubt_new
+  pub failures : failures_old ≤ failures_new
+  pub accounts : AccountsFor failures_old failures_new said
+
+abbrev pub replies_in : List (ℕ × ReplyType) → List ReplyType
+replies_in told = map (λ r. r.1) told
+
+-- ---- the jobs that seats have
+
+abbrev pub own_job : ℕ → Option (ℕ × Job) → List Job
+own_job app None = []
+own_job app (Some j) = if app == j.0 then j.1 ∷ [] else []
+
+abbrev pub waiting : ℕ → Option Exchange → List Job
+waiting app x = own_job app (pending x)
+
+-- A history unfolded from the world so far: each event was answered as the model says at its place, a crash leaves no more
+-- than the changes that were acknowledged and perhaps one tried since, and the pending jobs are those that seats have.
+pub record RunSoFar (showing : World → Type 0) (prior left : Option Lasting → Type 0) (w : World) (history : History) : Type 0 where
+  pub unfolds : Unfolds w history
+  pub shows : showing (after w (moves_in history))
+  pub leaves : (l : Option Lasting) → left l → LeftAfter prior w (moves_in history) l
+  pub out : List (ℕ × Job)
+  pub jobs : HasJobs (after w (moves_in history)) out
+  pub waits : (app : ℕ) → jobs_of app out ≡ waiting app (last (of (app % 4) history))
+
+-- what became of a machine by a history: where no question was pending and the seats did as they should, it unfolded
+pub record HasServed {T : Type 0} (doubt failures : T → ℕ) (shows : T → World → Type 0) (leaves : T → Option Lasting → Type 0) (old new : T) (history : History) : Type 0 where
+  pub suited : HistorySuits history
+  pub counts : Counts (doubt old) (doubt new) (failures old) (failures new) (replies_in (told_in history))
+  pub runs : doubt new ≡ 0 → (w : World) → shows old w → HasJobs w [] → AllProper history → RunSoFar (shows new) (leaves old) (leaves new) w history
+
+-- A whole history from the world: each event was answered as the model says at its place, and all is a run of the token's
+-- (`IsRun`), after which no question is pending. So each application that met no refusal set apart was told what its own
+-- trace tells.
+pub record IsHistory (showing : World → Type 0) (prior left : Option Lasting → Type 0) (w : World) (history : History) : Type 0 where
+  pub unfolds : Unfolds w history
+  pub run : IsRun showing prior left w (model_events history) (told_in history) [] []
+  pub moves : run.moves ≡ moves_in history

@@ -1,0 +1,57 @@
+-- What a seat's exchanges are in the seat's own words.
+use Rattle.std.specs.Prelude.{◌≡◌, ℕ, ◌⊎◌, List, [], ◌∷◌, ◌++◌, Option, Some, None}
+use Rattle.ck_calls.specs.declared.reply.Reply.{Reply}
+use Rattle.mech.specs.declared.job.Job.{Job}
+use Rattle.mech.specs.declared.done.Done.{Done}
+use Rattle.token_store.specs.declared.out.Out.{Out}
+use Rattle.token_store.specs.declared.out.Out.TheVariants.{Reply as OutReply, Ask}
+use Rattle.channels.specs.declared.messages.Event.{Event}
+use Rattle.channels.specs.declared.messages.Event.TheVariants.{Call, Finish, Gone}
+use Rattle.hall.specs.Exchanges.{Exchange, app_of}
+use Rattle.hall.specs.declared.seats.SeatEvent.{SeatEvent}
+use Rattle.hall.specs.declared.seats.SeatEvent.TheVariants.{Call as SeatCall, Gone as SeatGone}
+
+-- the application that an event of a seat is of
+abbrev pub seat_app : SeatEvent → ℕ
+seat_app (SeatCall c) = c.app
+seat_app (SeatGone app) = app
+
+-- an application that goes by it is one of those that have gone
+abbrev pub Notes : (ℕ → Type 0) → SeatEvent → Type 0
+Notes gone (SeatCall c) = Unit {0}
+Notes gone (SeatGone app) = gone app
+
+-- after a call the seat may take the reply
+abbrev pub IsReady : Type 0 → SeatEvent → Type 0
+IsReady takes (SeatCall c) = takes
+IsReady takes (SeatGone app) = Unit {0}
+
+-- what a seat asked, among its events
+abbrev pub asked_by : Event → List SeatEvent
+asked_by (Call c) = SeatCall c ∷ []
+asked_by (Finish app done) = []
+asked_by (Gone app) = SeatGone app ∷ []
+
+abbrev pub asked_in : List Exchange → List SeatEvent
+asked_in [] = []
+asked_in (x ∷ xs) = asked_by x.0 ++ asked_in xs
+
+-- the replies that it heard, each with its application
+abbrev pub heard_out : ℕ → Out → List (ℕ × Reply)
+heard_out app (OutReply reply) = (app, reply) ∷ []
+heard_out app (Ask job) = []
+
+abbrev pub heard_by : ℕ → Option Out → List (ℕ × Reply)
+heard_by app None = []
+heard_by app (Some out) = heard_out app out
+
+abbrev pub heard_in : List Exchange → List (ℕ × Reply)
+heard_in [] = []
+heard_in (x ∷ xs) = heard_by (app_of x.0) x.1 ++ heard_in xs
+
+-- the exchanges of one turn: a reply at once, or a job and then the reply to its result
+abbrev pub IsTurn : SeatEvent → List Exchange → Type 0
+IsTurn (SeatCall c) more =
+    ((r : Reply) × (more ≡ (Call c, Some (OutReply r)) ∷ []))
+    ⊎ ((j : Job) × (d : Done) × (r : Reply) × (d.job.value ≡ j) × (more ≡ (Call c, Some (Ask j)) ∷ (Finish c.app d, Some (OutReply r)) ∷ []))
+IsTurn (SeatGone app) more = more ≡ (Gone app, None) ∷ []

@@ -1,0 +1,13 @@
+//! Why seats were not held.
+
+use thiserror::Error;
+
+#[derive(Clone, Copy, Debug, PartialEq, Eq, Error)]
+pub enum HallFault {
+    /// A growth was refused.
+    #[error("out of memory")]
+    Memory = 1,
+    /// A thread was not started.
+    #[error("cannot start a thread")]
+    Thread = 2,
+}

@@ -1,0 +1,198 @@
+//! Four seats in threads of their own, and the token in the calling one.
+
+ghost use Rattle.std.specs.Prelude.{◌≡◌, ◌∷◌, [], IfOk, IfErr};
+ghost use Rattle.crossbeam_channel.specs.Claims.{view};
+ghost use Rattle.crossbeam_channel.specs.Ends.{sends_on, receives_on};
+ghost use Rattle.token_model.specs.Worlds.{World};
+ghost use Rattle.token.specs.Applications.{HasJobs, Shows};
+ghost use Rattle.token.specs.Runs.{MayLeave};
+ghost use Rattle.channels.specs.Inward.{seats_of, taken_of, ended_of};
+ghost use Rattle.channels.specs.Outward.{given_of};
+ghost use Rattle.hall.specs.Held.{Interleaves, IsPartOf, Ready};
+ghost use Rattle.hall.specs.Histories.{Counts, History, IsHistory, replies_in, told_in};
+
+use crate::closing::{Closed, Passes, close_all, wait_for_ever};
+use crate::fault::HallFault;
+use crate::machine::Machine;
+use crate::opening::open;
+use crate::seat_thread::SeatThread;
+use crate::seats::{Gate, Seat};
+use crate::serving::serve_seats;
+use crate::starting::{Started, start_all};
+use channels::inbox::Inbox;
+use channels::messages::Outward;
+use channels::outbox::Outbox;
+use keep::Keep;
+use std::alloc::Global;
+use std::sync::{Arc, Wait};
+use std::thread::Threads;
+use token::Token;
+
+/// The token and the seats, once all seats have ended, with what the passes of the channels know.
+#[derive(Drop)]
+pub struct Held<T, S> {
+    pub token: T,
+    pub seats: (S, S, S, S),
+    pub passes: Passes,
+}
+
+fn apart(outboxes: [Outbox; 4]) -> (Outbox, Outbox, Outbox, Outbox)
+    ensures { outboxes ≡ result.0 ∷ result.1 ∷ result.2 ∷ result.3 ∷ [] }
+{
+    let [first, second, third, fourth] = outboxes;
+    (first, second, third, fourth)
+}
+
+/// Gives the four threads the leave to begin, serves them, and joins them.
+fn serve_all<M: Machine, S: Seat + Drop + Send + 'static, R: Threads + Wait>(
+    rt: &R,
+    alloc: Global,
+    mut machine: M,
+    mut inbox: Inbox,
+    mut outbox0: Outbox,
+    mut outbox1: Outbox,
+    mut outbox2: Outbox,
+    mut outbox3: Outbox,
+    thread0: SeatThread<S>,
+    thread1: SeatThread<S>,
+    thread2: SeatThread<S>,
+    thread3: SeatThread<S>,
+) -> Held<M, S>
+    requires seats { seats_of (view inbox.inward_pass) ≡ 4 }
+    requires ended { ended_of (view inbox.inward_pass) ≡ [] }
+    requires taken { taken_of (view inbox.inward_pass) ≡ [] }
+    requires given { (given_of (view outbox0.outward_pass) ≡ []) × (given_of (view outbox1.outward_pass) ≡ []) × (given_of (view outbox2.outward_pass) ≡ []) × (given_of (view outbox3.outward_pass) ≡ []) }
+    requires ready0 { Ready 0 thread0.promise.ends.value.seat (sends_on thread0.promise.ends.value.inward) (sends_on inbox.sender) (receives_on thread0.promise.ends.value.outward) (sends_on outbox0.outward) (view thread0.promise.ends.value.inward_pass) (view thread0.promise.ends.value.outward_pass) }
+    requires ready1 { Ready 1 thread1.promise.ends.value.seat (sends_on thread1.promise.ends.value.inward) (sends_on inbox.sender) (receives_on thread1.promise.ends.value.outward) (sends_on outbox1.outward) (view thread1.promise.ends.value.inward_pass) (view thread1.promise.ends.value.outward_pass) }
+    requires ready2 { Ready 2 thread2.promise.ends.value.seat (sends_on thread2.promise.ends.value.inward) (sends_on inbox.sender) (receives_on thread2.promise.ends.value.outward) (sends_on outbox2.outward) (view thread2.promise.ends.value.inward_pass) (view thread2.promise.ends.value.outward_pass) }
+    requires ready3 { Ready 3 thread3.promise.ends.value.seat (sends_on thread3.promise.ends.value.inward) (sends_on inbox.sender) (receives_on thread3.promise.ends.value.outward) (sends_on outbox3.outward) (view thread3.promise.ends.value.inward_pass) (view thread3.promise.ends.value.outward_pass) }
+    ensures over { S.over result.seats.0 × S.over result.seats.1 × S.over result.seats.2 × S.over result.seats.3 }
+    ensures held { (history : History) × Interleaves history (view result.passes.inward)
+        × IsPartOf history 0 (view result.passes.outward0) (S.asked thread0.promise.seat.value) (S.asked result.seats.0) (S.heard thread0.promise.seat.value) (S.heard result.seats.0) × IsPartOf history 1 (view result.passes.outward1) (S.asked thread1.promise.seat.value) (S.asked result.seats.1) (S.heard thread1.promise.seat.value) (S.heard result.seats.1) × IsPartOf history 2 (view result.passes.outward2) (S.asked thread2.promise.seat.value) (S.asked result.seats.2) (S.heard thread2.promise.seat.value) (S.heard result.seats.2) × IsPartOf history 3 (view result.passes.outward3) (S.asked thread3.promise.seat.value) (S.asked result.seats.3) (S.heard thread3.promise.seat.value) (S.heard result.seats.3)
+        × Counts (M.doubt machine) (M.doubt result.token) (M.failures machine) (M.failures result.token) (replies_in (told_in history))
+        × (M.doubt result.token ≡ 0 → (w : World) → M.shows machine w → HasJobs w [] → IsHistory (M.shows result.token) (M.leaves machine) (M.leaves result.token) w history) }
+{
+    outbox0.give(rt, Outward::Go);
+    outbox1.give(rt, Outward::Go);
+    outbox2.give(rt, Outward::Go);
+    outbox3.give(rt, Outward::Go);
+    let mut outboxes = [outbox0, outbox1, outbox2, outbox3];
+    if serve_seats(rt, alloc, &mut machine, &mut inbox, &mut outboxes) {
+        let (outbox0, outbox1, outbox2, outbox3) = apart(outboxes);
+        let closed = close_all(
+            rt, inbox, outbox0, outbox1, outbox2, outbox3, thread0, thread1, thread2, thread3,
+        );
+        let Closed { seats, passes } = closed;
+        return Held {
+            token: machine,
+            seats,
+            passes,
+        };
+    }
+    wait_for_ever(rt);
+    unreachable!()
+}
+
+/// Holds four seats before a machine, with stacks of these sizes, or of the usual size at 0. One that is too large is refused.
+pub(crate) fn hold_machine<
+    M: Machine + Drop,
+    S: Seat + Drop + Send + 'static,
+    G: Gate + Send + Sync + Drop + 'static,
+    R: Threads + Wait + Copy + Send + Drop + 'static,
+>(
+    rt: R,
+    alloc: Global,
+    machine: M,
+    seats: (S, S, S, S),
+    gate: &Arc<G, Global>,
+    stacks: (usize, usize, usize, usize),
+) -> Result<Held<M, S>, (HallFault, M)>
+    requires numbers { (S.number seats.0 ≡ 0) × (S.number seats.1 ≡ 1) × (S.number seats.2 ≡ 2) × (S.number seats.3 ≡ 3) }
+    ensures over { IfOk result (λ h. S.over h.seats.0 × S.over h.seats.1 × S.over h.seats.2 × S.over h.seats.3) }
+    ensures held { IfOk result (λ h. (history : History) × Interleaves history (view h.passes.inward)
+        × IsPartOf history 0 (view h.passes.outward0) (S.asked seats.0) (S.asked h.seats.0) (S.heard seats.0) (S.heard h.seats.0) × IsPartOf history 1 (view h.passes.outward1) (S.asked seats.1) (S.asked h.seats.1) (S.heard seats.1) (S.heard h.seats.1) × IsPartOf history 2 (view h.passes.outward2) (S.asked seats.2) (S.asked h.seats.2) (S.heard seats.2) (S.heard h.seats.2) × IsPartOf history 3 (view h.passes.outward3) (S.asked seats.3) (S.asked h.seats.3) (S.heard seats.3) (S.heard h.seats.3)
+        × Counts (M.doubt machine) (M.doubt h.token) (M.failures machine) (M.failures h.token) (replies_in (told_in history))
+        × (M.doubt h.token ≡ 0 → (w : World) → M.shows machine w → HasJobs w [] → IsHistory (M.shows h.token) (M.leaves machine) (M.leaves h.token) w history)) }
+    ensures fault { IfErr result (λ e. e.1 ≡ machine) }
+{
+    let Ok(opened) = open(alloc) else {
+        return Err((HallFault::Memory, machine));
+    };
+    match start_all(rt, alloc, stacks, gate, seats, opened) {
+        Ok(started) => {
+            let Started {
+                inbox,
+                outbox0,
+                outbox1,
+                outbox2,
+                outbox3,
+                thread0,
+                thread1,
+                thread2,
+                thread3,
+            } = started;
+            Ok(serve_all(
+                &rt, alloc, machine, inbox, outbox0, outbox1, outbox2, outbox3, thread0, thread1,
+                thread2, thread3,
+            ))
+        }
+        Err(fault) => Err((fault, machine)),
+    }
+}
+
+/// Holds four seats, the first with number 0, in threads of their own before the token, until each has no more. No question
+/// is to be pending, as of a new token or of one that was held. The token stays in the calling thread; the seats' threads
+/// run its jobs, each of which passes the gate first. It may wait.
+pub fn hold<
+    K: Keep,
+    S: Seat + Drop + Send + 'static,
+    G: Gate + Send + Sync + Drop + 'static,
+    R: Threads + Wait + Copy + Send + Drop + 'static,
+>(
+    rt: R,
+    alloc: Global,
+    token: Token<K>,
+    seats: (S, S, S, S),
+    gate: &Arc<G, Global>,
+) -> Result<Held<Token<K>, S>, (HallFault, Token<K>)>
+    requires numbers { (S.number seats.0 ≡ 0) × (S.number seats.1 ≡ 1) × (S.number seats.2 ≡ 2) × (S.number seats.3 ≡ 3) }
+    // Each seat has answered that there is no more.
+    ensures over { IfOk result (λ h. S.over h.seats.0 × S.over h.seats.1 × S.over h.seats.2 × S.over h.seats.3) }
+    // What the four seats put is one history, which is a run of the token's: each seat got what the model gives it there.
+    ensures held { IfOk result (λ h. (history : History) × Interleaves history (view h.passes.inward)
+        × IsPartOf history 0 (view h.passes.outward0) (S.asked seats.0) (S.asked h.seats.0) (S.heard seats.0) (S.heard h.seats.0) × IsPartOf history 1 (view h.passes.outward1) (S.asked seats.1) (S.asked h.seats.1) (S.heard seats.1) (S.heard h.seats.1) × IsPartOf history 2 (view h.passes.outward2) (S.asked seats.2) (S.asked h.seats.2) (S.heard seats.2) (S.heard h.seats.2) × IsPartOf history 3 (view h.passes.outward3) (S.asked seats.3) (S.asked h.seats.3) (S.heard seats.3) (S.heard h.seats.3)
+        × Counts (K.terms.doubt token.store.keep) (K.terms.doubt h.token.store.keep) (K.terms.failures token.store.keep) (K.terms.failures h.token.store.keep) (replies_in (told_in history))
+        × (K.terms.doubt h.token.store.keep ≡ 0 → (w : World) → Shows K.terms token w → HasJobs w [] → IsHistory (Shows K.terms h.token) (MayLeave K.terms token) (MayLeave K.terms h.token) w history)) }
+    // Where the seats were not held, the token is as it was.
+    ensures fault { IfErr result (λ e. e.1 ≡ token) }
+{
+    hold_machine(rt, alloc, token, seats, gate, (0, 0, 0, 0))
+}
+
+/// The same, with stacks of so many bytes, or of the usual size at 0. A thread whose stack is too large is not started.
+pub fn hold_with<
+    K: Keep,
+    S: Seat + Drop + Send + 'static,
+    G: Gate + Send + Sync + Drop + 'static,
+    R: Threads + Wait + Copy + Send + Drop + 'static,
+>(
+    rt: R,
+    alloc: Global,
+    token: Token<K>,
+    seats: (S, S, S, S),
+    gate: &Arc<G, Global>,
+    stacks: (usize, usize, usize, usize),
+) -> Result<Held<Token<K>, S>, (HallFault, Token<K>)>
+    requires numbers { (S.number seats.0 ≡ 0) × (S.number seats.1 ≡ 1) × (S.number seats.2 ≡ 2) × (S.number seats.3 ≡ 3) }
+    // Each seat has answered that there is no more.
+    ensures over { IfOk result (λ h. S.over h.seats.0 × S.over h.seats.1 × S.over h.seats.2 × S.over h.seats.3) }
+    // What the four seats put is one history, which is a run of the token's: each seat got what the model gives it there.
+    ensures held { IfOk result (λ h. (history : History) × Interleaves history (view h.passes.inward)
+        × IsPartOf history 0 (view h.passes.outward0) (S.asked seats.0) (S.asked h.seats.0) (S.heard seats.0) (S.heard h.seats.0) × IsPartOf history 1 (view h.passes.outward1) (S.asked seats.1) (S.asked h.seats.1) (S.heard seats.1) (S.heard h.seats.1) × IsPartOf history 2 (view h.passes.outward2) (S.asked seats.2) (S.asked h.seats.2) (S.heard seats.2) (S.heard h.seats.2) × IsPartOf history 3 (view h.passes.outward3) (S.asked seats.3) (S.asked h.seats.3) (S.heard seats.3) (S.heard h.seats.3)
+        × Counts (K.terms.doubt token.store.keep) (K.terms.doubt h.token.store.keep) (K.terms.failures token.store.keep) (K.terms.failures h.token.store.keep) (replies_in (told_in history))
+        × (K.terms.doubt h.token.store.keep ≡ 0 → (w : World) → Shows K.terms token w → HasJobs w [] → IsHistory (Shows K.terms h.token) (MayLeave K.terms token) (MayLeave K.terms h.token) w history)) }
+    // Where the seats were not held, the token is as it was.
+    ensures fault { IfErr result (λ e. e.1 ≡ token) }
+{
+    hold_machine(rt, alloc, token, seats, gate, stacks)
+}

@@ -1,0 +1,43 @@
+//! What takes one event after the other.
+
+ghost use Rattle.std.specs.Prelude.{◌≡◌, ℕ, [], Some, None, Option};
+ghost use Rattle.channels.specs.declared.messages.Event.TheVariants.{Call as CallEvent, Finish as FinishEvent, Gone as GoneEvent};
+ghost use Rattle.token_store.specs.declared.out.Out.TheVariants.{Reply as OutReply};
+ghost use Rattle.token_model.specs.Worlds.{World};
+ghost use Rattle.token.specs.Applications.{IsOpen};
+ghost use Rattle.token.specs.Runs.{Lasting};
+ghost use Rattle.hall.specs.Histories.{Counts, Takes, replies_in, told_out};
+
+use channels::messages::AppCall;
+use ck_calls::Reply;
+use std::alloc::Global;
+use token::{Done, Out};
+
+/// What takes one event after the other: the token. The hall is proved over this trait, so that it speaks of no keeper.
+pub trait Machine {
+    /// 0 as long as its store has returned what was written, and how often the store has failed.
+    ghost doubt: { Self → ℕ };
+
+    ghost failures: { Self → ℕ };
+
+    /// It shows this world.
+    ghost shows: { Self → World → Type 0 };
+
+    /// A crash may leave this of it.
+    ghost leaves: { Self → Option Lasting → Type 0 };
+
+    /// A call of an application: a reply, or a job.
+    fn call(&mut self, alloc: Global, call: AppCall) -> Out
+        ensures takes { doubt self.new ≡ 0 → (w : World) → shows self.old w → Takes (shows self.new) (leaves self.old) (leaves self.new) w (CallEvent call) (Some result) }
+        ensures counts { Counts (doubt self.old) (doubt self.new) (failures self.old) (failures self.new) (replies_in (told_out call.app result)) };
+
+    /// The result of the job of an application's question.
+    fn finish(&mut self, alloc: Global, app: u64, done: Done) -> Reply
+        ensures takes { doubt self.new ≡ 0 → (w : World) → shows self.old w → IsOpen w app done.job.value → Takes (shows self.new) (leaves self.old) (leaves self.new) w (FinishEvent app done) (Some (OutReply result)) }
+        ensures counts { Counts (doubt self.old) (doubt self.new) (failures self.old) (failures self.new) (replies_in (told_out app (OutReply result))) };
+
+    /// The application goes.
+    fn gone(&mut self, app: u64)
+        ensures takes { doubt self.new ≡ 0 → (w : World) → shows self.old w → Takes (shows self.new) (leaves self.old) (leaves self.new) w (GoneEvent app) None }
+        ensures counts { Counts (doubt self.old) (doubt self.new) (failures self.old) (failures self.new) (replies_in []) };
+}

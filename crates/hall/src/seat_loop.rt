@@ -1,0 +1,142 @@
+//! One seat, in a thread of its own.
+
+ghost use Rattle.std.specs.Prelude.{◌≡◌, ◌∷◌, [], ◌++◌, ℕ, List, IsTrue, IfSome, Some};
+ghost use Rattle.crossbeam_channel.specs.Claims.{view};
+ghost use Rattle.mech.specs.declared.done.Done.{Done as DoneType};
+ghost use Rattle.token_store.specs.declared.out.Out.TheVariants.{Reply as OutReply};
+ghost use Rattle.channels.specs.Inward.{sent_of};
+ghost use Rattle.channels.specs.Outward.{got_of};
+ghost use Rattle.channels.specs.Same.{SamePort};
+ghost use Rattle.channels.specs.declared.messages.Event.TheVariants.{Finish};
+ghost use Rattle.hall.specs.SeatEvents.{heard_in, IsReady, IsTurn};
+ghost use Rattle.hall.specs.Exchanges.{Exchange};
+ghost use Rattle.hall.specs.SeatDoings.{Did, PortDid};
+ghost use Rattle.hall.specs.Tells.{Grows};
+ghost use Rattle.hall.specs.declared.seats.SeatEvent.TheVariants.{Call as SeatCall};
+
+use crate::seats::{Gate, Seat, SeatEvent};
+use channels::messages::{AppCall, Event, Inward, Outward};
+use channels::port::Port;
+use ck_calls::Reply;
+use std::alloc::Global;
+use std::sync::Wait;
+use token::{Job, Out};
+
+/// Puts an event of this seat. False where the channel has ended.
+fn tell<R: Wait>(rt: &R, port: &mut Port, event: Event) -> bool
+    ensures same { SamePort port.old port.new }
+    ensures sent { IsTrue result → sent_of (view port.new.inward_pass) ≡ sent_of (view port.old.inward_pass) ++ event ∷ [] }
+    ensures got { got_of (view port.new.outward_pass) ≡ got_of (view port.old.outward_pass) }
+{
+    let seat = port.seat;
+    port.put(rt, Inward::Put { seat, event })
+}
+
+/// An answer of the token. None where another message came, or the channel has ended.
+fn answer<R: Wait>(rt: &R, port: &mut Port) -> Option<Out>
+    ensures same { SamePort port.old port.new }
+    ensures sent { sent_of (view port.new.inward_pass) ≡ sent_of (view port.old.inward_pass) }
+    ensures got { IfSome result (λ o. got_of (view port.new.outward_pass) ≡ got_of (view port.old.outward_pass) ++ o ∷ []) }
+{
+    match port.get(rt) {
+        Some(Outward::Answer(out)) => Some(out),
+        _ => None,
+    }
+}
+
+/// Runs a job that was asked for, puts its result, and gets the reply.
+fn work<G: Gate, R: Wait>(
+    rt: &R,
+    alloc: Global,
+    port: &mut Port,
+    gate: &G,
+    app: u64,
+    job: Job,
+) -> Option<Reply>
+    ensures same { SamePort port.old port.new }
+    ensures exchanges { IfSome result (λ r. (d : DoneType) × (d.job.value ≡ job) × Did port.old ((Finish app d, Some (OutReply r)) ∷ []) port.new) }
+{
+    gate.pass(port.seat as usize, app);
+    let done = job.run(alloc);
+    if !tell(rt, port, Event::Finish { app, done }) {
+        return None;
+    }
+    match answer(rt, port)? {
+        Out::Reply(reply) => Some(reply),
+        Out::Ask(_) => None,
+    }
+}
+
+/// Makes a call, and gets its reply.
+fn ask<G: Gate, R: Wait>(
+    rt: &R,
+    alloc: Global,
+    port: &mut Port,
+    gate: &G,
+    call: AppCall,
+) -> Option<Reply>
+    ensures same { SamePort port.old port.new }
+    ensures exchanges { IfSome result (λ r. (more : List Exchange) × IsTurn (SeatCall call) more × Did port.old more port.new × (heard_in more ≡ (call.app, r) ∷ [])) }
+{
+    let app = call.app;
+    if !tell(rt, port, Event::Call(call)) {
+        return None;
+    }
+    match answer(rt, port)? {
+        Out::Reply(reply) => Some(reply),
+        Out::Ask(job) => work(rt, alloc, port, gate, app, job),
+    }
+}
+
+/// Does what the seat asked. False where a channel has ended.
+fn turn<S: Seat, G: Gate, R: Wait>(
+    rt: &R,
+    alloc: Global,
+    seat: &mut S,
+    port: &mut Port,
+    gate: &G,
+    event: SeatEvent,
+) -> bool
+    requires { IsReady (S.ready seat.old) event }
+    ensures same { SamePort port.old port.new }
+    ensures number { S.number seat.new ≡ S.number seat.old }
+    ensures gone { (app : ℕ) → S.gone seat.old app → S.gone seat.new app }
+    ensures exchanges { IsTrue result → (more : List Exchange) × IsTurn event more × Did port.old more port.new × (S.asked seat.new ≡ S.asked seat.old) × Grows (S.heard seat.old) (heard_in more) (S.heard seat.new) }
+{
+    match event {
+        SeatEvent::Gone { app } => tell(rt, port, Event::Gone { app }),
+        SeatEvent::Call(call) => {
+            let app = call.app;
+            let Some(reply) = ask(rt, alloc, port, gate, call) else {
+                return false;
+            };
+            seat.take(app, reply);
+            true
+        }
+    }
+}
+
+/// Asks the seat, and does what it asks, until it has no more. False where a channel has ended.
+pub(crate) fn run_seat<S: Seat, G: Gate, R: Wait>(
+    rt: &R,
+    alloc: Global,
+    seat: &mut S,
+    port: &mut Port,
+    gate: &G,
+) -> bool
+    requires number { S.number seat.old ≡ port.old.seat }
+    ensures same { SamePort port.old port.new }
+    ensures exchanges { IsTrue result → PortDid port.old port.new (S.asked seat.old) (S.asked seat.new) (S.heard seat.old) (S.heard seat.new) }
+    ensures over { IsTrue result → S.over seat.new }
+{
+    for _ in rt.forever() {
+        let Some(event) = seat.next() else {
+            let number = port.seat;
+            return port.put(rt, Inward::End { seat: number });
+        };
+        if !turn(rt, alloc, seat, port, gate, event) {
+            return false;
+        }
+    }
+    unreachable!()
+}

@@ -1,0 +1,205 @@
+//! A seat's thread, from its start to its end.
+
+ghost use Rattle.std.specs.Prelude.{◌≡◌, ◌<◌, [], true, length, Bool, IfOk, IfSome};
+ghost use Rattle.crossbeam_channel.specs.Claims.{view, IsSeatAt};
+ghost use Rattle.crossbeam_channel.specs.Ends.{sends_on, receives_on};
+ghost use Rattle.channels.specs.Inward.{seats_of, sent_of, taken_of, ended_of};
+ghost use Rattle.channels.specs.Outward.{got_of};
+ghost use Rattle.channels.specs.declared.inward.InwardView.TheVariants.{Sending};
+ghost use Rattle.channels.specs.declared.outward.OutwardView.TheVariants.{Getting};
+ghost use Rattle.hall.specs.SeatDoings.{PassesDid};
+ghost use Rattle.hall.specs.Held.{HasEnded, Ready, StartedWith};
+
+use crate::fault::HallFault;
+use crate::seat_loop::run_seat;
+use crate::seats::{Gate, Seat};
+use channels::inbox::Inbox;
+use channels::messages::Outward;
+use channels::outbox::Outbox;
+use channels::outward::OutwardView;
+use channels::port::{Ends, Port, SeatEnds};
+use crossbeam_channel::Pass;
+use std::alloc::Global;
+use std::snapshot::Snapshot;
+use std::sync::{Arc, Wait};
+use std::thread;
+use std::thread::{Promise, PromisedHandle, Threads};
+
+/// What a seat's thread gives back, and whether it went on until the seat had no more.
+#[derive(Drop)]
+pub(crate) struct Ended<S, E> {
+    pub seat: S,
+    pub ends: E,
+    pub whole: bool,
+}
+
+/// Ends with which a seat runs in a thread. A thread is started with any ends that may cross to it.
+pub(crate) trait Runs<S> {
+    /// The seat may run with them.
+    ghost ready: { Self → S → Type 0 };
+
+    /// From the ends and the seat as they were, what is known of them after the run, and of whether it was whole.
+    ghost ran: { Self → S → Self → S → Bool → Type 0 };
+
+    /// Waits for the leave to begin, and runs the seat.
+    fn run<G: Gate, R: Wait>(self, rt: &R, alloc: Global, gate: &G, seat: S) -> Ended<S, Self>
+        requires { ready self seat }
+        ensures { ran self seat result.ends result.seat result.whole };
+}
+
+impl<S: Seat> Runs<S> for SeatEnds {
+    ghost ready = { λ ends seat. (S.number seat ≡ ends.seat) × IsSeatAt (sends_on ends.inward) ends.inward_pass × IsSeatAt (receives_on ends.outward) ends.outward_pass
+        × (view ends.inward_pass ≡ Sending ends.seat (sent_of (view ends.inward_pass))) × (view ends.outward_pass ≡ Getting (got_of (view ends.outward_pass))) };
+
+    ghost ran = { λ old seat ends seat' whole. (ends.seat ≡ old.seat) × (sends_on ends.inward ≡ sends_on old.inward) × (receives_on ends.outward ≡ receives_on old.outward)
+        × IsSeatAt (sends_on ends.inward) ends.inward_pass × IsSeatAt (receives_on ends.outward) ends.outward_pass
+        × (view ends.inward_pass ≡ Sending ends.seat (sent_of (view ends.inward_pass))) × (view ends.outward_pass ≡ Getting (got_of (view ends.outward_pass)))
+        × (whole ≡ true → PassesDid old.seat (view old.inward_pass) (view old.outward_pass) (view ends.inward_pass) (view ends.outward_pass) (S.asked seat) (S.asked seat') (S.heard seat) (S.heard seat') × S.over seat') };
+
+    fn run<G: Gate, R: Wait>(self, rt: &R, alloc: Global, gate: &G, seat: S) -> Ended<S, SeatEnds> {
+        begin(rt, alloc, gate, seat, self)
+    }
+}
+
+/// What is promised of a thread's result, from the seat and its ends as they were.
+#[derive(Drop)]
+pub(crate) struct SeatPromise<S, E> {
+    pub seat: Snapshot<S>,
+    pub ends: Snapshot<E>,
+}
+
+impl<S, E: Runs<S>> Promise<Ended<S, E>> for SeatPromise<S, E> {
+    ghost kept_by = { λ p r. E.ran p.ends.value p.seat.value r.ends r.seat r.whole };
+}
+
+type Running<S, E> = PromisedHandle<Ended<S, E>, SeatPromise<S, E>>;
+
+pub(crate) type SeatThread<S> = Running<S, SeatEnds>;
+
+/// Waits for the leave to begin, and runs the seat. Without it the seat is not asked.
+fn begin<S: Seat, G: Gate, R: Wait>(
+    rt: &R,
+    alloc: Global,
+    gate: &G,
+    mut seat: S,
+    ends: SeatEnds,
+) -> Ended<S, SeatEnds>
+    requires number { S.number seat ≡ ends.seat }
+    requires inward_pass { IsSeatAt (sends_on ends.inward) ends.inward_pass }
+    requires outward_pass { IsSeatAt (receives_on ends.outward) ends.outward_pass }
+    requires tells { view ends.inward_pass ≡ Sending ends.seat (sent_of (view ends.inward_pass)) }
+    requires gets { view ends.outward_pass ≡ Getting (got_of (view ends.outward_pass)) }
+    ensures same { (result.ends.seat ≡ ends.seat) × (sends_on result.ends.inward ≡ sends_on ends.inward) × (receives_on result.ends.outward ≡ receives_on ends.outward) }
+    ensures inward_pass { IsSeatAt (sends_on result.ends.inward) result.ends.inward_pass }
+    ensures outward_pass { IsSeatAt (receives_on result.ends.outward) result.ends.outward_pass }
+    ensures tells { view result.ends.inward_pass ≡ Sending result.ends.seat (sent_of (view result.ends.inward_pass)) }
+    ensures gets { view result.ends.outward_pass ≡ Getting (got_of (view result.ends.outward_pass)) }
+    ensures did { result.whole ≡ true → PassesDid ends.seat (view ends.inward_pass) (view ends.outward_pass) (view result.ends.inward_pass) (view result.ends.outward_pass) (S.asked seat) (S.asked result.seat) (S.heard seat) (S.heard result.seat) }
+    ensures over { result.whole ≡ true → S.over result.seat }
+{
+    let mut port = Port::enter(ends);
+    let whole = match port.get(rt) {
+        Some(Outward::Go) => run_seat(rt, alloc, &mut seat, &mut port, gate),
+        _ => false,
+    };
+    Ended {
+        seat,
+        ends: port.leave(),
+        whole,
+    }
+}
+
+/// Starts a seat's thread, which waits for the leave to begin.
+pub(crate) fn start<
+    S: Seat + Drop + Send + 'static,
+    G: Gate + Send + Sync + Drop + 'static,
+    R: Threads + Wait + Copy + Send + Drop + 'static,
+>(
+    rt: R,
+    alloc: Global,
+    stack: usize,
+    gate: &Arc<G, Global>,
+    seat: S,
+    port: Port,
+) -> Result<SeatThread<S>, HallFault>
+    requires { S.number seat ≡ port.seat }
+    ensures { IfOk result (λ h. StartedWith port.seat h.promise.ends.value.seat (sends_on port.inward) (sends_on h.promise.ends.value.inward) (receives_on port.outward) (receives_on h.promise.ends.value.outward) (view port.inward_pass) (view h.promise.ends.value.inward_pass) (view port.outward_pass) (view h.promise.ends.value.outward_pass) × (h.promise.seat.value ≡ seat)) }
+{
+    let Ok(gate) = Arc::try_clone(gate) else {
+        return Err(HallFault::Memory);
+    };
+    let ends = port.leave();
+    match spawn_seat(rt, alloc, stack, gate, seat, ends) {
+        Some(thread) => Ok(thread),
+        None => Err(HallFault::Thread),
+    }
+}
+
+fn spawn_seat<
+    S: Seat + Drop + Send + 'static,
+    E: Runs<S> + Drop + Send + 'static,
+    G: Gate + Send + Sync + Drop + 'static,
+    R: Threads + Wait + Copy + Send + Drop + 'static,
+>(
+    rt: R,
+    alloc: Global,
+    stack: usize,
+    gate: Arc<G, Global>,
+    seat: S,
+    ends: E,
+) -> Option<Running<S, E>>
+    requires ready { E.ready ends seat }
+    ensures { IfSome result (λ h. (h.promise.ends.value ≡ ends) × (h.promise.seat.value ≡ seat)) }
+{
+    let promise = SeatPromise {
+        seat: Snapshot::of(&seat),
+        ends: Snapshot::of(&ends),
+    };
+    let mut builder = thread::Builder::new();
+    if stack > 0 {
+        builder = builder.stack_size(stack);
+    }
+    builder
+        .spawn_with(
+            &rt,
+            promise,
+            move || -> Ended<S, E>
+                requires { E.ready ends seat }
+                ensures { E.ran ends seat result.ends result.seat result.whole }
+            { ends.run(&rt, alloc, &*gate, seat) },
+        )
+        .ok()
+}
+
+/// A seat that has ended, and the pass of its outward channel.
+#[derive(Drop)]
+pub(crate) struct Joined<S> {
+    pub seat: S,
+    pub outward_pass: Pass<Outward, OutwardView>,
+}
+
+/// Joins a seat's thread, and takes in what it did. None where it could not go on.
+pub(crate) fn join_seat<S: Seat + Drop + Send + 'static, R: Threads>(
+    rt: &R,
+    inbox: &mut Inbox,
+    outbox: Outbox,
+    thread: SeatThread<S>,
+) -> Option<Joined<S>>
+    requires ready { Ready (length (ended_of (view inbox.old.inward_pass))) thread.promise.ends.value.seat (sends_on thread.promise.ends.value.inward) (sends_on inbox.old.sender) (receives_on thread.promise.ends.value.outward) (sends_on outbox.outward) (view thread.promise.ends.value.inward_pass) (view thread.promise.ends.value.outward_pass) }
+    requires seats { length (ended_of (view inbox.old.inward_pass)) < seats_of (view inbox.old.inward_pass) }
+    ensures inbox { (sends_on inbox.new.sender ≡ sends_on inbox.old.sender) × (seats_of (view inbox.new.inward_pass) ≡ seats_of (view inbox.old.inward_pass)) × (taken_of (view inbox.new.inward_pass) ≡ taken_of (view inbox.old.inward_pass)) }
+    ensures seat { IfSome result (λ j. S.over j.seat × HasEnded inbox.old outbox inbox.new (view j.outward_pass) (S.asked thread.promise.seat.value) (S.asked j.seat) (S.heard thread.promise.seat.value) (S.heard j.seat)) }
+{
+    let Ended { seat, ends, whole } = thread.join(rt);
+    if !whole {
+        return None;
+    }
+    let Ends {
+        inward_pass,
+        outward_pass,
+        ..
+    } = ends;
+    inbox.end_seat(inward_pass);
+    let outward_pass = outbox.close(outward_pass);
+    Some(Joined { seat, outward_pass })
+}

@@ -1,0 +1,64 @@
+//! What a seat and a gate are.
+
+ghost use Rattle.std.specs.Prelude.{◌≡◌, ◌%◌, ℕ, List, Option, IfSome, IfNone, MatchOption};
+ghost use Rattle.ck_calls.specs.declared.reply.Reply.{Reply as ReplyType};
+ghost use Rattle.hall.specs.Tells.{Adds};
+ghost use Rattle.hall.specs.SeatEvents.{seat_app, Notes, IsReady};
+
+use channels::messages::AppCall;
+use ck_calls::Reply;
+
+/// What a seat puts before the token of itself: a call of one of its applications, or an application that goes.
+#[derive(Drop)]
+pub enum SeatEvent {
+    Call(AppCall),
+    Gone { app: u64 },
+}
+
+/// Where events come from and replies go. Of four seats, seat s has the applications with remainder s modulo 4.
+pub trait Seat {
+    ghost use Rattle.hall.specs.declared.seats.SeatEvent.{SeatEvent};
+
+    /// Its number, from 0 to 3.
+    ghost number: { Self → ℕ };
+
+    /// It has answered that there is no more.
+    ghost over: { Self → Type 0 };
+
+    /// The applications that have gone.
+    ghost gone: { Self → ℕ → Type 0 };
+
+    /// It has room for a reply.
+    ghost ready: { Self → Type 0 };
+
+    /// The events that it has given, where it tells them.
+    ghost asked: { Self → Option (List SeatEvent) };
+
+    /// The replies that it has taken with their applications, where it tells them.
+    ghost heard: { Self → Option (List (ℕ × ReplyType)) };
+
+    /// The next event, or that there is no more. An application that has gone is named no more.
+    fn next(&mut self) -> Option<SeatEvent>
+        ensures number { number self.new ≡ number self.old }
+        ensures over { IfNone result (over self.new) }
+        ensures own { IfSome result (λ e. seat_app e % 4 ≡ number self.old) }
+        ensures there { IfSome result (λ e. ¬ gone self.old (seat_app e)) }
+        ensures goes { IfSome result (Notes (gone self.new)) }
+        ensures gone { (app : ℕ) → gone self.old app → gone self.new app }
+        ensures ready { IfSome result (IsReady (ready self.new)) }
+        ensures asked { MatchOption result (asked self.new ≡ asked self.old) (λ e. Adds (asked self.old) e (asked self.new)) }
+        ensures heard { heard self.new ≡ heard self.old };
+
+    /// The reply to its last call.
+    fn take(&mut self, app: u64, reply: Reply)
+        requires { ready self.old }
+        ensures number { number self.new ≡ number self.old }
+        ensures gone { (app : ℕ) → gone self.old app → gone self.new app }
+        ensures asked { asked self.new ≡ asked self.old }
+        ensures heard { Adds (heard self.old) (app, reply) (heard self.new) };
+}
+
+/// Where a seat passes with a job before it runs it.
+pub trait Gate {
+    fn pass(&self, seat: usize, app: u64);
+}

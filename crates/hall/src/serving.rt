@@ -1,0 +1,86 @@
+//! The token's loop, in the calling thread.
+
+ghost use Rattle.std.specs.Prelude.{◌≡◌, ◌++◌, [], ◌∷◌, Option, List, ℕ, IsTrue};
+ghost use Rattle.crossbeam_channel.specs.Claims.{view};
+ghost use Rattle.crossbeam_channel.specs.Ends.{sends_on};
+ghost use Rattle.token_model.specs.Worlds.{World};
+ghost use Rattle.token_store.specs.declared.out.Out.{Out as OutType};
+ghost use Rattle.channels.specs.Inward.{seats_of, taken_of, ended_of};
+ghost use Rattle.channels.specs.Outward.{given_of};
+ghost use Rattle.hall.specs.Exchanges.{Suits, app_of, listed};
+ghost use Rattle.hall.specs.Histories.{Allowed, Counts, HasServed, History, Takes, replies_in, taken_in, told_by};
+ghost use Rattle.hall.specs.Outboxes.{OutboxesGave, SameOutboxes};
+
+use crate::machine::Machine;
+use channels::inbox::Inbox;
+use channels::messages::{Event, Inward, Outward};
+use channels::outbox::Outbox;
+use std::alloc::Global;
+use std::sync::Wait;
+use token::Out;
+
+/// Takes an event, and gives its answer. False where the channel has ended.
+fn serve<M: Machine, R: Wait>(
+    rt: &R,
+    alloc: Global,
+    machine: &mut M,
+    outbox: &mut Outbox,
+    event: Event,
+) -> bool
+    ensures same { sends_on outbox.new.outward ≡ sends_on outbox.old.outward }
+    ensures did { IsTrue result → (answer : Option OutType) × Suits event answer × (given_of (view outbox.new.outward_pass) ≡ given_of (view outbox.old.outward_pass) ++ listed answer)
+        × Counts (M.doubt machine.old) (M.doubt machine.new) (M.failures machine.old) (M.failures machine.new) (replies_in (told_by (app_of event) answer))
+        × (M.doubt machine.new ≡ 0 → (w : World) → M.shows machine.old w → Allowed w event → Takes (M.shows machine.new) (M.leaves machine.old) (M.leaves machine.new) w event answer) }
+{
+    match event {
+        Event::Call(call) => {
+            let out = machine.call(alloc, call);
+            outbox.give(rt, Outward::Answer(out))
+        }
+        Event::Finish { app, done } => {
+            let reply = machine.finish(alloc, app, done);
+            outbox.give(rt, Outward::Answer(Out::Reply(reply)))
+        }
+        Event::Gone { app } => {
+            machine.gone(app);
+            true
+        }
+    }
+}
+
+/// Takes events until four seats have ended. False where a channel has ended before.
+pub(crate) fn serve_seats<M: Machine, R: Wait>(
+    rt: &R,
+    alloc: Global,
+    machine: &mut M,
+    inbox: &mut Inbox,
+    outboxes: &mut [Outbox],
+) -> bool
+    requires taken { taken_of (view inbox.old.inward_pass) ≡ [] }
+    requires given { OutboxesGave outboxes.old [] }
+    ensures inbox { (sends_on inbox.new.sender ≡ sends_on inbox.old.sender) × (seats_of (view inbox.new.inward_pass) ≡ seats_of (view inbox.old.inward_pass)) × (ended_of (view inbox.new.inward_pass) ≡ ended_of (view inbox.old.inward_pass)) }
+    ensures outboxes { SameOutboxes outboxes.old outboxes.new }
+    ensures serves { IsTrue result → (history : History) × (taken_of (view inbox.new.inward_pass) ≡ taken_in history) × OutboxesGave outboxes.new history × HasServed M.doubt M.failures M.shows M.leaves machine.old machine.new history }
+{
+    let mut ended: u64 = 0;
+    for _ in rt.forever() {
+        if ended >= 4 {
+            return true;
+        }
+        match inbox.take(rt) {
+            None => return false,
+            Some(Inward::End { .. }) => ended += 1,
+            Some(Inward::Put { seat, event }) => {
+                let at = seat as usize;
+                if at >= outboxes.len() {
+                    return false;
+                }
+                let outbox = &mut outboxes[at];
+                if !serve(rt, alloc, machine, outbox, event) {
+                    return false;
+                }
+            }
+        }
+    }
+    unreachable!()
+}

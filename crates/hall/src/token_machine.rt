@@ -1,0 +1,35 @@
+//! The token takes one event after the other.
+
+ghost use Rattle.keep.specs.Keeping.{Terms};
+ghost use Rattle.token.specs.Applications.{Shows};
+ghost use Rattle.token.specs.Runs.{MayLeave};
+
+use crate::machine::Machine;
+use channels::messages::AppCall;
+use ck_calls::Reply;
+use keep::Keep;
+use std::alloc::Global;
+use token::{Done, Out, Token};
+
+impl<K: Keep> Machine for Token<K> {
+    ghost doubt = { λ t. K.terms.doubt t.store.keep };
+
+    ghost failures = { λ t. K.terms.failures t.store.keep };
+
+    ghost shows = { λ t w. Shows K.terms t w };
+
+    ghost leaves = { λ t l. MayLeave K.terms t l };
+
+    fn call(&mut self, alloc: Global, call: AppCall) -> Out {
+        let AppCall { app, call, words } = call;
+        Token::call(self, alloc, app, call, &words)
+    }
+
+    fn finish(&mut self, alloc: Global, app: u64, done: Done) -> Reply {
+        Token::finish(self, alloc, app, done)
+    }
+
+    fn gone(&mut self, app: u64) {
+        Token::gone(self, app);
+    }
+}
