@@ -1,5 +1,5 @@
 -- The stored forms, by the names that the tables know them by.
-use Rattle.std.proofs.Common.{length, take, map, get_or, ◌<◌, ◌≤◌, pos, arith, ◌≡◌, ◌∙◌, refl, ap, sym, subst, ℕ, List, [], ◌∷◌, Option, None, Some, Result, Ok, Err, IfOk}
+use Rattle.std.proofs.Common.{length, take, map, get_or, ◌<◌, ◌≤◌, pos, arith, ◌≡◌, ◌∙◌, refl, ap, sym, subst, ℕ, List, [], ◌∷◌, inl, inr, true, false, Option, None, Some, Result, Ok, Err, IfOk}
 use Rattle.std.proofs.lemmas.List.{take_all}
 use Rattle.sqlite_value.specs.declared.value.Value.TheVariants.{Blob, Int}
 use Rattle.sqlite_value.specs.Order.{Row, column}
@@ -13,8 +13,12 @@ use Rattle.pin_record.specs.Records.{TokenRecord}
 use Rattle.pin_record.specs.Stored as token
 use Rattle.pin_record.specs.declared.fault.DecodeFault as record_fault
 use Rattle.pin_record.specs.declared.fault.DecodeFault.TheVariants as record_faults
-use Rattle.pin_record.proofs.StoredLaws.{record_stored-complete}
+use Rattle.pin_record.proofs.StoredLaws.{record_old_stored-complete, record_stored-complete}
+use Rattle.attrs.specs.OldStored as old_object
+use Rattle.attrs.specs.OldStored.{has_new_flags}
+use Rattle.sqlite_value.specs.declared.value.Value.{Value}
 use Rattle.keep_sql.specs.Store.{Body, Shows, encoded, encoded_record}
+use Rattle.keep_sql.specs.Formats.{IsBody, IsRecordBody, is_old, old_encoded, old_encoded_record}
 use Rattle.keep_sql.specs.Rows.{first_number}
 
 pub object_bytes : (o : Body) (bytes : List ℕ) → bytes ≡ object.stored_form o → bytes ≡ encoded o
@@ -81,3 +85,61 @@ same_row rows row other one two = let both : row ∷ [] ≡ other ∷ [] = sym o
 
 pub body_bytes : (row : Row) (r : TokenRecord) (bytes : List ℕ) → Blob bytes ≡ column row 0 → column row 0 ≡ Blob (encoded_record r) → bytes ≡ encoded_record r
 body_bytes row r bytes here is = let same : Blob bytes ≡ Blob (encoded_record r) = here ∙ is in cc
+
+-- ---- bodies of format 1
+
+pub old_object_bytes : (o : Body) (bytes : List ℕ) → bytes ≡ old_object.old_form o → bytes ≡ old_encoded o
+unfolding old_encoded
+old_object_bytes o bytes is = is
+
+pub as_old_stored : (o : Body) (bytes : List ℕ) → bytes ≡ old_encoded o → bytes ≡ old_object.old_form o
+unfolding old_encoded
+as_old_stored o bytes is = is
+
+pub old_record_bytes : (r : TokenRecord) (bytes : List ℕ) → bytes ≡ token.old_form r → bytes ≡ old_encoded_record r
+unfolding old_encoded_record
+old_record_bytes r bytes is = is
+
+-- the first byte of each
+
+pub new_is : (o : Body) → is_old (encoded o) ≡ false
+unfolding encoded
+new_is o = refl
+
+pub old_is : (o : Body) → is_old (old_encoded o) ≡ true
+unfolding old_encoded
+old_is o = refl
+
+pub new_record_is : (r : TokenRecord) → is_old (encoded_record r) ≡ false
+unfolding encoded_record
+new_record_is r = refl
+
+pub old_record_is : (r : TokenRecord) → is_old (old_encoded_record r) ≡ true
+unfolding old_encoded_record
+old_record_is r = refl
+
+-- a body whose first byte is known
+pub if_old : (bytes : List ℕ) (o : Body) → IsBody bytes o → is_old bytes ≡ true → (bytes ≡ old_encoded o) × (has_new_flags o ≡ false)
+if_old bytes o (inl new) old = absurd (let no : true ≡ false = sym old ∙ ap is_old new ∙ new_is o in cc)
+if_old bytes o (inr was) old = was
+
+pub if_new : (bytes : List ℕ) (o : Body) → IsBody bytes o → is_old bytes ≡ false → bytes ≡ encoded o
+if_new bytes o (inl is) new = is
+if_new bytes o (inr was) new = absurd (let no : false ≡ true = sym new ∙ ap is_old was.0 ∙ old_is o in cc)
+
+pub if_old_record : (bytes : List ℕ) (r : TokenRecord) → IsRecordBody bytes r → is_old bytes ≡ true → (bytes ≡ old_encoded_record r) × token.IsOldRecord r
+if_old_record bytes r (inl new) old = absurd (let no : true ≡ false = sym old ∙ ap is_old new.0 ∙ new_record_is r in cc)
+if_old_record bytes r (inr was) old = was
+
+pub if_new_record : (bytes : List ℕ) (r : TokenRecord) → IsRecordBody bytes r → is_old bytes ≡ false → (bytes ≡ encoded_record r) × token.IsRecord r
+if_new_record bytes r (inl is) new = is
+if_new_record bytes r (inr was) new = absurd (let no : false ≡ true = sym new ∙ ap is_old was.0 ∙ old_record_is r in cc)
+
+pub no_old_record : (fault : record_fault.DecodeFault) (bytes : List ℕ) (r : TokenRecord) → token.IsOldRecord r → bytes ≡ old_encoded_record r → token.Decodes {X = TokenRecord} (Err fault) (token.record_old_stored bytes) → ⊥
+unfolding old_encoded_record
+no_old_record record_faults.Form bytes r fits is none = let some : token.record_old_stored bytes ≡ Some r = ap token.record_old_stored is ∙ record_old_stored-complete r fits in absurd (let both : ◌≡◌ {A = Option TokenRecord} None (Some r) = sym none ∙ some in cc)
+no_old_record record_faults.Memory bytes r fits is none = none
+
+-- the bytes of a shown body
+pub same_bytes : (one two : List ℕ) (v : Value) → Blob one ≡ v → v ≡ Blob two → one ≡ two
+same_bytes one two v here there = let same : Blob one ≡ Blob two = here ∙ there in cc

@@ -18,7 +18,7 @@ use Rattle.sqlite_rules.specs.Calls.{ids_of}
 use Rattle.sqlite.proofs.Callers.{one_step}
 use Rattle.keep.specs.Contents.{Contents}
 use Rattle.keep_sql.specs.Tables.{token_schema, objects_table}
-use Rattle.keep_sql.specs.Store.{Body, Stores, object_row}
+use Rattle.keep_sql.specs.Store.{Body, Stores, object_row, encoded}
 use Rattle.keep_sql.proofs.Texts.{plain_query}
 use Rattle.keep_sql.proofs.Remove.{spares_is}
 use Rattle.keep_sql.proofs.Insert.{went, same_value, task_on}
@@ -54,7 +54,7 @@ all_gone ids [] each = none_gone ids
     none_gone : (ids : List ℤ) → without_all [] ids ≡ []
     none_gone [] = refl
     none_gone (j ∷ ids) = none_gone ids
-all_gone ids (p ∷ more) each = drops_first ids (pos p.0) (object_row p) (map object_row more) (each p (0, omega arith, refl)) (spares_is p.0 p ∙ same_number p.0) ∙ all_gone ids more (λ q h. each q (suc h.0, (let low = h.1 in omega arith), h.2))
+all_gone ids (p ∷ more) each = drops_first ids (pos p.0) (object_row p) (map object_row more) (each p (0, omega arith, refl)) (spares_is encoded p.0 p ∙ same_number p.0) ∙ all_gone ids more (λ q h. each q (suc h.0, (let low = h.1 in omega arith), h.2))
 
 all_staged : (params : Row) (objects : List (ℕ × Body)) → flat_map (λ (r : Row). (params ∷ r ∷ []) ∷ []) (map object_row objects) ≡ map (λ (p : ℕ × Body). params ∷ object_row p ∷ []) objects
 all_staged params [] = refl

@@ -51,7 +51,7 @@ finds_row old new id c row at h =
     let it = at.stores in
     let got = (first_as read_text (id_params id) old new token_schema at.schema _ read_is read_plain read_unlisted row h).1 in
     let a : IsAnswer read_query (overlay old.now.trees []) (id_params id) (row ∷ got.0) = got.1 Null in
-    let staged : a.staged ≡ map (λ (p : ℕ × Body). id_params id ∷ object_row p ∷ []) (filter (λ (p : ℕ × Body). p.0 == id) c.objects) = a.grouped ∙ rw it.objects_are (picks id [] c.objects) in
+    let staged : a.staged ≡ map (λ (p : ℕ × Body). id_params id ∷ object_row p ∷ []) (filter (λ (p : ℕ × Body). p.0 == id) c.objects) = a.grouped ∙ rw it.objects_are (picks encoded id [] c.objects) in
     elim (one_found 0 id c.objects (rising old.now.trees c it)) [
       | inl none ↦
           let kept : a.kept ≡ [] = a.distinct ∙ ap (map (output read_query)) (staged ∙ ap (map (λ (p : ℕ × Body). id_params id ∷ object_row p ∷ [])) none) in

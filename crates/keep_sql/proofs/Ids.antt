@@ -10,7 +10,7 @@ use Rattle.sqlite.specs.Tree.{Trees}
 abbrev pub AreUpTo : ℕ → List (ℕ × Body) → Type 0
 AreUpTo last objects = All (λ id. id ≤ last) (keys_of objects)
 
-abbrev pub RiseFrom : ℕ → List (ℕ × Body) → Type 0
+abbrev pub RiseFrom : {B : Type 0} → ℕ → List (ℕ × B) → Type 0
 RiseFrom low [] = ⊤
 RiseFrom low (p ∷ more) = (low < p.0) × RiseFrom p.0 more
 

@@ -23,3 +23,9 @@ pub mod Outcomes
 pub mod Places
 pub mod Pairs
 pub mod Bytes
+pub mod Each
+pub mod Renewed
+pub mod Renews
+pub mod Covers
+pub mod Taken
+pub mod Takes

@@ -1,5 +1,5 @@
 -- What the opening of a store makes of a connection, from its steps.
-use Rattle.std.proofs.Common.{◌≡◌, ◌≢◌, ◌⊎◌, inl, inr, Bool, true, false, not, Ok, Err, Result, IfOk, IfErr, OnErr, IsErrOf, IsTrue, refl, sym, ap, subst, ◌∙◌, arith, ◌≤◌}
+use Rattle.std.proofs.Common.{◌≡◌, ◌≢◌, ◌⊎◌, inl, inr, Bool, true, false, not, Ok, Err, Result, IfOk, IfErr, OnOk, OnErr, IsErrAnd, IsErrOf, IsTrue, refl, sym, ap, subst, ◌∙◌, arith, ◌≤◌}
 use Rattle.sqlite_trees.specs.View.{doubt}
 use Rattle.sqlite.specs.Tree.{Trees}
 use Rattle.sqlite.specs.Effect.{Database}
@@ -13,33 +13,49 @@ use Rattle.keep.specs.declared.keep.KeepFault.TheVariants.{Damaged}
 use Rattle.keep_sql.specs.Tables.{no_schema, token_schema}
 use Rattle.keep_sql.specs.Store.{Stores, IsAt, Holds, IsReady, OnlyReads, Sees, SeesTables, ShowsNow, Unwritten, ReadsAs}
 use Rattle.keep_sql.specs.SqlState.{SqlState, sql_terms}
-use Rattle.keep_sql.specs.Opening.{Adopts, AllDecode, IsOurs, NotOpened, Opened, has_tables}
+use Rattle.keep_sql.specs.declared.taking.Found.{Found}
+use Rattle.keep_sql.specs.Formats.{HoldsEither, IsAtEither, StoresEither}
+use Rattle.keep_sql.specs.Found.{Finds, is_current}
+use Rattle.keep_sql.specs.Opening.{Adopts, AllDecode, HasOld, IsOurs, NotOpened, Opened, has_tables}
 use Rattle.keep_sql.proofs.Lift.{at_again, held_on, one_contents, reads_one}
 use Rattle.keep_sql.proofs.Queries.{reads_stay, sees_held}
-use Rattle.keep_sql.proofs.Opens.{not_both, not_none, same_record, stored_decodes}
+use Rattle.keep_sql.proofs.Opens.{not_both, not_none}
+use Rattle.keep_sql.proofs.Taken.{either_decodes, found_decodes, has_old, none_old, same_record, stored_either}
+
+-- ---- in either format
+
+pub either_held : (s : State) (c : Contents) → Holds s c → HoldsEither s c
+either_held s c h = λ clean up. let at = h clean up in record { schema = at.schema; settled = at.settled; autocommit = at.autocommit; stores = stored_either s.now.trees c at.stores }
+
+either_sees : (s : State) (c : Contents) → HoldsEither s c → SeesTables s s.now
+either_sees s c h = λ clean up. let at = h clean up in (record { now = refl; settled = at.settled; autocommit = at.autocommit }, at.schema)
+
+either_again : (old new : State) (c : Contents) → IsAtEither old c → ShowsNow new old.now → IsAtEither new c
+either_again old new c at shows = record {
+  schema = ap (λ (d : Database). d.schema) shows.now ∙ at.schema;
+  settled = shows.settled ∙ sym shows.now;
+  autocommit = shows.autocommit;
+  stores = subst (λ (d : Database). StoresEither d.trees c) (sym shows.now) at.stores;
+}
+
+either_on : (old new : State) (c : Contents) → Unwritten old new → HoldsEither old c → HoldsEither new c
+either_on old new c kept h clean up =
+    let old_clean : HasCleanDisk old = omega (arith, kept.clean) in
+    let at = h old_clean (kept.was_open clean up) in
+    either_again old new c at (kept.sees old.now (λ clean up. (either_sees old c h clean up).0) clean up)
 
 -- ---- a store that has tables is read
 
-module _ (old new : State) (ready : IsReady old) (sees : Sees old old.now) (there : has_tables old.now.schema ≡ true) (reads : OnlyReads old new) where
+module _ (old mid : State) (ready : IsReady old) (sees : Sees old old.now) (there : has_tables old.now.schema ≡ true) (reads : OnlyReads old mid) where
   ours_read : old.now.schema ≡ token_schema → SeesTables old old.now
   ours_read both = λ clean up. (sees clean up, both)
 
-  was_clean : HasCleanDisk new → HasCleanDisk old
+  was_clean : HasCleanDisk mid → HasCleanDisk old
   was_clean clean = omega (arith, reads.clean)
 
-  checked_ok : (r : TokenRecord) → (HasCleanDisk new → (db : Database) → SeesTables old db → IsTrue new.is_open × AllDecode db.trees r) → Opened old new r
-  checked_ok r found = record {
-    clean = reads.clean;
-    held = λ c h clean.
-        let at = h (was_clean clean) (ready (was_clean clean)) in
-        let both = found clean old.now (sees_held old c h) in
-        (both.0, at_again old new c at (reads.sees old.now (sees_held old c h) clean both.0).0, same_record old.now.trees c r at.stores both.1);
-    fresh = λ none clean. absurd (not_none old there none);
-    decodes = λ both clean. found clean old.now (ours_read both);
-  }
-
-  checked_err : (fault : KeepFault) → (HasCleanDisk new → (db : Database) → SeesTables old db → (r : TokenRecord) → AllDecode db.trees r → fault ≢ Damaged) → NotOpened old new fault
-  checked_err fault undamaged = record {
+  -- what isn't read through
+  not_read : (fault : KeepFault) → (HasCleanDisk mid → (db : Database) → SeesTables old db → (r : TokenRecord) → AllDecode db.trees r → fault ≢ Damaged) → NotOpened old mid fault
+  not_read fault undamaged = record {
     clean = reads.clean;
     same = λ ours clean up. elim ours [
       | inl none ↦ absurd (not_none old there none)
@@ -48,17 +64,96 @@ module _ (old new : State) (ready : IsReady old) (sees : Sees old old.now) (ther
           let shows = (reads.sees old.now (ours_read both) clean up).0 in
           (shows.now, shows.settled ∙ sym at.settled, shows.autocommit ∙ sym at.autocommit)
     ];
-    crash = λ ours clean left may. elim ours [ inl none ↦ absurd (not_none old there none) | inr both ↦ inl (reads.crash clean old.now (ours_read both) left may) ];
-    held = (reads_stay old new reads).held;
+    crash = λ ours new clean left may. elim ours [ inl none ↦ absurd (not_none old there none) | inr both ↦ inl (reads.crash clean old.now (ours_read both) left may) ];
+    unwritten = λ damaged ours clean left may. elim ours [ inl none ↦ absurd (not_none old there none) | inr both ↦ reads.crash clean old.now (ours_read both) left may ];
+    held = (reads_stay old mid reads).held;
+    held_either = λ c h clean up. either_again old mid c (h (was_clean clean) (reads.was_open clean up)) (reads.sees old.now (either_sees old c h) clean up).0;
     left = λ c h clean left may. reads.crash clean old.now (sees_held old c h) left may;
-    undamaged = λ c h clean. undamaged clean old.now (sees_held old c h) c.token_record (stored_decodes old.now.trees c (h (was_clean clean) (ready (was_clean clean))).stores);
+    left_either = λ c h clean left may. inl (reads.crash clean old.now (either_sees old c h) left may);
+    undamaged = λ c h clean. undamaged clean old.now (either_sees old c h) c.token_record (either_decodes old.now.trees c (h (was_clean clean) (ready (was_clean clean))).stores);
     fresh = λ none clean. absurd (not_none old there none);
   }
 
-  pub checked : (r : Result TokenRecord KeepFault) → (HasCleanDisk new → (db : Database) → SeesTables old db → IfOk r (λ x. IsTrue new.is_open × AllDecode db.trees x))
-      → (HasCleanDisk new → (db : Database) → SeesTables old db → (x : TokenRecord) → AllDecode db.trees x → IsErrOf r Damaged → ⊥) → IfOk r (Opened old new) × IfErr r (NotOpened old new)
-  checked (Ok x) found undamaged = (checked_ok x found, tt)
-  checked (Err fault) found undamaged = (tt, checked_err fault (λ clean db tables x all is. undamaged clean db tables x all (ap Err is)))
+  pub not_taken : (X : Type 0) (r : Result X KeepFault) (q : Result TokenRecord KeepFault) (fault : KeepFault) → r ≡ Err fault → IsErrAnd q (λ e. e ≡ fault)
+      → (HasCleanDisk mid → (db : Database) → SeesTables old db → (x : TokenRecord) → AllDecode db.trees x → IsErrOf r Damaged → ⊥) → IfErr q (NotOpened old mid)
+  not_taken X r (Ok x) fault is told undamaged = tt
+  not_taken X r (Err e) fault is told undamaged =
+      subst (NotOpened old mid) (sym told) (not_read fault (λ clean db tables x all damage. undamaged clean db tables x all (is ∙ ap (λ (d : KeepFault). Err d) damage)))
+
+  -- and what is read is made current
+  module _ (f : Found) (read : HasCleanDisk mid → (db : Database) → SeesTables old db → IsTrue mid.is_open × Finds db.trees f) (new : State) (clean_on : doubt mid.is_clean ≤ doubt new.is_clean) where
+    mid_clean : HasCleanDisk new → HasCleanDisk mid
+    mid_clean clean = omega (arith, clean_on)
+
+    mid_shows : (clean : HasCleanDisk mid) → SeesTables old old.now → ShowsNow mid old.now
+    mid_shows clean tables = (reads.sees old.now tables clean (read clean old.now tables).0).0
+
+    -- as it was read
+    record Read (c : Contents) : Type 0 where
+      at : IsAtEither old c
+      at_mid : IsAtEither mid c
+      found : Finds old.now.trees f
+      found_mid : Finds mid.now.trees f
+
+    read_at : (c : Contents) → HoldsEither old c → HasCleanDisk mid → Read c
+    read_at c h clean =
+        let at = h (was_clean clean) (ready (was_clean clean)) in
+        let tables = either_sees old c h in
+        let shows = mid_shows clean tables in
+        let found = (read clean old.now tables).1 in
+        record { at = at; at_mid = either_again old mid c at shows; found = found; found_mid = subst (λ (d : Database). Finds d.trees f) (sym shows.now) found }
+
+    read_ready : SeesTables old old.now → IsReady mid
+    read_ready tables = λ clean. (read clean old.now tables).0
+
+    taken_ok : (made : (c : Contents) → IsReady mid → IsAtEither mid c → Finds mid.now.trees f → HasCleanDisk new → IsTrue new.is_open × IsAt new c) (up : IsReady mid → HasCleanDisk new → IsTrue new.is_open) → Opened old new f.token_record
+    taken_ok made up = record {
+      clean = omega (arith, reads.clean, clean_on);
+      held = λ c h clean.
+          let it = read_at c h (mid_clean clean) in
+          let done = made c (read_ready (either_sees old c h)) it.at_mid it.found_mid clean in
+          (done.0, done.1, same_record old.now.trees c f it.at.stores it.found);
+      fresh = λ none clean. absurd (not_none old there none);
+      decodes = λ both clean. (up (read_ready (ours_read both)) clean, found_decodes old.now.trees f (read (mid_clean clean) old.now (ours_read both)).1);
+    }
+
+    taken_err : (fault : KeepFault) → fault ≢ Damaged → is_current f ≡ false → (same : (db : Database) → IsReady mid → Sees mid db → HasCleanDisk new → IsTrue new.is_open → ShowsNow new db)
+        → (crash : (c : Contents) → IsAtEither mid c → Finds mid.now.trees f → HasCleanDisk new → (left : Trees) → new.may_leave left → mid.may_leave left ⊎ Stores left c) → NotOpened old new fault
+    taken_err fault sound old_one same crash = record {
+      clean = omega (arith, reads.clean, clean_on);
+      same = λ ours clean up. elim ours [
+        | inl none ↦ absurd (not_none old there none)
+        | inr both ↦
+            let at = sees (was_clean (mid_clean clean)) (ready (was_clean (mid_clean clean))) in
+            let shows = stays (ours_read both) clean up in
+            (shows.now, shows.settled ∙ sym at.settled, shows.autocommit ∙ sym at.autocommit)
+      ];
+      crash = λ ours all_new clean left may. elim ours [
+        | inl none ↦ absurd (not_none old there none)
+        | inr both ↦ absurd (all_new (has_old old.now.trees f (read (mid_clean clean) old.now (ours_read both)).1 old_one))
+      ];
+      unwritten = λ damaged ours clean left may. absurd (sound damaged);
+      held = λ c h clean up. at_again old new c (h (was_clean (mid_clean clean)) (ready (was_clean (mid_clean clean)))) (stays (sees_held old c h) clean up);
+      held_either = λ c h clean up. either_again old new c (h (was_clean (mid_clean clean)) (ready (was_clean (mid_clean clean)))) (stays (either_sees old c h) clean up);
+      left = λ c h clean left may.
+          let stores = (h (was_clean (mid_clean clean)) (ready (was_clean (mid_clean clean)))).stores in
+          absurd (none_old old.now.trees c stores (has_old old.now.trees f (read (mid_clean clean) old.now (sees_held old c h)).1 old_one));
+      left_either = λ c h clean left may.
+          let it = read_at c h (mid_clean clean) in
+          elim (crash c it.at_mid it.found_mid clean left may) [ inl before ↦ inl (reads.crash (mid_clean clean) old.now (either_sees old c h) left before) | inr whole ↦ inr whole ];
+      undamaged = λ c h clean. sound;
+      fresh = λ none clean. sound;
+    }
+      where
+        stays : SeesTables old old.now → HasCleanDisk new → IsTrue new.is_open → ShowsNow new old.now
+        stays tables clean up = same old.now (read_ready tables) (λ clean up. (reads.sees old.now tables clean up).0) clean up
+
+    pub taken : (r : Result TokenRecord KeepFault) → IfOk r (λ x. x ≡ f.token_record) → ((c : Contents) → IsReady mid → IsAtEither mid c → Finds mid.now.trees f → HasCleanDisk new → OnOk r (IsTrue new.is_open × IsAt new c))
+        → (IsReady mid → HasCleanDisk new → OnOk r (IsTrue new.is_open)) → ((db : Database) → IsReady mid → Sees mid db → HasCleanDisk new → IsTrue new.is_open → OnErr r (ShowsNow new db))
+        → ((c : Contents) → IsAtEither mid c → Finds mid.now.trees f → HasCleanDisk new → (left : Trees) → new.may_leave left → mid.may_leave left ⊎ Stores left c) → OnErr r (is_current f ≡ false) → (IsErrOf r Damaged → ⊥)
+        → IfOk r (Opened old new) × IfErr r (NotOpened old new)
+    taken (Ok x) is made up same crash old_one undamaged = (subst (Opened old new) (sym is) (taken_ok made up), tt)
+    taken (Err fault) is made up same crash old_one undamaged = (tt, taken_err fault (λ damage. undamaged (ap (λ (d : KeepFault). Err d) damage)) old_one same crash)
 
 -- ---- a store that has none is made
 
@@ -67,7 +162,7 @@ module _ (old new : State) (ready : IsReady old) (sees : Sees old old.now) (ther
   still_clean clean = omega (arith, clean_on)
 
   -- then no contents were held
-  none_held : (c : Contents) → Holds old c → HasCleanDisk new → ⊥
+  none_held : (c : Contents) → HoldsEither old c → HasCleanDisk new → ⊥
   none_held c h clean = not_both old there (h (still_clean clean) (ready (still_clean clean))).schema
 
   pub made : (r : Result TokenRecord KeepFault) → (old.now.schema ≡ no_schema → HasCleanDisk new → IfOk r (λ x. IsTrue new.is_open × IsAt new (new_contents new_record) × (x ≡ new_record)))
@@ -91,12 +186,15 @@ module _ (old new : State) (ready : IsReady old) (sees : Sees old old.now) (ther
           let at = sees (still_clean clean) (ready (still_clean clean)) in
           let shows = same old.now ready sees clean up in
           (shows.now, shows.settled ∙ sym at.settled, shows.autocommit ∙ sym at.autocommit);
-      crash = λ ours clean left may. elim ours [
+      crash = λ ours new clean left may. elim ours [
         | inl none ↦ elim (crash none clean left may) [ inl before ↦ inl before | inr whole ↦ inr (none, whole) ]
         | inr both ↦ absurd (not_both old there both)
       ];
-      held = λ c h clean up. absurd (none_held c h clean);
-      left = λ c h clean left may. absurd (none_held c h clean);
+      unwritten = λ damaged ours clean left may. absurd (undamaged (ap Err damaged));
+      held = λ c h clean up. absurd (none_held c (either_held old c h) clean);
+      held_either = λ c h clean up. absurd (none_held c h clean);
+      left = λ c h clean left may. absurd (none_held c (either_held old c h) clean);
+      left_either = λ c h clean left may. absurd (none_held c h clean);
       undamaged = λ c h clean. absurd (none_held c h clean);
       fresh = λ none clean is. undamaged (ap Err is);
     },
@@ -117,7 +215,7 @@ module _ (old mid new : State) (kept : Unwritten old mid) (ready : IsReady mid) 
   opened_on : (r : TokenRecord) → Opened mid new r → Opened old new r
   opened_on r it = record {
     clean = omega (arith, kept.clean, it.clean);
-    held = λ c h clean. it.held c (held_on old mid c kept h) clean;
+    held = λ c h clean. it.held c (either_on old mid c kept h) clean;
     fresh = λ none clean. it.fresh (ap (λ (d : Database). d.schema) (same_now (mid_clean clean)) ∙ none) clean;
     decodes = λ both clean. subst (λ (d : Database). IsTrue new.is_open × AllDecode d.trees r) (same_now (mid_clean clean)) (it.decodes (ap (λ (d : Database). d.schema) (same_now (mid_clean clean)) ∙ both) clean);
   }
@@ -133,13 +231,16 @@ module _ (old mid new : State) (kept : Unwritten old mid) (ready : IsReady mid) 
         let was = sees (old_clean clean) (kept.was_open (mid_clean clean) (ready (mid_clean clean))) in
         let at = mid_sees (mid_clean clean) (ready (mid_clean clean)) in
         (both.0 ∙ at.now, both.1 ∙ at.settled ∙ sym was.settled, both.2 ∙ at.autocommit ∙ sym was.autocommit);
-    crash = λ ours clean left may. elim (it.crash (still_ours clean ours) clean left may) [
+    crash = λ ours all_new clean left may. elim (it.crash (still_ours clean ours) (subst (λ (d : Database). ¬ HasOld d.trees) (sym (same_now (mid_clean clean))) all_new) clean left may) [
       | inl before ↦ inl (kept.crash (mid_clean clean) left before)
       | inr whole ↦ inr (sym (ap (λ (d : Database). d.schema) (same_now (mid_clean clean))) ∙ whole.0, whole.1)
     ];
+    unwritten = λ damaged ours clean left may. kept.crash (mid_clean clean) left (it.unwritten damaged (still_ours clean ours) clean left may);
     held = λ c h. it.held c (held_on old mid c kept h);
+    held_either = λ c h. it.held_either c (either_on old mid c kept h);
     left = λ c h clean left may. kept.crash (mid_clean clean) left (it.left c (held_on old mid c kept h) clean left may);
-    undamaged = λ c h clean. it.undamaged c (held_on old mid c kept h) clean;
+    left_either = λ c h clean left may. elim (it.left_either c (either_on old mid c kept h) clean left may) [ inl before ↦ inl (kept.crash (mid_clean clean) left before) | inr whole ↦ inr whole ];
+    undamaged = λ c h clean. it.undamaged c (either_on old mid c kept h) clean;
     fresh = λ none clean. it.fresh (ap (λ (d : Database). d.schema) (same_now (mid_clean clean)) ∙ none) clean;
   }
     where
@@ -170,9 +271,12 @@ not_tried old new fault kept sees sound = record {
       let was = sees old_clean (kept.was_open clean up) in
       let at = kept.sees old.now sees clean up in
       (at.now, at.settled ∙ sym was.settled, at.autocommit ∙ sym was.autocommit);
-  crash = λ ours clean left may. inl (kept.crash clean left may);
+  crash = λ ours all_new clean left may. inl (kept.crash clean left may);
+  unwritten = λ damaged ours clean left may. kept.crash clean left may;
   held = λ c h. held_on old new c kept h;
+  held_either = λ c h. either_on old new c kept h;
   left = λ c h clean left may. kept.crash clean left may;
+  left_either = λ c h clean left may. inl (kept.crash clean left may);
   undamaged = λ c h clean. sound;
   fresh = λ none clean. sound;
 }
@@ -181,9 +285,12 @@ pub not_touched : (s : State) (fault : KeepFault) → fault ≢ Damaged → NotO
 not_touched s fault sound = record {
   clean = omega arith;
   same = λ ours clean up. (refl, refl, refl);
-  crash = λ ours clean left may. inl may;
+  crash = λ ours all_new clean left may. inl may;
+  unwritten = λ damaged ours clean left may. may;
   held = λ c h. h;
+  held_either = λ c h. h;
   left = λ c h clean left may. may;
+  left_either = λ c h clean left may. inl may;
   undamaged = λ c h clean. sound;
   fresh = λ none clean. sound;
 }

@@ -17,13 +17,14 @@ use Rattle.keep.specs.Contents.{Contents, new_contents}
 use Rattle.keep.specs.Keeping.{Begins}
 use Rattle.keep.specs.declared.keep.KeepFault.{KeepFault}
 use Rattle.keep_sql.specs.Tables.{no_schema}
-use Rattle.keep_sql.specs.Store.{Holds, Stores}
+use Rattle.keep_sql.specs.Store.{Stores}
+use Rattle.keep_sql.specs.Formats.{HoldsEither}
 use Rattle.keep_sql.specs.Opening.{Adopts, Opened}
 use Rattle.keep_sql.specs.OpenedFile.{OpenedFile}
 use Rattle.keep_sql.specs.SqlState.{SqlState, sql_terms}
 
 pub file_opened : {D : Type 0} {g : Ghosts D} (start : Image) (was : Held (FileStore D g)) (r : Result (SqlState (FileStore D g)) KeepFault) → (HasCleanDisk (file_state was) → IsOpened was) → (HasCleanDisk (file_state was) → FindsIn start (file_state was))
-    → IfOk r (λ k. Opened (file_state was) (file_state k.conn) k.token_record) → ((c : Contents) → Holds (file_state was) c → IfOk r (λ k. HasCleanDisk (file_state k.conn) → Adopts (sql_terms over_files) k c))
+    → IfOk r (λ k. Opened (file_state was) (file_state k.conn) k.token_record) → ((c : Contents) → HoldsEither (file_state was) c → IfOk r (λ k. HasCleanDisk (file_state k.conn) → Adopts (sql_terms over_files) k c))
     → ((file_state was).now.schema ≡ no_schema → IfOk r (λ k. HasCleanDisk (file_state k.conn) → Adopts (sql_terms over_files) k (new_contents new_record))) → IfOk r (λ k. (k.failures ≡ 0) × (k.tried ≡ 0)) → IfOk r (OpenedFile start)
 file_opened start was (Ok k) is_open finds opened found fresh counts = record { was = was; is_open = is_open; finds = finds; opened = opened; found = found; fresh = fresh; failures = counts.0; tried = counts.1 }
 file_opened start was (Err fault) is_open finds opened found fresh counts = tt

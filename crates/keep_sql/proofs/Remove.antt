@@ -26,7 +26,7 @@ use Rattle.sqlite.proofs.Callers.{one_step, one_permutation}
 use Rattle.keep.specs.Contents.{Contents}
 use Rattle.keep_sql.proofs.Ids.{RiseFrom, rising}
 use Rattle.keep_sql.specs.Tables.{token_schema, objects_table}
-use Rattle.keep_sql.specs.Store.{Body, Stores}
+use Rattle.keep_sql.specs.Store.{Body, Stores, encoded, row_by}
 use Rattle.keep_sql.proofs.Insert.{went, same_value, task_on}
 use Rattle.keep_sql.specs.Store.{object_row}
 use Rattle.keep_sql.proofs.Texts.{by_id, plain_query}
@@ -41,22 +41,22 @@ truth_of : (b : Bool) → is_true (from_truth (Some b)) && true ≡ b
 truth_of true = refl
 truth_of false = refl
 
-passes_is : (id : ℕ) (rest : Row) (p : ℕ × Body) → list_all (holds ((Int (pos id) ∷ rest) ∷ object_row p ∷ [])) by_id ≡ (p.0 == id)
+passes_is : {B : Type 0} (enc : B → List ℕ) (id : ℕ) (rest : Row) (p : ℕ × B) → list_all (holds ((Int (pos id) ∷ rest) ∷ row_by enc p ∷ [])) by_id ≡ (p.0 == id)
 unfolding binary
-passes_is id rest p = truth_of _ ∙ ap is_eq (value_cmp-Int (pos p.0) (pos id)) ∙ same_test p.0 id
+passes_is enc id rest p = truth_of _ ∙ ap is_eq (value_cmp-Int (pos p.0) (pos id)) ∙ same_test p.0 id
 
-pub spares_is : (id : ℕ) (p : ℕ × Body) → has_rowid (pos id) (object_row p) ≡ (p.0 == id)
-spares_is id p = ap is_eq (value_cmp-Int (pos p.0) (pos id)) ∙ same_test p.0 id
+pub spares_is : {B : Type 0} (enc : B → List ℕ) (id : ℕ) (p : ℕ × B) → has_rowid (pos id) (row_by enc p) ≡ (p.0 == id)
+spares_is enc id p = ap is_eq (value_cmp-Int (pos p.0) (pos id)) ∙ same_test p.0 id
 
 -- the rows that have the id, which is the first parameter
-pub picks : (id : ℕ) (rest : Row) (objects : List (ℕ × Body)) → flat_map (λ (r : Row). if list_all (holds ((Int (pos id) ∷ rest) ∷ r ∷ [])) by_id then ((Int (pos id) ∷ rest) ∷ r ∷ []) ∷ [] else []) (map object_row objects)
-    ≡ map (λ (p : ℕ × Body). (Int (pos id) ∷ rest) ∷ object_row p ∷ []) (filter (λ (p : ℕ × Body). p.0 == id) objects)
-picks id rest [] = refl
-picks id rest (p ∷ more) = rw (passes_is id rest p) (pick_one p more (p.0 == id) (picks id rest more))
+pub picks : {B : Type 0} (enc : B → List ℕ) (id : ℕ) (rest : Row) (objects : List (ℕ × B)) → flat_map (λ (r : Row). if list_all (holds ((Int (pos id) ∷ rest) ∷ r ∷ [])) by_id then ((Int (pos id) ∷ rest) ∷ r ∷ []) ∷ [] else []) (map (row_by enc) objects)
+    ≡ map (λ (p : ℕ × B). (Int (pos id) ∷ rest) ∷ row_by enc p ∷ []) (filter (λ (p : ℕ × B). p.0 == id) objects)
+picks enc id rest [] = refl
+picks {B} enc id rest (p ∷ more) = rw (passes_is enc id rest p) (pick_one p more (p.0 == id) (picks enc id rest more))
   where
-    pick_one : (p : ℕ × Body) (more : List (ℕ × Body)) (b : Bool) {tail : List Env} → tail ≡ map (λ (q : ℕ × Body). (Int (pos id) ∷ rest) ∷ object_row q ∷ []) (filter (λ (q : ℕ × Body). q.0 == id) more)
-        → (if b then ((Int (pos id) ∷ rest) ∷ object_row p ∷ []) ∷ [] else []) ++ tail ≡ map (λ (q : ℕ × Body). (Int (pos id) ∷ rest) ∷ object_row q ∷ []) (if b then p ∷ filter (λ (q : ℕ × Body). q.0 == id) more else filter (λ (q : ℕ × Body). q.0 == id) more)
-    pick_one p more true h = ap (λ (tail : List Env). ((Int (pos id) ∷ rest) ∷ object_row p ∷ []) ∷ tail) h
+    pick_one : (p : ℕ × B) (more : List (ℕ × B)) (b : Bool) {tail : List Env} → tail ≡ map (λ (q : ℕ × B). (Int (pos id) ∷ rest) ∷ row_by enc q ∷ []) (filter (λ (q : ℕ × B). q.0 == id) more)
+        → (if b then ((Int (pos id) ∷ rest) ∷ row_by enc p ∷ []) ∷ [] else []) ++ tail ≡ map (λ (q : ℕ × B). (Int (pos id) ∷ rest) ∷ row_by enc q ∷ []) (if b then p ∷ filter (λ (q : ℕ × B). q.0 == id) more else filter (λ (q : ℕ × B). q.0 == id) more)
+    pick_one p more true h = ap (λ (tail : List Env). ((Int (pos id) ∷ rest) ∷ row_by enc p ∷ []) ∷ tail) h
     pick_one p more false h = h
 
 differs : (m n : ℕ) → m < n → (n == m) ≡ false
@@ -65,46 +65,46 @@ differs m n h = grind (arith, nat_tests)
 above : (m n : ℕ) → (n ≡ m → ⊥) → (n == m) ≡ false
 above m n h = grind (arith, nat_tests)
 
-pub none_below : (low id : ℕ) (objects : List (ℕ × Body)) → RiseFrom low objects → id ≤ low → filter (λ (p : ℕ × Body). p.0 == id) objects ≡ []
+pub none_below : {B : Type 0} (low id : ℕ) (objects : List (ℕ × B)) → RiseFrom low objects → id ≤ low → filter (λ (p : ℕ × B). p.0 == id) objects ≡ []
 none_below low id [] up below = refl
-none_below low id (p ∷ more) up below =
+none_below {B} low id (p ∷ more) up below =
     let over : id < p.0 = let h = up.0 in omega arith in
     rw (differs id p.0 over) (none_below p.0 id more up.1 (omega arith))
 
 -- an id is that of no object, or of one
-pub one_found : (low id : ℕ) (objects : List (ℕ × Body)) → RiseFrom low objects → (filter (λ (p : ℕ × Body). p.0 == id) objects ≡ []) ⊎ ((b : Body) × (filter (λ (p : ℕ × Body). p.0 == id) objects ≡ (id, b) ∷ []))
+pub one_found : {B : Type 0} (low id : ℕ) (objects : List (ℕ × B)) → RiseFrom low objects → (filter (λ (p : ℕ × B). p.0 == id) objects ≡ []) ⊎ ((b : B) × (filter (λ (p : ℕ × B). p.0 == id) objects ≡ (id, b) ∷ []))
 one_found low id [] up = inl refl
-one_found low id (p ∷ more) up = go (p.0 == id) refl (one_found p.0 id more up.1)
+one_found {B} low id (p ∷ more) up = go (p.0 == id) refl (one_found p.0 id more up.1)
   where
-    go : (t : Bool) → (p.0 == id) ≡ t → (filter (λ (q : ℕ × Body). q.0 == id) more ≡ []) ⊎ ((b : Body) × (filter (λ (q : ℕ × Body). q.0 == id) more ≡ (id, b) ∷ []))
-        → (filter (λ (q : ℕ × Body). q.0 == id) (p ∷ more) ≡ []) ⊎ ((b : Body) × (filter (λ (q : ℕ × Body). q.0 == id) (p ∷ more) ≡ (id, b) ∷ []))
+    go : (t : Bool) → (p.0 == id) ≡ t → (filter (λ (q : ℕ × B). q.0 == id) more ≡ []) ⊎ ((b : B) × (filter (λ (q : ℕ × B). q.0 == id) more ≡ (id, b) ∷ []))
+        → (filter (λ (q : ℕ × B). q.0 == id) (p ∷ more) ≡ []) ⊎ ((b : B) × (filter (λ (q : ℕ × B). q.0 == id) (p ∷ more) ≡ (id, b) ∷ []))
     go false is later = rw is later
     go true is later =
         let key : p.0 ≡ id = grind (arith, nat_tests) in
-        rw is (inr (p.1, ap (λ (n : ℕ). (n, p.1) ∷ filter (λ (q : ℕ × Body). q.0 == id) more) key ∙ ap (λ (rest : List (ℕ × Body)). (id, p.1) ∷ rest) (none_below p.0 id more up.1 (omega arith))))
+        rw is (inr (p.1, ap (λ (n : ℕ). (n, p.1) ∷ filter (λ (q : ℕ × B). q.0 == id) more) key ∙ ap (λ (rest : List (ℕ × B)). (id, p.1) ∷ rest) (none_below p.0 id more up.1 (omega arith))))
 
 pub at_is : (id n : ℕ) → is_at (nat_cmp id) n ≡ (n == id)
 at_is id n = grind (arith, nat_tests)
 
-abbrev pub removed_from : ℕ → List (ℕ × Body) → List (ℕ × Body)
-removed_from id objects = filter (λ (p : ℕ × Body). not (p.0 == id)) objects
+abbrev pub removed_from : {B : Type 0} → ℕ → List (ℕ × B) → List (ℕ × B)
+removed_from {B} id objects = filter (λ (p : ℕ × B). not (p.0 == id)) objects
 
-pub not_there : (id : ℕ) (objects : List (ℕ × Body)) → filter (λ (p : ℕ × Body). p.0 == id) objects ≡ [] → removed_from id objects ≡ objects
+pub not_there : {B : Type 0} (id : ℕ) (objects : List (ℕ × B)) → filter (λ (p : ℕ × B). p.0 == id) objects ≡ [] → removed_from id objects ≡ objects
 not_there id [] none = refl
-not_there id (p ∷ more) none = go (p.0 == id) refl none (not_there id more)
+not_there {B} id (p ∷ more) none = go (p.0 == id) refl none (not_there id more)
   where
-    go : (t : Bool) → (p.0 == id) ≡ t → (if t then p ∷ filter (λ (q : ℕ × Body). q.0 == id) more else filter (λ (q : ℕ × Body). q.0 == id) more) ≡ [] → (filter (λ (q : ℕ × Body). q.0 == id) more ≡ [] → removed_from id more ≡ more)
+    go : (t : Bool) → (p.0 == id) ≡ t → (if t then p ∷ filter (λ (q : ℕ × B). q.0 == id) more else filter (λ (q : ℕ × B). q.0 == id) more) ≡ [] → (filter (λ (q : ℕ × B). q.0 == id) more ≡ [] → removed_from id more ≡ more)
         → removed_from id (p ∷ more) ≡ p ∷ more
     go true is none later = absurd (cc)
-    go false is none later = rw is (ap (λ (rest : List (ℕ × Body)). p ∷ rest) (later none))
+    go false is none later = rw is (ap (λ (rest : List (ℕ × B)). p ∷ rest) (later none))
 
-pub taken_out : (id : ℕ) (objects : List (ℕ × Body)) → without_rowid (pos id) (map object_row objects) ≡ map object_row (removed_from id objects)
-taken_out id [] = refl
-taken_out id (p ∷ more) = go (p.0 == id) refl (taken_out id more)
+pub taken_out : {B : Type 0} (enc : B → List ℕ) (id : ℕ) (objects : List (ℕ × B)) → without_rowid (pos id) (map (row_by enc) objects) ≡ map (row_by enc) (removed_from id objects)
+taken_out enc id [] = refl
+taken_out {B} enc id (p ∷ more) = go (p.0 == id) refl (taken_out enc id more)
   where
-    go : (t : Bool) → (p.0 == id) ≡ t → without_rowid (pos id) (map object_row more) ≡ map object_row (removed_from id more) → without_rowid (pos id) (map object_row (p ∷ more)) ≡ map object_row (removed_from id (p ∷ more))
-    go false is later = rw (spares_is id p, is) (ap (λ (rows : List Row). object_row p ∷ rows) later)
-    go true is later = rw (spares_is id p, is) later
+    go : (t : Bool) → (p.0 == id) ≡ t → without_rowid (pos id) (map (row_by enc) more) ≡ map (row_by enc) (removed_from id more) → without_rowid (pos id) (map (row_by enc) (p ∷ more)) ≡ map (row_by enc) (removed_from id (p ∷ more))
+    go false is later = rw (spares_is enc id p, is) (ap (λ (rows : List Row). row_by enc p ∷ rows) later)
+    go true is later = rw (spares_is enc id p, is) later
 
 abbrev pub remove_query : Query
 remove_query = record plain_query { filter = by_id; project = col 1 0 ∷ [] }
@@ -128,11 +128,11 @@ rows_by db c id rows it a = elim (one_found 0 id c.objects (rising db c it)) [
       let kept : a.kept ≡ o ∷ [] = a.distinct ∙ ap (map (output remove_query)) (staged ∙ ap (map (λ (p : ℕ × Body). id_params id ∷ object_row p ∷ [])) one.1) in
       let ordered = one_permutation o a.ordered (subst (λ k. IsPermutation k a.ordered) kept a.same) in
       let found : rows ≡ (Int (pos id) ∷ []) ∷ [] = a.shown ∙ ap (λ xs. page remove_query (id_params id) (map (λ (p : Output). p.1) xs)) ordered in
-      ap (λ (rs : List Row). edited db (remove_edit db rs)) found ∙ ap (λ (rs : List Row). without_rowid (pos id) rs) it.objects_are ∙ taken_out id c.objects
+      ap (λ (rs : List Row). edited db (remove_edit db rs)) found ∙ ap (λ (rs : List Row). without_rowid (pos id) rs) it.objects_are ∙ taken_out encoded id c.objects
 ]
   where
     staged : a.staged ≡ map (λ (p : ℕ × Body). id_params id ∷ object_row p ∷ []) (filter (λ (p : ℕ × Body). p.0 == id) c.objects)
-    staged = a.grouped ∙ rw it.objects_are (picks id [] c.objects)
+    staged = a.grouped ∙ rw it.objects_are (picks encoded id [] c.objects)
 
 pub deletes : (limit : Option ℕ) (db : Trees) (c : Contents) (id : ℕ) (w : Written) → Stores db c → Deletes (task_on limit objects_table (id_params id)) (record { lets = []; body = remove_query }) db (Ok w)
     → (w.trees 0 ≡ db 0) × (w.trees 1 ≡ map object_row (removed_from id c.objects)) × (w.trees 2 ≡ db 2)

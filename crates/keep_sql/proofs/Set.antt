@@ -1,5 +1,5 @@
 -- UPDATE record as a step of the contents.
-use Rattle.std.proofs.Common.{◌≡◌, ℕ, List, [], codes, None, Ok, refl, ap, subst, ◌∙◌}
+use Rattle.std.proofs.Common.{◌≡◌, ℕ, List, [], ◌∷◌, codes, None, Ok, refl, ap, subst, ◌∙◌}
 use Rattle.sqlite.specs.Schema.{Schema}
 use Rattle.sqlite.specs.Command.TheVariants.{Update}
 use Rattle.sqlite.specs.Effect.{Database}
@@ -13,28 +13,36 @@ use Rattle.pin_record.specs.Stored.{IsRecord}
 use Rattle.keep.specs.Contents.{Contents, with_record}
 use Rattle.keep.specs.ContentsLaws.{IsSound-with_record}
 use Rattle.keep_sql.specs.Tables.{token_schema, record_table}
-use Rattle.keep_sql.specs.Store.{Stores}
+use Rattle.keep_sql.specs.Store.{Stores, body_row, encoded_record, record_row}
 use Rattle.keep_sql.proofs.Texts.{set_is}
 use Rattle.keep_sql.proofs.Insert.{went}
 use Rattle.keep_sql.proofs.Steps.{concluded}
 use Rattle.keep_sql.proofs.Update.{set_query, set_params, updates}
 use Rattle.keep_sql.proofs.Lift.{IsStep}
 
-set_plain : IsPlain (understood token_schema (codes "UPDATE record SET body = ?1"))
+pub set_plain : IsPlain (understood token_schema (codes "UPDATE record SET body = ?1"))
 unfolding understood everything
 set_plain = (refl, refl)
+
+-- what the statement makes of the tables
+pub sets_record : (r : TokenRecord) (was : List ℕ) (s : State) (text : List ℕ) (tally : Tally) (after : Database) → s.now.schema ≡ token_schema → s.now.trees 0 ≡ body_row (1, was) ∷ []
+    → Does s.step_limit (mode_of s) (set_params r) s.now text None (Update 0 (record { lets = []; body = set_query })) (Ok (tally, after))
+    → (after.schema ≡ token_schema) × (after.trees 0 ≡ record_row r ∷ []) × (after.trees 1 ≡ s.now.trees 1) × (after.trees 2 ≡ s.now.trees 2)
+sets_record r was s text tally after has is h =
+    let done = went (subst (λ (x : Schema). Does s.step_limit (mode_of s) (set_params r) (record s.now { schema = x }) text None (Update 0 (record { lets = []; body = set_query })) (Ok (tally, after))) has h) in
+    let end = concluded s.step_limit record_table (set_params r) (mode_of s) done.0 tally after done.2 in
+    let all = updates s.step_limit s.now.trees was r done.0 is done.1 in
+    (ap (λ (d : Database). d.schema) end.0, ap (λ (d : Database). d.trees 0) end.0 ∙ all.0, ap (λ (d : Database). d.trees 1) end.0 ∙ all.1, ap (λ (d : Database). d.trees 2) end.0 ∙ all.2)
 
 set_does : (r : TokenRecord) (is : IsRecord r) (s : State) (text : List ℕ) (c : Contents) (tally : Tally) (after : Database) → s.now.schema ≡ token_schema → Stores s.now.trees c
     → Does s.step_limit (mode_of s) (set_params r) s.now text None (Update 0 (record { lets = []; body = set_query })) (Ok (tally, after)) → (after.schema ≡ token_schema) × Stores after.trees (with_record r c)
 set_does r is s text c tally after has it h =
-    let done = went (subst (λ (x : Schema). Does s.step_limit (mode_of s) (set_params r) (record s.now { schema = x }) text None (Update 0 (record { lets = []; body = set_query })) (Ok (tally, after))) has h) in
-    let end = concluded s.step_limit record_table (set_params r) (mode_of s) done.0 tally after done.2 in
-    let all = updates s.step_limit s.now.trees c.token_record r done.0 it.record_is done.1 in (
-      ap (λ (d : Database). d.schema) end.0,
+    let all = sets_record r (encoded_record c.token_record) s text tally after has it.record_is h in (
+      all.0,
       record {
-        record_is = ap (λ (d : Database). d.trees 0) end.0 ∙ all.0;
-        objects_are = ap (λ (d : Database). d.trees 1) end.0 ∙ all.1 ∙ it.objects_are;
-        count_is = ap (λ (d : Database). d.trees 2) end.0 ∙ all.2 ∙ it.count_is;
+        record_is = all.1;
+        objects_are = all.2 ∙ it.objects_are;
+        count_is = all.3 ∙ it.count_is;
         sound = IsSound-with_record r c it.sound;
         is_record = is;
         are_objects = it.are_objects;

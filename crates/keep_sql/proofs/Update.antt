@@ -15,7 +15,7 @@ use Rattle.sqlite_rules.specs.Calls.{ids_of}
 use Rattle.sqlite.proofs.Callers.{one_step, one_permutation}
 use Rattle.pin_record.specs.Records.{TokenRecord}
 use Rattle.keep_sql.specs.Tables.{token_schema, record_table}
-use Rattle.keep_sql.specs.Store.{record_row, encoded_record}
+use Rattle.keep_sql.specs.Store.{body_row, record_row, encoded_record}
 use Rattle.keep_sql.proofs.Texts.{plain_query}
 use Rattle.keep_sql.proofs.Insert.{went, same_value, task_on, cast_null, cast_int, same_id}
 
@@ -26,11 +26,11 @@ abbrev pub set_params : TokenRecord → Row
 set_params r = Blob (encoded_record r) ∷ []
 
 -- what the query gives: the rowid, and then the new row
-set_rows : (db : Trees) (old new : TokenRecord) (rows : List Row) → db 0 ≡ record_row old ∷ [] → IsAnswer set_query (overlay db []) (set_params new) rows
+set_rows : (db : Trees) (old : List ℕ) (new : TokenRecord) (rows : List Row) → db 0 ≡ body_row (1, old) ∷ [] → IsAnswer set_query (overlay db []) (set_params new) rows
     → rows ≡ (Int (pos 1) ∷ Int (pos 1) ∷ Null ∷ Blob (encoded_record new) ∷ []) ∷ []
 set_rows db old new rows is a =
     let params = set_params new in
-    let staged : a.staged ≡ (params ∷ record_row old ∷ []) ∷ [] = a.grouped ∙ rw is in
+    let staged : a.staged ≡ (params ∷ body_row (1, old) ∷ []) ∷ [] = a.grouped ∙ rw is in
     let o : Output = ([], Int (pos 1) ∷ Int (pos 1) ∷ Null ∷ Blob (encoded_record new) ∷ []) in
     let kept : a.kept ≡ o ∷ [] = a.distinct ∙ ap (map (output set_query)) staged in
     let ordered = one_permutation o a.ordered (subst (λ k. IsPermutation k a.ordered) kept a.same) in
@@ -39,10 +39,10 @@ set_rows db old new rows is a =
 abbrev set_edit : Trees → List Row → Edit
 set_edit db rows = edit_of db record_table (ids_of rows) Given 1 rows
 
-one_set : (db : Trees) (old new : TokenRecord) → db 0 ≡ record_row old ∷ [] → edited db (set_edit db ((Int (pos 1) ∷ Int (pos 1) ∷ Null ∷ Blob (encoded_record new) ∷ []) ∷ [])) ≡ record_row new ∷ []
+one_set : (db : Trees) (old : List ℕ) (new : TokenRecord) → db 0 ≡ body_row (1, old) ∷ [] → edited db (set_edit db ((Int (pos 1) ∷ Int (pos 1) ∷ Null ∷ Blob (encoded_record new) ∷ []) ∷ [])) ≡ record_row new ∷ []
 one_set db old new is = rw (is, same_id, cast_null, cast_int (pos 1))
 
-pub updates : (limit : Option ℕ) (db : Trees) (old new : TokenRecord) (w : Written) → db 0 ≡ record_row old ∷ []
+pub updates : (limit : Option ℕ) (db : Trees) (old : List ℕ) (new : TokenRecord) (w : Written) → db 0 ≡ body_row (1, old) ∷ []
     → Updates (task_on limit record_table (set_params new)) (record { lets = []; body = set_query }) (set_params new) db (Ok w)
     → (w.trees 0 ≡ record_row new ∷ []) × (w.trees 1 ≡ db 1) × (w.trees 2 ≡ db 2)
 updates limit db old new w is h =

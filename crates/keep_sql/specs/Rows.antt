@@ -5,9 +5,9 @@ use Rattle.sqlite_value.specs.Order.{Row, column}
 use Rattle.sqlite.specs.Edit.{id_in}
 use Rattle.attrs.specs.Objects.{IsObject}
 use Rattle.pin_record.specs.Records.{TokenRecord}
-use Rattle.pin_record.specs.Stored.{IsRecord}
 use Rattle.keep.specs.Contents.{IsTokenObject}
-use Rattle.keep_sql.specs.Store.{Body, encoded, encoded_record}
+use Rattle.keep_sql.specs.Store.{Body, encoded}
+use Rattle.keep_sql.specs.Formats.{IsBody, IsRecordBody}
 
 abbrev pub natural : ℤ → ℕ
 natural (pos n) = n
@@ -27,9 +27,22 @@ pub record ShowsObject (row : Row) : Type 0 where
   pub is_object : IsObject object
   pub is_token : IsTokenObject object
 
--- one row alone, which is the body of the record
-pub record ShowRecord (rows : List Row) (r : TokenRecord) : Type 0 where
+-- the same in either format
+pub record ShowsEither (row : Row) : Type 0 where
+  pub id : ℕ
+  pub object : Body
+  pub bytes : List ℕ
+  pub id_is : column row 0 ≡ Int (pos id)
+  pub above : 0 < id
+  pub body_is : column row 1 ≡ Blob bytes
+  pub is_body : IsBody bytes object
+  pub is_object : IsObject object
+  pub is_token : IsTokenObject object
+
+-- one row alone, which is the body of the record in either format
+pub record ShowRecordEither (rows : List Row) (r : TokenRecord) : Type 0 where
   pub row : Row
+  pub bytes : List ℕ
   pub alone : rows ≡ row ∷ []
-  pub body_is : column row 0 ≡ Blob (encoded_record r)
-  pub is_record : IsRecord r
+  pub body_is : column row 0 ≡ Blob bytes
+  pub is_body : IsRecordBody bytes r

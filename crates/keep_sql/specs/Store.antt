@@ -28,8 +28,15 @@ encoded o = object.stored_form o
 unfoldable pub encoded_record : TokenRecord → List ℕ
 encoded_record r = token.stored_form r
 
+-- the row of an id and a body
+abbrev pub row_by : {B : Type 0} → (B → List ℕ) → ℕ × B → Row
+row_by bytes_of p = Int (pos p.0) ∷ Null ∷ Blob (bytes_of p.1) ∷ []
+
+abbrev pub body_row : ℕ × List ℕ → Row
+body_row = row_by (λ bytes. bytes)
+
 abbrev pub object_row : ℕ × Body → Row
-object_row p = Int (pos p.0) ∷ Null ∷ Blob (encoded p.1) ∷ []
+object_row = row_by encoded
 
 abbrev pub record_row : TokenRecord → Row
 record_row r = Int (pos 1) ∷ Null ∷ Blob (encoded_record r) ∷ []

@@ -10,14 +10,20 @@
 //! CREATE TABLE objects(id INTEGER PRIMARY KEY AUTOINCREMENT, body BLOB NOT NULL) STRICT
 //! ```
 //!
-//! A body is the stored form of the record (`pin_record`) or of a token object (`attrs`). Ids rise by one,
-//! and sqlite's own table of counters keeps the last that was given, so none returns.
+//! A body is the stored form of the record (`pin_record`) or of a token object (`attrs`) in format 2, which
+//! its first byte says. Ids rise by one, and sqlite's own table of counters keeps the last that was given,
+//! so none returns.
 //!
 //! A store with neither table is new, and gets both and a record that isn't initialised in one transaction.
 //! Where one of them is there, both are taken to be there as they stand here, and each body is read: one
-//! that doesn't decode, a record that isn't just one row, or an id below 1 is `KeepFault::Damaged`, and
-//! nothing is written. Once a store is open each change is one statement, and a reset one transaction of
-//! two. What sqlite refuses, its want of memory included, is a counted `KeepFault::Device`; a body that
+//! that has neither format, a record that isn't just one row, or an id below 1 is `KeepFault::Damaged`, and
+//! nothing is written. Bodies of format 1, which older tokens wrote, are read too: where there are any, all
+//! of them are written again in format 2, in one transaction, before the open answers. A key gets
+//! CKA_TRUSTED and CKA_WRAP_WITH_TRUSTED, both false, and a PIN keeps its 10,000 rounds until it is set
+//! again; ids, their order and all else stay. A crash in between leaves all bodies as they were, or all in
+//! format 2, and so does a refusal. Format 1 is never written.
+//!
+//! Once a store is open each change is one statement, and a reset one transaction of two. What sqlite refuses, its want of memory included, is a counted `KeepFault::Device`; a body that
 //! finds no memory is `KeepFault::Memory`. After a fault the store is as it was. Each call first asks
 //! whether the connection is open: one that sqlite has shut after a fault of the disk is never written again.
 //!
@@ -38,9 +44,11 @@ mod changes;
 mod files;
 mod listing;
 mod opening;
+mod renewals;
 mod rows;
 mod sql_keep;
 mod statements;
+mod taking;
 mod transactions;
 
 pub use sql_keep::SqlKeep;

@@ -1,22 +1,20 @@
-//! Opening a store: a new one is made, and another one is read through.
+//! Opening a store: a new one is made, and another one is taken over.
 
-ghost use Rattle.std.specs.Prelude.{◌≡◌, ◌≤◌, ◌⊎◌, true, false, All, IsTrue, IfOk, IfErr, OnOk, OnErr, IsErrOf, bytes_eq};
+ghost use Rattle.std.specs.Prelude.{◌≡◌, ◌≤◌, ◌⊎◌, IsTrue, IfOk, IfErr, OnErr, IsErrOf};
 ghost use Rattle.sqlite.specs.Effect.{Database};
 ghost use Rattle.sqlite.specs.Tree.{Trees};
 ghost use Rattle.sqlite_trees.specs.View.{doubt};
 ghost use Rattle.sqlite.specs.State.{HasCleanDisk};
 ghost use Rattle.sqlite.specs.Held.{state};
-ghost use Rattle.pin_record.specs.Records.{TokenRecord, new_record};
+ghost use Rattle.pin_record.specs.Records.{new_record};
 ghost use Rattle.keep.specs.declared.keep.KeepFault.TheVariants.{Damaged};
 ghost use Rattle.keep.specs.Contents.{new_contents};
 ghost use Rattle.keep_sql.specs.Tables.{no_schema};
-ghost use Rattle.keep_sql.specs.Store.{IsAt, IsReady, OnlyReads, Sees, SeesTables, ShowsNow, Stores};
-ghost use Rattle.keep_sql.specs.Rows.{ShowRecord, ShowsObject};
-ghost use Rattle.keep_sql.specs.Opening.{AllDecode, NotOpened, Opened, bodies, has_tables as has_tables_in, ids_and_bodies, is_token_table as is_one_of_two};
+ghost use Rattle.keep_sql.specs.Store.{IsAt, IsReady, Sees, ShowsNow, Stores};
+ghost use Rattle.keep_sql.specs.Opening.{NotOpened, Opened, has_tables as has_tables_in, is_token_table as is_one_of_two};
 
-use crate::listing::read_all;
-use crate::rows::{check_rows, only_record};
 use crate::statements::ensure_open;
+use crate::taking::take_over;
 use crate::transactions::run_three;
 use keep::KeepFault;
 use pin_record::Record;
@@ -65,49 +63,13 @@ fn create<S: Alter>(alloc: Global, conn: &mut Connection<S>) -> Result<Record, K
     }
 }
 
-/// The record, which stands in the only row of its table.
-fn read_record<S: Alter>(conn: &mut Connection<S>) -> Result<Record, KeepFault>
-    ensures same { OnlyReads (state S.Store conn.old) (state S.Store conn.new) }
-    ensures ok { HasCleanDisk (state S.Store conn.new) → (db : Database) → SeesTables (state S.Store conn.old) db → IfOk result (ShowRecord (bodies (db.trees 0))) }
-    ensures undamaged { HasCleanDisk (state S.Store conn.new) → (db : Database) → SeesTables (state S.Store conn.old) db → (r : TokenRecord) → ShowRecord (bodies (db.trees 0)) r → IsErrOf result Damaged → ⊥ }
-{
-    match read_all(conn, "SELECT body FROM record") {
-        Ok(rows) => only_record(rows.as_slice()),
-        Err(_) => Err(KeepFault::Device),
-    }
-}
-
-/// Tests the id and the body of each object.
-fn check_objects<S: Alter>(alloc: Global, conn: &mut Connection<S>) -> Result<(), KeepFault>
-    ensures same { OnlyReads (state S.Store conn.old) (state S.Store conn.new) }
-    ensures open { HasCleanDisk (state S.Store conn.new) → (db : Database) → SeesTables (state S.Store conn.old) db → OnOk result (IsTrue (state S.Store conn.new).is_open) }
-    ensures ok { HasCleanDisk (state S.Store conn.new) → (db : Database) → SeesTables (state S.Store conn.old) db → OnOk result (All ShowsObject (ids_and_bodies (db.trees 1))) }
-    ensures undamaged { HasCleanDisk (state S.Store conn.new) → (db : Database) → SeesTables (state S.Store conn.old) db → All ShowsObject (ids_and_bodies (db.trees 1)) → IsErrOf result Damaged → ⊥ }
-{
-    match read_all(conn, "SELECT id, body FROM objects") {
-        Ok(rows) => check_rows(alloc, rows.as_slice()),
-        Err(_) => Err(KeepFault::Device),
-    }
-}
-
-/// Reads the whole store, and answers the record.
-fn check<S: Alter>(alloc: Global, conn: &mut Connection<S>) -> Result<Record, KeepFault>
-    ensures same { OnlyReads (state S.Store conn.old) (state S.Store conn.new) }
-    ensures ok { HasCleanDisk (state S.Store conn.new) → (db : Database) → SeesTables (state S.Store conn.old) db → IfOk result (λ r. IsTrue (state S.Store conn.new).is_open × AllDecode db.trees r) }
-    ensures undamaged { HasCleanDisk (state S.Store conn.new) → (db : Database) → SeesTables (state S.Store conn.old) db → (r : TokenRecord) → AllDecode db.trees r → IsErrOf result Damaged → ⊥ }
-{
-    let record = read_record(conn)?;
-    check_objects(alloc, conn)?;
-    Ok(record)
-}
-
 /// Opens a store over a connection that is open.
 fn open_ready<S: Alter>(alloc: Global, conn: &mut Connection<S>) -> Result<Record, KeepFault>
     ensures opened { IsReady (state S.Store conn.old) → Sees (state S.Store conn.old) (state S.Store conn.old).now → IfOk result (Opened (state S.Store conn.old) (state S.Store conn.new)) }
     ensures not_opened { IsReady (state S.Store conn.old) → Sees (state S.Store conn.old) (state S.Store conn.old).now → IfErr result (NotOpened (state S.Store conn.old) (state S.Store conn.new)) }
 {
     if has_tables(conn) {
-        check(alloc, conn)
+        take_over(alloc, conn)
     } else {
         create(alloc, conn)
     }

@@ -7,7 +7,7 @@ ghost use Rattle.keep.specs.Contents.{Contents, new_contents};
 ghost use Rattle.keep.specs.declared.keep.KeepFault.TheVariants.{Device};
 ghost use Rattle.keep.specs.Keeping.{Rises};
 ghost use Rattle.keep_sql.specs.Tables.{no_schema};
-ghost use Rattle.keep_sql.specs.Store.{Holds};
+ghost use Rattle.keep_sql.specs.Formats.{HoldsEither};
 ghost use Rattle.keep_sql.specs.Opening.{Adopts, NotOpened, Opened};
 
 use crate::changes;
@@ -65,17 +65,19 @@ fn counted(failures: &mut u64, fault: KeepFault) -> KeepFault
 impl<S: Alter + Drop> SqlKeep<S> {
     /// Opens the store over a connection. One with neither of the two tables is new: it gets both and a
     /// record that isn't initialised, in one transaction. Where one of them is there, both are taken to be
-    /// there, as they are made here, and each body is read.
+    /// there, as they are made here, and each body is read, in format 2 or in format 1, which its first
+    /// byte says. Where any has format 1, all of these are written again in format 2, in one transaction,
+    /// before this answers; ids, their order and all other attributes stay.
     ///
-    /// A refusal gives the connection back, with the store as it was: `Damaged` where a body doesn't
-    /// decode, where the record isn't just one row, or where an id is below 1; `Device` where sqlite
+    /// A refusal gives the connection back, with the store as it was: `Damaged` where a body has neither
+    /// format, where the record isn't just one row, or where an id is below 1; `Device` where sqlite
     /// refused, or where the connection is in a transaction; `Memory` where memory for a body ran out.
     pub fn from_connection(
         alloc: Global,
         mut conn: Connection<S>,
     ) -> Result<Self, (KeepFault, Connection<S>)>
         ensures opened { IfOk result (λ k. Opened (state S.Store conn) (state S.Store k.conn) k.token_record) }
-        ensures found { (c : Contents) → Holds (state S.Store conn) c → IfOk result (λ k. (⟦<SqlKeep<S> as Keep>⟧.terms).doubt k ≡ 0 → Adopts ⟦<SqlKeep<S> as Keep>⟧.terms k c) }
+        ensures found { (c : Contents) → HoldsEither (state S.Store conn) c → IfOk result (λ k. (⟦<SqlKeep<S> as Keep>⟧.terms).doubt k ≡ 0 → Adopts ⟦<SqlKeep<S> as Keep>⟧.terms k c) }
         ensures fresh { (state S.Store conn).now.schema ≡ no_schema → IfOk result (λ k. (⟦<SqlKeep<S> as Keep>⟧.terms).doubt k ≡ 0 → Adopts ⟦<SqlKeep<S> as Keep>⟧.terms k (new_contents new_record)) }
         ensures counts { IfOk result (λ k. (k.failures ≡ 0) × (k.tried ≡ 0)) }
         ensures back { IfErr result (λ e. NotOpened (state S.Store conn) (state S.Store e.1) e.0) }

@@ -1,11 +1,16 @@
 //! The command line.
 
 use crate::failure::Failure;
+use clap::builder::ValueParser;
 use clap::{Arg, ArgAction, ArgMatches, Command, Error};
 use hex::FromHex;
 use std::alloc::Global;
 
 const VERSION: &str = "0.1.0";
+
+/// How many connections each seat of the daemon accepts at most, and where no number is given. Those of seat s are the
+/// applications 4c + s for c from 0, which stay below 2^63.
+pub(crate) const MAX_CONNECTIONS: u64 = (1 << 61) - 1;
 
 /// The command line of `tokend`.
 pub(crate) fn command<'a>(alloc: Global) -> Result<Command<'a>, Error> {
@@ -20,23 +25,56 @@ pub(crate) fn command<'a>(alloc: Global) -> Result<Command<'a>, Error> {
         .arg(seed)?;
     let p11call = Command::new(alloc, "p11call")
         .about("Sends calls to a daemon: one a line, in hexadecimal, and prints their replies so")
-        .arg(socket(alloc))?;
+        .arg(needed(
+            alloc,
+            "socket",
+            "The path of the daemon's socket",
+        ))?;
     let command = Command::new(alloc, "tokend")
         .about("A PKCS #11 software token")
         .version(VERSION)
         .subcommand_required(true)
         .subcommand(stdio)?
+        .subcommand(serve(alloc)?)?
         .subcommand(p11call)?;
     Ok(command)
 }
 
-/// The option that names a daemon's socket.
-fn socket<'a>(alloc: Global) -> Arg<'a> {
-    Arg::new(alloc, "socket")
-        .long("socket")
+/// The daemon's command.
+fn serve<'a>(alloc: Global) -> Result<Command<'a>, Error> {
+    let connections = Arg::new(alloc, "connections")
+        .long("connections")
+        .action(ArgAction::Set)
+        .value_parser(ValueParser::unsigned(0, MAX_CONNECTIONS))
+        .help("How many connections each of the four seats accepts before it ends; without end if left out");
+    let serve = Command::new(alloc, "serve")
+        .about("Serves applications that connect to a socket: a daemon")
+        .arg(needed(
+            alloc,
+            "store",
+            "The path of the store's file, which is made where there is none; \":memory:\" keeps it in memory",
+        ))?
+        .arg(needed(
+            alloc,
+            "socket",
+            "The path of the socket, which is made",
+        ))?
+        .arg(needed(
+            alloc,
+            "seed-file",
+            "A file whose first 32 bytes are the seed of random bytes",
+        ))?
+        .arg(connections)?;
+    Ok(serve)
+}
+
+/// An option that must be given.
+fn needed<'a>(alloc: Global, name: &'a str, help: &'a str) -> Arg<'a> {
+    Arg::new(alloc, name)
+        .long(name)
         .action(ArgAction::Set)
         .required(true)
-        .help("The path of the daemon's socket")
+        .help(help)
 }
 
 /// The seed that is given, or zeros.

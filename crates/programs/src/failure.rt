@@ -3,6 +3,8 @@
 ghost use Rattle.std.specs.Prelude.{◌≡◌};
 ghost use Rattle.programs.specs.Statuses.{status_of, IsStatus};
 
+use hall::HallFault;
+use keep::KeepFault;
 use line::LineFault;
 use thiserror::Error;
 use wire::WireFault;
@@ -53,6 +55,26 @@ impl From<LineFault> for Failure {
         match fault {
             LineFault::Memory => Failure::Memory,
             _ => Failure::Line,
+        }
+    }
+}
+
+/// Of the store.
+impl From<KeepFault> for Failure {
+    fn from(fault: KeepFault) -> Failure {
+        match fault {
+            KeepFault::Memory => Failure::Memory,
+            _ => Failure::Store,
+        }
+    }
+}
+
+/// Of the seats and their threads.
+impl From<HallFault> for Failure {
+    fn from(fault: HallFault) -> Failure {
+        match fault {
+            HallFault::Memory => Failure::Memory,
+            HallFault::Thread => Failure::Socket,
         }
     }
 }

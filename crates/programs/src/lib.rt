@@ -1,8 +1,8 @@
 //! The program `tokend`, all but the process's own arguments and streams.
 //!
 //! `tokend_with` runs a command line over an input, an output and an output for errors, and answers
-//! the exit status: 0 where it ended as asked, 2 for a command line that is refused, 5 for a bad seed,
-//! 6 where memory ran out, 7 where the line ended badly. `refuse_args` answers it where the process's own
+//! the exit status: 0 where it ended as asked, 2 for a command line that is refused, 3 where the store can't be opened, 4 where
+//! the socket can't be used, 5 for a bad seed or line of a script, 6 where memory ran out, 7 where the line ended badly. `refuse_args` answers it where the process's own
 //! arguments can't be read. This crate is safe and tested, and states no theorem.
 //!
 //! ```
@@ -13,8 +13,10 @@
 mod args;
 mod command;
 mod failure;
+mod listening;
 mod p11call;
 mod run;
+mod serve;
 
 pub use args::refuse_args;
 pub use p11call::ask;

@@ -7,6 +7,7 @@ ghost use Rattle.programs.specs.Statuses.{IsStatus};
 use crate::command::{command, seed_of};
 use crate::failure::Failure;
 use crate::p11call::ask_all;
+use crate::serve::serve;
 use clap::error::ErrorKind;
 use clap::{ArgMatches, Error};
 use keep::ListKeep;
@@ -14,8 +15,9 @@ use line::{Watched, Words, serve_one};
 use pin_record::Record;
 use std::alloc::Global;
 use std::io::{Read, Write};
-use std::net::Net;
 use std::os::unix::net::UnixStream;
+use std::sync::Wait;
+use std::thread::Threads;
 use token::Token;
 
 /// The application of standard input.
@@ -40,8 +42,8 @@ fn stdio<I: Read, O: Write>(
     Ok(())
 }
 
-fn p11call<R: AllocGlobal + Net, I: Read, O: Write>(
-    rt: &R,
+fn p11call<I: Read, O: Write>(
+    rt: &HostRuntime,
     matches: &ArgMatches<'_>,
     input: &mut I,
     output: &mut O,
@@ -53,14 +55,16 @@ fn p11call<R: AllocGlobal + Net, I: Read, O: Write>(
     ask_all(rt.alloc(), input, output, &mut stream)
 }
 
-fn run<R: AllocGlobal + Net, I: Read, O: Write>(
-    rt: &R,
+fn run<R: Threads + Wait + Copy + Send + Drop + 'static, I: Read, O: Write>(
+    rt: &HostRuntime,
+    threads: R,
     matches: &ArgMatches<'_>,
     input: &mut I,
     output: &mut O,
 ) -> Result<(), Failure> {
     match matches.subcommand() {
         Some(("stdio", matches)) => stdio(rt.alloc(), matches, input, output),
+        Some(("serve", matches)) => serve(rt, threads, matches, output),
         Some(("p11call", matches)) => p11call(rt, matches, input, output),
         _ => Err(Failure::BadInput),
     }
@@ -88,9 +92,17 @@ fn tell<O: Write, E: Write>(error: &Error, output: &mut O, errors: &mut E) -> u8
     }
 }
 
-/// Runs the command line `args`, whose first word is the program's name, and answers the exit status.
-pub fn tokend_with<'a, R: AllocGlobal + Net, I: Read, O: Write, E: Write>(
-    rt: &R,
+/// Runs the command line `args`, whose first word is the program's name, and answers the exit status. `threads` is a handle by
+/// which the daemon starts threads.
+pub fn tokend_with<
+    'a,
+    R: Threads + Wait + Copy + Send + Drop + 'static,
+    I: Read,
+    O: Write,
+    E: Write,
+>(
+    rt: &HostRuntime,
+    threads: R,
     args: &'a [String],
     input: &mut I,
     output: &mut O,
@@ -107,7 +119,7 @@ pub fn tokend_with<'a, R: AllocGlobal + Net, I: Read, O: Write, E: Write>(
         Ok(matches) => matches,
         Err(error) => return tell(&error, output, errors),
     };
-    match run(rt, &matches, input, output) {
+    match run(rt, threads, &matches, input, output) {
         Ok(()) => 0,
         Err(failure) => {
             let _ = writeln!(errors, "tokend: {failure}");

@@ -1,9 +1,13 @@
 ghost use Rattle.std.specs.Prelude.{None};
 
+mod daemon;
+
 use crate::{ask, refuse_args, tokend_with};
-use std::alloc::Global;
+use std::alloc::{AllocError, Global};
 use std::io::{self, Error, ErrorKind, Read, Write};
+use std::sync::Wait;
 use std::test::*;
+use std::thread::Threads;
 
 /// What a command line answered and wrote.
 #[derive(Drop)]
@@ -13,7 +17,12 @@ struct Ended {
     errors: Vec<u8>,
 }
 
-fn run(rt: &HostRuntime, words: &[&str], mut input: &[u8]) -> Result<Ended, Fail> {
+fn run<R: Threads + Wait + Copy + Send + Drop + 'static>(
+    rt: &HostRuntime,
+    threads: R,
+    words: &[&str],
+    mut input: &[u8],
+) -> Result<Ended, AllocError> {
     let alloc = rt.alloc();
     let mut args = Vec::new(alloc);
     args.push(String::from_str(alloc, "tokend")?)?;
@@ -22,7 +31,7 @@ fn run(rt: &HostRuntime, words: &[&str], mut input: &[u8]) -> Result<Ended, Fail
     }
     let mut output = Vec::<u8>::new(alloc);
     let mut errors = Vec::<u8>::new(alloc);
-    let status = tokend_with(rt, &args, &mut input, &mut output, &mut errors);
+    let status = tokend_with(rt, threads, &args, &mut input, &mut output, &mut errors);
     Ok(Ended {
         status,
         output,
@@ -57,7 +66,7 @@ const FIRST_REPLIES: &[u8] =
 
 #[test]
 fn stdio_answers_the_first_run_byte_for_byte(rt: HostRuntime) -> Result<(), Fail> {
-    let ended = run(&rt, &["stdio"], FIRST_RUN)?;
+    let ended = run(&rt, rt, &["stdio"], FIRST_RUN)?;
     assert_eq!(rt; ended.output.as_slice(), FIRST_REPLIES);
     assert_eq!(rt; ended.errors.len(), 0);
     assert_eq!(rt; ended.status, 0);
@@ -75,7 +84,7 @@ fn a_line_that_ends_badly_has_its_status_and_text(rt: HostRuntime) -> Result<(),
     for ending in endings {
         let mut input = Vec::from_slice(rt.alloc(), OPEN_SESSION)?;
         input.extend_from_slice(ending)?;
-        let ended = run(&rt, &["stdio"], &input)?;
+        let ended = run(&rt, rt, &["stdio"], &input)?;
         assert_eq!(rt; ended.status, 7);
         assert_eq!(rt; ended.output.as_slice(), SESSION_ONE);
         assert_eq!(rt;
@@ -89,7 +98,7 @@ fn a_line_that_ends_badly_has_its_status_and_text(rt: HostRuntime) -> Result<(),
 #[test]
 fn a_seed_is_64_hexadecimal_digits(rt: HostRuntime) -> Result<(), Fail> {
     let digits = "000102030405060708090a0b0c0d0e0f101112131415161718191A1B1C1D1E1F";
-    let ended = run(&rt, &["stdio", "--seed", digits], OPEN_SESSION)?;
+    let ended = run(&rt, rt, &["stdio", "--seed", digits], OPEN_SESSION)?;
     assert_eq!(rt; ended.status, 0);
     assert_eq!(rt; ended.output.as_slice(), SESSION_ONE);
     for seed in [
@@ -98,7 +107,7 @@ fn a_seed_is_64_hexadecimal_digits(rt: HostRuntime) -> Result<(), Fail> {
         "00",
         "000102030405060708090a0b0c0d0e0f101112131415161718191a1b1c1d1e1f00",
     ] {
-        let ended = run(&rt, &["stdio", "--seed", seed], OPEN_SESSION)?;
+        let ended = run(&rt, rt, &["stdio", "--seed", seed], OPEN_SESSION)?;
         assert_eq!(rt; ended.status, 5, "seed {seed:?}");
         assert_eq!(rt; ended.output.len(), 0);
         assert_eq!(rt; ended.errors.as_slice(), b"tokend: bad input\n".as_slice());
@@ -109,12 +118,12 @@ fn a_seed_is_64_hexadecimal_digits(rt: HostRuntime) -> Result<(), Fail> {
 #[test]
 fn help_and_version_go_to_the_output(rt: HostRuntime) -> Result<(), Fail> {
     for word in ["--help", "--version"] {
-        let ended = run(&rt, &[word], &[])?;
+        let ended = run(&rt, rt, &[word], &[])?;
         assert_eq!(rt; ended.status, 0);
         assert!(rt; !ended.output.is_empty());
         assert_eq!(rt; ended.errors.len(), 0);
     }
-    let ended = run(&rt, &["--version"], &[])?;
+    let ended = run(&rt, rt, &["--version"], &[])?;
     assert_eq!(rt; ended.output.as_slice(), b"tokend 0.1.0\n".as_slice());
     Ok(())
 }
@@ -123,7 +132,7 @@ fn help_and_version_go_to_the_output(rt: HostRuntime) -> Result<(), Fail> {
 fn a_command_line_that_is_refused_says_why(rt: HostRuntime) -> Result<(), Fail> {
     let lines: [&[&str]; 4] = [&[], &["serve"], &["stdio", "--sed"], &["stdio", "more"]];
     for line in lines {
-        let ended = run(&rt, line, OPEN_SESSION)?;
+        let ended = run(&rt, rt, line, OPEN_SESSION)?;
         assert_eq!(rt; ended.status, 2);
         assert_eq!(rt; ended.output.len(), 0);
         assert!(rt; !ended.errors.is_empty());
@@ -237,7 +246,7 @@ fn a_call_is_sent_as_a_frame(rt: HostRuntime) -> Result<(), Fail> {
 
 #[test]
 fn a_socket_that_is_not_there_has_its_status_and_text(rt: HostRuntime) -> Result<(), Fail> {
-    let ended = run(&rt, &["p11call", "--socket", "/nowhere/tokend"], b"")?;
+    let ended = run(&rt, rt, &["p11call", "--socket", "/nowhere/tokend"], b"")?;
     assert_eq!(rt; ended.status, 4);
     assert_eq!(rt;
         ended.errors.as_slice(),

@@ -1,4 +1,7 @@
 mod crashes;
 mod damage;
+mod formats;
 mod given;
+mod old;
+mod renewals;
 mod reopening;

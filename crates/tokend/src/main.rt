@@ -22,5 +22,5 @@ fn main(rt: HostRuntime) -> ExitCode {
     };
     let mut input = rt.stdin();
     let mut output = rt.stdout();
-    ExitCode::from(tokend_with(&rt, &words, &mut input, &mut output, &mut errors))
+    ExitCode::from(tokend_with(&rt, rt, &words, &mut input, &mut output, &mut errors))
 }

@@ -1,15 +1,13 @@
 use Rattle.std.proofs.Common.{◌∙◌, sym}
 use Rattle.sqlite.specs.Held.{state}
-use Rattle.keep_sql.proofs.Outcomes.{checked, made}
+use Rattle.keep_sql.proofs.Outcomes.{made}
 use Rattle.keep_sql.proofs.opening.open_ready.Goals as goal
 
 pub returns-then-has_tables-clause-opened : goal.returns-then-has_tables-clause-opened
-returns-then-has_tables-clause-opened g c = λ ready sees.
-    (checked (state g.S.Store c.args.conn.now) (state g.S.Store c.check.new.conn) ready sees (sym c.has_tables.ensures ∙ c.if-has_tables.true) c.check.ensures.same c.check.result c.check.ensures.ok c.check.ensures.undamaged).0
+returns-then-has_tables-clause-opened g c = λ ready sees. c.take_over.ensures.opened ready sees (sym c.has_tables.ensures ∙ c.if-has_tables.true)
 
 pub returns-then-has_tables-clause-not_opened : goal.returns-then-has_tables-clause-not_opened
-returns-then-has_tables-clause-not_opened g c = λ ready sees.
-    (checked (state g.S.Store c.args.conn.now) (state g.S.Store c.check.new.conn) ready sees (sym c.has_tables.ensures ∙ c.if-has_tables.true) c.check.ensures.same c.check.result c.check.ensures.ok c.check.ensures.undamaged).1
+returns-then-has_tables-clause-not_opened g c = λ ready sees. c.take_over.ensures.not_opened ready sees (sym c.has_tables.ensures ∙ c.if-has_tables.true)
 
 pub returns-else-has_tables-clause-opened : goal.returns-else-has_tables-clause-opened
 returns-else-has_tables-clause-opened g c = λ ready sees.

@@ -1,7 +1,6 @@
-use Rattle.std.proofs.Common.{ℕ, ◌<◌, get_or}
-use Rattle.sqlite_value.specs.Order.{Row}
-use Rattle.keep_sql.specs.Rows.{ShowsObject}
+use Rattle.std.proofs.Common.{All, take}
+use Rattle.keep_sql.specs.Renewals.{IsCovered, IsOfRow}
 use Rattle.keep_sql.proofs.rows.check_rows.Given as goal
 
 abbrev pub invariant-loop-row : goal.invariant-loop-row
-invariant-loop-row l = (k : ℕ) (d : Row) → k < l.row-index → ShowsObject (get_or l.rows k d)
+invariant-loop-row l = All (IsCovered l.renewals.items) (take l.row-index l.rows) × All (IsOfRow l.rows) l.renewals.items

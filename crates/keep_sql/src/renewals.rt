@@ -1,0 +1,70 @@
+//! Bodies of format 1 that are written again in format 2, in one transaction.
+
+ghost use Rattle.std.specs.Prelude.{◌≡◌, [], ◌∷◌, codes, false, IsTrue, IfOk, OnOk, OnErr};
+ghost use Rattle.sqlite.specs.declared.types.Value.TheVariants.{Blob, Int};
+ghost use Rattle.sqlite.specs.State.{ExecutesInside, HasCleanDisk, KeepsCommit, Survives};
+ghost use Rattle.sqlite.specs.Held.{state};
+ghost use Rattle.keep_sql.specs.RanEach.{RanEach, RanRenewals};
+
+use sqlite::{Alter, Connection, Error, Transaction, params};
+
+/// An object whose body has format 1: its id, and its body in format 2.
+#[derive(Drop)]
+pub(crate) struct Renewal {
+    pub(crate) id: i64,
+    pub(crate) body: Vec<u8>,
+}
+
+fn write_one<S: Alter>(tx: &mut Transaction<'_, S>, renewal: &Renewal) -> Result<usize, Error>
+    ensures same_reference { tx.new.conn.ghost_name ≡ tx.old.conn.ghost_name }
+    ensures runs { HasCleanDisk (state S.Store tx.new.conn.now) → IsTrue (state S.Store tx.old.conn.now).in_transaction
+        → ExecutesInside 0 (codes "UPDATE objects SET body = ?2 WHERE id = ?1") (Int renewal.now.id ∷ Blob renewal.now.body.items ∷ []) (state S.Store tx.old.conn.now) (state S.Store tx.new.conn.now) result }
+    ensures survives { Survives (state S.Store tx.old.conn.now) (state S.Store tx.new.conn.now) (λ _. ⊥) }
+{
+    tx.execute(
+        "UPDATE objects SET body = ?2 WHERE id = ?1",
+        params![renewal.id, renewal.body.as_slice()],
+    )
+}
+
+/// Writes each body, up to the first that sqlite refuses.
+fn write_each<S: Alter>(tx: &mut Transaction<'_, S>, renewals: &[Renewal]) -> Result<(), Error>
+    ensures same_reference { tx.new.conn.ghost_name ≡ tx.old.conn.ghost_name }
+    ensures ran { HasCleanDisk (state S.Store tx.new.conn.now) → IsTrue (state S.Store tx.old.conn.now).in_transaction
+        → OnOk result (IsTrue (state S.Store tx.new.conn.now).in_transaction × RanEach S.Store renewals.now tx.old.conn.now tx.new.conn.now) }
+    ensures kept { HasCleanDisk (state S.Store tx.new.conn.now) → IsTrue (state S.Store tx.old.conn.now).in_transaction
+        → KeepsCommit (state S.Store tx.old.conn.now) (state S.Store tx.new.conn.now) }
+    ensures survives { Survives (state S.Store tx.old.conn.now) (state S.Store tx.new.conn.now) (λ _. ⊥) }
+{
+    for renewal in renewals {
+        write_one(tx, renewal)?;
+    }
+    Ok(())
+}
+
+/// Writes each body and that of the record, or none. `false` says that a transaction was open.
+pub(crate) fn run_renewals<S: Alter>(
+    conn: &mut Connection<S>,
+    renewals: &[Renewal],
+    bytes: &[u8],
+) -> Result<bool, Error>
+    ensures all { HasCleanDisk (state S.Store conn.new) → IfOk result (λ done. IsTrue done → RanRenewals S.Store renewals.now bytes.now conn.old (state S.Store conn.new).committed) }
+    ensures settled { IfOk result (λ done. IsTrue done → IsTrue (state S.Store conn.new).is_open → (state S.Store conn.new).now ≡ (state S.Store conn.new).committed) }
+    ensures up { HasCleanDisk (state S.Store conn.new) → IfOk result (λ done. IsTrue done → IsTrue (state S.Store conn.new).is_open) }
+    ensures ended { IfOk result (λ done. IsTrue done → conn.new.in_transaction ≡ false) }
+    ensures refused { IfOk result (λ done. done ≡ false → conn.new ≡ conn.old) }
+    ensures stopped { OnErr result (conn.new.in_transaction ≡ false) }
+    ensures none { HasCleanDisk (state S.Store conn.new) → IsTrue (state S.Store conn.new).is_open
+        → OnErr result (((state S.Store conn.new).now ≡ (state S.Store conn.old).now) × ((state S.Store conn.new).committed ≡ (state S.Store conn.old).committed)) }
+    ensures crash { Survives (state S.Store conn.old) (state S.Store conn.new) (λ trees. (db : _) × RanRenewals S.Store renewals.now bytes.now conn.old db × (trees ≡ db.trees)) }
+{
+    if !conn.is_autocommit() {
+        return Ok(false);
+    }
+    let mut tx = conn.transaction();
+    write_each(&mut tx, renewals)?;
+    tx.execute("UPDATE record SET body = ?1", params![bytes])?;
+    tx.commit()?;
+    let _ended = conn.is_autocommit();
+    Ok(true)
+}
