@@ -92,7 +92,7 @@ takes pass seats taken ended x items views h at =
       refl,
     )
 
--- the pass of a seat that is seats
+-- the pass of a seat that is made
 abbrev now_held : (ℕ → Option ℕ) → ℕ → Option ℕ → ℕ → Option ℕ
 now_held holder seats p s = cond (nat_eq s seats) p (holder s)
 

@@ -1,9 +1,11 @@
-// The token's end of the inward channel.
-ghost use Rattle.std.specs.Prelude.{◌≡◌, ◌<◌, ◌≤◌, ◌+◌, ◌++◌, [], ◌∷◌, length, IfOk, IfNone, IfSome, IsTrue};
+//! The token's end of the inward channel.
+
+ghost use Rattle.std.specs.Prelude.{◌≡◌, ◌<◌, ◌≤◌, ◌+◌, ◌++◌, [], ◌∷◌, length, IfOk, IfErr, IfNone, IfSome, IsTrue, IsFalse};
 ghost use Rattle.crossbeam_channel.specs.Claims.{view, IsSeatAt};
 ghost use Rattle.crossbeam_channel.specs.Ends.{sends_on, receives_on};
 ghost use Rattle.channels.specs.Inward.{happened, sent_of, seats_of, taken_of, ended_of, IsTaking, SentInAll};
 ghost use Rattle.channels.specs.declared.inward.InwardView.TheVariants.{Sending};
+ghost use Rattle.channels.specs.declared.messages.Inward.{Inward};
 
 use crate::inward::{AddsSeat, Ends, InwardRule, InwardView, Takes};
 use crate::messages::Inward;
@@ -12,7 +14,8 @@ use std::alloc::{AllocError, Global};
 use std::sync::Wait;
 use std::thread;
 
-/// The token's end of the one inward channel.
+/// The token's end of the one inward channel, on which it takes what the seats put. Its pass knows how many seats were made,
+/// what was taken, and what the seats that have ended sent in all. It keeps a sender, so the channel lasts as long as it.
 #[derive(Drop)]
 pub struct Inbox {
     pub sender: RuledSender<Inward, InwardView, InwardRule>,
@@ -24,7 +27,7 @@ pub struct Inbox {
 }
 
 impl Inbox {
-    /// A new channel of capacity 4, with no seats.
+    /// A new channel of capacity 4, with no seats, of which nothing was taken. It allocates.
     pub fn open(alloc: Global) -> Result<Inbox, AllocError>
         ensures { IfOk result (λ d. (seats_of (view d.inward_pass) ≡ 0) × (taken_of (view d.inward_pass) ≡ []) × (ended_of (view d.inward_pass) ≡ [])) }
     {
@@ -41,7 +44,8 @@ impl Inbox {
         })
     }
 
-    /// The ends of the next seat.
+    /// The sender and the pass of the next seat: seats have the numbers 0, 1, 2 and so on. It allocates; where that is refused,
+    /// no seat was made. No more seats may have ended than were made.
     pub fn add_seat(
         &mut self,
     ) -> Result<
@@ -54,6 +58,7 @@ impl Inbox {
         requires { length (ended_of (view self.old.inward_pass)) ≤ seats_of (view self.old.inward_pass) }
         ensures ends { IfOk result (λ r. (sends_on r.0 ≡ sends_on self.new.sender) × IsSeatAt (sends_on r.0) r.1 × (view r.1 ≡ Sending (seats_of (view self.old.inward_pass)) [])) }
         ensures same { sends_on self.new.sender ≡ sends_on self.old.sender }
+        ensures fault { IfErr result (λ _. view self.new.inward_pass ≡ view self.old.inward_pass) }
         ensures seats { IfOk result (λ r. seats_of (view self.new.inward_pass) ≡ seats_of (view self.old.inward_pass) + 1) }
         ensures kept { (taken_of (view self.new.inward_pass) ≡ taken_of (view self.old.inward_pass)) × (ended_of (view self.new.inward_pass) ≡ ended_of (view self.old.inward_pass)) }
     {
@@ -62,10 +67,12 @@ impl Inbox {
         Ok((sender, pass))
     }
 
-    /// Takes a message.
+    /// Takes the next message, and waits for it, first in turns and then asleep. None where the channel has ended, and then
+    /// nothing was taken.
     pub fn take<R: Wait>(&mut self, rt: &R) -> Option<Inward>
         ensures same { sends_on self.new.sender ≡ sends_on self.old.sender }
         ensures taken { IfSome result (λ x. taken_of (view self.new.inward_pass) ≡ taken_of (view self.old.inward_pass) ++ happened x) }
+        ensures none { IfNone result (view self.new.inward_pass ≡ view self.old.inward_pass) }
         ensures kept { (seats_of (view self.new.inward_pass) ≡ seats_of (view self.old.inward_pass)) × (ended_of (view self.new.inward_pass) ≡ ended_of (view self.old.inward_pass)) }
     {
         match self.take_patiently(rt) {
@@ -74,9 +81,11 @@ impl Inbox {
         }
     }
 
-    pub fn wait<R: Wait>(&mut self, rt: &R) -> Option<Inward>
+    /// Takes the next message, and sleeps until it comes.
+    fn wait<R: Wait>(&mut self, rt: &R) -> Option<Inward>
         ensures same { sends_on self.new.sender ≡ sends_on self.old.sender }
         ensures taken { IfSome result (λ x. taken_of (view self.new.inward_pass) ≡ taken_of (view self.old.inward_pass) ++ happened x) }
+        ensures none { IfNone result (view self.new.inward_pass ≡ view self.old.inward_pass) }
         ensures kept { (seats_of (view self.new.inward_pass) ≡ seats_of (view self.old.inward_pass)) × (ended_of (view self.new.inward_pass) ≡ ended_of (view self.old.inward_pass)) }
     {
         self.receiver
@@ -84,7 +93,8 @@ impl Inbox {
             .ok()
     }
 
-    pub fn take_patiently<R: Wait>(&mut self, rt: &R) -> Option<Inward>
+    /// Takes the next message, where it comes within 40 turns of this thread.
+    fn take_patiently<R: Wait>(&mut self, rt: &R) -> Option<Inward>
         ensures same { sends_on self.new.sender ≡ sends_on self.old.sender }
         ensures taken { IfSome result (λ x. taken_of (view self.new.inward_pass) ≡ taken_of (view self.old.inward_pass) ++ happened x) }
         ensures none { IfNone result (view self.new.inward_pass ≡ view self.old.inward_pass) }
@@ -99,8 +109,8 @@ impl Inbox {
         None
     }
 
-    /// Takes a message, if there is one.
-    pub fn try_take<R: Wait>(&mut self, rt: &R) -> Option<Inward>
+    /// Takes the next message, if there is one.
+    fn try_take<R: Wait>(&mut self, rt: &R) -> Option<Inward>
         ensures same { sends_on self.new.sender ≡ sends_on self.old.sender }
         ensures taken { IfSome result (λ x. taken_of (view self.new.inward_pass) ≡ taken_of (view self.old.inward_pass) ++ happened x) }
         ensures none { IfNone result (view self.new.inward_pass ≡ view self.old.inward_pass) }
@@ -111,7 +121,8 @@ impl Inbox {
             .ok()
     }
 
-    /// Takes in what the next seat sent in all, once it has ended.
+    /// Takes in the pass of the next seat, once it has ended: what it sent in all is known from then on. Seats end in the order
+    /// of their numbers.
     pub fn end_seat(&mut self, pass: Pass<Inward, InwardView>)
         requires pass { IsSeatAt (sends_on self.old.sender) pass }
         requires next { view pass ≡ Sending (length (ended_of (view self.old.inward_pass))) (sent_of (view pass)) }
@@ -123,9 +134,13 @@ impl Inbox {
         self.sender.absorb::<Ends>(&mut self.inward_pass, pass);
     }
 
-    /// Whether the channel is empty. Then what the seats that have ended sent is what was taken of them.
+    /// Whether the channel is empty. Then what the seats that have ended sent is what was taken of them. Else a message is
+    /// taken, and lost.
     pub fn is_empty<R: Wait>(&mut self, rt: &R) -> bool
-        ensures { IsTrue result → (view self.new.inward_pass ≡ view self.old.inward_pass) × SentInAll (view self.old.inward_pass) [] }
+        ensures empty { IsTrue result → (view self.new.inward_pass ≡ view self.old.inward_pass) × SentInAll (view self.old.inward_pass) [] }
+        ensures lost { IsFalse result → (x : Inward) × (taken_of (view self.new.inward_pass) ≡ taken_of (view self.old.inward_pass) ++ happened x) }
+        ensures same { sends_on self.new.sender ≡ sends_on self.old.sender }
+        ensures kept { (seats_of (view self.new.inward_pass) ≡ seats_of (view self.old.inward_pass)) × (ended_of (view self.new.inward_pass) ≡ ended_of (view self.old.inward_pass)) }
     {
         self.receiver
             .try_recv_as::<Takes, R>(rt, &mut self.inward_pass)

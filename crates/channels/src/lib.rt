@@ -3,13 +3,14 @@
 //! One bounded channel goes inward, from four seats to the token, and one outward to each seat. A rule says of all messages
 //! of a channel, on their way or not: what each seat put is what the token took of it and then what is on its way, in
 //! order; and what the token gave a seat is what the seat got and then what is on its way, in order. Each end has a pass,
-//! a value with no bytes by which contracts know what it has put or taken. No rule speaks of two channels, nor of what an
+//! a value with no bytes, by which contracts know what it has put or taken. No rule speaks of two channels, nor of what an
 //! event does.
 //!
-//! - `messages` are what passes; `inward` and `outward` the two rules.
+//! - `messages` are what passes; `inward` and `outward` are the two rules.
 //! - `Inbox` is the token's end of the inward channel, `Outbox` its end of one outward channel, and `Port` a seat's two ends.
 //!
-//! No clause says that a message comes, or that a call returns.
+//! Where a call answers that a channel has ended, nothing was put or taken. No clause says that a message comes, or that a
+//! call returns. A receive first takes 40 turns with the other threads and then sleeps.
 //!
 //! ```text
 //! let mut inbox = Inbox::open(alloc)?;

@@ -1,5 +1,6 @@
-// The token's end of one outward channel.
-ghost use Rattle.std.specs.Prelude.{◌≡◌, ◌<◌, ◌++◌, [], ◌∷◌, List, IsTrue, IfOk};
+//! The token's end of one outward channel.
+
+ghost use Rattle.std.specs.Prelude.{◌≡◌, ◌<◌, ◌++◌, [], ◌∷◌, List, IsTrue, IsFalse, IfOk};
 ghost use Rattle.crossbeam_channel.specs.Claims.{view, IsSeatAt};
 ghost use Rattle.crossbeam_channel.specs.Ends.{sends_on, receives_on};
 ghost use Rattle.channels.specs.Outward.{answer_in, answers_in, given_of, got_of};
@@ -12,7 +13,7 @@ use crossbeam_channel::{Pass, RuledReceiver, RuledSender, bounded_with};
 use std::alloc::{AllocError, Global};
 use std::sync::Wait;
 
-/// The token's end of one seat's channel.
+/// The token's end of one seat's channel, on which it gives answers. Its pass knows what was given.
 #[derive(Drop)]
 pub struct Outbox {
     pub outward: RuledSender<Outward, OutwardView, OutwardRule>,
@@ -22,7 +23,8 @@ pub struct Outbox {
 }
 
 impl Outbox {
-    /// Both ends of a new channel of capacity 1.
+    /// Both ends of a new channel of capacity 1, on which nothing was given or got: the token's, and the receiver and the pass of
+    /// the seat. It allocates.
     pub fn open(
         alloc: Global,
     ) -> Result<
@@ -53,10 +55,12 @@ impl Outbox {
         ))
     }
 
-    /// Gives a message to the seat. False where the channel has ended.
+    /// Gives a message to the seat, and waits until there is room for it. False where the channel has ended, and then nothing
+    /// was given.
     pub fn give<R: Wait>(&mut self, rt: &R, message: Outward) -> bool
         ensures same { sends_on self.new.outward ≡ sends_on self.old.outward }
         ensures given { IsTrue result → given_of (view self.new.outward_pass) ≡ given_of (view self.old.outward_pass) ++ answer_in message }
+        ensures refused { IsFalse result → view self.new.outward_pass ≡ view self.old.outward_pass }
         ensures none { answer_in message ≡ [] → given_of (view self.new.outward_pass) ≡ given_of (view self.old.outward_pass) }
     {
         self.outward
@@ -64,7 +68,8 @@ impl Outbox {
             .is_ok()
     }
 
-    /// Takes in the pass of a seat that has ended. What was given is what the seat got, and what it left.
+    /// Takes in the pass of a seat that has ended, and ends the channel. What was given is what the seat got and then what it
+    /// left, in order; the pass that is given back knows both.
     pub fn close(self, outward_pass: Pass<Outward, OutwardView>) -> Pass<Outward, OutwardView>
         requires outward_pass { IsSeatAt (sends_on self.outward) outward_pass }
         requires gets { view outward_pass ≡ Getting (got_of (view outward_pass)) }

@@ -1,4 +1,5 @@
-// The rule of an outward channel.
+//! The rule of an outward channel.
+
 ghost use Rattle.std.specs.Prelude.{◌≡◌};
 
 use crate::messages::Outward;
@@ -6,21 +7,26 @@ use crossbeam_channel::protocol::{Join, Lesson, Outcome, Protocol, Split};
 use std::collections::LinkedList;
 use token_store::Out;
 
-/// What a pass of an outward channel knows. No value of it is seats.
+/// What a pass of an outward channel knows. No value of it is made: it is for contracts alone.
 pub enum OutwardView {
+    /// Of a channel that is new, or that has ended: the answers that were given, and those that were got.
     Both {
         given: LinkedList<Out>,
         got: LinkedList<Out>,
     },
+    /// The token's: the answers that were given.
     Giving {
         given: LinkedList<Out>,
     },
+    /// The seat's: the answers that it got.
     Getting {
         got: LinkedList<Out>,
     },
+    /// The seat's, once it was taken in.
     Spent,
 }
 
+/// What the token gave is what the seat got and then what is on its way, in order. At first one pass has both ends.
 pub struct OutwardRule;
 
 impl Protocol<Outward, OutwardView> for OutwardRule {
@@ -33,7 +39,7 @@ impl Protocol<Outward, OutwardView> for OutwardRule {
     ghost first = { Both [] [] };
 }
 
-/// The token gives a message.
+/// The token gives a message: its pass knows the answer from then on.
 pub struct Gives;
 
 impl Outcome<Outward, OutwardView> for Gives {
@@ -46,7 +52,7 @@ impl Lesson<Outward, OutwardView> for Gives {
     ghost fact = { λ v items. Unit {0} };
 }
 
-/// A seat gets a message.
+/// A seat gets a message: its pass knows the answer from then on.
 pub struct Gets;
 
 impl Outcome<Outward, OutwardView> for Gets {
@@ -59,7 +65,7 @@ impl Lesson<Outward, OutwardView> for Gets {
     ghost fact = { λ v items. Unit {0} };
 }
 
-/// The two ends of a outward_pass.
+/// A new pass is parted into the token's and the seat's, and these are joined once the seat has ended.
 pub struct Sides;
 
 impl Split<OutwardView> for Sides {
@@ -79,7 +85,7 @@ impl Join<OutwardView> for Sides {
     ghost spent = { Spent };
 }
 
-/// What was given is what was got, and then what is on its way.
+/// What was given is what was got and then what is on its way, in order.
 pub struct Total;
 
 impl Lesson<Outward, OutwardView> for Total {

@@ -1,5 +1,6 @@
-// What a seat does at its ends.
-ghost use Rattle.std.specs.Prelude.{◌≡◌, ◌++◌, [], ◌∷◌, IsTrue, IfNone, IfSome};
+//! What a seat does at its ends.
+
+ghost use Rattle.std.specs.Prelude.{◌≡◌, ◌++◌, [], ◌∷◌, IsTrue, IsFalse, IfNone, IfSome};
 ghost use Rattle.crossbeam_channel.specs.Claims.{view, IsSeatAt};
 ghost use Rattle.crossbeam_channel.specs.Ends.{sends_on, receives_on};
 ghost use Rattle.channels.specs.Inward.{from, said, sent_of};
@@ -16,7 +17,8 @@ use std::sync::Wait;
 use std::thread;
 
 impl Port {
-    /// A seat's ends, in its thread.
+    /// A seat's ends, as they came to its thread. Both passes are of the channels of their ends, and the inward one is of the
+    /// seat's number.
     pub fn enter(ends: SeatEnds) -> Port
         requires inward_pass { IsSeatAt (sends_on ends.inward) ends.inward_pass }
         requires outward_pass { IsSeatAt (receives_on ends.outward) ends.outward_pass }
@@ -40,7 +42,7 @@ impl Port {
         }
     }
 
-    /// Its ends, to leave its thread with.
+    /// The ends, to leave the thread with.
     pub fn leave(self) -> SeatEnds
         ensures same { (result.seat ≡ self.seat) × (result.inward ≡ self.inward) × (result.inward_pass ≡ self.inward_pass) × (result.outward ≡ self.outward) × (result.outward_pass ≡ self.outward_pass) }
         ensures inward_pass { IsSeatAt (sends_on result.inward) result.inward_pass }
@@ -64,11 +66,13 @@ impl Port {
         }
     }
 
-    /// Puts a message of this seat. False where the channel has ended.
+    /// Puts a message of this seat, and waits until there is room for it. False where the channel has ended, and then nothing
+    /// was put.
     pub fn put<R: Wait>(&mut self, rt: &R, message: Inward) -> bool
         requires { from message ≡ self.old.seat }
         ensures same { SamePort self.old self.new }
         ensures sent { IsTrue result → sent_of (view self.new.inward_pass) ≡ sent_of (view self.old.inward_pass) ++ said message }
+        ensures refused { IsFalse result → view self.new.inward_pass ≡ view self.old.inward_pass }
         ensures got { got_of (view self.new.outward_pass) ≡ got_of (view self.old.outward_pass) }
     {
         self.inward
@@ -76,10 +80,12 @@ impl Port {
             .is_ok()
     }
 
-    /// Gets a message for this seat. None where the channel has ended.
+    /// Gets the next message for this seat, and waits for it, first in turns and then asleep. None where the channel has ended,
+    /// and then nothing was got.
     pub fn get<R: Wait>(&mut self, rt: &R) -> Option<Outward>
         ensures same { SamePort self.old self.new }
         ensures sent { sent_of (view self.new.inward_pass) ≡ sent_of (view self.old.inward_pass) }
+        ensures none { IfNone result (view self.new.outward_pass ≡ view self.old.outward_pass) }
         ensures got { IfSome result (λ x. got_of (view self.new.outward_pass) ≡ got_of (view self.old.outward_pass) ++ answer_in x) }
     {
         match self.get_patiently(rt) {
@@ -88,9 +94,11 @@ impl Port {
         }
     }
 
-    pub fn wait<R: Wait>(&mut self, rt: &R) -> Option<Outward>
+    /// Gets the next message, and sleeps until it comes.
+    fn wait<R: Wait>(&mut self, rt: &R) -> Option<Outward>
         ensures same { SamePort self.old self.new }
         ensures sent { sent_of (view self.new.inward_pass) ≡ sent_of (view self.old.inward_pass) }
+        ensures none { IfNone result (view self.new.outward_pass ≡ view self.old.outward_pass) }
         ensures got { IfSome result (λ x. got_of (view self.new.outward_pass) ≡ got_of (view self.old.outward_pass) ++ answer_in x) }
     {
         self.outward
@@ -98,7 +106,8 @@ impl Port {
             .ok()
     }
 
-    pub fn get_patiently<R: Wait>(&mut self, rt: &R) -> Option<Outward>
+    /// Gets the next message, where it comes within 40 turns of this thread.
+    fn get_patiently<R: Wait>(&mut self, rt: &R) -> Option<Outward>
         ensures same { SamePort self.old self.new }
         ensures sent { sent_of (view self.new.inward_pass) ≡ sent_of (view self.old.inward_pass) }
         ensures none { IfNone result (view self.new.outward_pass ≡ view self.old.outward_pass) }
@@ -113,8 +122,8 @@ impl Port {
         None
     }
 
-    /// Gets a message, if there is one.
-    pub fn try_get<R: Wait>(&mut self, rt: &R) -> Option<Outward>
+    /// Gets the next message, if there is one.
+    fn try_get<R: Wait>(&mut self, rt: &R) -> Option<Outward>
         ensures same { SamePort self.old self.new }
         ensures sent { sent_of (view self.new.inward_pass) ≡ sent_of (view self.old.inward_pass) }
         ensures none { IfNone result (view self.new.outward_pass ≡ view self.old.outward_pass) }

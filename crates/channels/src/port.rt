@@ -1,4 +1,5 @@
-// A seat's ends.
+//! A seat's ends.
+
 ghost use Rattle.std.specs.Prelude.{◌≡◌};
 ghost use Rattle.crossbeam_channel.specs.Claims.{view, IsSeatAt};
 ghost use Rattle.crossbeam_channel.specs.Ends.{sends_on, receives_on};
@@ -12,7 +13,7 @@ use crate::messages::{Inward, Outward};
 use crate::outward::{OutwardRule, OutwardView};
 use crossbeam_channel::{Pass, RuledReceiver, RuledSender};
 
-/// The ends of one seat: it sends events to the token, and gets answers.
+/// The ends of one seat: it puts events before the token, and gets answers. Its passes know what it put and what it got.
 #[derive(Drop)]
 pub struct Port {
     pub seat: u64,
@@ -26,7 +27,7 @@ pub struct Port {
     pub ghost gets: { view outward_pass ≡ Getting (got_of (view outward_pass)) },
 }
 
-/// The same ends to cross threads with.
+/// The ends of a seat by their parts, of any types, to cross threads with: what may cross is found of a generic struct alone.
 #[derive(Drop)]
 pub struct Ends<I, H, O, L> {
     pub seat: u64,
@@ -36,6 +37,7 @@ pub struct Ends<I, H, O, L> {
     pub outward_pass: L,
 }
 
+/// The ends of a seat by their parts.
 pub type SeatEnds = Ends<
     RuledSender<Inward, InwardView, InwardRule>,
     Pass<Inward, InwardView>,

@@ -23,7 +23,9 @@ use std::thread::Threads;
 /// They are for contracts alone, and take no bytes.
 #[derive(Drop)]
 pub struct Passes {
+    /// What was taken of the seats, each event with its seat.
     pub inward: Pass<Inward, InwardView>,
+    /// What seat 0 was given and got, and so on.
     pub outward0: Pass<Outward, OutwardView>,
     pub outward1: Pass<Outward, OutwardView>,
     pub outward2: Pass<Outward, OutwardView>,

@@ -2,6 +2,7 @@
 
 use thiserror::Error;
 
+/// Why seats were not held.
 #[derive(Clone, Copy, Debug, PartialEq, Eq, Error)]
 pub enum HallFault {
     /// A growth was refused.

@@ -28,7 +28,7 @@ use std::sync::{Arc, Wait};
 use std::thread::Threads;
 use token::Token;
 
-/// The token and the seats, once all seats have ended, with what the passes of the channels know.
+/// The token and the seats, seat 0 first, once all seats have ended, with what the passes of the channels know.
 #[derive(Drop)]
 pub struct Held<T, S> {
     pub token: T,
@@ -140,9 +140,12 @@ pub(crate) fn hold_machine<
     }
 }
 
-/// Holds four seats, the first with number 0, in threads of their own before the token, until each has no more. No question
-/// is to be pending, as of a new token or of one that was held. The token stays in the calling thread; the seats' threads
-/// run its jobs, each of which passes the gate first. It may wait.
+/// Holds four seats, the first with number 0, in threads of their own before the token, until each has no more. The token stays
+/// in the calling thread; the seats' threads run its jobs, each of which passes the gate first. What each seat got is pinned
+/// where no question is pending, as of a new token or of one that was held.
+///
+/// It may wait, as long as a seat or the gate does. It allocates the channels and the threads. A growth that is refused is
+/// `HallFault::Memory`, and a thread that is not started `HallFault::Thread`; the seats are dropped then.
 pub fn hold<
     K: Keep,
     S: Seat + Drop + Send + 'static,
@@ -169,7 +172,8 @@ pub fn hold<
     hold_machine(rt, alloc, token, seats, gate, (0, 0, 0, 0))
 }
 
-/// The same, with stacks of so many bytes, or of the usual size at 0. A thread whose stack is too large is not started.
+/// As `hold`, with stacks of so many bytes, seat 0's first, or of the usual size at 0. A thread whose stack is too large is not
+/// started, which is `HallFault::Thread`.
 pub fn hold_with<
     K: Keep,
     S: Seat + Drop + Send + 'static,

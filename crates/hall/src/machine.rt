@@ -15,9 +15,10 @@ use token::{Done, Out};
 
 /// What takes one event after the other: the token. The hall is proved over this trait, so that it speaks of no keeper.
 pub trait Machine {
-    /// 0 as long as its store has returned what was written, and how often the store has failed.
+    /// 0 as long as its store has returned what was written.
     ghost doubt: { Self → ℕ };
 
+    /// How often its store has failed.
     ghost failures: { Self → ℕ };
 
     /// It shows this world.
@@ -31,7 +32,7 @@ pub trait Machine {
         ensures takes { doubt self.new ≡ 0 → (w : World) → shows self.old w → Takes (shows self.new) (leaves self.old) (leaves self.new) w (CallEvent call) (Some result) }
         ensures counts { Counts (doubt self.old) (doubt self.new) (failures self.old) (failures self.new) (replies_in (told_out call.app result)) };
 
-    /// The result of the job of an application's question.
+    /// The result of the job of an application's question: the reply to the call that asked it.
     fn finish(&mut self, alloc: Global, app: u64, done: Done) -> Reply
         ensures takes { doubt self.new ≡ 0 → (w : World) → shows self.old w → IsOpen w app done.job.value → Takes (shows self.new) (leaves self.old) (leaves self.new) w (FinishEvent app done) (Some (OutReply result)) }
         ensures counts { Counts (doubt self.old) (doubt self.new) (failures self.old) (failures self.new) (replies_in (told_out app (OutReply result))) };

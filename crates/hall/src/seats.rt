@@ -8,10 +8,12 @@ ghost use Rattle.hall.specs.SeatEvents.{seat_app, Notes, IsReady};
 use channels::messages::AppCall;
 use ck_calls::Reply;
 
-/// What a seat puts before the token of itself: a call of one of its applications, or an application that goes.
+/// What a seat puts before the token of itself.
 #[derive(Drop)]
 pub enum SeatEvent {
+    /// A call of one of its applications.
     Call(AppCall),
+    /// One of its applications goes, and is named no more.
     Gone { app: u64 },
 }
 
@@ -37,7 +39,8 @@ pub trait Seat {
     /// The replies that it has taken with their applications, where it tells them.
     ghost heard: { Self → Option (List (ℕ × ReplyType)) };
 
-    /// The next event, or that there is no more. An application that has gone is named no more.
+    /// The next event, or that there is no more. An application that has gone is named no more. It may wait, and holds up no
+    /// other seat.
     fn next(&mut self) -> Option<SeatEvent>
         ensures number { number self.new ≡ number self.old }
         ensures over { IfNone result (over self.new) }
@@ -49,7 +52,7 @@ pub trait Seat {
         ensures asked { MatchOption result (asked self.new ≡ asked self.old) (λ e. Adds (asked self.old) e (asked self.new)) }
         ensures heard { heard self.new ≡ heard self.old };
 
-    /// The reply to its last call.
+    /// Takes the reply to its last call, which was of this application. It can't fail, so `next` sees to the room.
     fn take(&mut self, app: u64, reply: Reply)
         requires { ready self.old }
         ensures number { number self.new ≡ number self.old }
@@ -58,7 +61,8 @@ pub trait Seat {
         ensures heard { Adds (heard self.old) (app, reply) (heard self.new) };
 }
 
-/// Where a seat passes with a job before it runs it.
+/// Where a seat passes with a job before it runs it. It may wait there, and holds up no other seat.
 pub trait Gate {
+    /// Seat `seat`, from 0 to 3, passes with a job of the application.
     fn pass(&self, seat: usize, app: u64);
 }

@@ -25,11 +25,7 @@ pub(crate) fn command<'a>(alloc: Global) -> Result<Command<'a>, Error> {
         .arg(seed)?;
     let p11call = Command::new(alloc, "p11call")
         .about("Sends calls to a daemon: one a line, in hexadecimal, and prints their replies so")
-        .arg(needed(
-            alloc,
-            "socket",
-            "The path of the daemon's socket",
-        ))?;
+        .arg(needed(alloc, "socket", "The path of the daemon's socket"))?;
     let command = Command::new(alloc, "tokend")
         .about("A PKCS #11 software token")
         .version(VERSION)
@@ -46,7 +42,9 @@ fn serve<'a>(alloc: Global) -> Result<Command<'a>, Error> {
         .long("connections")
         .action(ArgAction::Set)
         .value_parser(ValueParser::unsigned(0, MAX_CONNECTIONS))
-        .help("How many connections each of the four seats accepts before it ends; without end if left out");
+        .help(
+            "How many connections each of the four seats accepts before it ends; without end if left out",
+        );
     let serve = Command::new(alloc, "serve")
         .about("Serves applications that connect to a socket: a daemon")
         .arg(needed(
@@ -54,11 +52,7 @@ fn serve<'a>(alloc: Global) -> Result<Command<'a>, Error> {
             "store",
             "The path of the store's file, which is made where there is none; \":memory:\" keeps it in memory",
         ))?
-        .arg(needed(
-            alloc,
-            "socket",
-            "The path of the socket, which is made",
-        ))?
+        .arg(needed(alloc, "socket", "The path of the socket, which is made"))?
         .arg(needed(
             alloc,
             "seed-file",

@@ -4,7 +4,7 @@ use crate::failure::Failure;
 use std::fs;
 use std::fs::Permissions;
 use std::io::ErrorKind;
-use std::os::unix::fs::PermissionsExt;
+use std::os::unix::fs::{FileTypeExt, PermissionsExt};
 use std::os::unix::net::{UnixListener, UnixStream};
 
 /// Who made the socket may write to it and read from it, and nobody else.
@@ -27,8 +27,14 @@ pub(crate) fn listen(rt: &HostRuntime, path: &str) -> Result<UnixListener, Failu
     }
 }
 
-/// Whether nobody listens on the socket that stands there.
+/// Whether a socket stands there on which nobody listens.
 fn is_stale(rt: &HostRuntime, path: &str) -> bool {
+    let Ok(metadata) = fs::symlink_metadata(rt, path) else {
+        return false;
+    };
+    if !metadata.file_type().is_socket() {
+        return false;
+    }
     match UnixStream::connect(rt, path) {
         Ok(_) => false,
         Err(error) => error.kind() == ErrorKind::ConnectionRefused,

@@ -59,9 +59,21 @@ pub(crate) fn serve<R: Threads + Wait + Copy + Send + Drop + 'static, O: Write>(
         seed: seed_in(rt, seed_file)?,
     };
     if store == IN_MEMORY {
-        serve_over(rt, threads, SqlKeep::in_memory(rt.alloc())?, &served, output)
+        serve_over(
+            rt,
+            threads,
+            SqlKeep::in_memory(rt.alloc())?,
+            &served,
+            output,
+        )
     } else {
-        serve_over(rt, threads, SqlKeep::open(rt, store, Wary)?, &served, output)
+        serve_over(
+            rt,
+            threads,
+            SqlKeep::open(rt, store, Wary)?,
+            &served,
+            output,
+        )
     }
 }
 
@@ -108,9 +120,7 @@ fn serve_over<K: Keep, R: Threads + Wait + Copy + Send + Drop + 'static, O: Writ
 }
 
 /// Whether the seats ended as asked, and not for want of connections.
-fn seats_ended(
-    seats: &(SocketSeat, SocketSeat, SocketSeat, SocketSeat),
-) -> Result<(), Failure> {
+fn seats_ended(seats: &(SocketSeat, SocketSeat, SocketSeat, SocketSeat)) -> Result<(), Failure> {
     if seats.0.has_failed()
         || seats.1.has_failed()
         || seats.2.has_failed()

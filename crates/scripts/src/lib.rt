@@ -4,7 +4,8 @@
 //!
 //! - `given` names what many scripts speak of: applications, keys, texts, templates and codes.
 //! - `EVERY_CALL` has rows of all calls, each answered with CKR_OK.
-//! - `Row`, `Step` and `Told` are the vocabulary; `call_of` and `reply_of` make a call and a reply of them.
+//! - `Row`, `Step` and `Told` are the vocabulary; `call_of` and `reply_of` make a call and a reply of them, and `random_for`
+//!   gives a call its random bytes.
 //! - `Bench` is a token that takes steps one after the other. `play` plays rows on a new one, `run` gives them to a new
 //!   token as one list of events, and `play_and_run` does both, each over a list and over a list behind a cache. `BenchOver` and
 //!   `run_over` take a keeper, as one that has a record of `record_with`.
@@ -38,6 +39,7 @@ pub use calls::call_of;
 pub use every_call::EVERY_CALL;
 pub use keepers::{cached, cached_list};
 pub use order::{LeftOut, Pair, expect_neighbours};
+pub use random::random_for;
 pub use replies::reply_of;
 pub use runs::{play_and_run, play_and_run_questions, replies_to, run, run_over, with_finishes};
 pub use steps::{Asked, Given, GivenMechanism, Row, Step, Told, Values};

@@ -12,7 +12,7 @@ pub(crate) const RANDOM: &[u8; 16] =
     b"\x76\xb8\xe0\xad\xa0\xf1\x3d\x90\x40\x5d\x6a\xe5\x53\x86\xbd\x28";
 
 /// As many random bytes as the call takes.
-pub(crate) fn random_for(alloc: Global, call: &Call) -> Result<Vec<u8>, Fail>
+pub fn random_for(alloc: Global, call: &Call) -> Result<Vec<u8>, Fail>
     ensures { IfOk result (λ random. vec_len random ≡ random_bytes call.now) }
 {
     let mut random = vec![in alloc; 0u8; need(call)]?;

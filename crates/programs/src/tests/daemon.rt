@@ -2,23 +2,32 @@
 
 use super::{Ended, FIRST_REPLIES, FIRST_RUN, run};
 use std::alloc::AllocError;
-use std::fs;
 use std::io::{Read, Write};
 use std::os::unix::fs::PermissionsExt;
 use std::os::unix::net::UnixStream;
 use std::sync::Wait;
 use std::test::*;
-use std::thread;
 use std::thread::{JoinHandle, Threads};
 use std::time::Duration;
+use std::{fs, thread};
 
-/// The seed's file, and one that is too short.
-const SEED: &str = "seed";
+/// The files of each test.
+const FOUR: &[&str] = &["four.seed", "four.sock"];
 
-const SHORT: &str = "short-seed";
+const STAYS: &[&str] = &["stays.seed", "stays.store", "stays.store-wal", "stays.sock"];
+
+const FAULTS: &[&str] = &["short.seed", "faults.seed", "no.store", "no.store-wal"];
+
+/// Removes those of the files that are there.
+fn clear(rt: &HostRuntime, paths: &[&str]) {
+    for path in paths {
+        let _ = fs::remove_file(rt, path);
+    }
+}
 
 /// C_OpenSession with flags 6, and C_CreateObject of a data object of the token that is not private.
-const NEW_OBJECT: &[u8] = b"\x00\x00\x00\x12\x00\x07\x00\x00\x00\x00\x00\x00\x00\x00\x00\x00\x00\x00\x00\x00\x00\x06\
+const NEW_OBJECT: &[u8] =
+    b"\x00\x00\x00\x12\x00\x07\x00\x00\x00\x00\x00\x00\x00\x00\x00\x00\x00\x00\x00\x00\x00\x06\
 \x00\x00\x00\x3c\x00\x0d\x00\x00\x00\x00\x00\x00\x00\x01\x00\x00\x00\x03\
 \x00\x00\x00\x00\x00\x00\x00\x00\x00\x00\x00\x08\x00\x00\x00\x00\x00\x00\x00\x00\
 \x00\x00\x00\x00\x00\x00\x00\x01\x00\x00\x00\x01\x01\
@@ -30,7 +39,8 @@ const NEW_OBJECT_REPLIES: &[u8] =
 \x00\x00\x00\x10\x00\x00\x00\x00\x00\x00\x00\x00\x00\x00\x00\x00\x00\x00\x00\x01";
 
 /// C_OpenSession with flags 6, C_FindObjectsInit with no template, and C_FindObjects of up to 9.
-const SEARCH: &[u8] = b"\x00\x00\x00\x12\x00\x07\x00\x00\x00\x00\x00\x00\x00\x00\x00\x00\x00\x00\x00\x00\x00\x06\
+const SEARCH: &[u8] =
+    b"\x00\x00\x00\x12\x00\x07\x00\x00\x00\x00\x00\x00\x00\x00\x00\x00\x00\x00\x00\x00\x00\x06\
 \x00\x00\x00\x0e\x00\x13\x00\x00\x00\x00\x00\x00\x00\x01\x00\x00\x00\x00\
 \x00\x00\x00\x12\x00\x14\x00\x00\x00\x00\x00\x00\x00\x01\x00\x00\x00\x00\x00\x00\x00\x09";
 
@@ -46,10 +56,11 @@ fn start<R: Threads + Wait + Copy + Send + Drop + 'static>(
     threads: R,
     store: &'static str,
     socket: &'static str,
+    seed: &'static str,
 ) -> Result<JoinHandle<Result<Ended, AllocError>>, Fail> {
-    fs::write(rt, SEED, &[0u8; 32])?;
+    fs::write(rt, seed, &[0u8; 32])?;
     let files = *rt;
-    let daemon = move || serve(&files, threads, store, socket, SEED);
+    let daemon = move || serve(&files, threads, store, socket, seed);
     Ok(thread::spawn(&threads, daemon)?)
 }
 
@@ -106,10 +117,7 @@ fn expect_ended(ended: &Ended, status: u8, output: &[u8], errors: &[u8]) -> Resu
     if is_so {
         Ok(())
     } else {
-        Err(Fail::new(format_args!(
-            "status {}, not {status}, or other texts",
-            ended.status
-        )))
+        Err(Fail::new(format_args!("status {}, not {status}, or other texts", ended.status)))
     }
 }
 
@@ -130,57 +138,61 @@ fn expect_refusal(rt: &HostRuntime, ended: Ended, status: u8, text: &str) -> Res
 
 #[test]
 fn four_connections_are_four_applications(rt: HostRuntime) -> Result<(), Fail> {
-    let daemon = start(&rt, rt, ":memory:", "four.sock")?;
+    clear(&rt, FOUR);
+    let daemon = start(&rt, rt, ":memory:", "four.sock", "four.seed")?;
     for _ in 0..4 {
         expect(&rt, "four.sock", FIRST_RUN, FIRST_REPLIES)?;
     }
     let mode = fs::metadata(&rt, "four.sock")?.permissions().mode();
     assert_eq!(rt; mode % 0o1000, 0o600);
     expect_end(rt, daemon)?;
-    fs::remove_file(&rt, "four.sock")?;
+    clear(&rt, FOUR);
     Ok(())
 }
 
 #[test]
 fn a_store_in_a_file_stays(rt: HostRuntime) -> Result<(), Fail> {
-    let daemon = start(&rt, rt, "stays.store", "stays.sock")?;
+    clear(&rt, STAYS);
+    let daemon = start(&rt, rt, "stays.store", "stays.sock", "stays.seed")?;
     expect(&rt, "stays.sock", NEW_OBJECT, NEW_OBJECT_REPLIES)?;
-    let second = serve(&rt, rt, "stays.store", "second.sock", SEED)?;
+    let second = serve(&rt, rt, "stays.store", "second.sock", "stays.seed")?;
     expect_refusal(&rt, second, 3, "cannot open the store")?;
-    let third = serve(&rt, rt, ":memory:", "stays.sock", SEED)?;
+    let third = serve(&rt, rt, ":memory:", "stays.sock", "stays.seed")?;
     expect_refusal(&rt, third, 4, "cannot use the socket")?;
     for _ in 0..2 {
         expect(&rt, "stays.sock", SEARCH, SEARCH_REPLIES)?;
     }
     expect_end(rt, daemon)?;
     // The socket's file is still there, and nobody listens.
-    let daemon = start(&rt, rt, "stays.store", "stays.sock")?;
+    let daemon = start(&rt, rt, "stays.store", "stays.sock", "stays.seed")?;
     for _ in 0..4 {
         expect(&rt, "stays.sock", SEARCH, SEARCH_REPLIES)?;
     }
     expect_end(rt, daemon)?;
-    fs::remove_file(&rt, "stays.sock")?;
+    clear(&rt, STAYS);
     Ok(())
 }
 
 #[test]
 fn a_daemon_is_refused_for_its_first_fault(rt: HostRuntime) -> Result<(), Fail> {
-    fs::write(&rt, SHORT, &[0u8; 31])?;
+    clear(&rt, FAULTS);
+    fs::write(&rt, "short.seed", &[0u8; 31])?;
     fs::write(&rt, "no.store", b"no store of a token")?;
     let nowhere = "/nowhere/tokend";
-    let seed = serve(&rt, rt, "no.store", nowhere, SHORT)?;
+    let seed = serve(&rt, rt, "no.store", nowhere, "short.seed")?;
     expect_refusal(&rt, seed, 5, "bad input")?;
     let seed = serve(&rt, rt, "no.store", nowhere, nowhere)?;
     expect_refusal(&rt, seed, 5, "bad input")?;
-    fs::write(&rt, SEED, &[0u8; 32])?;
-    let store = serve(&rt, rt, "no.store", nowhere, SEED)?;
+    fs::write(&rt, "faults.seed", &[0u8; 32])?;
+    let store = serve(&rt, rt, "no.store", nowhere, "faults.seed")?;
     expect_refusal(&rt, store, 3, "cannot open the store")?;
-    let socket = serve(&rt, rt, ":memory:", nowhere, SEED)?;
+    let socket = serve(&rt, rt, ":memory:", nowhere, "faults.seed")?;
     expect_refusal(&rt, socket, 4, "cannot use the socket")?;
     // A file that is no socket is not removed.
-    let file = serve(&rt, rt, ":memory:", "no.store", SEED)?;
+    let file = serve(&rt, rt, ":memory:", "no.store", "faults.seed")?;
     expect_refusal(&rt, file, 4, "cannot use the socket")?;
     assert!(rt; fs::metadata(&rt, "no.store").is_ok());
+    clear(&rt, FAULTS);
     Ok(())
 }
 
@@ -193,7 +205,17 @@ fn connections_are_a_number_below_two_to_the_61(rt: HostRuntime) -> Result<(), F
         ("many", 2),
         ("-1", 2),
     ] {
-        let words = ["serve", "--store", ":memory:", "--socket", "n.sock", "--seed-file", "/nowhere/seed", "--connections", number];
+        let words = [
+            "serve",
+            "--store",
+            ":memory:",
+            "--socket",
+            "n.sock",
+            "--seed-file",
+            "/nowhere/seed",
+            "--connections",
+            number,
+        ];
         let ended = run(&rt, rt, &words, b"")?;
         assert_eq!(rt; ended.status, status, "{number}");
     }

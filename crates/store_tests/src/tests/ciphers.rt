@@ -35,7 +35,7 @@ fn blocks_are_those_of_the_standard(rt: HostRuntime) -> Result<(), Fail> {
             Told::Data(TEXT),
         ),
     ];
-    run_over_each(rt.alloc(), ROWS)
+    run_over_each(rt, rt.alloc(), ROWS)
 }
 
 /// What CBC makes of the first block of SP 800-38A, appendix F, and CTR with 128 bits.
@@ -51,6 +51,23 @@ const CTR: Option<GivenMechanism> = Some((
     CTR_NUMBER,
     b"\x00\x00\x00\x00\x00\x00\x00\x80\xf0\xf1\xf2\xf3\xf4\xf5\xf6\xf7\xf8\xf9\xfa\xfb\xfc\xfd\xfe\xff",
 ));
+
+/// The key stream of a counter of two bits from one on, for as long as it doesn't wrap; openssl made it.
+const THREE_BLOCKS: Told = Told::Data(
+    b"\x57\x12\x7d\x40\x34\xb1\xbe\xbf\xae\xf4\x66\xb9\xc7\x72\x6f\xc6\
+\x97\x3f\x2e\xf3\x48\x79\xe2\x02\x7f\x17\x34\x30\x3f\xf2\x1f\x89\
+\x46\x9c\x7f\xcb\x75\xd5\xd9\xa1\xb4\x18\xcb\x99\x7b\x09\xa1\x85",
+);
+
+/// CKM_AES_CTR with no bits that count, and with 129.
+const NO_BITS: Option<GivenMechanism> = Some((CTR_NUMBER, &[0; 24]));
+
+const BITS_129: Option<GivenMechanism> = Some((
+    CTR_NUMBER,
+    b"\x00\x00\x00\x00\x00\x00\x00\x81\xf0\xf1\xf2\xf3\xf4\xf5\xf6\xf7\xf8\xf9\xfa\xfb\xfc\xfd\xfe\xff",
+));
+
+const WRONG_PARAMETER: Told = Told::Code(Rv::MechanismParamInvalid);
 
 #[test]
 fn a_text_in_pieces_is_as_the_whole(rt: HostRuntime) -> Result<(), Fail> {
@@ -78,10 +95,15 @@ fn a_text_in_pieces_is_as_the_whole(rt: HostRuntime) -> Result<(), Fail> {
         (A, EncryptInit(1, CTR, 1), OK),
         (A, Encrypt(1, BLOCK, Some(16)), COUNTED),
         (A, EncryptInit(1, TWO_BITS, 1), OK),
+        (A, Encrypt(1, &[0; 48], Some(48)), THREE_BLOCKS),
+        (A, EncryptInit(1, TWO_BITS, 1), OK),
         (A, Encrypt(1, &[0; 49], Some(49)), WRONG_LENGTH),
         (A, Encrypt(1, BLOCK, Some(16)), NO_OPERATION),
+        (A, EncryptInit(1, NO_BITS, 1), WRONG_PARAMETER),
+        (A, EncryptInit(1, BITS_129, 1), WRONG_PARAMETER),
+        (A, Encrypt(1, BLOCK, Some(16)), NO_OPERATION),
     ];
-    run_over_each(rt.alloc(), ROWS)
+    run_over_each(rt, rt.alloc(), ROWS)
 }
 
 /// CKM_AES_CBC_PAD with the initialization vector of the standard, whose padding of no text is right, and with another one.
@@ -91,6 +113,24 @@ const UNEQUAL_PAD: Option<GivenMechanism> = Some((
     CBC_PAD_NUMBER,
     b"\x01\x01\x02\x03\x04\x05\x06\x07\x08\x09\x0a\x0b\x0c\x0d\x0e\x0f",
 ));
+
+/// The initialization vectors whose last byte makes paddings of 0, of 17 and of one byte.
+const PAD_OF_0: Option<GivenMechanism> = Some((
+    CBC_PAD_NUMBER,
+    b"\x00\x01\x02\x03\x04\x05\x06\x07\x08\x09\x0a\x0b\x0c\x0d\x0e\x1f",
+));
+
+const PAD_OF_17: Option<GivenMechanism> = Some((
+    CBC_PAD_NUMBER,
+    b"\x00\x01\x02\x03\x04\x05\x06\x07\x08\x09\x0a\x0b\x0c\x0d\x0e\x0e",
+));
+
+const PAD_OF_1: Option<GivenMechanism> = Some((
+    CBC_PAD_NUMBER,
+    b"\x00\x01\x02\x03\x04\x05\x06\x07\x08\x09\x0a\x0b\x0c\x0d\x0e\x1e",
+));
+
+const WRONG_PAD: Told = Told::Code(Rv::EncryptedDataInvalid);
 
 #[test]
 fn a_padding_is_right_or_refused(rt: HostRuntime) -> Result<(), Fail> {
@@ -102,10 +142,16 @@ fn a_padding_is_right_or_refused(rt: HostRuntime) -> Result<(), Fail> {
         (A, DecryptInit(1, CBC_PAD, 1), OK),
         (A, Decrypt(1, PADDED_NOTHING, Some(16)), NO_BYTES),
         (A, DecryptInit(1, UNEQUAL_PAD, 1), OK),
+        (A, Decrypt(1, PADDED_NOTHING, Some(16)), WRONG_PAD),
+        (A, DecryptInit(1, PAD_OF_0, 1), OK),
+        (A, Decrypt(1, PADDED_NOTHING, Some(16)), WRONG_PAD),
+        (A, DecryptInit(1, PAD_OF_17, 1), OK),
+        (A, Decrypt(1, PADDED_NOTHING, Some(16)), WRONG_PAD),
+        (A, DecryptInit(1, PAD_OF_1, 1), OK),
         (
             A,
             Decrypt(1, PADDED_NOTHING, Some(16)),
-            Told::Code(Rv::EncryptedDataInvalid),
+            Told::Data(&[0x10; 15]),
         ),
         (A, DecryptInit(1, CBC_PAD, 1), OK),
         (
@@ -114,7 +160,7 @@ fn a_padding_is_right_or_refused(rt: HostRuntime) -> Result<(), Fail> {
             Told::Code(Rv::EncryptedDataLenRange),
         ),
     ];
-    run_over_each(rt.alloc(), ROWS)
+    run_over_each(rt, rt.alloc(), ROWS)
 }
 
 /// The codes of no message under the key of SP 800-38B, and of "Hi There"; the second also with its last bit turned and
@@ -153,7 +199,7 @@ fn codes_are_those_of_the_vectors(rt: HostRuntime) -> Result<(), Fail> {
             Told::Code(Rv::SignatureInvalid),
         ),
     ];
-    run_over_each(rt.alloc(), ROWS)
+    run_over_each(rt, rt.alloc(), ROWS)
 }
 
 /// The wrapping of the vector without its last byte, and with its last bit turned.
@@ -200,5 +246,5 @@ fn a_key_is_wrapped_and_unwrapped(rt: HostRuntime) -> Result<(), Fail> {
         (A, EncryptInit(1, ECB, 3), OK),
         (A, DestroyObject(1, 3), OK),
     ];
-    run_over_each(rt.alloc(), ROWS)
+    run_over_each(rt, rt.alloc(), ROWS)
 }

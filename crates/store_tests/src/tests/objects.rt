@@ -50,7 +50,7 @@ fn a_sensitive_value_is_neither_told_nor_found(rt: HostRuntime) -> Result<(), Fa
         (A, FindObjectsInit(1, OF_TEXT), OK),
         (A, FindObjects(1, 9), Told::Objects(&[2])),
     ];
-    run_over_each(rt.alloc(), ROWS)
+    run_over_each(rt, rt.alloc(), ROWS)
 }
 
 /// What makes no object, each of the token.
@@ -124,7 +124,7 @@ fn what_is_refused_makes_and_changes_nothing(rt: HostRuntime) -> Result<(), Fail
         (A, FindObjectsInit(1, NOTHING), OK),
         (A, FindObjects(1, 9), Told::Objects(&[1])),
     ];
-    run_over_each(rt.alloc(), ROWS)
+    run_over_each(rt, rt.alloc(), ROWS)
 }
 
 #[test]
@@ -141,7 +141,7 @@ fn an_operation_outlives_its_key(rt: HostRuntime) -> Result<(), Fail> {
         (A, Finish, CIPHERTEXT),
         (A, GetObjectSize(1, 1), NO_OBJECT),
     ];
-    run_questions_over_each(rt.alloc(), Record::new(), ROWS)
+    run_questions_over_each(rt, rt.alloc(), Record::new(), ROWS)
 }
 
 #[test]
@@ -154,7 +154,7 @@ fn a_session_that_was_closed_never_returns(rt: HostRuntime) -> Result<(), Fail> 
         (A, CreateObject(1, TOKEN_DATA), NO_SESSION),
         (A, CreateObject(2, TOKEN_DATA), Told::Object(1)),
     ];
-    run_over_each(rt.alloc(), ROWS)
+    run_over_each(rt, rt.alloc(), ROWS)
 }
 
 /// An object that was just made and can't be read.

@@ -33,20 +33,41 @@ const PRIVATE_TOKEN_DATA: Given = &[
     (AttrType::Private, YES),
 ];
 
+/// A wrong PIN.
+const TRIES: Row = (A, Login(1, USER, b"wrong-pin"), Told::Nothing);
+
+const FAILS: Row = (A, Finish, Told::Code(Rv::PinIncorrect));
+
 #[test]
 fn the_tenth_try_is_one_applications(rt: HostRuntime) -> Result<(), Fail> {
     const ROWS: &[Row] = &[
         (A, OPEN, Told::Session(1)),
         (B, OPEN, Told::Session(1)),
-        (A, Login(1, USER, b"wrong-pin"), Told::Nothing),
-        (A, Finish, Told::Code(Rv::PinIncorrect)),
+        TRIES,
+        FAILS,
+        TRIES,
+        FAILS,
+        TRIES,
+        FAILS,
+        TRIES,
+        FAILS,
+        TRIES,
+        FAILS,
+        TRIES,
+        FAILS,
+        TRIES,
+        FAILS,
+        TRIES,
+        FAILS,
+        TRIES,
+        FAILS,
         (A, GetTokenInfo(0), Told::TokenInfo(NAME, 0x3040d, 1, 1)),
         (A, LOGIN, Told::Nothing),
         (B, LOGIN, Told::Code(Rv::PinLocked)),
         ENDS,
         (A, GetTokenInfo(0), Told::TokenInfo(NAME, 0x40d, 1, 1)),
     ];
-    run_questions_over_each(rt.alloc(), record_with(0, 8)?, ROWS)
+    run_questions_over_each(rt, rt.alloc(), record_with(0, 0)?, ROWS)
 }
 
 #[test]
@@ -68,7 +89,7 @@ fn a_token_is_reset_where_no_session_is_open(rt: HostRuntime) -> Result<(), Fail
         (B, GetObjectSize(3, 1), NO_OBJECT),
         (B, CreateObject(3, TOKEN_DATA), Told::Object(2)),
     ];
-    run_questions_over_each(rt.alloc(), record_with(3, 0)?, ROWS)
+    run_questions_over_each(rt, rt.alloc(), record_with(3, 0)?, ROWS)
 }
 
 #[test]
@@ -87,7 +108,7 @@ fn a_private_object_has_a_new_handle_after_a_login(rt: HostRuntime) -> Result<()
         (A, GetObjectSize(1, 1), NO_OBJECT),
         (A, GetObjectSize(1, 2), Told::ObjectSize(128)),
     ];
-    run_questions_over_each(rt.alloc(), record_with(0, 0)?, ROWS)
+    run_questions_over_each(rt, rt.alloc(), record_with(0, 0)?, ROWS)
 }
 
 #[test]
@@ -106,5 +127,5 @@ fn the_so_has_no_read_only_session(rt: HostRuntime) -> Result<(), Fail> {
         ENDS,
         (A, OPEN_READ_ONLY, Told::Code(Rv::SessionReadWriteSoExists)),
     ];
-    run_questions_over_each(rt.alloc(), record_with(0, 0)?, ROWS)
+    run_questions_over_each(rt, rt.alloc(), record_with(0, 0)?, ROWS)
 }

@@ -1,0 +1,154 @@
+//! A client of the daemon.
+
+use ck_calls::{Call, Mechanism};
+use ck_types::{AttrType, Bytes, Entry, KeyType, MechType, ObjectClass, Template};
+use std::alloc::Global;
+use std::io;
+use std::io::{ErrorKind, Read, Write};
+use std::os::unix::net::UnixStream;
+use wire::write_call;
+
+/// How many bytes are read at once.
+const PIECE_LEN: usize = 32_768;
+
+/// A frame begins with the length of its payload, and the payload of a reply with its code (`wire`).
+const LENGTH_LEN: usize = 4;
+
+const CODE_LEN: usize = 8;
+
+/// The session, and the handle of its key.
+const SESSION: u64 = 1;
+
+const KEY: u64 = 1;
+
+fn failed() -> io::Error {
+    io::Error::from(ErrorKind::Other)
+}
+
+/// A connection, with a session and an AES key.
+#[derive(Drop)]
+pub(crate) struct Client {
+    stream: UnixStream,
+    reply: Vec<u8>,
+}
+
+impl Client {
+    /// Connects, opens a session and makes a key.
+    pub(crate) fn connect(rt: &HostRuntime, path: &str) -> io::Result<Client> {
+        let alloc = rt.alloc();
+        let mut client = Client {
+            stream: UnixStream::connect(rt, path)?,
+            reply: vec![in alloc; 0u8; PIECE_LEN]?,
+        };
+        client.ask(&frame(alloc, &Call::OpenSession { slot: 0, flags: 6 })?)?;
+        client.ask(&frame(alloc, &new_key(alloc)?)?)?;
+        Ok(client)
+    }
+
+    /// Sends frames, each after the reply to the one before.
+    pub(crate) fn ask_all(&mut self, frames: &[Vec<u8>]) -> io::Result<()> {
+        for frame in frames {
+            self.ask(frame)?;
+        }
+        Ok(())
+    }
+
+    /// Sends a frame, and reads its reply, which is to be CKR_OK.
+    fn ask(&mut self, frame: &[u8]) -> io::Result<()> {
+        self.stream.write_all(frame)?;
+        let mut len: usize = 0;
+        for _ in 0..u64::MAX {
+            let place = len.min(self.reply.len());
+            let (_, rest) = self.reply.split_at_mut(place);
+            let got = self.stream.read(rest)?;
+            if got == 0 {
+                return Err(ErrorKind::UnexpectedEof.into());
+            }
+            len = place.saturating_add(got);
+            if is_whole(self.reply.get(..len).unwrap_or(&[])) {
+                break;
+            }
+        }
+        if is_ok(&self.reply) {
+            Ok(())
+        } else {
+            Err(failed())
+        }
+    }
+}
+
+fn is_whole(bytes: &[u8]) -> bool {
+    match bytes.first_chunk::<LENGTH_LEN>() {
+        Some(length) => {
+            let len = u32::from_be_bytes(*length) as usize;
+            bytes.len() >= len.saturating_add(LENGTH_LEN)
+        }
+        None => false,
+    }
+}
+
+/// Whether the code of a reply's frame is CKR_OK.
+fn is_ok(reply: &[u8]) -> bool {
+    let payload = reply.get(LENGTH_LEN..).unwrap_or(&[]);
+    payload.first_chunk::<CODE_LEN>() == Some(&[0; CODE_LEN])
+}
+
+fn frame(alloc: Global, call: &Call) -> io::Result<Vec<u8>> {
+    write_call(alloc, call).map_err(|_| failed())
+}
+
+/// C_CreateObject of a session's AES key of 16 bytes.
+fn new_key(alloc: Global) -> io::Result<Call> {
+    let class = ObjectClass::SecretKey.number().to_be_bytes();
+    let key_type = KeyType::Aes.number().to_be_bytes();
+    let mut template = Template::new(alloc);
+    for (attribute, value) in [
+        (AttrType::Class, &class[..]),
+        (AttrType::KeyType, &key_type[..]),
+        (AttrType::Value, &[7; 16][..]),
+        (AttrType::Private, &[0][..]),
+    ] {
+        template.push(Entry {
+            number: attribute.number(),
+            value: Bytes::from_slice(alloc, value)?,
+        })?;
+    }
+    Ok(Call::CreateObject {
+        session: SESSION,
+        template,
+    })
+}
+
+/// The frame of C_GetSessionInfo.
+pub(crate) fn session_info(alloc: Global) -> io::Result<Vec<Vec<u8>>> {
+    let mut frames = Vec::new(alloc);
+    frames.push(frame(alloc, &Call::GetSessionInfo { session: SESSION })?)?;
+    Ok(frames)
+}
+
+/// The frames of C_EncryptInit and C_Encrypt of a text, by a mechanism with a parameter.
+pub(crate) fn encryption(
+    alloc: Global,
+    mechanism: MechType,
+    parameter: &[u8],
+    text_len: usize,
+) -> io::Result<Vec<Vec<u8>>> {
+    let text = vec![in alloc; 0x5a_u8; text_len]?;
+    let init = Call::EncryptInit {
+        session: SESSION,
+        mechanism: Some(Mechanism {
+            number: mechanism.number(),
+            parameter: Bytes::from_slice(alloc, parameter)?,
+        }),
+        key: KEY,
+    };
+    let encrypt = Call::Encrypt {
+        session: SESSION,
+        data: Bytes::from_slice(alloc, &text)?,
+        room: Some(PIECE_LEN as u64),
+    };
+    let mut frames = Vec::new(alloc);
+    frames.push(frame(alloc, &init)?)?;
+    frames.push(frame(alloc, &encrypt)?)?;
+    Ok(frames)
+}

@@ -1,0 +1,41 @@
+//! How many calls a second a daemon (`tokend serve`) answers over its socket, beside a plain echo of 32 bytes over another socket.
+//! What it prints is measured, and nothing of it is proved but that the program is safe.
+//!
+//! With the argument `calls SOCKET` it asks the daemon that listens there, whose token may be new and which is not to serve others
+//! meanwhile. It prints round trips a second, and each as a part of the echo's:
+//!
+//! - an echo of 32 bytes, by a thread of this program on a socket `SOCKET.echo`;
+//! - C_GetSessionInfo;
+//! - C_EncryptInit by CKM_AES_ECB and C_Encrypt of 16 bytes, counted as one;
+//! - C_EncryptInit by CKM_AES_CBC_PAD and C_Encrypt of 16 KiB, counted as one;
+//! - C_GetSessionInfo by four clients together, each in a thread of its own, beside one.
+//!
+//! With the argument `echo SOCKET` it echoes a few times over that socket and prints how often, so that the gate can run it.
+#![tactic(auto)]
+
+mod client;
+mod echo;
+mod measures;
+
+use measures::{print_calls, print_echo};
+use std::{env, io};
+
+fn main(rt: HostRuntime) -> io::Result<()> {
+    let mut words = Vec::new(rt.alloc());
+    for word in env::args(&rt)? {
+        words.push(word)?;
+    }
+    match (words.get(1), words.get(2)) {
+        (Some(what), Some(socket)) if what.as_str() == "calls" => print_calls(
+            rt,
+            &rt,
+            socket.as_str(),
+        ),
+        (Some(what), Some(socket)) if what.as_str() == "echo" => print_echo(
+            rt,
+            &rt,
+            socket.as_str(),
+        ),
+        _ => println!(rt; "bench_socket: calls SOCKET, or echo SOCKET"),
+    }
+}

@@ -1,0 +1,156 @@
+//! What is measured, and how it is printed.
+
+use crate::client::{Client, encryption, session_info};
+use crate::echo::{be_echoed, echo};
+use ck_types::MechType;
+use std::os::unix::net::{UnixListener, UnixStream};
+use std::thread::Threads;
+use std::time::{Clock, Instant};
+use std::{fs, io, thread};
+
+/// How many round trips are measured, how many of a long text, and how many come before.
+const ROUNDS: u64 = 20_000;
+
+const LONG_ROUNDS: u64 = 5_000;
+
+const FIRST_ROUNDS: u64 = 500;
+
+const BLOCK_LEN: usize = 16;
+
+const LONG_LEN: usize = 16_384;
+
+/// So many a second since a moment.
+fn rate(rt: &impl Clock, count: u64, since: Instant) -> io::Result<u64> {
+    let micros = u64::try_from(since.elapsed(rt)?.as_micros()).unwrap_or(u64::MAX);
+    Ok(count.saturating_mul(1_000_000) / micros.max(1))
+}
+
+/// A listener on `SOCKET.echo`, and a connection to it.
+fn echo_sockets(rt: &HostRuntime, socket: &str) -> io::Result<(UnixListener, UnixStream)> {
+    let path = format!(in rt.alloc(); "{socket}.echo")?;
+    let listener = UnixListener::bind(rt, path.as_str())?;
+    let stream = UnixStream::connect(rt, path.as_str());
+    fs::remove_file(rt, path.as_str())?;
+    Ok((listener, stream?))
+}
+
+/// Echoes a second, of so many.
+fn echo_rate<T: Threads>(
+    rt: &HostRuntime,
+    threads: &T,
+    socket: &str,
+    count: u64,
+) -> io::Result<u64> {
+    let (listener, mut stream) = echo_sockets(rt, socket)?;
+    let server = thread::spawn(threads, move || echo(&listener))?;
+    be_echoed(&mut stream, FIRST_ROUNDS)?;
+    let start = Instant::now(rt)?;
+    be_echoed(&mut stream, count)?;
+    let rate = rate(rt, count, start)?;
+    drop(stream);
+    server.join(threads)?;
+    Ok(rate)
+}
+
+/// Has all frames answered, so often.
+fn ask(client: &mut Client, frames: &[Vec<u8>], count: u64) -> io::Result<()> {
+    for _ in 0..count {
+        client.ask_all(frames)?;
+    }
+    Ok(())
+}
+
+/// How often a second all frames are answered.
+fn call_rate(
+    rt: &HostRuntime,
+    client: &mut Client,
+    frames: &[Vec<u8>],
+    count: u64,
+) -> io::Result<u64> {
+    ask(client, frames, FIRST_ROUNDS)?;
+    let start = Instant::now(rt)?;
+    ask(client, frames, count)?;
+    rate(rt, count, start)
+}
+
+/// A client of its own that asks for its session so often.
+fn ask_alone(rt: &HostRuntime, socket: &str) -> io::Result<()> {
+    let mut client = Client::connect(rt, socket)?;
+    let frames = session_info(rt.alloc())?;
+    ask(&mut client, &frames, ROUNDS)
+}
+
+/// How often a second one client is told of its session, and four together.
+fn rates_together<T: Threads>(
+    rt: HostRuntime,
+    threads: &T,
+    socket: &str,
+) -> io::Result<(u64, u64)> {
+    let start = Instant::now(&rt)?;
+    ask_alone(&rt, socket)?;
+    let one = rate(&rt, ROUNDS, start)?;
+    let path = |alloc| format!(in alloc; "{socket}");
+    let (second, third, fourth) = (path(rt.alloc())?, path(rt.alloc())?, path(rt.alloc())?);
+    let start = Instant::now(&rt)?;
+    let others = (
+        thread::spawn(threads, move || ask_alone(&rt, second.as_str()))?,
+        thread::spawn(threads, move || ask_alone(&rt, third.as_str()))?,
+        thread::spawn(threads, move || ask_alone(&rt, fourth.as_str()))?,
+    );
+    ask_alone(&rt, socket)?;
+    others.0.join(threads)?;
+    others.1.join(threads)?;
+    others.2.join(threads)?;
+    Ok((one, rate(&rt, ROUNDS.saturating_mul(4), start)?))
+}
+
+/// A rate, and what part of another it is.
+fn print_rate(rt: &HostRuntime, what: &str, rate: u64, other: u64) -> io::Result<()> {
+    let hundredths = rate.saturating_mul(100) / other.max(1);
+    println!(rt;
+        "{what:<44} {rate:>9} a second {:>5}.{:02}",
+        hundredths / 100,
+        hundredths % 100
+    )
+}
+
+/// Measures a daemon, beside an echo.
+pub(crate) fn print_calls<T: Threads>(
+    rt: HostRuntime,
+    threads: &T,
+    socket: &str,
+) -> io::Result<()> {
+    let alloc = rt.alloc();
+    let echoes = echo_rate(&rt, threads, socket, ROUNDS)?;
+    print_rate(&rt, "echo of 32 bytes", echoes, echoes)?;
+    let mut client = Client::connect(&rt, socket)?;
+    let info = session_info(alloc)?;
+    let block = encryption(alloc, MechType::AesEcb, &[], BLOCK_LEN)?;
+    let text = encryption(alloc, MechType::AesCbcPad, &[3; 16], LONG_LEN)?;
+    for (what, frames, count) in [
+        ("C_GetSessionInfo", &info, ROUNDS),
+        ("C_EncryptInit and C_Encrypt, ECB, 16 bytes", &block, ROUNDS),
+        (
+            "C_EncryptInit and C_Encrypt, CBC_PAD, 16 KiB",
+            &text,
+            LONG_ROUNDS,
+        ),
+    ] {
+        let rate = call_rate(&rt, &mut client, frames, count)?;
+        print_rate(&rt, what, rate, echoes)?;
+    }
+    drop(client);
+    let (one, four) = rates_together(rt, threads, socket)?;
+    print_rate(&rt, "C_GetSessionInfo, one client", one, echoes)?;
+    print_rate(&rt, "C_GetSessionInfo, four clients, of one", four, one)
+}
+
+/// Echoes a few times.
+pub(crate) fn print_echo<T: Threads>(rt: HostRuntime, threads: &T, socket: &str) -> io::Result<()> {
+    let (listener, mut stream) = echo_sockets(&rt, socket)?;
+    let server = thread::spawn(threads, move || echo(&listener))?;
+    be_echoed(&mut stream, FIRST_ROUNDS)?;
+    drop(stream);
+    server.join(threads)?;
+    println!(rt; "{FIRST_ROUNDS} echoes")
+}

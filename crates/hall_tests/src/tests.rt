@@ -1,0 +1,2 @@
+mod beside;
+mod not_started;

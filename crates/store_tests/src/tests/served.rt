@@ -1,0 +1,81 @@
+//! Lines for a token over a keeper, and rows whose calls they take.
+
+ghost use Rattle.std.specs.Prelude.{[], IfOk};
+ghost use Rattle.token_model.specs.Worlds.{World};
+ghost use Rattle.token.specs.Applications.{HasJobs, Shows};
+
+use ck_calls::Function;
+use keep::Keep;
+use line::{LineFault, Watched, Words, serve_one};
+use scripts::{Row, call_of, expect_told, reply_of};
+use std::alloc::Global;
+use std::test::*;
+use token::Token;
+use wire::{FrameReader, read_reply, write_call};
+
+/// A line that has ended: how, what it wrote, and the token after it.
+#[derive(Drop)]
+pub(super) struct Served<K: Keep> {
+    pub(super) ended: Result<u64, LineFault>,
+    pub(super) written: Vec<u8>,
+    pub(super) token: Token<K>,
+}
+
+fn token_over<K: Keep>(alloc: Global, keep: K) -> Result<Token<K>, Fail>
+    ensures { IfOk result (λ t. (w : World) → Shows K.terms t w → HasJobs w []) }
+{
+    match Token::new(alloc, keep) {
+        Ok(token) => Ok(token),
+        Err(_) => Err(Fail::new("the keeper refused")),
+    }
+}
+
+/// A line of application 0 over the input, for a new token over the keeper, with the random bytes of the seed of zeros.
+pub(super) fn serve<K: Keep>(alloc: Global, keep: K, input: &[u8]) -> Result<Served<K>, Fail> {
+    let mut token = token_over(alloc, keep)?;
+    let mut words = Words::for_app([0; 32], 0);
+    let mut reader = Watched::new(input);
+    let mut writer = Watched::new(Vec::<u8>::new(alloc));
+    let ended = serve_one(alloc, &mut reader, &mut writer, &mut token, &mut words);
+    Ok(Served {
+        ended,
+        written: writer.into_inner(),
+        token,
+    })
+}
+
+/// The frames of the rows' calls.
+pub(super) fn frames_of(alloc: Global, rows: &[Row]) -> Result<Vec<u8>, Fail> {
+    let mut frames = Vec::new(alloc);
+    for (_, step, _) in rows {
+        let call = call_of(alloc, *step)?;
+        frames.extend_from_slice(&write_call(alloc, &call)?)?;
+    }
+    Ok(frames)
+}
+
+/// Sees that a line for a new token over the keeper tells what the rows say, each of which has a reply. The replies are given
+/// back as they were written.
+pub(super) fn expect_served<K: Keep>(
+    alloc: Global,
+    keep: K,
+    rows: &[Row],
+) -> Result<Vec<u8>, Fail> {
+    let Served { ended, written, .. } = serve(alloc, keep, &frames_of(alloc, rows)?)?;
+    if ended != Ok(rows.len() as u64) {
+        return Err(Fail::new(format_args!("the line ended as {ended:?}")));
+    }
+    let mut frames = FrameReader::new(alloc);
+    frames.feed(&written)?;
+    for (app, step, told) in rows {
+        let payload = frames.next(alloc)?.ok_or("a reply is missing")?;
+        let number = Function::of(&call_of(alloc, *step)?).number();
+        let got = Some(read_reply(alloc, number, &payload)?);
+        expect_told("a line", (*app, *step), &reply_of(alloc, *told)?, &got)?;
+    }
+    if frames.is_empty() {
+        Ok(written)
+    } else {
+        Err("replies that no row tells".into())
+    }
+}
