@@ -8,8 +8,8 @@ use std::io::{ErrorKind, Read, Write};
 use std::os::unix::net::UnixStream;
 use wire::write_call;
 
-/// How many bytes are read at once.
-const PIECE_LEN: usize = 32_768;
+/// How many bytes a reply may have.
+const ROOM: usize = 32_768;
 
 /// A frame begins with the length of its payload, and the payload of a reply with its code (`wire`).
 const LENGTH_LEN: usize = 4;
@@ -38,7 +38,7 @@ impl Client {
         let alloc = rt.alloc();
         let mut client = Client {
             stream: UnixStream::connect(rt, path)?,
-            reply: vec![in alloc; 0u8; PIECE_LEN]?,
+            reply: vec![in alloc; 0u8; ROOM]?,
         };
         client.ask(&frame(alloc, &Call::OpenSession { slot: 0, flags: 6 })?)?;
         client.ask(&frame(alloc, &new_key(alloc)?)?)?;
@@ -145,7 +145,7 @@ pub(crate) fn encryption(
     let encrypt = Call::Encrypt {
         session: SESSION,
         data: Bytes::from_slice(alloc, &text)?,
-        room: Some(PIECE_LEN as u64),
+        room: Some(ROOM as u64),
     };
     let mut frames = Vec::new(alloc);
     frames.push(frame(alloc, &init)?)?;

@@ -9,11 +9,11 @@ use std::time::{Clock, Instant};
 use std::{fs, io, thread};
 
 /// How many round trips are measured, how many of a long text, and how many come before.
-const ROUNDS: u64 = 20_000;
+const ROUND_TRIPS: u64 = 20_000;
 
-const LONG_ROUNDS: u64 = 5_000;
+const LONG_ROUND_TRIPS: u64 = 5_000;
 
-const FIRST_ROUNDS: u64 = 500;
+const FIRST_ROUND_TRIPS: u64 = 500;
 
 const BLOCK_LEN: usize = 16;
 
@@ -43,7 +43,7 @@ fn echo_rate<T: Threads>(
 ) -> io::Result<u64> {
     let (listener, mut stream) = echo_sockets(rt, socket)?;
     let server = thread::spawn(threads, move || echo(&listener))?;
-    be_echoed(&mut stream, FIRST_ROUNDS)?;
+    be_echoed(&mut stream, FIRST_ROUND_TRIPS)?;
     let start = Instant::now(rt)?;
     be_echoed(&mut stream, count)?;
     let rate = rate(rt, count, start)?;
@@ -67,7 +67,7 @@ fn call_rate(
     frames: &[Vec<u8>],
     count: u64,
 ) -> io::Result<u64> {
-    ask(client, frames, FIRST_ROUNDS)?;
+    ask(client, frames, FIRST_ROUND_TRIPS)?;
     let start = Instant::now(rt)?;
     ask(client, frames, count)?;
     rate(rt, count, start)
@@ -77,7 +77,7 @@ fn call_rate(
 fn ask_alone(rt: &HostRuntime, socket: &str) -> io::Result<()> {
     let mut client = Client::connect(rt, socket)?;
     let frames = session_info(rt.alloc())?;
-    ask(&mut client, &frames, ROUNDS)
+    ask(&mut client, &frames, ROUND_TRIPS)
 }
 
 /// How often a second one client is told of its session, and four together.
@@ -88,7 +88,7 @@ fn rates_together<T: Threads>(
 ) -> io::Result<(u64, u64)> {
     let start = Instant::now(&rt)?;
     ask_alone(&rt, socket)?;
-    let one = rate(&rt, ROUNDS, start)?;
+    let one = rate(&rt, ROUND_TRIPS, start)?;
     let path = |alloc| format!(in alloc; "{socket}");
     let (second, third, fourth) = (path(rt.alloc())?, path(rt.alloc())?, path(rt.alloc())?);
     let start = Instant::now(&rt)?;
@@ -101,7 +101,7 @@ fn rates_together<T: Threads>(
     others.0.join(threads)?;
     others.1.join(threads)?;
     others.2.join(threads)?;
-    Ok((one, rate(&rt, ROUNDS.saturating_mul(4), start)?))
+    Ok((one, rate(&rt, ROUND_TRIPS.saturating_mul(4), start)?))
 }
 
 /// A rate, and what part of another it is.
@@ -121,19 +121,23 @@ pub(crate) fn print_calls<T: Threads>(
     socket: &str,
 ) -> io::Result<()> {
     let alloc = rt.alloc();
-    let echoes = echo_rate(&rt, threads, socket, ROUNDS)?;
+    let echoes = echo_rate(&rt, threads, socket, ROUND_TRIPS)?;
     print_rate(&rt, "echo of 32 bytes", echoes, echoes)?;
     let mut client = Client::connect(&rt, socket)?;
     let info = session_info(alloc)?;
     let block = encryption(alloc, MechType::AesEcb, &[], BLOCK_LEN)?;
     let text = encryption(alloc, MechType::AesCbcPad, &[3; 16], LONG_LEN)?;
     for (what, frames, count) in [
-        ("C_GetSessionInfo", &info, ROUNDS),
-        ("C_EncryptInit and C_Encrypt, ECB, 16 bytes", &block, ROUNDS),
+        ("C_GetSessionInfo", &info, ROUND_TRIPS),
+        (
+            "C_EncryptInit and C_Encrypt, ECB, 16 bytes",
+            &block,
+            ROUND_TRIPS,
+        ),
         (
             "C_EncryptInit and C_Encrypt, CBC_PAD, 16 KiB",
             &text,
-            LONG_ROUNDS,
+            LONG_ROUND_TRIPS,
         ),
     ] {
         let rate = call_rate(&rt, &mut client, frames, count)?;
@@ -149,8 +153,8 @@ pub(crate) fn print_calls<T: Threads>(
 pub(crate) fn print_echo<T: Threads>(rt: HostRuntime, threads: &T, socket: &str) -> io::Result<()> {
     let (listener, mut stream) = echo_sockets(&rt, socket)?;
     let server = thread::spawn(threads, move || echo(&listener))?;
-    be_echoed(&mut stream, FIRST_ROUNDS)?;
+    be_echoed(&mut stream, FIRST_ROUND_TRIPS)?;
     drop(stream);
     server.join(threads)?;
-    println!(rt; "{FIRST_ROUNDS} echoes")
+    println!(rt; "{FIRST_ROUND_TRIPS} echoes")
 }

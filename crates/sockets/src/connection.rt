@@ -12,7 +12,7 @@ use std::os::unix::net::UnixStream;
 use wire::{FrameReader, read_call, write_reply};
 
 /// How many bytes are read at once.
-const PIECE_LEN: usize = 4096;
+const READ_LEN: usize = 4096;
 
 /// A connection, the bytes that were read of it and not answered, and its application's random bytes.
 #[derive(Drop)]
@@ -76,7 +76,7 @@ impl Connection {
 
     /// Reads what has come. False at the end, and where that fails.
     fn read_piece(&mut self) -> bool {
-        let mut piece = [0u8; PIECE_LEN];
+        let mut piece = [0u8; READ_LEN];
         match self.stream.read(&mut piece) {
             Ok(0) => false,
             Ok(len) => match piece.get(..len) {
