@@ -1,6 +1,7 @@
 ghost use Rattle.std.specs.Prelude.{None};
 
 mod daemon;
+mod peers;
 
 use crate::{ask, refuse_args, tokend_with};
 use std::alloc::{AllocError, Global};

@@ -19,7 +19,7 @@ const STAYS: &[&str] = &["stays.seed", "stays.store", "stays.store-wal", "stays.
 const FAULTS: &[&str] = &["short.seed", "faults.seed", "no.store", "no.store-wal"];
 
 /// Removes those of the files that are there.
-fn clear(rt: &HostRuntime, paths: &[&str]) {
+pub(super) fn clear(rt: &HostRuntime, paths: &[&str]) {
     for path in paths {
         let _ = fs::remove_file(rt, path);
     }
@@ -58,9 +58,21 @@ fn start<R: Threads + Wait + Copy + Send + Drop + 'static>(
     socket: &'static str,
     seed: &'static str,
 ) -> Result<JoinHandle<Result<Ended, AllocError>>, Fail> {
+    start_for(rt, threads, store, socket, seed, "1")
+}
+
+/// The same, each seat of which accepts so many connections.
+pub(super) fn start_for<R: Threads + Wait + Copy + Send + Drop + 'static>(
+    rt: &HostRuntime,
+    threads: R,
+    store: &'static str,
+    socket: &'static str,
+    seed: &'static str,
+    connections: &'static str,
+) -> Result<JoinHandle<Result<Ended, AllocError>>, Fail> {
     fs::write(rt, seed, &[0u8; 32])?;
     let files = *rt;
-    let daemon = move || serve(&files, threads, store, socket, seed);
+    let daemon = move || serve_for(&files, threads, store, socket, seed, connections);
     Ok(thread::spawn(&threads, daemon)?)
 }
 
@@ -71,6 +83,17 @@ fn serve<R: Threads + Wait + Copy + Send + Drop + 'static>(
     socket: &str,
     seed: &str,
 ) -> Result<Ended, AllocError> {
+    serve_for(rt, threads, store, socket, seed, "1")
+}
+
+fn serve_for<R: Threads + Wait + Copy + Send + Drop + 'static>(
+    rt: &HostRuntime,
+    threads: R,
+    store: &str,
+    socket: &str,
+    seed: &str,
+    connections: &str,
+) -> Result<Ended, AllocError> {
     let words = [
         "serve",
         "--store",
@@ -80,13 +103,13 @@ fn serve<R: Threads + Wait + Copy + Send + Drop + 'static>(
         "--seed-file",
         seed,
         "--connections",
-        "1",
+        connections,
     ];
     run(rt, threads, &words, b"")
 }
 
 /// Connects to a socket, which may come to be within 10,000 milliseconds.
-fn connect(rt: &HostRuntime, socket: &str) -> Result<UnixStream, Fail> {
+pub(super) fn connect(rt: &HostRuntime, socket: &str) -> Result<UnixStream, Fail> {
     for _ in 0..10_000 {
         if let Ok(stream) = UnixStream::connect(rt, socket) {
             return Ok(stream);
@@ -97,7 +120,12 @@ fn connect(rt: &HostRuntime, socket: &str) -> Result<UnixStream, Fail> {
 }
 
 /// Sees that an application of its own is answered these bytes.
-fn expect(rt: &HostRuntime, socket: &str, frames: &[u8], replies: &[u8]) -> Result<(), Fail> {
+pub(super) fn expect(
+    rt: &HostRuntime,
+    socket: &str,
+    frames: &[u8],
+    replies: &[u8],
+) -> Result<(), Fail> {
     let mut stream = connect(rt, socket)?;
     stream.write_all(frames)?;
     let mut got = vec![in rt.alloc(); 0u8; replies.len()]?;
@@ -122,7 +150,7 @@ fn expect_ended(ended: &Ended, status: u8, output: &[u8], errors: &[u8]) -> Resu
 }
 
 /// Sees that a daemon ended as asked.
-fn expect_end<R: Threads + Drop>(
+pub(super) fn expect_end<R: Threads + Drop>(
     threads: R,
     daemon: JoinHandle<Result<Ended, AllocError>>,
 ) -> Result<(), Fail> {

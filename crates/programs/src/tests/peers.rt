@@ -1,0 +1,93 @@
+//! Peers of the daemon that cut their streams, send lengths above the limit, or are gone before their reply.
+
+use super::daemon::{clear, connect, expect, expect_end, start_for};
+use super::{FIRST_REPLIES, FIRST_RUN, OPEN_SESSION, SESSION_ONE};
+use hall::{Seat, SeatEvent};
+use sockets::SocketSeat;
+use std::io::{Read, Write};
+use std::net::Shutdown;
+use std::os::unix::net::{UnixListener, UnixStream};
+use std::test::*;
+use wire::read_reply;
+
+/// The files of each test.
+const CUT: &[&str] = &["cut.seed", "cut.sock"];
+
+const TOO_LONG: &[&str] = &["long.seed", "long.sock"];
+
+const UNREAD: &[&str] = &["unread.sock"];
+
+/// All that is answered to a connection of which these bytes come and no more.
+fn answered(rt: &HostRuntime, socket: &str, sent: &[u8]) -> Result<Vec<u8>, Fail> {
+    let mut stream = connect(rt, socket)?;
+    stream.write_all(sent)?;
+    stream.shutdown(Shutdown::Write)?;
+    let mut got = Vec::new(rt.alloc());
+    stream.read_to_end(&mut got)?;
+    Ok(got)
+}
+
+/// How many bytes of the first run's replies answer its whole frames among so many bytes.
+fn replied(cut: usize) -> usize {
+    let mut len = 0;
+    for (calls, replies) in [(22, 20), (121, 40), (156, 52), (199, 85)] {
+        if calls <= cut {
+            len = replies;
+        }
+    }
+    len
+}
+
+#[test]
+fn a_stream_that_is_cut_gets_the_replies_of_its_whole_frames(rt: HostRuntime) -> Result<(), Fail> {
+    clear(&rt, CUT);
+    // 200 connections, after each number of bytes from 0 to 199.
+    let daemon = start_for(&rt, rt, ":memory:", "cut.sock", "cut.seed", "50")?;
+    for cut in 0..200 {
+        let got = answered(&rt, "cut.sock", FIRST_RUN.get(..cut).unwrap_or(&[]))?;
+        let is_so = FIRST_REPLIES.get(..replied(cut)) == Some(got.as_slice());
+        assert!(rt; is_so, "after {cut} bytes");
+    }
+    expect_end(rt, daemon)?;
+    clear(&rt, CUT);
+    Ok(())
+}
+
+#[test]
+fn a_length_above_the_limit_ends_its_connection_alone(rt: HostRuntime) -> Result<(), Fail> {
+    clear(&rt, TOO_LONG);
+    let daemon = start_for(&rt, rt, ":memory:", "long.sock", "long.seed", "1")?;
+    for length in [
+        b"\x00\x10\x00\x01",
+        b"\x7f\xff\xff\xff",
+        b"\xff\xff\xff\xff",
+    ] {
+        let mut sent = Vec::from_slice(rt.alloc(), OPEN_SESSION)?;
+        sent.extend_from_slice(length)?;
+        sent.extend_from_slice(OPEN_SESSION)?;
+        let got = answered(&rt, "long.sock", &sent)?;
+        assert_eq!(rt; got.as_slice(), SESSION_ONE);
+    }
+    expect(&rt, "long.sock", FIRST_RUN, FIRST_REPLIES)?;
+    expect_end(rt, daemon)?;
+    clear(&rt, TOO_LONG);
+    Ok(())
+}
+
+#[test]
+fn a_reply_that_cannot_be_written_is_followed_by_gone(rt: HostRuntime) -> Result<(), Fail> {
+    clear(&rt, UNREAD);
+    let listener = UnixListener::bind(&rt, "unread.sock")?;
+    let mut seat = SocketSeat::new(rt.alloc(), listener, [0; 32], 3, 1);
+    let mut peer = UnixStream::connect(&rt, "unread.sock")?;
+    peer.write_all(OPEN_SESSION)?;
+    peer.write_all(OPEN_SESSION)?;
+    assert!(rt; matches!(seat.next(), Some(SeatEvent::Call(call)) if call.app == 3));
+    drop(peer);
+    let reply = read_reply(rt.alloc(), 7, SESSION_ONE.get(4..).unwrap_or(&[]))?;
+    seat.take(3, reply);
+    assert!(rt; matches!(seat.next(), Some(SeatEvent::Gone { app: 3 })));
+    assert!(rt; seat.next().is_none() && !seat.has_failed());
+    clear(&rt, UNREAD);
+    Ok(())
+}
