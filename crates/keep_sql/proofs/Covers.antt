@@ -3,7 +3,7 @@ use Rattle.std.proofs.Common.{◌≡◌, inl, inr, ℕ, ◌<◌, ◌≤◌, ◌+
 use Rattle.std.proofs.lemmas.List.{take_all}
 use Rattle.std.proofs.lemmas.List.Elements.{All-more, All-push, All-weaker, Contains-append_left, Contains-push}
 use Rattle.sqlite_value.specs.Order.{Row}
-use Rattle.keep_sql.specs.declared.renewals.Renewal.{Renewal}
+use Rattle.sql_tables.specs.declared.renewals.Renewal.{Renewal}
 use Rattle.keep_sql.specs.Rows.{ShowsObject}
 use Rattle.keep_sql.specs.Renewals.{IsCovered, IsOfRow, Renews}
 

@@ -1,70 +1,47 @@
 -- What the reading of a whole store finds, and what its opening makes of a connection.
-use Rattle.std.proofs.Common.{◌≡◌, List, [], codes, All, Contains, Bool, true, false, Ok, Err, Result, IfOk, OnOk, IsErrAnd, IsErrOf, refl, sym, ap, subst, ◌∙◌, arith}
+use Rattle.std.proofs.Common.{◌≡◌, List, All, Contains, Bool, true, false, Ok, Err, Result, IfOk, OnOk, IsErrAnd, IsErrOf, refl, sym, ap, subst, ◌∙◌, arith}
 use Rattle.std.specs.List.Sorted.{IsPermutation}
 use Rattle.std.proofs.lemmas.List.Sorted.{IsPermutation-sym, All-permutation, Contains-permutation}
 use Rattle.std.proofs.lemmas.List.Elements.{All-weaker}
-use Rattle.sqlite_value.specs.declared.value.Value.TheVariants.{Null}
 use Rattle.sqlite_value.specs.Order.{Row}
-use Rattle.sqlite_tied.specs.Compute.{everything}
-use Rattle.sqlite.specs.Command.{Command}
-use Rattle.sqlite.specs.Effect.{Database, Reads}
-use Rattle.sqlite.specs.Listing.{understood}
+use Rattle.sqlite.specs.Effect.{Database}
 use Rattle.sqlite.specs.State.{State, HasCleanDisk}
 use Rattle.sqlite.proofs.Callers.{one_permutation}
 use Rattle.pin_record.specs.Records.{TokenRecord}
-use Rattle.keep_sql.specs.Tables.{no_schema, token_schema}
-use Rattle.keep_sql.specs.Store.{IsQuery, OnlyReads, command}
-use Rattle.keep_sql.specs.declared.renewals.Renewal.{Renewal}
+use Rattle.sql_tables.specs.Tables.{no_schema, token_schema}
+use Rattle.sql_tables.specs.Store.{OnlyReads}
+use Rattle.sql_tables.specs.Rows.{bodies, ids_and_bodies}
+use Rattle.sql_tables.specs.declared.renewals.Renewal.{Renewal}
 use Rattle.keep_sql.specs.Rows.{ShowRecordEither, ShowsEither}
 use Rattle.keep_sql.specs.Renewals.{FindsRecord, IsCovered, IsOfRow}
-use Rattle.keep_sql.specs.Opening.{bodies, has_tables, ids_and_bodies}
-use Rattle.keep_sql.proofs.Texts.{objects_read_is, record_read_is}
-use Rattle.keep_sql.proofs.Listed.{object_rows, record_rows}
-
-pub record_is_query : IsQuery (codes "SELECT body FROM record")
-unfolding understood everything
-record_is_query = ((refl, refl), refl)
-
-pub objects_is_query : IsQuery (codes "SELECT id, body FROM objects")
-unfolding understood everything
-objects_is_query = ((refl, refl), refl)
+use Rattle.keep_sql.specs.Opening.{has_tables}
 
 -- ---- the rows of the record's table
 
-shown_record : (db : Database) (rows : List Row) → Reads (command (codes "SELECT body FROM record")) db [] rows → IsPermutation (bodies (db.trees 0)) rows
-shown_record db rows reads =
-    let it = subst (λ (k : Command). Reads k db [] rows) record_read_is reads in
-    record_rows db.trees rows (it.answer Null)
-
-pub record_found : (db : Database) (rows slice : List Row) (r : TokenRecord) (old : Bool) → slice ≡ rows → Reads (command (codes "SELECT body FROM record")) db [] rows → FindsRecord slice r old → FindsRecord (bodies (db.trees 0)) r old
-record_found db rows slice r old same reads given =
+pub record_found : (db : Database) (rows slice : List Row) (r : TokenRecord) (old : Bool) → slice ≡ rows → IsPermutation (bodies (db.trees 0)) rows → FindsRecord slice r old → FindsRecord (bodies (db.trees 0)) r old
+record_found db rows slice r old same listed given =
     let it = subst (λ (k : List Row). FindsRecord k r old) same given in
-    let moved = subst (λ (k : List Row). IsPermutation k (bodies (db.trees 0))) it.alone (IsPermutation-sym (bodies (db.trees 0)) rows (shown_record db rows reads)) in
+    let moved = subst (λ (k : List Row). IsPermutation k (bodies (db.trees 0))) it.alone (IsPermutation-sym (bodies (db.trees 0)) rows listed) in
     record { row = it.row; bytes = it.bytes; alone = one_permutation it.row (bodies (db.trees 0)) moved; body_is = it.body_is; stored = it.stored }
 
-pub record_shown : (db : Database) (rows slice : List Row) (r : TokenRecord) → slice ≡ rows → Reads (command (codes "SELECT body FROM record")) db [] rows → ShowRecordEither (bodies (db.trees 0)) r → ShowRecordEither slice r
-record_shown db rows slice r same reads it =
-    let moved = subst (λ (k : List Row). IsPermutation k rows) it.alone (shown_record db rows reads) in
+pub record_shown : (db : Database) (rows slice : List Row) (r : TokenRecord) → slice ≡ rows → IsPermutation (bodies (db.trees 0)) rows → ShowRecordEither (bodies (db.trees 0)) r → ShowRecordEither slice r
+record_shown db rows slice r same listed it =
+    let moved = subst (λ (k : List Row). IsPermutation k rows) it.alone listed in
     record { row = it.row; bytes = it.bytes; alone = same ∙ one_permutation it.row rows moved; body_is = it.body_is; is_body = it.is_body }
 
 -- ---- the rows of the objects' table
 
-shown_objects : (db : Database) (rows : List Row) → Reads (command (codes "SELECT id, body FROM objects")) db [] rows → IsPermutation (ids_and_bodies (db.trees 1)) rows
-shown_objects db rows reads =
-    let it = subst (λ (k : Command). Reads k db [] rows) objects_read_is reads in
-    object_rows db.trees rows (it.answer Null)
+pub objects_covered : (db : Database) (rows slice : List Row) (es : List Renewal) → slice ≡ rows → IsPermutation (ids_and_bodies (db.trees 1)) rows → All (IsCovered es) slice → All (IsCovered es) (ids_and_bodies (db.trees 1))
+objects_covered db rows slice es same listed all =
+    All-permutation (IsCovered es) rows (ids_and_bodies (db.trees 1)) (IsPermutation-sym (ids_and_bodies (db.trees 1)) rows listed) (subst (λ (k : List Row). All (IsCovered es) k) same all)
 
-pub objects_covered : (db : Database) (rows slice : List Row) (es : List Renewal) → slice ≡ rows → Reads (command (codes "SELECT id, body FROM objects")) db [] rows → All (IsCovered es) slice → All (IsCovered es) (ids_and_bodies (db.trees 1))
-objects_covered db rows slice es same reads all =
-    All-permutation (IsCovered es) rows (ids_and_bodies (db.trees 1)) (IsPermutation-sym (ids_and_bodies (db.trees 1)) rows (shown_objects db rows reads)) (subst (λ (k : List Row). All (IsCovered es) k) same all)
-
-pub objects_owned : (db : Database) (rows slice : List Row) (es : List Renewal) → slice ≡ rows → Reads (command (codes "SELECT id, body FROM objects")) db [] rows → All (IsOfRow slice) es → All (IsOfRow (ids_and_bodies (db.trees 1))) es
-objects_owned db rows slice es same reads all =
+pub objects_owned : (db : Database) (rows slice : List Row) (es : List Renewal) → slice ≡ rows → IsPermutation (ids_and_bodies (db.trees 1)) rows → All (IsOfRow slice) es → All (IsOfRow (ids_and_bodies (db.trees 1))) es
+objects_owned db rows slice es same listed all =
     All-weaker (IsOfRow slice) (IsOfRow (ids_and_bodies (db.trees 1)))
-    (λ e of. (of.0, Contains-permutation rows (ids_and_bodies (db.trees 1)) of.0 (IsPermutation-sym (ids_and_bodies (db.trees 1)) rows (shown_objects db rows reads)) (subst (λ (k : List Row). Contains k of.0) same of.1), of.2)) es all
+    (λ e of. (of.0, Contains-permutation rows (ids_and_bodies (db.trees 1)) of.0 (IsPermutation-sym (ids_and_bodies (db.trees 1)) rows listed) (subst (λ (k : List Row). Contains k of.0) same of.1), of.2)) es all
 
-pub objects_shown : (db : Database) (rows slice : List Row) → slice ≡ rows → Reads (command (codes "SELECT id, body FROM objects")) db [] rows → All ShowsEither (ids_and_bodies (db.trees 1)) → All ShowsEither slice
-objects_shown db rows slice same reads all = subst (λ (k : List Row). All ShowsEither k) (sym same) (All-permutation ShowsEither (ids_and_bodies (db.trees 1)) rows (shown_objects db rows reads) all)
+pub objects_shown : (db : Database) (rows slice : List Row) → slice ≡ rows → IsPermutation (ids_and_bodies (db.trees 1)) rows → All ShowsEither (ids_and_bodies (db.trees 1)) → All ShowsEither slice
+objects_shown db rows slice same listed all = subst (λ (k : List Row). All ShowsEither k) (sym same) (All-permutation ShowsEither (ids_and_bodies (db.trees 1)) rows listed all)
 
 -- ---- which tables there are
 

@@ -10,14 +10,15 @@ use Rattle.sqlite_value.specs.Order.{Row, column}
 use Rattle.attrs.specs.Objects.{IsObject}
 use Rattle.attrs.specs.OldStored.{has_new_flags, object_old_stored}
 use Rattle.attrs.specs.OldStoredLaws.{object_old_stored-complete}
-use Rattle.keep_sql.specs.declared.renewals.Renewal.{Renewal}
-use Rattle.keep_sql.specs.Store.{AreObjects, Body, body_row, encoded, object_row}
+use Rattle.sql_tables.specs.declared.renewals.Renewal.{Renewal}
+use Rattle.sql_tables.specs.Store.{body_row}
+use Rattle.keep_sql.specs.Store.{AreObjects, Body, encoded, object_row}
 use Rattle.keep_sql.specs.Formats.{AreBodies, IsBody, old_encoded}
-use Rattle.keep_sql.specs.Rows.{natural}
-use Rattle.keep_sql.specs.Opening.{ids_and_bodies}
+use Rattle.sql_tables.specs.Rows.{ids_and_bodies, natural}
 use Rattle.keep_sql.specs.Renewals.{IsCovered, IsOfRow}
-use Rattle.keep_sql.proofs.Ids.{RiseFrom}
-use Rattle.keep_sql.proofs.Replace.{put_at}
+use Rattle.sql_tables.proofs.Ids.{RiseFrom}
+use Rattle.sql_tables.specs.Bodies.{put_at}
+use Rattle.sql_tables.specs.Renewed.{put_each}
 
 -- ---- the two formats
 
@@ -31,10 +32,6 @@ old_object_of a b one two plain bare same =
     let both : ◌≡◌ {A = Option Body} (Some a) (Some b) = sym (object_old_stored-complete a one plain) ∙ ap object_old_stored same ∙ object_old_stored-complete b two bare in cc
 
 -- ---- the bodies after each renewal
-
-abbrev pub put_each : List Renewal → List (ℕ × List ℕ) → List (ℕ × List ℕ)
-put_each [] xs = xs
-put_each (e ∷ es) xs = put_each es (map (put_at (natural e.id) e.body.items) xs)
 
 -- the body that an id has in the end
 abbrev last_of : List Renewal → ℕ → List ℕ → List ℕ
@@ -64,14 +61,6 @@ ended_none (x ∷ xs) = ap (λ (rest : List (ℕ × List ℕ)). x ∷ rest) (end
 put_each_is : (es : List Renewal) (xs : List (ℕ × List ℕ)) → put_each es xs ≡ map (ended es) xs
 put_each_is [] xs = ended_none xs
 put_each_is (e ∷ es) xs = put_each_is es (map (put_at (natural e.id) e.body.items) xs) ∙ ended_more e es xs
-
-pub put_rises : (low id : ℕ) (bytes : List ℕ) (xs : List (ℕ × List ℕ)) → RiseFrom low xs → RiseFrom low (map (put_at id bytes) xs)
-put_rises low id bytes [] up = tt
-put_rises low id bytes (x ∷ xs) up = go (x.0 == id) (put_rises x.0 id bytes xs up.1)
-  where
-    go : (t : Bool) → RiseFrom x.0 (map (put_at id bytes) xs) → RiseFrom low (cond t (x.0, bytes) x ∷ map (put_at id bytes) xs)
-    go true later = (up.0, later)
-    go false later = (up.0, later)
 
 -- ---- what an id has in the end
 

@@ -5,46 +5,42 @@ use Rattle.std.proofs.lemmas.List.Sorted.{IsPermutation-refl}
 use Rattle.sqlite_value.specs.declared.value.Value.TheVariants.{Blob}
 use Rattle.sqlite_value.specs.Order.{Row, column}
 use Rattle.sqlite.specs.Tree.{Trees}
-use Rattle.sqlite.specs.Effect.{Database}
-use Rattle.sqlite.specs.Store.{Ghosts}
-use Rattle.sqlite.specs.Held.{Held, state}
 use Rattle.pin_record.specs.Records.{TokenRecord}
 use Rattle.pin_record.specs.Stored.{IsRecord, IsOldRecord, record_old_stored}
 use Rattle.pin_record.proofs.StoredLaws.{record_old_stored-complete}
 use Rattle.keep.specs.Contents.{Contents, IdsRise, IsTokenObject}
-use Rattle.keep_sql.specs.declared.renewals.Renewal.{Renewal}
+use Rattle.sql_tables.specs.declared.renewals.Renewal.{Renewal}
 use Rattle.keep_sql.specs.declared.taking.Found.{Found}
-use Rattle.keep_sql.specs.Tables.{token_schema}
-use Rattle.keep_sql.specs.Store.{AreObjects, Body, Stores, body_row, encoded, encoded_record, object_row, record_row}
+use Rattle.sql_tables.specs.Store.{HasRows, body_row}
+use Rattle.keep_sql.specs.Store.{AreObjects, Body, Stores, encoded, encoded_record, object_row, record_row}
 use Rattle.keep_sql.specs.Formats.{AreBodies, IsRecordBody, StoresEither, is_old, old_encoded, old_encoded_record}
-use Rattle.keep_sql.specs.Rows.{ShowsEither, natural}
-use Rattle.keep_sql.specs.RanEach.{RanRenewals}
+use Rattle.sql_tables.specs.Rows.{bodies, ids_and_bodies, natural}
+use Rattle.keep_sql.specs.Rows.{ShowsEither}
+use Rattle.sql_tables.specs.Bodies as tables
+use Rattle.sql_tables.specs.Bodies.{Bodies}
+use Rattle.sql_tables.specs.Renewed.{AreNatural, put_each, renewed}
 use Rattle.keep_sql.specs.Renewals.{IsCovered, IsOfRow, IsStoredAs}
 use Rattle.keep_sql.specs.Found.{Finds, has_none, is_current}
-use Rattle.keep_sql.specs.Opening.{AllDecode, HasOld, bodies, ids_and_bodies}
-use Rattle.keep_sql.proofs.Ids.{RiseFrom}
+use Rattle.keep_sql.specs.Opening.{AllDecode, HasOld}
+use Rattle.sql_tables.proofs.Ids.{rising}
 use Rattle.keep_sql.proofs.Bytes.{if_new_record, if_old_record, new_is, new_record_is, old_is, old_record_is}
-use Rattle.keep_sql.proofs.Lift.{record_of}
-use Rattle.keep_sql.proofs.Renewed.{all_renewed, put_each}
-use Rattle.keep_sql.proofs.Renews.{AreNatural, renews_is}
+use Rattle.keep_sql.proofs.Held.{record_of}
+use Rattle.keep_sql.proofs.Lifts.{rows_are, stored}
+use Rattle.keep_sql.proofs.Renewed.{all_renewed}
 
 -- ---- what is stored in format 2 is stored in either
 
-new_bodies : (objects : List (ℕ × Body)) → AreBodies (map (λ (e : ℕ × Body). (e.0, encoded e.1)) objects) objects
+new_bodies : (objects : List (ℕ × Body)) → AreBodies (map stored objects) objects
 new_bodies [] = tt
 new_bodies (e ∷ es) = (refl, inl refl, new_bodies es)
-
-new_rows : (objects : List (ℕ × Body)) → map object_row objects ≡ map body_row (map (λ (e : ℕ × Body). (e.0, encoded e.1)) objects)
-new_rows [] = refl
-new_rows (e ∷ es) = ap (λ (rows : List Row). object_row e ∷ rows) (new_rows es)
 
 pub stored_either : (trees : Trees) (c : Contents) → Stores trees c → StoresEither trees c
 stored_either trees c it = record {
   record_body = encoded_record c.token_record;
-  bodies = map (λ (e : ℕ × Body). (e.0, encoded e.1)) c.objects;
+  bodies = map stored c.objects;
   record_is = it.record_is;
   is_record_body = inl (refl, it.is_record);
-  objects_are = it.objects_are ∙ new_rows c.objects;
+  objects_are = it.objects_are ∙ rows_are c.objects;
   are_bodies = new_bodies c.objects;
   count_is = it.count_is;
   sound = it.sound;
@@ -149,44 +145,47 @@ same_record trees c f it found =
 
 -- ---- once the bodies are written again
 
-bodies_rise : (low last : ℕ) (xs : List (ℕ × List ℕ)) (objects : List (ℕ × Body)) → AreBodies xs objects → IdsRise low objects last → RiseFrom low xs
+bodies_rise : (low last : ℕ) (xs : List (ℕ × List ℕ)) (objects : List (ℕ × Body)) → AreBodies xs objects → IdsRise low objects last → tables.IdsRise low xs last
 bodies_rise low last [] [] same ids = tt
 bodies_rise low last [] (e ∷ es) same ids = absurd same
 bodies_rise low last (x ∷ xs) [] same ids = absurd same
 bodies_rise low last (x ∷ xs) (e ∷ es) same ids =
-    ((let h = ids.0 in let is = same.0 in omega arith), subst (λ (n : ℕ). RiseFrom n xs) (sym same.0) (bodies_rise e.0 last xs es same.2 ids.2))
+    let is = same.0 in
+    let first = ids.0 in
+    let most = ids.1 in
+    (omega arith, omega arith, subst (λ (n : ℕ). tables.IdsRise n xs last) (sym same.0) (bodies_rise e.0 last xs es same.2 ids.2))
 
-are_natural : (es : List Renewal) (rows : List Row) → All (IsOfRow rows) es → AreNatural es
+pub are_natural : (es : List Renewal) (rows : List Row) → All (IsOfRow rows) es → AreNatural es
 are_natural [] rows of = tt
 are_natural (e ∷ es) rows of =
     let it = (All-head (IsOfRow rows) e es of).2 in
     (it.same_id ∙ ap (λ (n : ℕ). pos n) (sym (ap natural it.same_id)), are_natural es rows (All-tail (IsOfRow rows) e es of))
 
 module _ (trees : Trees) (c : Contents) (f : Found) (it : StoresEither trees c) (found : Finds trees f) where
+  -- the bodies as they are stored
+  abbrev pub rows : Bodies
+  rows = record { objects = it.bodies; token_record = it.record_body; last_id = c.last_id }
+
+  pub has_rows : HasRows trees rows
+  has_rows = record { record_is = it.record_is; objects_are = it.objects_are; count_is = it.count_is; ids = bodies_rise 0 c.last_id it.bodies c.objects it.are_bodies it.sound.ids }
+
   all_written : map body_row (put_each f.renewals.items it.bodies) ≡ map object_row c.objects
   all_written =
-      let rows = ids_and_bodies (map body_row it.bodies) in
+      let shown = ids_and_bodies (map body_row it.bodies) in
       let covered = subst (λ (rs : List Row). All (IsCovered f.renewals.items) (ids_and_bodies rs)) it.objects_are found.covered in
       let own = subst (λ (rs : List Row). All (IsOfRow (ids_and_bodies rs)) f.renewals.items) it.objects_are found.own in
-      all_renewed f.renewals.items rows it.bodies c.objects (bodies_rise 0 c.last_id it.bodies c.objects it.are_bodies it.sound.ids) it.are_bodies it.are_objects (IsPermutation-refl rows) covered own
+      all_renewed f.renewals.items shown it.bodies c.objects (rising trees rows has_rows) it.are_bodies it.are_objects (IsPermutation-refl shown) covered own
 
-  pub renewed : {S : Type 0} (g : Ghosts S) (old : Held S) (db : Database) → IsRecord f.token_record → (state g old).now.schema ≡ token_schema → (state g old).now.trees ≡ trees → RanRenewals g f.renewals.items (encoded_record f.token_record) old db
-      → (db.schema ≡ token_schema) × Stores db.trees c
-  renewed g old db fits has same ran =
-      let at = λ (t : ℕ). ap (λ (x : Trees). x t) same in
-      let done = renews_is g f.renewals.items old db f.token_record it.record_body it.bodies (are_natural f.renewals.items (ids_and_bodies (trees 1)) found.own) has (at 0 ∙ it.record_is) (at 1 ∙ it.objects_are)
-      (bodies_rise 0 c.last_id it.bodies c.objects it.are_bodies it.sound.ids) ran in
-      let token = same_record trees c f it found in (
-        done.0,
-        record {
-          record_is = done.1 ∙ ap (λ (r : TokenRecord). record_row r ∷ []) token;
-          objects_are = done.2 ∙ all_written;
-          count_is = done.3 ∙ at 2 ∙ it.count_is;
-          sound = it.sound;
-          is_record = subst IsRecord token fits;
-          are_objects = it.are_objects;
-        },
-      )
+  pub written : IsRecord f.token_record → (bytes : List ℕ) → bytes ≡ encoded_record f.token_record → (left : Trees) → HasRows left (renewed f.renewals.items bytes rows) → Stores left c
+  written fits bytes is left has =
+      let token = same_record trees c f it found in record {
+        record_is = has.record_is ∙ ap (λ (b : List ℕ). body_row (1, b) ∷ []) is ∙ ap (λ (r : TokenRecord). record_row r ∷ []) token;
+        objects_are = has.objects_are ∙ all_written;
+        count_is = has.count_is;
+        sound = it.sound;
+        is_record = subst IsRecord token fits;
+        are_objects = it.are_objects;
+      }
 
   -- where each body has format 2
   pub current : is_current f ≡ true → Stores trees c

@@ -1,34 +1,36 @@
 -- What the transaction that writes bodies again makes of a connection.
-use Rattle.std.proofs.Common.{◌≡◌, ◌⊎◌, inl, inr, List, true, false, refl, sym, ap, subst, ◌∙◌, ℕ}
+use Rattle.std.proofs.Common.{◌≡◌, ◌⊎◌, inl, inr, List, true, ℕ}
 use Rattle.sqlite.specs.Tree.{Trees}
-use Rattle.sqlite.specs.Effect.{Database}
-use Rattle.sqlite.specs.Store.{Ghosts}
-use Rattle.sqlite.specs.State.{State, HasCleanDisk, Survives}
-use Rattle.sqlite.specs.Held.{Held, state}
+use Rattle.sqlite.specs.State.{State}
 use Rattle.pin_record.specs.Stored.{IsRecord}
 use Rattle.keep.specs.Contents.{Contents}
+use Rattle.sql_tables.specs.Bodies.{Bodies}
+use Rattle.sql_tables.specs.Renewed.{AreNatural, renewed}
+use Rattle.sql_tables.specs.Rows.{ids_and_bodies}
+use Rattle.sql_tables.specs.Store.{HasRows, IsAtRows}
 use Rattle.keep_sql.specs.declared.taking.Found.{Found}
 use Rattle.keep_sql.specs.Store.{IsAt, Stores, encoded_record}
 use Rattle.keep_sql.specs.Formats.{IsAtEither}
-use Rattle.keep_sql.specs.RanEach.{RanRenewals}
 use Rattle.keep_sql.specs.Found.{Finds, is_current}
-use Rattle.keep_sql.proofs.Taken.{current, renewed}
+use Rattle.keep_sql.proofs.Taken.{are_natural, current, has_rows, rows, written}
 
-module _ {S : Type 0} (g : Ghosts S) (old new : Held S) (f : Found) (fits : IsRecord f.token_record) (bytes : List ℕ) (is : bytes ≡ encoded_record f.token_record) (c : Contents) (at : IsAtEither (state g old) c) (found : Finds (state g old).now.trees f) where
-  written : (db : Database) → RanRenewals g f.renewals.items bytes old db → Stores db.trees c
-  written db ran = (renewed (state g old).now.trees c f at.stores found g old db fits at.schema refl (subst (λ (b : List ℕ). RanRenewals g f.renewals.items b old db) is ran)).1
+module _ (old : State) (f : Found) (c : Contents) (at : IsAtEither old c) (found : Finds old.now.trees f) where
+  abbrev pub old_rows : Bodies
+  old_rows = rows old.now.trees c f at.stores found
 
-  pub renewed_at : RanRenewals g f.renewals.items bytes old (state g new).committed → (state g new).now ≡ (state g new).committed → new.in_transaction ≡ false → IsAt (state g new) c
-  renewed_at ran now ended =
-      let made = renewed (state g old).now.trees c f at.stores found g old (state g new).committed fits at.schema refl (subst (λ (b : List ℕ). RanRenewals g f.renewals.items b old (state g new).committed) is ran) in
-      record { schema = ap (λ (d : Database). d.schema) now ∙ made.0; settled = sym now; autocommit = ended; stores = subst (λ (d : Database). Stores d.trees c) (sym now) made.1 }
+  pub at_old_rows : IsAtRows old old_rows
+  at_old_rows = record { schema = at.schema; settled = at.settled; autocommit = at.autocommit; stores = has_rows old.now.trees c f at.stores found }
 
-  pub renewed_left : Survives (state g old) (state g new) (λ trees. (db : Database) × RanRenewals g f.renewals.items bytes old db × (trees ≡ db.trees)) → HasCleanDisk (state g new) → (left : Trees) → (state g new).may_leave left
-      → (state g old).may_leave left ⊎ Stores left c
-  renewed_left lasts clean left may = elim (lasts.crash clean left may) [
-    | inl before ↦ inl before
-    | inr ran ↦ inr (subst (λ (t : Trees). Stores t c) (sym ran.2) (written ran.0 ran.1))
-  ]
+  pub natural_ids : AreNatural f.renewals.items
+  natural_ids = are_natural f.renewals.items (ids_and_bodies (old.now.trees 1)) found.own
+
+  module _ (fits : IsRecord f.token_record) (bytes : List ℕ) (is : bytes ≡ encoded_record f.token_record) where
+    pub renewed_at : (new : State) → IsAtRows new (renewed f.renewals.items bytes old_rows) → IsAt new c
+    renewed_at new made = record { schema = made.schema; settled = made.settled; autocommit = made.autocommit; stores = written old.now.trees c f at.stores found fits bytes is new.now.trees made.stores }
+
+    pub renewed_left : {P : Type 0} (left : Trees) → P ⊎ HasRows left (renewed f.renewals.items bytes old_rows) → P ⊎ Stores left c
+    renewed_left left (inl before) = inl before
+    renewed_left left (inr whole) = inr (written old.now.trees c f at.stores found fits bytes is left whole)
 
 -- where each body has format 2 already
 pub already : (s : State) (c : Contents) (f : Found) → IsAtEither s c → Finds s.now.trees f → is_current f ≡ true → IsAt s c

@@ -8,8 +8,9 @@ use Rattle.pin_record.specs.Records.{TokenRecord}
 use Rattle.pin_record.specs.Stored as token
 use Rattle.pin_record.specs.Stored.{IsOldRecord, IsRecord}
 use Rattle.keep.specs.Contents.{Contents, IsSound}
-use Rattle.keep_sql.specs.Tables.{token_schema}
-use Rattle.keep_sql.specs.Store.{AreObjects, Body, body_row, counter_rows, encoded, encoded_record}
+use Rattle.sql_tables.specs.Tables.{token_schema}
+use Rattle.sql_tables.specs.Store.{body_row, counter_rows}
+use Rattle.keep_sql.specs.Store.{AreObjects, Body, encoded, encoded_record}
 
 -- one spelling in format 1
 unfoldable pub old_encoded : Body → List ℕ

@@ -1,10 +1,10 @@
 -- What was read of a whole store.
 use Rattle.std.specs.Prelude.{◌&&◌, not, Bool, true, false, List, [], ◌∷◌, All}
 use Rattle.sqlite.specs.Tree.{Trees}
-use Rattle.keep_sql.specs.declared.renewals.Renewal.{Renewal}
+use Rattle.sql_tables.specs.declared.renewals.Renewal.{Renewal}
 use Rattle.keep_sql.specs.declared.taking.Found.{Found}
 use Rattle.keep_sql.specs.Renewals.{FindsRecord, IsCovered, IsOfRow}
-use Rattle.keep_sql.specs.Opening.{bodies, ids_and_bodies}
+use Rattle.sql_tables.specs.Rows.{bodies, ids_and_bodies}
 
 pub record Finds (trees : Trees) (f : Found) : Type 0 where
   pub record_is : FindsRecord (bodies (trees 0)) f.token_record f.is_old

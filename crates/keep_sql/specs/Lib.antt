@@ -1,9 +1,6 @@
-pub mod Tables
 pub mod Store
 pub mod Formats
 pub mod Rows
-pub mod Ran
-pub mod RanEach
 pub mod Renewals
 pub mod Opening
 pub mod Found

@@ -1,11 +1,11 @@
 -- What the opening of a store makes of a connection.
-use Rattle.std.specs.Prelude.{◌≡◌, ◌≢◌, ◌⊎◌, ◌≤◌, ◌||◌, ℕ, Bool, true, List, Contains, [], ◌∷◌, map, All, bytes_eq, codes, IsTrue, Option, Some}
+use Rattle.std.specs.Prelude.{◌≡◌, ◌≢◌, ◌⊎◌, ◌≤◌, ◌||◌, ℕ, Bool, true, List, Contains, All, bytes_eq, codes, IsTrue, Option, Some}
 use Rattle.std.specs.List.{list_any}
 use Rattle.sqlite_value.specs.declared.value.Value.TheVariants.{Blob}
 use Rattle.sqlite.specs.Table.{Table}
 use Rattle.sqlite_value.specs.Order.{Row, column}
 use Rattle.sqlite.specs.Schema.{Schema}
-use Rattle.sqlite.specs.Tree.{Trees, rowid}
+use Rattle.sqlite.specs.Tree.{Trees}
 use Rattle.sqlite_trees.specs.View.{doubt}
 use Rattle.sqlite.specs.State.{State, HasCleanDisk}
 use Rattle.pin_record.specs.Records.{TokenRecord, new_record}
@@ -13,17 +13,11 @@ use Rattle.keep.specs.declared.keep.KeepFault.{KeepFault}
 use Rattle.keep.specs.declared.keep.KeepFault.TheVariants.{Damaged}
 use Rattle.keep.specs.Contents.{Contents, new_contents}
 use Rattle.keep.specs.Keeping.{Terms}
-use Rattle.keep_sql.specs.Tables.{no_schema, token_schema}
+use Rattle.sql_tables.specs.Tables.{no_schema, token_schema}
 use Rattle.keep_sql.specs.Store.{Holds, IsAt, Stores}
+use Rattle.sql_tables.specs.Rows.{bodies, ids_and_bodies}
 use Rattle.keep_sql.specs.Formats.{HoldsEither, is_old}
 use Rattle.keep_sql.specs.Rows.{ShowRecordEither, ShowsEither}
-
--- the columns that are shown of a table: the body, and the id and the body
-abbrev pub bodies : List Row → List Row
-bodies = map (λ r. column r 2 ∷ [])
-
-abbrev pub ids_and_bodies : List Row → List Row
-ids_and_bodies = map (λ r. rowid r ∷ column r 2 ∷ [])
 
 -- The record's table is one row, the body of this record, and each row of the other table is an id above 0 with the body of a token
 -- object. Each body has format 2, or format 1.

@@ -12,7 +12,7 @@ use Rattle.pin_record.specs.Stored.{IsOldRecord, IsRecord}
 use Rattle.keep_sql.specs.Store.{Body, encoded, encoded_record}
 use Rattle.keep_sql.specs.Formats.{old_encoded, old_encoded_record}
 use Rattle.keep_sql.specs.Rows.{ShowsObject}
-use Rattle.keep_sql.specs.declared.renewals.Renewal.{Renewal}
+use Rattle.sql_tables.specs.declared.renewals.Renewal.{Renewal}
 
 -- the row has a body of format 1, and this is its id with the body in format 2
 pub record Renews (row : Row) (e : Renewal) : Type 0 where

@@ -1,5 +1,5 @@
 -- What a row of an answer shows.
-use Rattle.std.specs.Prelude.{◌≡◌, ℕ, ℤ, pos, negsuc, ◌<◌, List, [], ◌∷◌}
+use Rattle.std.specs.Prelude.{◌≡◌, ℕ, pos, ◌<◌, List, [], ◌∷◌}
 use Rattle.sqlite_value.specs.declared.value.Value.TheVariants.{Int, Blob}
 use Rattle.sqlite_value.specs.Order.{Row, column}
 use Rattle.sqlite.specs.Edit.{id_in}
@@ -7,11 +7,8 @@ use Rattle.attrs.specs.Objects.{IsObject}
 use Rattle.pin_record.specs.Records.{TokenRecord}
 use Rattle.keep.specs.Contents.{IsTokenObject}
 use Rattle.keep_sql.specs.Store.{Body, encoded}
+use Rattle.sql_tables.specs.Rows.{natural}
 use Rattle.keep_sql.specs.Formats.{IsBody, IsRecordBody}
-
-abbrev pub natural : ℤ → ℕ
-natural (pos n) = n
-natural (negsuc n) = 0
 
 -- the number in the first column
 abbrev pub first_number : Row → ℕ

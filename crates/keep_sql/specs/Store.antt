@@ -1,14 +1,9 @@
--- What the tables hold.
-use Rattle.std.specs.Prelude.{◌≡◌, ◌⊎◌, ℕ, zero, suc, pos, ◌≤◌, false, List, [], ◌∷◌, map, codes, Option, Some, None, IsTrue, ⊤}
-use Rattle.sqlite_value.specs.declared.value.Value.TheVariants.{Null, Int, Text, Blob}
+-- What the tables hold, as contents.
+use Rattle.std.specs.Prelude.{◌≡◌, ◌⊎◌, ℕ, ◌≤◌, false, List, [], ◌∷◌, map, Option, Some, None, IsTrue, ⊤}
+use Rattle.sqlite_value.specs.declared.value.Value.TheVariants.{Blob}
 use Rattle.sqlite_value.specs.Order.{Row}
 use Rattle.sqlite.specs.Tree.{Trees}
 use Rattle.sqlite_trees.specs.View.{doubt}
-use Rattle.sqlite.specs.Effect.{Database}
-use Rattle.sqlite.specs.Given.{IsPlain}
-use Rattle.sqlite.specs.Command.{Command}
-use Rattle.sqlite.proofs.Callers.{command_of}
-use Rattle.sqlite.specs.Listing.{understood, reads_listing}
 use Rattle.sqlite.specs.State.{State, HasCleanDisk}
 use Rattle.ck_types.specs.declared.entry.Entry.{Entry}
 use Rattle.attrs.specs.Objects.{IsObject}
@@ -16,7 +11,8 @@ use Rattle.attrs.specs.Stored as object
 use Rattle.pin_record.specs.Records.{TokenRecord}
 use Rattle.pin_record.specs.Stored as token
 use Rattle.keep.specs.Contents.{Contents, IsSound, object_at}
-use Rattle.keep_sql.specs.Tables.{token_schema}
+use Rattle.sql_tables.specs.Tables.{token_schema}
+use Rattle.sql_tables.specs.Store.{body_row, counter_rows}
 
 abbrev pub Body : Type 0
 Body = List Entry
@@ -28,23 +24,11 @@ encoded o = object.stored_form o
 unfoldable pub encoded_record : TokenRecord → List ℕ
 encoded_record r = token.stored_form r
 
--- the row of an id and a body
-abbrev pub row_by : {B : Type 0} → (B → List ℕ) → ℕ × B → Row
-row_by bytes_of p = Int (pos p.0) ∷ Null ∷ Blob (bytes_of p.1) ∷ []
-
-abbrev pub body_row : ℕ × List ℕ → Row
-body_row = row_by (λ bytes. bytes)
-
 abbrev pub object_row : ℕ × Body → Row
-object_row = row_by encoded
+object_row p = body_row (p.0, encoded p.1)
 
 abbrev pub record_row : TokenRecord → Row
-record_row r = Int (pos 1) ∷ Null ∷ Blob (encoded_record r) ∷ []
-
--- the row of sqlite_sequence, which comes with the first object
-abbrev pub counter_rows : ℕ → List Row
-counter_rows zero = []
-counter_rows (suc n) = (Int (pos 1) ∷ Text (codes "objects") ∷ Int (pos (suc n)) ∷ []) ∷ []
+record_row r = body_row (1, encoded_record r)
 
 abbrev pub AreObjects : List (ℕ × Body) → Type 0
 AreObjects [] = ⊤
@@ -79,64 +63,13 @@ Holds s c = HasCleanDisk s → IsTrue s.is_open → IsAt s c
 abbrev pub MayLeave : State → Option Contents → Type 0
 MayLeave s left = HasCleanDisk s × ((trees : Trees) × s.may_leave trees × ReadsAs trees left)
 
--- while the disk is honest, the connection is open
-abbrev pub IsReady : State → Type 0
-IsReady s = HasCleanDisk s → IsTrue s.is_open
-
--- an open connection shows this database, with no transaction
-pub record ShowsNow (s : State) (db : Database) : Type 0 where
-  pub now : s.now ≡ db
-  pub settled : s.committed ≡ db
-  pub autocommit : s.in_transaction ≡ false
-
-abbrev pub Sees : State → Database → Type 0
-Sees s db = HasCleanDisk s → IsTrue s.is_open → ShowsNow s db
-
--- nothing was written
-pub record Unwritten (old new : State) : Type 0 where
-  pub clean : doubt old.is_clean ≤ doubt new.is_clean
-  pub was_open : HasCleanDisk new → IsTrue new.is_open → IsTrue old.is_open
-  pub sees : (db : Database) → Sees old db → Sees new db
-  pub crash : HasCleanDisk new → (left : Trees) → new.may_leave left → old.may_leave left
-
--- the same, where the database has the two tables
-abbrev pub SeesTables : State → Database → Type 0
-SeesTables s db = HasCleanDisk s → IsTrue s.is_open → ShowsNow s db × (db.schema ≡ token_schema)
-
--- a call that reads them: nothing was written
-pub record OnlyReads (old new : State) : Type 0 where
-  pub clean : doubt old.is_clean ≤ doubt new.is_clean
-  pub was_open : HasCleanDisk new → IsTrue new.is_open → IsTrue old.is_open
-  pub sees : (db : Database) → SeesTables old db → SeesTables new db
-  pub crash : HasCleanDisk new → (db : Database) → SeesTables old db → (left : Trees) → new.may_leave left → old.may_leave left
-
--- what a text means there
-abbrev pub command : List ℕ → Command
-command sql = command_of (understood token_schema sql)
-
--- the text is a query of the two tables
-abbrev pub IsQuery : List ℕ → Type 0
-IsQuery sql = IsPlain (understood token_schema sql) × (reads_listing token_schema sql ≡ false)
-
--- the statement was run and committed
-pub record Committed (old new : State) (step : Contents → Contents) : Type 0 where
-  pub clean : doubt old.is_clean ≤ doubt new.is_clean
-  pub held : (c : Contents) → IsReady old → Holds old c → Holds new (step c)
-  pub crash : (c : Contents) (left : Option Contents) → IsReady old → Holds old c → MayLeave new left → left ≡ Some (step c)
-
--- it was not
-pub record Uncommitted (old new : State) (step : Contents → Contents) : Type 0 where
-  pub clean : doubt old.is_clean ≤ doubt new.is_clean
-  pub held : (c : Contents) → IsReady old → Holds old c → Holds new c
-  pub crash : (c : Contents) (left : Option Contents) → IsReady old → Holds old c → MayLeave new left → MayLeave old left ⊎ (left ≡ Some (step c))
-
--- ---- the same with no premise, where a call before has found the connection open
-
+-- a read
 pub record Stayed (old new : State) : Type 0 where
   pub clean : doubt old.is_clean ≤ doubt new.is_clean
   pub held : (c : Contents) → Holds old c → Holds new c
   pub crash : (c : Contents) (left : Option Contents) → Holds old c → MayLeave new left → MayLeave old left
 
+-- an acknowledged change, and a refused one
 pub record Changed (old new : State) (step : Contents → Contents) : Type 0 where
   pub clean : doubt old.is_clean ≤ doubt new.is_clean
   pub held : (c : Contents) → Holds old c → Holds new (step c)

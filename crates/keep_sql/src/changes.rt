@@ -7,14 +7,13 @@ ghost use Rattle.keep.specs.Contents.{Contents, IsTokenObject, after_reset, grea
 ghost use Rattle.keep.specs.declared.keep.KeepFault.TheVariants.{Damaged};
 ghost use Rattle.keep_sql.specs.Store.{Changed, Failed, Holds, Stayed};
 
-use crate::listing::read_ids;
 use crate::rows::{ids_of, stored_object};
-use crate::statements::{
-    insert_object, put_record, read_row, remove_object, replace_object, reset_rows,
-};
 use attrs::Object;
 use keep::KeepFault;
 use pin_record::Record;
+use sql_tables::{
+    insert_object, put_record, read_ids, read_row, remove_object, replace_object, reset_rows,
+};
 use sqlite::{Alter, Connection};
 use std::alloc::Global;
 
@@ -30,7 +29,7 @@ pub(crate) fn set_record<S: Alter>(
 {
     let bytes = pin_record::encode(alloc, &to)?;
     match put_record(conn, bytes.as_slice()) {
-        Ok(_) => Ok(()),
+        Ok(()) => Ok(()),
         Err(_) => Err(KeepFault::Device),
     }
 }
@@ -93,7 +92,7 @@ pub(crate) fn replace<S: Alter>(
     match read_row(conn, id) {
         Err(_) => Err(KeepFault::Device),
         Ok(_) => match replace_object(conn, id, bytes.as_slice()) {
-            Ok(_) => Ok(()),
+            Ok(()) => Ok(()),
             Err(_) => Err(KeepFault::Device),
         },
     }
@@ -110,7 +109,7 @@ pub(crate) fn remove<S: Alter>(conn: &mut Connection<S>, id: u64) -> Result<(), 
     match read_row(conn, id) {
         Err(_) => Err(KeepFault::Device),
         Ok(_) => match remove_object(conn, id) {
-            Ok(_) => Ok(()),
+            Ok(()) => Ok(()),
             Err(_) => Err(KeepFault::Device),
         },
     }

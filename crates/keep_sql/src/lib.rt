@@ -3,19 +3,12 @@
 //! - `SqlKeep` is a `Keep` (`keep`) over a connection. `SqlKeep::open` opens a file, `SqlKeep::in_memory`
 //!   makes a store in memory, `SqlKeep::from_connection` takes any connection, and `close` gives it back.
 //!
-//! A store has two tables, both STRICT:
-//!
-//! ```text
-//! CREATE TABLE record(id INTEGER PRIMARY KEY CHECK (id = 1), body BLOB NOT NULL) STRICT
-//! CREATE TABLE objects(id INTEGER PRIMARY KEY AUTOINCREMENT, body BLOB NOT NULL) STRICT
-//! ```
-//!
-//! A body is the stored form of the record (`pin_record`) or of a token object (`attrs`) in format 2, which
-//! its first byte says. Ids rise by one, and sqlite's own table of counters keeps the last that was given,
-//! so none returns.
+//! A store has two tables (`sql_tables`): the record's, of one row, and the objects', of a row for each under
+//! its id. A body there is the stored form of the record (`pin_record`) or of a token object (`attrs`) in
+//! format 2, which its first byte says. Ids rise by one, and none returns.
 //!
 //! A store with neither table is new, and gets both and a record that isn't initialised in one transaction.
-//! Where one of them is there, both are taken to be there as they stand here, and each body is read: one
+//! Where one of them is there, both are taken to be as `sql_tables` makes them, and each body is read: one
 //! that has neither format, a record that isn't just one row, or an id below 1 is `KeepFault::Damaged`, and
 //! nothing is written. Bodies of format 1, which older tokens wrote, are read too: where there are any, all
 //! of them are written again in format 2, in one transaction, before the open answers. A key gets
@@ -23,9 +16,10 @@
 //! again; ids, their order and all else stay. A crash in between leaves all bodies as they were, or all in
 //! format 2, and so does a refusal. Format 1 is never written.
 //!
-//! Once a store is open each change is one statement, and a reset one transaction of two. What sqlite refuses, its want of memory included, is a counted `KeepFault::Device`; a body that
-//! finds no memory is `KeepFault::Memory`. After a fault the store is as it was. Each call first asks
-//! whether the connection is open: one that sqlite has shut after a fault of the disk is never written again.
+//! Once a store is open each change is one statement, and a reset one transaction of two. What sqlite
+//! refuses, its want of memory included, is a counted `KeepFault::Device`; a body that finds no memory is
+//! `KeepFault::Memory`. After a fault the store is as it was. Each call first asks whether the connection is
+//! open: one that sqlite has shut after a fault of the disk is never written again.
 //!
 //! What contracts say of contents holds of an honest store: as long as nobody else writes the file and the
 //! disk returns what was written (`doubt` is 0; in memory always), and where the store was opened on no
@@ -42,13 +36,9 @@
 
 mod changes;
 mod files;
-mod listing;
 mod opening;
-mod renewals;
 mod rows;
 mod sql_keep;
-mod statements;
 mod taking;
-mod transactions;
 
 pub use sql_keep::SqlKeep;

@@ -9,15 +9,15 @@ ghost use Rattle.sqlite.specs.Held.{state};
 ghost use Rattle.pin_record.specs.Records.{new_record};
 ghost use Rattle.keep.specs.declared.keep.KeepFault.TheVariants.{Damaged};
 ghost use Rattle.keep.specs.Contents.{new_contents};
-ghost use Rattle.keep_sql.specs.Tables.{no_schema};
-ghost use Rattle.keep_sql.specs.Store.{IsAt, IsReady, Sees, ShowsNow, Stores};
+ghost use Rattle.sql_tables.specs.Tables.{no_schema};
+ghost use Rattle.sql_tables.specs.Store.{IsReady, Sees, ShowsNow};
+ghost use Rattle.keep_sql.specs.Store.{IsAt, Stores};
 ghost use Rattle.keep_sql.specs.Opening.{NotOpened, Opened, has_tables as has_tables_in, is_token_table as is_one_of_two};
 
-use crate::statements::ensure_open;
 use crate::taking::take_over;
-use crate::transactions::run_three;
 use keep::KeepFault;
 use pin_record::Record;
+use sql_tables::{ensure_open, make_tables};
 use sqlite::{Alter, Connection};
 use sqlite_schema::schema::Table;
 use std::alloc::Global;
@@ -50,13 +50,7 @@ fn create<S: Alter>(alloc: Global, conn: &mut Connection<S>) -> Result<Record, K
 {
     let record = Record::new();
     let bytes = pin_record::encode(alloc, &record)?;
-    match run_three(
-        conn,
-        "CREATE TABLE record(id INTEGER PRIMARY KEY CHECK (id = 1), body BLOB NOT NULL) STRICT",
-        "CREATE TABLE objects(id INTEGER PRIMARY KEY AUTOINCREMENT, body BLOB NOT NULL) STRICT",
-        "INSERT INTO record VALUES (1, ?1)",
-        bytes.as_slice(),
-    ) {
+    match make_tables(conn, bytes.as_slice()) {
         Ok(true) => Ok(record),
         Ok(false) => Err(KeepFault::Device),
         Err(_) => Err(KeepFault::Device),

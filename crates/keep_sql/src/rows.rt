@@ -15,11 +15,11 @@ ghost use Rattle.keep_sql.specs.Formats.{IsRecordBody, is_old as is_old_in, old_
 ghost use Rattle.keep_sql.specs.Rows.{ShowRecordEither, ShowsEither, first_number};
 ghost use Rattle.keep_sql.specs.Renewals.{FindsRecord, IsCovered, IsNewBody, IsOfRow, IsRenewedAs, IsStoredAs, RenewsIf};
 
-use crate::renewals::Renewal;
 use attrs::{DecodeFault, Object};
 use ck_types::AttrType;
 use keep::KeepFault;
 use pin_record::Record;
+use sql_tables::Renewal;
 use sqlite::Row;
 use sqlite::types::ValueRef;
 use std::alloc::Global;

@@ -9,18 +9,19 @@ ghost use Rattle.sqlite.specs.Held.{state};
 ghost use Rattle.pin_record.specs.Records.{TokenRecord};
 ghost use Rattle.keep.specs.declared.keep.KeepFault.TheVariants.{Damaged};
 ghost use Rattle.keep.specs.Contents.{Contents};
-ghost use Rattle.keep_sql.specs.Store.{IsAt, IsReady, OnlyReads, Sees, SeesTables, ShowsNow, Stores};
+ghost use Rattle.sql_tables.specs.Store.{IsReady, OnlyReads, Sees, SeesTables, ShowsNow};
+ghost use Rattle.keep_sql.specs.Store.{IsAt, Stores};
 ghost use Rattle.keep_sql.specs.Formats.{IsAtEither};
 ghost use Rattle.keep_sql.specs.Rows.{ShowRecordEither, ShowsEither};
 ghost use Rattle.keep_sql.specs.Renewals.{FindsRecord, IsCovered, IsOfRow};
 ghost use Rattle.keep_sql.specs.Found.{Finds, is_current as is_current_in};
-ghost use Rattle.keep_sql.specs.Opening.{AllDecode, NotOpened, Opened, bodies, has_tables, ids_and_bodies};
+ghost use Rattle.sql_tables.specs.Rows.{bodies, ids_and_bodies};
+ghost use Rattle.keep_sql.specs.Opening.{AllDecode, NotOpened, Opened, has_tables};
 
-use crate::listing::read_all;
-use crate::renewals::{Renewal, run_renewals};
 use crate::rows::{check_rows, only_record};
 use keep::KeepFault;
 use pin_record::Record;
+use sql_tables::{Renewal, read_ids_and_bodies, read_record_bodies, renew_bodies};
 use sqlite::{Alter, Connection};
 use std::alloc::Global;
 
@@ -39,7 +40,7 @@ fn read_record<S: Alter>(conn: &mut Connection<S>) -> Result<(Record, bool), Kee
     ensures ok { HasCleanDisk (state S.Store conn.new) → (db : Database) → SeesTables (state S.Store conn.old) db → IfOk result (λ r. FindsRecord (bodies (db.trees 0)) r.0 r.1) }
     ensures undamaged { HasCleanDisk (state S.Store conn.new) → (db : Database) → SeesTables (state S.Store conn.old) db → (r : TokenRecord) → ShowRecordEither (bodies (db.trees 0)) r → IsErrOf result Damaged → ⊥ }
 {
-    match read_all(conn, "SELECT body FROM record") {
+    match read_record_bodies(conn) {
         Ok(rows) => only_record(rows.as_slice()),
         Err(_) => Err(KeepFault::Device),
     }
@@ -56,7 +57,7 @@ fn read_objects<S: Alter>(
     ensures own { HasCleanDisk (state S.Store conn.new) → (db : Database) → SeesTables (state S.Store conn.old) db → IfOk result (λ es. All (IsOfRow (ids_and_bodies (db.trees 1))) es.items) }
     ensures undamaged { HasCleanDisk (state S.Store conn.new) → (db : Database) → SeesTables (state S.Store conn.old) db → All ShowsEither (ids_and_bodies (db.trees 1)) → IsErrOf result Damaged → ⊥ }
 {
-    match read_all(conn, "SELECT id, body FROM objects") {
+    match read_ids_and_bodies(conn) {
         Ok(rows) => check_rows(alloc, rows.as_slice()),
         Err(_) => Err(KeepFault::Device),
     }
@@ -97,7 +98,7 @@ fn renew<S: Alter>(alloc: Global, conn: &mut Connection<S>, found: &Found) -> Re
     ensures undamaged { IsErrOf result Damaged → ⊥ }
 {
     let bytes = pin_record::encode(alloc, &found.token_record)?;
-    match run_renewals(conn, found.renewals.as_slice(), bytes.as_slice()) {
+    match renew_bodies(conn, found.renewals.as_slice(), bytes.as_slice()) {
         Ok(true) => Ok(()),
         Ok(false) => Err(KeepFault::Device),
         Err(_) => Err(KeepFault::Device),

@@ -1,0 +1,7 @@
+pub mod Tables
+pub mod Bodies
+pub mod Store
+pub mod Rows
+pub mod Ran
+pub mod RanEach
+pub mod Renewed
