@@ -15,7 +15,7 @@ use Rattle.sql_tables.specs.Bodies.{Bodies}
 use Rattle.sql_tables.specs.Tables.{token_schema}
 use Rattle.sql_tables.specs.Store.{HasRows, IsAtRows, HoldsRows, IsReady, ShowsNow, Sees, Unwritten, Committed, Uncommitted, RowsChanged, RowsFailed}
 
--- the text is a write, which makes this of the contents
+-- the text is a write, which makes this of the bodies
 pub record IsStep (sql : List ℕ) (params : Row) (command : Command) (step : Bodies → Bodies) : Type 1 where
   pub is : command_of (understood token_schema sql) ≡ command
   pub plain : IsPlain (understood token_schema sql)
@@ -133,7 +133,7 @@ kept old new how lasts = record {
   crash = λ clean left may. elim (lasts.crash clean left may) [ inl before ↦ before | inr none ↦ absurd none ];
 }
 
--- what an open connection that is at contents sees
+-- what an open connection that is at bodies sees
 pub sees_at : (s : State) (c : Bodies) → IsAtRows s c → Sees s s.now
 sees_at s c at = λ _ _. record { now = refl; settled = at.settled; autocommit = at.autocommit }
 

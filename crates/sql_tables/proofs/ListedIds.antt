@@ -18,7 +18,7 @@ pub ids_is_query : IsQuery (codes "SELECT id FROM objects ORDER BY id")
 unfolding understood everything
 ids_is_query = ((refl, refl), refl)
 
--- where the connection is open now, it was at the contents
+-- where the connection is open now, it was at the bodies
 pub was_at : (old new : State) (c : Bodies) → HoldsRows old c → OnlyReads old new → HasCleanDisk new → IsTrue new.is_open → IsAtRows old c
 was_at old new c h reads clean up = h (let old_clean : HasCleanDisk old = omega (arith, reads.clean) in old_clean) (reads.was_open clean up)
 
