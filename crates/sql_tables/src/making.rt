@@ -1,6 +1,6 @@
 //! A new store.
 
-ghost use Rattle.std.specs.Prelude.{◌≡◌, ◌≤◌, ◌⊎◌, false, IsTrue, IfOk, OnErr};
+ghost use Rattle.std.specs.Prelude.{◌≡◌, ◌≤◌, ◌⊎◌, false, true, IsTrue, IfOk, OnErr};
 ghost use Rattle.sqlite.specs.Effect.{Database};
 ghost use Rattle.sqlite.specs.Tree.{Trees};
 ghost use Rattle.sqlite_trees.specs.View.{doubt};
@@ -19,6 +19,7 @@ pub fn make_tables<S: Alter>(conn: &mut Connection<S>, bytes: &[u8]) -> Result<b
     ensures clean { doubt (state S.Store conn.old).is_clean ≤ doubt (state S.Store conn.new).is_clean }
     ensures made { (state S.Store conn.old).now.schema ≡ no_schema → HasCleanDisk (state S.Store conn.new)
         → IfOk result (λ done. IsTrue done → IsTrue (state S.Store conn.new).is_open × IsAtRows (state S.Store conn.new) (new_bodies bytes.now)) }
+    ensures busy { IfOk result (λ done. done ≡ false → conn.old.in_transaction ≡ true) }
     ensures refused { (db : Database) → IsReady (state S.Store conn.old) → Sees (state S.Store conn.old) db → HasCleanDisk (state S.Store conn.new)
         → IfOk result (λ done. done ≡ false → ShowsNow (state S.Store conn.new) db) }
     ensures same { (db : Database) → IsReady (state S.Store conn.old) → Sees (state S.Store conn.old) db → HasCleanDisk (state S.Store conn.new) → IsTrue (state S.Store conn.new).is_open

@@ -1,6 +1,6 @@
 //! Bodies that are written again, in one transaction.
 
-ghost use Rattle.std.specs.Prelude.{◌≡◌, ◌≤◌, ◌⊎◌, [], ◌∷◌, codes, false, IsTrue, IfOk, OnOk, OnErr};
+ghost use Rattle.std.specs.Prelude.{◌≡◌, ◌≤◌, ◌⊎◌, [], ◌∷◌, codes, false, true, IsTrue, IfOk, OnOk, OnErr};
 ghost use Rattle.sqlite.specs.Effect.{Database};
 ghost use Rattle.sqlite.specs.Tree.{Trees};
 ghost use Rattle.sqlite_trees.specs.View.{doubt};
@@ -61,6 +61,7 @@ fn run_renewals<S: Alter>(
     ensures up { HasCleanDisk (state S.Store conn.new) → IfOk result (λ done. IsTrue done → IsTrue (state S.Store conn.new).is_open) }
     ensures ended { IfOk result (λ done. IsTrue done → conn.new.in_transaction ≡ false) }
     ensures refused { IfOk result (λ done. done ≡ false → conn.new ≡ conn.old) }
+    ensures busy { IfOk result (λ done. done ≡ false → conn.old.in_transaction ≡ true) }
     ensures stopped { OnErr result (conn.new.in_transaction ≡ false) }
     ensures none { HasCleanDisk (state S.Store conn.new) → IsTrue (state S.Store conn.new).is_open
         → OnErr result (((state S.Store conn.new).now ≡ (state S.Store conn.old).now) × ((state S.Store conn.new).committed ≡ (state S.Store conn.old).committed)) }
@@ -89,6 +90,7 @@ pub fn renew_bodies<S: Alter>(
     ensures made { (b : Bodies) → IsAtRows (state S.Store conn.old) b → AreNatural renewals.now → HasCleanDisk (state S.Store conn.new)
         → IfOk result (λ done. IsTrue done → IsTrue (state S.Store conn.new).is_open × IsAtRows (state S.Store conn.new) (renewed renewals.now bytes.now b)) }
     ensures up { HasCleanDisk (state S.Store conn.new) → IfOk result (λ done. IsTrue done → IsTrue (state S.Store conn.new).is_open) }
+    ensures busy { IfOk result (λ done. done ≡ false → conn.old.in_transaction ≡ true) }
     ensures refused { (db : Database) → IsReady (state S.Store conn.old) → Sees (state S.Store conn.old) db → HasCleanDisk (state S.Store conn.new)
         → IfOk result (λ done. done ≡ false → ShowsNow (state S.Store conn.new) db) }
     ensures same { (db : Database) → IsReady (state S.Store conn.old) → Sees (state S.Store conn.old) db → HasCleanDisk (state S.Store conn.new) → IsTrue (state S.Store conn.new).is_open

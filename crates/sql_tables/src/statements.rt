@@ -2,7 +2,7 @@
 //!
 //! Each is sent only where the connection was found open: of a connection that is shut sqlite says nothing.
 
-ghost use Rattle.std.specs.Prelude.{◌≡◌, ◌+◌, ◌<◌, ◌≤◌, ◌^◌, false, ℕ, List, pos, IfOk, OnOk, OnErr, IsTrue};
+ghost use Rattle.std.specs.Prelude.{◌≡◌, ◌+◌, ◌<◌, ◌≤◌, ◌^◌, false, true, ℕ, List, pos, IfOk, OnOk, OnErr, IsTrue};
 ghost use Rattle.std.specs.Prelude.{codes, [], ◌∷◌};
 ghost use Rattle.sqlite.specs.declared.types.Value.TheVariants.{Blob, Int};
 ghost use Rattle.sqlite.specs.State.{HasCleanDisk, Executes, QueriesRow, Survives, CommitsBy, CommitsShowing};
@@ -80,6 +80,7 @@ fn replace_row<S: Alter>(conn: &mut Connection<S>, id: u64, bytes: &[u8]) -> Res
 pub fn ensure_open<S: Alter>(conn: &mut Connection<S>, sql: &str) -> Result<(), Error>
     ensures kept { Unwritten (state S.Store conn.old) (state S.Store conn.new) }
     ensures open { OnOk result (IsReady (state S.Store conn.new)) }
+    ensures mode { conn.old.in_transaction ≡ false → conn.new.in_transaction ≡ false }
 {
     conn.prepare(sql)?;
     Ok(())
@@ -112,6 +113,7 @@ pub fn insert_object<S: Alter>(conn: &mut Connection<S>, bytes: &[u8]) -> Result
 /// tables are as they were in both cases.
 pub fn reset_rows<S: Alter>(conn: &mut Connection<S>, bytes: &[u8]) -> Result<bool, Error>
     ensures made { IfOk result (λ done. IsTrue done → RowsChanged (state S.Store conn.old) (state S.Store conn.new) (after_reset bytes.now)) }
+    ensures busy { IfOk result (λ done. done ≡ false → conn.old.in_transaction ≡ true) }
     ensures refused { IfOk result (λ done. done ≡ false → RowsFailed (state S.Store conn.old) (state S.Store conn.new) (after_reset bytes.now)) }
     ensures err { OnErr result (RowsFailed (state S.Store conn.old) (state S.Store conn.new) (after_reset bytes.now)) }
 {

@@ -1,6 +1,6 @@
 //! Statements that are committed together.
 
-ghost use Rattle.std.specs.Prelude.{◌≡◌, [], false, IsTrue, IfOk, OnErr};
+ghost use Rattle.std.specs.Prelude.{◌≡◌, [], false, true, IsTrue, IfOk, OnErr};
 ghost use Rattle.sqlite.specs.State.{HasCleanDisk, Survives};
 ghost use Rattle.sqlite.specs.Held.{state};
 ghost use Rattle.sql_tables.specs.Ran.{RanPair, RanThree};
@@ -19,6 +19,7 @@ pub(crate) fn run_pair<S: Alter>(
     ensures up { HasCleanDisk (state S.Store conn.new) → IfOk result (λ done. IsTrue done → IsTrue (state S.Store conn.new).is_open) }
     ensures ended { IfOk result (λ done. IsTrue done → conn.new.in_transaction ≡ false) }
     ensures refused { IfOk result (λ done. done ≡ false → conn.new ≡ conn.old) }
+    ensures busy { IfOk result (λ done. done ≡ false → conn.old.in_transaction ≡ true) }
     ensures stopped { OnErr result (conn.new.in_transaction ≡ false) }
     ensures neither { HasCleanDisk (state S.Store conn.new) → IsTrue (state S.Store conn.new).is_open
         → OnErr result (((state S.Store conn.new).now ≡ (state S.Store conn.old).now) × ((state S.Store conn.new).committed ≡ (state S.Store conn.old).committed)) }
@@ -48,6 +49,7 @@ pub(crate) fn run_three<S: Alter>(
     ensures up { HasCleanDisk (state S.Store conn.new) → IfOk result (λ done. IsTrue done → IsTrue (state S.Store conn.new).is_open) }
     ensures ended { IfOk result (λ done. IsTrue done → conn.new.in_transaction ≡ false) }
     ensures refused { IfOk result (λ done. done ≡ false → conn.new ≡ conn.old) }
+    ensures busy { IfOk result (λ done. done ≡ false → conn.old.in_transaction ≡ true) }
     ensures stopped { OnErr result (conn.new.in_transaction ≡ false) }
     ensures none { HasCleanDisk (state S.Store conn.new) → IsTrue (state S.Store conn.new).is_open
         → OnErr result (((state S.Store conn.new).now ≡ (state S.Store conn.old).now) × ((state S.Store conn.new).committed ≡ (state S.Store conn.old).committed)) }
