@@ -2,6 +2,7 @@
 
 ghost use Rattle.std.specs.Prelude.{None, Some};
 
+use crate::reading::{SESSION, failed};
 use crate::run::{KEY, Run, Unit, key_of};
 use aes_modes::{Direction, ecb};
 use ck_calls::{Call, Mechanism};
@@ -15,14 +16,8 @@ use std::time::CpuClock;
 use token::Token;
 use wire::write_call;
 
-/// The session, and the handle of its key.
-const SESSION: u64 = 1;
-
+/// The handle of the key.
 const OBJECT: u64 = 1;
-
-fn failed() -> io::Error {
-    io::Error::from(io::ErrorKind::Other)
-}
 
 // A reader of bytes that gives no more than so many at once, or one where `most` is 0.
 #[derive(Drop)]
@@ -66,11 +61,10 @@ impl Write for Tally {
     }
 }
 
-fn add(alloc: Global, stream: &mut Vec<u8>, call: &Call) -> io::Result<()> {
-    let Ok(frame) = write_call(alloc, call) else {
-        return Err(failed());
-    };
-    stream.extend_from_slice(&frame)?;
+fn add(alloc: Global, stream: &mut Vec<u8>, call: Call) -> io::Result<()> {
+    let frame = write_call(alloc, &call).map_err(|_| failed());
+    drop(call);
+    stream.extend_from_slice(&frame?)?;
     Ok(())
 }
 
@@ -99,7 +93,7 @@ fn add_key(alloc: Global, stream: &mut Vec<u8>) -> io::Result<()> {
         session: SESSION,
         template: template(alloc)?,
     };
-    add(alloc, stream, &create)
+    add(alloc, stream, create)
 }
 
 fn add_init(alloc: Global, stream: &mut Vec<u8>) -> io::Result<()> {
@@ -111,7 +105,7 @@ fn add_init(alloc: Global, stream: &mut Vec<u8>) -> io::Result<()> {
         }),
         key: OBJECT,
     };
-    add(alloc, stream, &init)
+    add(alloc, stream, init)
 }
 
 fn add_encrypt(alloc: Global, stream: &mut Vec<u8>, text: &[u8]) -> io::Result<()> {
@@ -120,14 +114,14 @@ fn add_encrypt(alloc: Global, stream: &mut Vec<u8>, text: &[u8]) -> io::Result<(
         data: Bytes::from_slice(alloc, text)?,
         room: Some(text.len() as u64),
     };
-    add(alloc, stream, &encrypt)
+    add(alloc, stream, encrypt)
 }
 
 // A session with an AES key, and so many texts, each by C_EncryptInit and C_Encrypt.
 fn stream_of(alloc: Global, text_len: u32, count: u32) -> io::Result<Vec<u8>> {
     let text = vec![in alloc; 0x5a_u8; text_len as usize]?;
     let mut stream = Vec::new(alloc);
-    add(alloc, &mut stream, &Call::OpenSession { slot: 0, flags: 6 })?;
+    add(alloc, &mut stream, Call::OpenSession { slot: 0, flags: 6 })?;
     add_key(alloc, &mut stream)?;
     for _ in 0..count {
         add_init(alloc, &mut stream)?;

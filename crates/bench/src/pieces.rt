@@ -1,9 +1,10 @@
 // Data enciphered and deciphered through a token, in pieces beside single calls, and what memory it takes.
 
 use crate::frames::template;
+use crate::reading::{SESSION, failed, reply_to};
 use crate::run::{Report, Run, Unit};
 use aes_modes::Direction;
-use ck_calls::{Call, Mechanism, Output, Reply, need};
+use ck_calls::{Call, Mechanism, Output, Reply};
 use ck_types::{Bytes, MechType};
 use keep::ListKeep;
 use pin_record::Record;
@@ -11,13 +12,9 @@ use std::alloc::Global;
 use std::rt::Files;
 use std::time::CpuClock;
 use std::{fs, io};
-use token::{Out, Token};
+use token::Token;
 
-/// The application, its session, and the handle of its key.
-const APP: u64 = 1;
-
-const SESSION: u64 = 1;
-
+/// The handle of the key.
 const OBJECT: u64 = 1;
 
 /// The parameter of CTR: 128 bits count. Its last 16 bytes are that of CBC.
@@ -86,19 +83,6 @@ const PIECE_LEN: u32 = 65_536;
 
 const HALF: u32 = 8192;
 
-fn failed() -> io::Error {
-    io::Error::from(io::ErrorKind::Other)
-}
-
-// One call, and the end of its question where it asks one.
-fn reply_to(alloc: Global, token: &mut Token<ListKeep>, call: Call) -> io::Result<Reply> {
-    let random = vec![in alloc; 0u8; need(&call)]?;
-    match token.call(alloc, APP, call, &random) {
-        Out::Reply(reply) => Ok(reply),
-        Out::Ask(job) => Ok(token.finish(alloc, APP, job.run(alloc))),
-    }
-}
-
 // What a call gives.
 fn given_by(alloc: Global, token: &mut Token<ListKeep>, call: Call) -> io::Result<Bytes> {
     match reply_to(alloc, token, call)? {
@@ -112,12 +96,12 @@ fn opened(alloc: Global) -> io::Result<Token<ListKeep>> {
     let Ok(mut token) = Token::new(alloc, ListKeep::new(alloc, Record::new())) else {
         return Err(failed());
     };
-    let _ = reply_to(alloc, &mut token, Call::OpenSession { slot: 0, flags: 6 })?;
+    drop(reply_to(alloc, &mut token, Call::OpenSession { slot: 0, flags: 6 })?);
     let create = Call::CreateObject {
         session: SESSION,
         template: template(alloc)?,
     };
-    let _ = reply_to(alloc, &mut token, create)?;
+    drop(reply_to(alloc, &mut token, create)?);
     Ok(token)
 }
 
@@ -182,7 +166,7 @@ impl Cipher {
 
     // Begins an operation.
     fn begin(self, alloc: Global, token: &mut Token<ListKeep>) -> io::Result<()> {
-        let _ = reply_to(alloc, token, self.init(alloc)?)?;
+        drop(reply_to(alloc, token, self.init(alloc)?)?);
         Ok(())
     }
 

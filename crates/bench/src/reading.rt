@@ -32,7 +32,10 @@ pub(crate) fn reply_to(
     token: &mut Token<ListKeep>,
     call: Call,
 ) -> io::Result<Reply> {
-    let random = vec![in alloc; 0u8; need(&call)]?;
+    let Ok(random) = vec![in alloc; 0u8; need(&call)] else {
+        drop(call);
+        return Err(failed());
+    };
     match token.call(alloc, APP, call, &random) {
         Out::Reply(reply) => Ok(reply),
         Out::Ask(job) => Ok(token.finish(alloc, APP, job.run(alloc))),

@@ -44,15 +44,15 @@ fn search(alloc: Global, token: &mut Token<ListKeep>) -> io::Result<usize> {
         session: SESSION,
         template: by_label(alloc)?,
     };
+    drop(reply_to(alloc, token, begins)?);
     let tells = Call::FindObjects {
         session: SESSION,
         max_count: 1024,
     };
-    let _ = reply_to(alloc, token, begins)?;
     let Reply::Objects(handles) = reply_to(alloc, token, tells)? else {
         return Err(failed());
     };
-    let _ = reply_to(alloc, token, Call::FindObjectsFinal { session: SESSION })?;
+    drop(reply_to(alloc, token, Call::FindObjectsFinal { session: SESSION })?);
     Ok(handles.len())
 }
 

@@ -35,14 +35,16 @@ pub(crate) struct Client {
 impl Client {
     /// Connects, opens a session and makes a key.
     pub(crate) fn connect(rt: &HostRuntime, path: &str) -> io::Result<Client> {
-        let alloc = rt.alloc();
-        let mut client = Client {
-            stream: UnixStream::connect(rt, path)?,
-            reply: vec![in alloc; 0u8; ROOM]?,
-        };
-        client.ask(&frame(alloc, &Call::OpenSession { slot: 0, flags: 6 })?)?;
-        client.ask(&frame(alloc, &new_key(alloc)?)?)?;
+        let stream = UnixStream::connect(rt, path)?;
+        let reply = vec![in rt.alloc(); 0u8; ROOM]?;
+        let mut client = Client { stream, reply };
+        client.begin(rt.alloc())?;
         Ok(client)
+    }
+
+    fn begin(&mut self, alloc: Global) -> io::Result<()> {
+        self.ask(&open_session(alloc)?)?;
+        self.ask(&new_key(alloc)?)
     }
 
     /// Sends frames, each after the reply to the one before.
@@ -93,12 +95,19 @@ fn is_ok(reply: &[u8]) -> bool {
     payload.first_chunk::<CODE_LEN>() == Some(&[0; CODE_LEN])
 }
 
-fn frame(alloc: Global, call: &Call) -> io::Result<Vec<u8>> {
-    write_call(alloc, call).map_err(|_| failed())
+fn frame(alloc: Global, call: Call) -> io::Result<Vec<u8>> {
+    let frame = write_call(alloc, &call).map_err(|_| failed());
+    drop(call);
+    frame
 }
 
-/// C_CreateObject of a session's AES key of 16 bytes.
-fn new_key(alloc: Global) -> io::Result<Call> {
+/// The frame of C_OpenSession.
+fn open_session(alloc: Global) -> io::Result<Vec<u8>> {
+    frame(alloc, Call::OpenSession { slot: 0, flags: 6 })
+}
+
+/// The frame of C_CreateObject of a session's AES key of 16 bytes.
+fn new_key(alloc: Global) -> io::Result<Vec<u8>> {
     let class = ObjectClass::SecretKey.number().to_be_bytes();
     let key_type = KeyType::Aes.number().to_be_bytes();
     let mut template = Template::new(alloc);
@@ -113,16 +122,17 @@ fn new_key(alloc: Global) -> io::Result<Call> {
             value: Bytes::from_slice(alloc, value)?,
         })?;
     }
-    Ok(Call::CreateObject {
+    let call = Call::CreateObject {
         session: SESSION,
         template,
-    })
+    };
+    frame(alloc, call)
 }
 
 /// The frame of C_GetSessionInfo.
 pub(crate) fn session_info(alloc: Global) -> io::Result<Vec<Vec<u8>>> {
     let mut frames = Vec::new(alloc);
-    frames.push(frame(alloc, &Call::GetSessionInfo { session: SESSION })?)?;
+    frames.push(frame(alloc, Call::GetSessionInfo { session: SESSION })?)?;
     Ok(frames)
 }
 
@@ -148,7 +158,7 @@ pub(crate) fn encryption(
         room: Some(ROOM as u64),
     };
     let mut frames = Vec::new(alloc);
-    frames.push(frame(alloc, &init)?)?;
-    frames.push(frame(alloc, &encrypt)?)?;
+    frames.push(frame(alloc, init)?)?;
+    frames.push(frame(alloc, encrypt)?)?;
     Ok(frames)
 }

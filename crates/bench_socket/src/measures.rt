@@ -4,7 +4,7 @@ use crate::client::{Client, encryption, session_info};
 use crate::echo::{be_echoed, echo};
 use ck_types::MechType;
 use std::os::unix::net::{UnixListener, UnixStream};
-use std::thread::Threads;
+use std::thread::{JoinHandle, Threads};
 use std::time::{Clock, Instant};
 use std::{fs, io, thread};
 
@@ -80,28 +80,34 @@ fn ask_alone(rt: &HostRuntime, socket: &str) -> io::Result<()> {
     ask(&mut client, &frames, ROUND_TRIPS)
 }
 
-/// How often a second one client is told of its session, and four together.
-fn rates_together<T: Threads>(
+/// How often a second one client is told of its session.
+fn rate_of_one(rt: &HostRuntime, socket: &str) -> io::Result<u64> {
+    let start = Instant::now(rt)?;
+    ask_alone(rt, socket)?;
+    rate(rt, ROUND_TRIPS, start)
+}
+
+/// A client in a thread of its own.
+fn beside<T: Threads>(
     rt: HostRuntime,
     threads: &T,
     socket: &str,
-) -> io::Result<(u64, u64)> {
+) -> io::Result<JoinHandle<io::Result<()>>> {
+    let path = format!(in rt.alloc(); "{socket}")?;
+    Ok(thread::spawn(threads, move || ask_alone(&rt, path.as_str()))?)
+}
+
+/// How often a second four clients together are told of their sessions.
+fn rate_of_four<T: Threads>(rt: HostRuntime, threads: &T, socket: &str) -> io::Result<u64> {
     let start = Instant::now(&rt)?;
+    let second = beside(rt, threads, socket)?;
+    let third = beside(rt, threads, socket)?;
+    let fourth = beside(rt, threads, socket)?;
     ask_alone(&rt, socket)?;
-    let one = rate(&rt, ROUND_TRIPS, start)?;
-    let path = |alloc| format!(in alloc; "{socket}");
-    let (second, third, fourth) = (path(rt.alloc())?, path(rt.alloc())?, path(rt.alloc())?);
-    let start = Instant::now(&rt)?;
-    let others = (
-        thread::spawn(threads, move || ask_alone(&rt, second.as_str()))?,
-        thread::spawn(threads, move || ask_alone(&rt, third.as_str()))?,
-        thread::spawn(threads, move || ask_alone(&rt, fourth.as_str()))?,
-    );
-    ask_alone(&rt, socket)?;
-    others.0.join(threads)?;
-    others.1.join(threads)?;
-    others.2.join(threads)?;
-    Ok((one, rate(&rt, ROUND_TRIPS.saturating_mul(4), start)?))
+    second.join(threads)?;
+    third.join(threads)?;
+    fourth.join(threads)?;
+    rate(&rt, ROUND_TRIPS.saturating_mul(4), start)
 }
 
 /// A rate, and what part of another it is.
@@ -144,7 +150,8 @@ pub(crate) fn print_calls<T: Threads>(
         print_rate(&rt, what, rate, echoes)?;
     }
     drop(client);
-    let (one, four) = rates_together(rt, threads, socket)?;
+    let one = rate_of_one(&rt, socket)?;
+    let four = rate_of_four(rt, threads, socket)?;
     print_rate(&rt, "C_GetSessionInfo, one client", one, echoes)?;
     print_rate(&rt, "C_GetSessionInfo, four clients, of one", four, one)
 }

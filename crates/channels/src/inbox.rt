@@ -144,6 +144,7 @@ impl Inbox {
     {
         self.receiver
             .try_recv_as::<Takes, R>(rt, &mut self.inward_pass)
-            .is_err()
+            .err()
+            .is_some()
     }
 }

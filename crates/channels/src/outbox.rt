@@ -65,7 +65,8 @@ impl Outbox {
     {
         self.outward
             .send_as::<Gives, R>(rt, &mut self.outward_pass, message)
-            .is_ok()
+            .ok()
+            .is_some()
     }
 
     /// Takes in the pass of a seat that has ended, and ends the channel. What was given is what the seat got and then what it

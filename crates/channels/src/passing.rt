@@ -77,7 +77,8 @@ impl Port {
     {
         self.inward
             .send_as::<Puts, R>(rt, &mut self.inward_pass, message)
-            .is_ok()
+            .ok()
+            .is_some()
     }
 
     /// Gets the next message for this seat, and waits for it, first in turns and then asleep. None where the channel has ended,

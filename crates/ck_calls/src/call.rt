@@ -5,8 +5,9 @@ use ck_types::{Bytes, Template};
 
 /// A call of an application, with what it passes (PKCS #11 v3.1, 5). Numbers stand as they came, since
 /// a caller may pass what the standard or this token does not know. `room` is the length of the
-/// caller's buffer, and none where it asks for the length alone (5.2).
-#[derive(Debug, Drop, PartialEq)]
+/// caller's buffer, and none where it asks for the length alone (5.2). A call has no `Debug`, since it
+/// may hold PINs and values of keys.
+#[derive(Drop)]
 pub enum Call {
     /// C_GetTokenInfo (5.5).
     GetTokenInfo {

@@ -59,9 +59,10 @@ impl Codec for Label {
 
     fn decode(_alloc: Global, bytes: &[u8]) -> Result<(Label, &[u8]), CodecFault> {
         let (front, rest) = split_first(bytes, 32)?;
-        let mut label = [0; 32];
-        label.copy_from_slice(front);
-        Ok((Label { bytes: label }, rest))
+        match Label::from_slice(front) {
+            Some(label) => Ok((label, rest)),
+            None => Err(CodecFault::Malformed),
+        }
     }
 
     fn encode(&self, out: &mut Vec<u8>) -> Result<(), CodecFault> {

@@ -46,3 +46,4 @@ pub use fault::HallFault;
 pub use holding::{Held, hold, hold_with};
 pub use machine::Machine;
 pub use seats::{Gate, Seat, SeatEvent};
+pub use token::Token;

@@ -12,6 +12,7 @@ ghost use Rattle.sql_tables.specs.Tables.{no_schema};
 ghost use Rattle.keep_sql.specs.Formats.{HoldsEither};
 ghost use Rattle.keep_sql.specs.Opening.{Adopts, Opened};
 ghost use Rattle.keep_sql.specs.OpenedFile.{OpenedFile};
+ghost use Rattle.keep_sql.specs.SqlState.{sql_terms};
 
 use crate::sql_keep::SqlKeep;
 use keep::{Keep, KeepFault};
@@ -22,8 +23,8 @@ use std::rt::HostRuntime;
 /// The keeper over a connection that nobody wants back.
 fn adopt<S: Alter + Drop>(alloc: Global, conn: Connection<S>) -> Result<SqlKeep<S>, KeepFault>
     ensures opened { IfOk result (λ k. Opened (state S.Store conn) (state S.Store k.conn) k.token_record) }
-    ensures found { (c : Contents) → HoldsEither (state S.Store conn) c → IfOk result (λ k. (⟦<SqlKeep<S> as Keep>⟧.terms).doubt k ≡ 0 → Adopts ⟦<SqlKeep<S> as Keep>⟧.terms k c) }
-    ensures fresh { (state S.Store conn).now.schema ≡ no_schema → IfOk result (λ k. (⟦<SqlKeep<S> as Keep>⟧.terms).doubt k ≡ 0 → Adopts ⟦<SqlKeep<S> as Keep>⟧.terms k (new_contents new_record)) }
+    ensures found { (c : Contents) → HoldsEither (state S.Store conn) c → IfOk result (λ k. HasCleanDisk (state S.Store k.conn) → Adopts (sql_terms S.Store) k c) }
+    ensures fresh { (state S.Store conn).now.schema ≡ no_schema → IfOk result (λ k. HasCleanDisk (state S.Store k.conn) → Adopts (sql_terms S.Store) k (new_contents new_record)) }
     ensures counts { IfOk result (λ k. (k.failures ≡ 0) × (k.tried ≡ 0)) }
     ensures undamaged { (state S.Store conn).now.schema ≡ no_schema → ((h : _) → HasCleanDisk (state S.Store h)) → IsErrOf result Damaged → ⊥ }
 {

@@ -1,16 +1,17 @@
 -- Payloads that are answered one after the other.
-use Rattle.std.proofs.Common.{◌≡◌, ℕ, ◌≤◌, ◌<◌, ◌^◌, List, [], ◌∷◌, ◌++◌, length, Option, Result, Err, refl, sym, ap, subst, ◌∙◌, append_assoc, arith, ◌⊎◌, inl, inr}
+use Rattle.std.proofs.Common.{◌≡◌, ℕ, ◌≤◌, ◌<◌, ◌^◌, List, [], ◌∷◌, ◌++◌, length, Option, Result, Err, refl, sym, ap, subst, ◌∙◌, append_assoc, arith, inr}
 use Rattle.std.specs.List.{flat_map, AllByRecursion}
 use Rattle.std.specs.Io.KnownBytes.{Appends}
 use Rattle.std.proofs.lemmas.List.{append-nil, length-append}
 use Rattle.std.proofs.lemmas.List.Concat.{flat_map-cons, flat_map-append}
 use Rattle.ck_calls.specs.declared.reply.Reply.{Reply}
 use Rattle.wire.specs.Messages.{frame, most, call_in}
+use Rattle.wire.specs.Replies.{HasReplyFrame}
 use Rattle.wire.specs.Stream.{Held}
 use Rattle.line.specs.declared.fault.LineFault.{LineFault}
 use Rattle.line.specs.declared.fault.LineFault.TheVariants as faults
 use Rattle.line.specs.Lines.{Message, messages}
-use Rattle.line.specs.Serve.{reply_frame, HasReplyFrame, AreFrames, counted}
+use Rattle.line.specs.Serve.{reply_frame, AreFrames, counted}
 use Rattle.line.specs.Parts.{Sends, Answers}
 use Rattle.line.proofs.Lines.{Appends-none, Appends-then, all-append}
 
@@ -20,10 +21,6 @@ flat_map-last f xs x = flat_map-append f xs (x ∷ []) ∙ ap (λ (y : List ℕ)
 pub messages-append : (ps qs : List (List ℕ)) → messages (ps ++ qs) ≡ messages ps ++ messages qs
 messages-append [] qs = refl
 messages-append (p ∷ ps) qs = ap (λ (ms : List Message). call_in p ∷ ms) (messages-append ps qs)
-
-pub with_left : {A B C : Type 0} → (A → B) → A ⊎ C → B ⊎ C
-with_left f (inl a) = inl (f a)
-with_left f (inr c) = inr c
 
 -- what was answered so far
 pub record Answered (leads : List Message → List Reply → Type 0) (bytes_old bytes_now : List ℕ) (count_old count_now : ℕ) (write_old write_now : Option (List ℕ)) : Type 0 where
@@ -77,23 +74,23 @@ module _ (before leads : List Message → List Reply → Type 0) (a b c payload 
     frames_before = record { bytes = refl; each = p.framed }
 
     -- or written in part
-    pub answers-cut : {U : Type 0} (old now : Held) (k : ℕ) (x : Option (List ℕ)) (failed failed' : Type 0) → (failed → failed') → (e : LineFault) (r : Result U LineFault) → a ≡ old.bytes → c ≡ now.bytes → Sends {U = U} failed w x reply (Err e) → r ≡ Err e → Answers leads failed' old now m k v x r
-    answers-cut old now k x failed failed' on faults.Read r is is' s by = absurd s
-    answers-cut old now k x failed failed' on faults.TooLong r is is' s by = absurd s
-    answers-cut old now k x failed failed' on faults.Cut r is is' s by = absurd s
-    answers-cut {U} old now k x failed failed' on faults.Write r is is' s by = subst (λ (y : Result U LineFault). Answers leads failed' old now m k v x y) (sym by) (record {
+    pub answers-cut : {U : Type 0} (old now : Held) (k : ℕ) (x : Option (List ℕ)) (e : LineFault) (r : Result U LineFault) → a ≡ old.bytes → c ≡ now.bytes → HasReplyFrame reply → Sends {U = U} w x reply (Err e) → r ≡ Err e → Answers leads old now m k v x r
+    answers-cut old now k x faults.Read r is is' framed s by = absurd s
+    answers-cut old now k x faults.TooLong r is is' framed s by = absurd s
+    answers-cut old now k x faults.Cut r is is' framed s by = absurd s
+    answers-cut {U} old now k x faults.Write r is is' framed s by = subst (λ (y : Result U LineFault). Answers leads old now m k v x y) (sym by) (record {
       payloads = p.payloads ++ payload ∷ [];
       rest = c;
       said = p.said ++ reply ∷ [];
-      written = flat_map reply_frame p.said ++ s.0;
+      written = flat_map reply_frame p.said ++ s.part;
       each = each_more;
       read = sym is ∙ read_more;
-      wrote = Appends-then v w x (flat_map reply_frame p.said) s.0 p.wrote s.3;
-      front = record { front = p.said; last = reply; all = refl; before = flat_map reply_frame p.said; frames = frames_before; part = s.0; lacking = s.1; cut = s.2; bytes = refl; cause = with_left on s.4 };
+      wrote = Appends-then v w x (flat_map reply_frame p.said) s.part p.wrote s.wrote;
+      front = record { front = p.said; last = reply; all = refl; before = flat_map reply_frame p.said; frames = frames_before; framed = framed; part = s.part; lacking = s.lacking; cut = s.all; bytes = refl };
       led = led_more;
       ends = tt;
     })
-    answers-cut {U} old now k x failed failed' on faults.Memory r is is' s by = subst (λ (y : Result U LineFault). Answers leads failed' old now m k v x y) (sym by) (record {
+    answers-cut {U} old now k x faults.Memory r is is' framed s by = subst (λ (y : Result U LineFault). Answers leads old now m k v x y) (sym by) (record {
       payloads = p.payloads ++ payload ∷ [];
       rest = c;
       said = p.said ++ reply ∷ [];
@@ -101,7 +98,7 @@ module _ (before leads : List Message → List Reply → Type 0) (a b c payload 
       each = each_more;
       read = sym is ∙ read_more;
       wrote = subst (λ (y : Option (List ℕ)). Appends v y (flat_map reply_frame p.said)) (sym s) p.wrote;
-      front = inr (record { front = p.said; last = reply; all = refl; frames = frames_before });
+      front = inr (record { front = p.said; last = reply; all = refl; frames = frames_before; framed = framed });
       led = led_more;
       ends = tt;
     })

@@ -37,7 +37,7 @@ passed a b error told says is n = n.0 (says.0 is)
 
 pub writes-after : (U V : Type 0) {T : Type 0} (a b c : Noting T) (e : LineFault) → Unfailing a b → WritesBy {U = U} b c (Err e) → WritesBy {U = V} a c (Err e)
 writes-after U V a b c faults.Read p q = unfailing-then a b c p q
-writes-after U V a b c faults.Write p q = tt
+writes-after U V a b c faults.Write p q = failed-after a b c p q
 writes-after U V a b c faults.TooLong p q = unfailing-then a b c p q
 writes-after U V a b c faults.Cut p q = unfailing-then a b c p q
 writes-after U V a b c faults.Memory p q = unfailing-then a b c p q

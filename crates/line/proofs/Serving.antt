@@ -6,14 +6,15 @@ use Rattle.std.proofs.lemmas.List.{length-append}
 use Rattle.std.proofs.lemmas.List.Concat.{flat_map-append}
 use Rattle.ck_calls.specs.declared.reply.Reply.{Reply}
 use Rattle.wire.specs.Messages.{frame, most}
+use Rattle.wire.specs.Replies.{HasReplyFrame}
 use Rattle.wire.specs.Stream.{Held, IsPartial}
 use Rattle.line.specs.declared.fault.LineFault.{LineFault}
 use Rattle.line.specs.declared.fault.LineFault.TheVariants as faults
 use Rattle.line.specs.Lines.{Message, messages}
-use Rattle.line.specs.Serve.{reply_frame, HasReplyFrame, AreFrames, IsWritten, counted, EndsBy, Serves}
+use Rattle.line.specs.Serve.{reply_frame, AreFrames, IsWritten, counted, EndsBy, Serves}
 use Rattle.line.specs.Parts.{RestsBy, Answers}
 use Rattle.line.proofs.Lines.{Appends-none, Appends-then, Consumes-none, Consumes-kept, Consumes-then, all-append}
-use Rattle.line.proofs.Answering.{messages-append, with_left}
+use Rattle.line.proofs.Answering.{messages-append}
 
 -- what was read and answered so far
 pub record Serving (leads : List Message → List Reply → Type 0) (held : Held) (count : ℕ) (read_old read_now write_old write_now : Option (List ℕ)) : Type 0 where
@@ -59,9 +60,9 @@ serving-kept leads held count a b c v w p k = record {
 
 -- ---- the end of a line at which nothing more was answered
 
-pub serves-by : (leads : List Message → List Reply → Type 0) (failed : Type 0) (held : Held) (count : ℕ) (a b c v w : Option (List ℕ)) (x : List ℕ) (r : Result ℕ LineFault)
-    → Serving leads held count a b v w → Consumes b c x → ((ps : List (List ℕ)) → count ≡ counted 0 (length ps) → EndsBy r ps (held.bytes ++ x) c) → ((y : List ℕ) (rs : List Reply) → AreFrames y rs → IsWritten failed r y rs) → Serves leads failed a c v w r
-serves-by leads failed held count a b c v w x r p q e f = record {
+pub serves-by : (leads : List Message → List Reply → Type 0) (held : Held) (count : ℕ) (a b c v w : Option (List ℕ)) (x : List ℕ) (r : Result ℕ LineFault)
+    → Serving leads held count a b v w → Consumes b c x → ((ps : List (List ℕ)) → count ≡ counted 0 (length ps) → EndsBy r ps (held.bytes ++ x) c) → ((y : List ℕ) (rs : List Reply) → AreFrames y rs → IsWritten r y rs) → Serves leads a c v w r
+serves-by leads held count a b c v w x r p q e f = record {
   payloads = p.payloads;
   rest = held.bytes ++ x;
   said = p.said;
@@ -74,8 +75,8 @@ serves-by leads failed held count a b c v w x r p q e f = record {
   ends = e p.payloads p.counts;
 }
 
-pub serves-memory : (leads : List Message → List Reply → Type 0) (failed : Type 0) (held : Held) (count : ℕ) (a b c v w : Option (List ℕ)) (x : List ℕ) → Serving leads held count a b v w → Consumes b c x → Serves leads failed a c v w (Err faults.Memory)
-serves-memory leads failed held count a b c v w x p q = serves-by leads failed held count a b c v w x (Err faults.Memory) p q (λ ps e. tt) (λ y rs whole. inl whole)
+pub serves-memory : (leads : List Message → List Reply → Type 0) (held : Held) (count : ℕ) (a b c v w : Option (List ℕ)) (x : List ℕ) → Serving leads held count a b v w → Consumes b c x → Serves leads a c v w (Err faults.Memory)
+serves-memory leads held count a b c v w x p q = serves-by leads held count a b c v w x (Err faults.Memory) p q (λ ps e. tt) (λ y rs whole. inl whole)
 
 -- ---- a piece was read
 
@@ -97,8 +98,8 @@ module _ (before leads : List Message → List Reply → Type 0) (held fed : Hel
     joined_led qs rs l = subst (λ (ms : List Message). leads ms (p.said ++ rs)) (sym (messages-append p.payloads qs)) (led (messages qs) rs l)
 
     -- and what it completes was answered
-    pub serving-more : (failed : Type 0) (done : U) → Answers {U = U} after failed fed left m n w y (Ok done) → Serving leads left n a c v y
-    serving-more failed done r =
+    pub serving-more : (done : U) → Answers {U = U} after fed left m n w y (Ok done) → Serving leads left n a c v y
+    serving-more done r =
         let ends = r.ends in
         record {
           payloads = p.payloads ++ r.payloads;
@@ -113,28 +114,29 @@ module _ (before leads : List Message → List Reply → Type 0) (held fed : Hel
           partial = ends.2;
         }
 
-    joined_front : (failed failed' : Type 0) → (failed → failed') → (e : LineFault) (z : List ℕ) (rs : List Reply) → IsWritten {U = U} failed (Err e) z rs → IsWritten {U = ℕ} failed' (Err e) (flat_map reply_frame p.said ++ z) (p.said ++ rs)
-    joined_front failed failed' on faults.Read z rs h = joined_frames z rs h
-    joined_front failed failed' on faults.Write z rs h = record {
+    joined_front : (e : LineFault) (z : List ℕ) (rs : List Reply) → IsWritten {U = U} (Err e) z rs → IsWritten {U = ℕ} (Err e) (flat_map reply_frame p.said ++ z) (p.said ++ rs)
+    joined_front faults.Read z rs h = joined_frames z rs h
+    joined_front faults.Write z rs h = record {
       front = p.said ++ h.front;
       last = h.last;
       all = ap (λ (qs : List Reply). p.said ++ qs) h.all ∙ sym (append_assoc p.said h.front (h.last ∷ []));
       before = flat_map reply_frame p.said ++ h.before;
       frames = joined_frames h.before h.front h.frames;
+      framed = h.framed;
       part = h.part;
       lacking = h.lacking;
       cut = h.cut;
       bytes = ap (λ (t : List ℕ). flat_map reply_frame p.said ++ t) h.bytes ∙ sym (append_assoc (flat_map reply_frame p.said) h.before h.part);
-      cause = with_left on h.cause;
     }
-    joined_front failed failed' on faults.TooLong z rs h = joined_frames z rs h
-    joined_front failed failed' on faults.Cut z rs h = joined_frames z rs h
-    joined_front failed failed' on faults.Memory z rs (inl h) = inl (joined_frames z rs h)
-    joined_front failed failed' on faults.Memory z rs (inr h) = inr (record {
+    joined_front faults.TooLong z rs h = joined_frames z rs h
+    joined_front faults.Cut z rs h = joined_frames z rs h
+    joined_front faults.Memory z rs (inl h) = inl (joined_frames z rs h)
+    joined_front faults.Memory z rs (inr h) = inr (record {
       front = p.said ++ h.front;
       last = h.last;
       all = ap (λ (qs : List Reply). p.said ++ qs) h.all ∙ sym (append_assoc p.said h.front (h.last ∷ []));
       frames = joined_frames z h.front h.frames;
+      framed = h.framed;
     })
 
     joined_ends : (e : LineFault) (qs ps : List (List ℕ)) (rest : List ℕ) → RestsBy {U = U} (Err e) m n qs rest left → EndsBy (Err e) ps rest c
@@ -144,8 +146,8 @@ module _ (before leads : List Message → List Reply → Type 0) (held fed : Hel
     joined_ends faults.Cut qs ps rest h = absurd h
     joined_ends faults.Memory qs ps rest h = tt
 
-    pub serves-fault : (failed failed' : Type 0) → (failed → failed') → (e : LineFault) → Answers {U = U} after failed fed left m n w y (Err e) → Serves leads failed' a c v y (Err e)
-    serves-fault failed failed' on e r = record {
+    pub serves-fault : (e : LineFault) → Answers {U = U} after fed left m n w y (Err e) → Serves leads a c v y (Err e)
+    serves-fault e r = record {
       payloads = p.payloads ++ r.payloads;
       rest = r.rest;
       said = p.said ++ r.said;
@@ -153,14 +155,14 @@ module _ (before leads : List Message → List Reply → Type 0) (held fed : Hel
       each = all-append (λ z. length z ≤ most) p.payloads r.payloads p.each r.each;
       read = joined_read r.payloads r.rest r.read;
       wrote = Appends-then v w y (flat_map reply_frame p.said) r.written p.wrote r.wrote;
-      front = joined_front failed failed' on e r.written r.said r.front;
+      front = joined_front e r.written r.said r.front;
       led = joined_led r.payloads r.said r.led;
       ends = joined_ends e r.payloads (p.payloads ++ r.payloads) r.rest r.ends;
     }
 
 -- a line that is known to do one thing is known to do what follows from it
-pub serves-as : (leads leads' : List Message → List Reply → Type 0) (failed : Type 0) (a b v w : Option (List ℕ)) (r : Result ℕ LineFault) → Serves leads failed a b v w r → ((ms : List Message) (rs : List Reply) → leads ms rs → leads' ms rs) → Serves leads' failed a b v w r
-serves-as leads leads' failed a b v w r s f = record {
+pub serves-as : (leads leads' : List Message → List Reply → Type 0) (a b v w : Option (List ℕ)) (r : Result ℕ LineFault) → Serves leads a b v w r → ((ms : List Message) (rs : List Reply) → leads ms rs → leads' ms rs) → Serves leads' a b v w r
+serves-as leads leads' a b v w r s f = record {
   payloads = s.payloads;
   rest = s.rest;
   said = s.said;

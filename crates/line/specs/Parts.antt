@@ -1,5 +1,5 @@
 -- The parts of a line.
-use Rattle.std.specs.Prelude.{◌≡◌, ◌⊎◌, ℕ, ◌≤◌, List, [], ◌++◌, length, false, Option, Result, Ok, Err}
+use Rattle.std.specs.Prelude.{◌≡◌, ℕ, ◌≤◌, List, ◌++◌, length, false, Option, Result, Ok, Err}
 use Rattle.std.specs.List.{flat_map, AllByRecursion}
 use Rattle.std.specs.Io.KnownBytes.{Appends}
 use Rattle.ck_calls.specs.declared.reply.Reply.{Reply}
@@ -8,7 +8,7 @@ use Rattle.wire.specs.Stream.{Held, IsPartial, IsTooLong}
 use Rattle.line.specs.declared.fault.LineFault.{LineFault}
 use Rattle.line.specs.declared.fault.LineFault.TheVariants as faults
 use Rattle.line.specs.Lines.{Message, messages}
-use Rattle.line.specs.Serve.{reply_frame, HasReplyFrame, IsWritten, counted}
+use Rattle.line.specs.Serve.{reply_frame, IsWritten, counted}
 
 -- a writer took the first of the bytes, and no others
 pub record TakesPart (old new : Option (List ℕ)) (bytes : List ℕ) : Type 0 where
@@ -17,14 +17,14 @@ pub record TakesPart (old new : Option (List ℕ)) (bytes : List ℕ) : Type 0 w
   pub all : bytes ≡ part ++ lacking
   pub wrote : Appends old new part
 
--- A writer was given a reply to write: it failed, or the reply has no frame.
-abbrev pub Sends : {U : Type 0} → Type 0 → Option (List ℕ) → Option (List ℕ) → Reply → Result U LineFault → Type 0
-Sends failed old new reply (Ok done) = Appends old new (reply_frame reply) × HasReplyFrame reply
-Sends failed old new reply (Err faults.Write) = (part : List ℕ) × (lacking : List ℕ) × (reply_frame reply ≡ part ++ lacking) × Appends old new part × (failed ⊎ ((¬ HasReplyFrame reply) × (part ≡ [])))
-Sends failed old new reply (Err faults.Read) = ⊥
-Sends failed old new reply (Err faults.TooLong) = ⊥
-Sends failed old new reply (Err faults.Cut) = ⊥
-Sends failed old new reply (Err faults.Memory) = new ≡ old
+-- a writer was given a reply to write
+abbrev pub Sends : {U : Type 0} → Option (List ℕ) → Option (List ℕ) → Reply → Result U LineFault → Type 0
+Sends old new reply (Ok done) = Appends old new (reply_frame reply)
+Sends old new reply (Err faults.Write) = TakesPart old new (reply_frame reply)
+Sends old new reply (Err faults.Read) = ⊥
+Sends old new reply (Err faults.TooLong) = ⊥
+Sends old new reply (Err faults.Cut) = ⊥
+Sends old new reply (Err faults.Memory) = new ≡ old
 
 -- why the answering ended, by what is left of the stream
 abbrev pub RestsBy : {U : Type 0} → Result U LineFault → ℕ → ℕ → List (List ℕ) → List ℕ → Held → Type 0
@@ -36,7 +36,7 @@ RestsBy (Err faults.Read) count_old count_new payloads rest held = ⊥
 RestsBy (Err faults.Cut) count_old count_new payloads rest held = ⊥
 
 -- the payloads at the front of what is held were answered in order
-pub record Answers {U : Type 0} (leads : List Message → List Reply → Type 0) (failed : Type 0) (held_old held_new : Held) (count_old count_new : ℕ) (write_old write_new : Option (List ℕ)) (r : Result U LineFault) : Type 0 where
+pub record Answers {U : Type 0} (leads : List Message → List Reply → Type 0) (held_old held_new : Held) (count_old count_new : ℕ) (write_old write_new : Option (List ℕ)) (r : Result U LineFault) : Type 0 where
   pub payloads : List (List ℕ)
   pub rest : List ℕ
   pub said : List Reply
@@ -44,6 +44,6 @@ pub record Answers {U : Type 0} (leads : List Message → List Reply → Type 0)
   pub each : AllByRecursion (λ p. length p ≤ most) payloads
   pub read : held_old.bytes ≡ flat_map frame payloads ++ rest
   pub wrote : Appends write_old write_new written
-  pub front : IsWritten failed r written said
+  pub front : IsWritten r written said
   pub led : leads (messages payloads) said
   pub ends : RestsBy r count_old count_new payloads rest held_new

@@ -4,7 +4,7 @@ use Rattle.std.specs.List.{flat_map, AllByRecursion}
 use Rattle.std.specs.Io.KnownBytes.{Appends, Consumes, IsAtEnd}
 use Rattle.ck_calls.specs.declared.reply.Reply.{Reply}
 use Rattle.wire.specs.Messages.{frame, most}
-use Rattle.wire.specs.Replies.{reply_payload, Fits-reply}
+use Rattle.wire.specs.Replies.{reply_payload, HasReplyFrame}
 use Rattle.wire.specs.Stream.{IsPartial, IsTooLong}
 use Rattle.line.specs.declared.fault.LineFault.{LineFault}
 use Rattle.line.specs.declared.fault.LineFault.TheVariants as faults
@@ -16,28 +16,23 @@ use Rattle.line.specs.Noting.{Noting, Unfailing, HasFailed}
 abbrev pub reply_frame : Reply → List ℕ
 reply_frame reply = frame (reply_payload reply)
 
--- each part of the reply has an encoding, and they are not too long
-abbrev pub HasReplyFrame : Reply → Type 0
-HasReplyFrame reply = Fits-reply reply × (length (reply_payload reply) ≤ most)
-
 -- the frames of the replies, in order
 pub record AreFrames (written : List ℕ) (said : List Reply) : Type 0 where
   pub bytes : written ≡ flat_map reply_frame said
   pub each : AllByRecursion HasReplyFrame said
 
--- All but the last reply, and a part of that one's frame, since the writer failed; or the last reply has no frame, and
--- nothing of it was written.
-pub record IsCutOff (failed : Type 0) (written : List ℕ) (said : List Reply) : Type 0 where
+-- all but the last reply, and a part of that one's frame
+pub record IsCutOff (written : List ℕ) (said : List Reply) : Type 0 where
   pub front : List Reply
   pub last : Reply
   pub all : said ≡ front ++ last ∷ []
   pub before : List ℕ
   pub frames : AreFrames before front
+  pub framed : HasReplyFrame last
   pub part : List ℕ
   pub lacking : List ℕ
   pub cut : reply_frame last ≡ part ++ lacking
   pub bytes : written ≡ before ++ part
-  pub cause : failed ⊎ ((¬ HasReplyFrame last) × (part ≡ []))
 
 -- all but the last reply
 pub record LacksLast (written : List ℕ) (said : List Reply) : Type 0 where
@@ -45,16 +40,17 @@ pub record LacksLast (written : List ℕ) (said : List Reply) : Type 0 where
   pub last : Reply
   pub all : said ≡ front ++ last ∷ []
   pub frames : AreFrames written front
+  pub framed : HasReplyFrame last
 
 -- How much of the replies was written: all, but the last in part where the writer failed, and perhaps all but the last
--- where memory ran out.
-abbrev pub IsWritten : {U : Type 0} → Type 0 → Result U LineFault → List ℕ → List Reply → Type 0
-IsWritten failed (Ok done) written said = AreFrames written said
-IsWritten failed (Err faults.Read) written said = AreFrames written said
-IsWritten failed (Err faults.Write) written said = IsCutOff failed written said
-IsWritten failed (Err faults.TooLong) written said = AreFrames written said
-IsWritten failed (Err faults.Cut) written said = AreFrames written said
-IsWritten failed (Err faults.Memory) written said = AreFrames written said ⊎ LacksLast written said
+-- where memory ran out. Each reply has a frame, written or not.
+abbrev pub IsWritten : {U : Type 0} → Result U LineFault → List ℕ → List Reply → Type 0
+IsWritten (Ok done) written said = AreFrames written said
+IsWritten (Err faults.Read) written said = AreFrames written said
+IsWritten (Err faults.Write) written said = IsCutOff written said
+IsWritten (Err faults.TooLong) written said = AreFrames written said
+IsWritten (Err faults.Cut) written said = AreFrames written said
+IsWritten (Err faults.Memory) written said = AreFrames written said ⊎ LacksLast written said
 
 -- ---- why a line ended
 
@@ -80,18 +76,18 @@ ReadsBy old new (Err faults.TooLong) = Unfailing old new
 ReadsBy old new (Err faults.Cut) = Unfailing old new
 ReadsBy old new (Err faults.Memory) = Unfailing old new
 
--- By what the writer noted: no failure is passed over. Where `Write` comes from stands with what was written.
+-- by what the writer noted: `Write` comes where it failed, and no failure is passed over
 abbrev pub WritesBy : {T U : Type 0} → Noting T → Noting T → Result U LineFault → Type 0
 WritesBy old new (Ok done) = Unfailing old new
 WritesBy old new (Err faults.Read) = Unfailing old new
-WritesBy old new (Err faults.Write) = Unit {0}
+WritesBy old new (Err faults.Write) = HasFailed old new
 WritesBy old new (Err faults.TooLong) = Unfailing old new
 WritesBy old new (Err faults.Cut) = Unfailing old new
 WritesBy old new (Err faults.Memory) = Unfailing old new
 
 -- What was read is the frames of payloads and a rest, and what was written is the frames of the replies to these
--- payloads, in order, as far as it came; `leads` says that these are the replies, and `failed` that the writer failed.
-pub record Serves (leads : List Message → List Reply → Type 0) (failed : Type 0) (read_old read_new write_old write_new : Option (List ℕ)) (r : Result ℕ LineFault) : Type 0 where
+-- payloads, in order, as far as it came; `leads` says that these are the replies.
+pub record Serves (leads : List Message → List Reply → Type 0) (read_old read_new write_old write_new : Option (List ℕ)) (r : Result ℕ LineFault) : Type 0 where
   pub payloads : List (List ℕ)
   pub rest : List ℕ
   pub said : List Reply
@@ -99,6 +95,6 @@ pub record Serves (leads : List Message → List Reply → Type 0) (failed : Typ
   pub each : AllByRecursion (λ p. length p ≤ most) payloads
   pub read : Consumes read_old read_new (flat_map frame payloads ++ rest)
   pub wrote : Appends write_old write_new written
-  pub front : IsWritten failed r written said
+  pub front : IsWritten r written said
   pub led : leads (messages payloads) said
   pub ends : EndsBy r payloads rest read_new

@@ -7,7 +7,9 @@ ghost use Rattle.token_model.specs.Worlds.{World};
 ghost use Rattle.token.specs.Applications.{HasJobs};
 ghost use Rattle.token.specs.Applications.{Shows};
 ghost use Rattle.token.specs.Runs.{AccountsFor, MayLeave};
+ghost use Rattle.token_store.specs.Short.{IsShort, IsShortCall};
 ghost use Rattle.wire.specs.Messages.{call_in};
+ghost use Rattle.wire.specs.Replies.{HasReplyFrame};
 ghost use Rattle.line.specs.declared.fault.LineFault.TheVariants.{Memory};
 ghost use Rattle.line.specs.Lines.{Calls, Finishes, Leads, LeadsAway, Moved};
 ghost use Rattle.line.specs.Noting.{HasFailed, Unfailing};
@@ -74,16 +76,19 @@ fn flush_out<W: Write>(writer: &mut Watched<W>) -> Result<(), LineFault>
     Err(LineFault::Write)
 }
 
-/// Writes the frame of a reply, and sees that it goes out. Of a reply that has no frame nothing is
-/// written, and the fault is `Write`.
+/// Writes the frame of a reply, and sees that it goes out. A short reply has a frame.
 fn send<W: Write>(alloc: Global, writer: &mut Watched<W>, reply: &Reply) -> Result<(), LineFault>
-    ensures sends { Sends (HasFailed writer.old writer.new) (W.contents writer.old.inner) (W.contents writer.new.inner) reply.now result }
+    requires { IsShort reply.now }
+    ensures framed { HasReplyFrame reply.now }
+    ensures sends { Sends (W.contents writer.old.inner) (W.contents writer.new.inner) reply.now result }
     ensures writes { WritesBy writer.old writer.new result }
 {
     let frame = match write_reply(alloc, reply) {
         Ok(frame) => frame,
-        Err(WireFault::Memory) => return Err(LineFault::Memory),
-        Err(_) => return Err(LineFault::Write),
+        Err(fault) => match fault {
+            WireFault::Memory => return Err(LineFault::Memory),
+            _ => unreachable!(),
+        },
     };
     match write_out(writer, &frame) {
         Ok(()) => {}
@@ -108,6 +113,8 @@ fn answer_call<K: Keep>(
     ensures doubt { K.terms.doubt token.old.store.keep ≤ K.terms.doubt token.new.store.keep }
     ensures failures { K.terms.failures token.old.store.keep ≤ K.terms.failures token.new.store.keep }
     ensures accounts { AccountsFor (K.terms.failures token.old.store.keep) (K.terms.failures token.new.store.keep) (result ∷ []) }
+    // A call with data that a frame has room for is told of as shortly.
+    ensures short { IsShortCall call → IsShort result }
 {
     match token.call(alloc, app, call, &random) {
         Out::Reply(reply) => reply,
@@ -124,6 +131,7 @@ fn answer<K: Keep>(
     payload: &[u8],
 ) -> Result<Reply, LineFault>
     ensures ok { IfOk result (λ reply. Leads K.terms app token.old token.new words.old words.new (call_in payload.now ∷ []) (reply ∷ [])) }
+    ensures short { IfOk result IsShort }
     ensures err { IfErr result (λ fault. (fault ≡ Memory) × (token.new ≡ token.old) × (words.new ≡ words.old)) }
 {
     match read_call(alloc, payload) {
@@ -146,7 +154,7 @@ fn answer_all<W: Write, K: Keep>(
     count: &mut u64,
 ) -> Result<(), LineFault>
     requires { frames.old.failed ≡ false }
-    ensures answers { Answers (Leads K.terms app token.old token.new words.old words.new) (HasFailed writer.old writer.new) frames.old frames.new count.old count.new (W.contents writer.old.inner) (W.contents writer.new.inner) result }
+    ensures answers { Answers (Leads K.terms app token.old token.new words.old words.new) frames.old frames.new count.old count.new (W.contents writer.old.inner) (W.contents writer.new.inner) result }
     ensures writes { WritesBy writer.old writer.new result }
 {
     let _counted = *count;
@@ -180,7 +188,7 @@ fn serve_frames<R: Read, W: Write, K: Keep>(
     app: u64,
     words: &mut Words,
 ) -> Result<u64, LineFault>
-    ensures serves { Serves (Leads K.terms app token.old token.new words.old words.new) (HasFailed writer.old writer.new) (R.remaining reader.old.inner) (R.remaining reader.new.inner) (W.contents writer.old.inner) (W.contents writer.new.inner) result }
+    ensures serves { Serves (Leads K.terms app token.old token.new words.old words.new) (R.remaining reader.old.inner) (R.remaining reader.new.inner) (W.contents writer.old.inner) (W.contents writer.new.inner) result }
     ensures reads { ReadsBy reader.old reader.new result }
     ensures writes { WritesBy writer.old writer.new result }
 {
@@ -218,19 +226,18 @@ fn serve_frames<R: Read, W: Write, K: Keep>(
 /// greatest value. After any outcome the application is gone, with all that it has.
 ///
 /// What was written is the frames of the replies to the messages of what was read, in order, whatever
-/// pieces the reader gives and the writer takes. A payload that is no call answers
-/// `CKR_ARGUMENTS_BAD`, and one that names no known function `CKR_FUNCTION_NOT_SUPPORTED`; neither
-/// changes the token nor takes random bytes. Each call takes the next of `words` that it needs, whether
-/// or not it succeeds, and is answered by the token.
+/// pieces the reader gives and the writer takes. Each reply has a frame. A payload that is no call
+/// answers `CKR_ARGUMENTS_BAD`, and one that names no known function `CKR_FUNCTION_NOT_SUPPORTED`;
+/// neither changes the token nor takes random bytes. Each call takes the next of `words` that it needs,
+/// whether or not it succeeds, and is answered by the token.
 ///
 /// # Errors
 ///
 /// - `Read` only where the reader notes a failure, and after 2^64 - 1 reads. A read that was interrupted
 ///   is made again, and counts.
-/// - `Write` only where the writer notes a failure, after 2^64 - 1 writes of one frame, or as many
-///   flushes, of which one that was interrupted is made again, and counts; and where the last reply has
-///   no frame. The replies before the last were written, and perhaps a part of the last, of one without
-///   a frame nothing.
+/// - `Write` only where the writer notes a failure, and after 2^64 - 1 writes of one frame, or as many
+///   flushes, of which one that was interrupted is made again, and counts. The replies before the last
+///   were written, and perhaps a part of the last.
 /// - `TooLong` for a frame above the limit.
 /// - `Cut` where the reader ends within a frame.
 /// - `Memory` where memory was refused, but for a call's own work, which then answers
@@ -251,10 +258,10 @@ pub fn serve_one<R: Read, W: Write, K: Keep>(
     // The bytes written are the frames of the replies to the messages of the bytes read. While the store is
     // honest, these are a run of the token from each world that it showed, and it shows the world after
     // that, without the application.
-    ensures serves { Serves (LeadsAway K.terms words.old.stream token.old token.new words.old words.new) (HasFailed writer.old writer.new) (R.remaining reader.old.inner) (R.remaining reader.new.inner) (W.contents writer.old.inner) (W.contents writer.new.inner) result }
+    ensures serves { Serves (LeadsAway K.terms words.old.stream token.old token.new words.old words.new) (R.remaining reader.old.inner) (R.remaining reader.new.inner) (W.contents writer.old.inner) (W.contents writer.new.inner) result }
     // `Read` comes only where a read failed, or after 2^64 - 1 reads, and no failure is passed over.
     ensures reads { ReadsBy reader.old reader.new result }
-    // No failure of the writer is passed over.
+    // `Write` comes only where a write or a flush failed, or after as many, and no failure is passed over.
     ensures writes { WritesBy writer.old writer.new result }
     // No question is pending.
     ensures idle { K.terms.doubt token.new.store.keep ≡ 0 → (v : World) → Shows K.terms token.old v → (w : World) → Shows K.terms token.new w → HasJobs w [] }

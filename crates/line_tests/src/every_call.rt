@@ -2,12 +2,11 @@
 //! bytes each takes.
 
 use crate::long_texts::frames_of;
-use crate::tests::token_over;
 use ck_calls::{Call, Function, Reply, need};
 use keep::ListKeep;
 use line::{LineFault, Watched, Words, serve_one};
 use pin_record::Record;
-use scripts::{EVERY_CALL, Step, call_of, expect_told, reply_of};
+use scripts::{EVERY_CALL, Step, call_of, expect_told, reply_of, token_over};
 use std::alloc::Global;
 use std::process::Abort;
 use std::test::*;
@@ -36,10 +35,11 @@ fn served(
 
 /// The reply in a payload that begins with CKR_OK.
 fn ok_reply(alloc: Global, call: &Call, payload: &[u8]) -> Result<Reply, Fail> {
+    let function = Function::of(call);
     if !payload.starts_with(&[0; 8]) {
-        return Err(Fail::new(format_args!("{call:?}: {payload:?}")));
+        return Err(Fail::new(format_args!("{function:?}: {payload:?}")));
     }
-    Ok(read_reply(alloc, Function::of(call).number(), payload)?)
+    Ok(read_reply(alloc, function.number(), payload)?)
 }
 
 #[test]

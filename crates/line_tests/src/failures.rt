@@ -2,10 +2,11 @@
 
 ghost use Rattle.std.specs.Prelude.{Some};
 
-use crate::tests::{Drip, Narrow, after_cut, first_run, token_over};
+use crate::tests::{Drip, Narrow, after_cut, first_run};
 use keep::ListKeep;
 use line::{LineFault, Watched, Words, serve_one};
 use pin_record::Record;
+use scripts::token_over;
 use std::alloc::Global;
 use std::io::{self, ErrorKind, Read, Write};
 use std::test::*;

@@ -1,13 +1,12 @@
 //! A keeper that fails at its n-th call: one reply of the line has the code of the failure.
 
-use crate::tests::token_over;
 use ck_types::Rv;
 use failing_keep::{FailingKeep, Failure};
 use keep::ListKeep;
 use line::{Watched, Words, serve_one};
 use pin_record::Record;
 use scripts::given::*;
-use scripts::{Step, call_of};
+use scripts::{Step, call_of, token_over};
 use std::alloc::Global;
 use std::process::Abort;
 use std::test::*;

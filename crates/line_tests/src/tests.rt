@@ -1,19 +1,16 @@
 //! The first run: open a session, make an AES key, begin ECB, and encrypt the block of FIPS 197, C.1.
 
-ghost use Rattle.std.specs.Prelude.{[], IfOk, Some};
-ghost use Rattle.token_model.specs.Worlds.{World};
-ghost use Rattle.token.specs.Applications.{HasJobs};
-ghost use Rattle.token.specs.Applications.{Shows};
+ghost use Rattle.std.specs.Prelude.{Some};
 
 use ck_calls::{Call, Reply};
 use ck_types::Rv;
 use keep::{Keep, ListKeep};
 use line::{LineFault, Watched, Words, serve_one};
 use pin_record::Record;
+use scripts::{Out, Token, token_over};
 use std::alloc::Global;
 use std::io::{self, ErrorKind, Read, Write};
 use std::test::*;
-use token::{Out, Token};
 use wire::{FrameReader, WireFault, read_reply, write_call};
 
 const OPEN_SESSION: &[u8] =
@@ -110,16 +107,6 @@ fn joined(alloc: Global, parts: &[&[u8]]) -> Result<Vec<u8>, Fail> {
         whole.extend_from_slice(part)?;
     }
     Ok(whole)
-}
-
-/// A token that nobody has called.
-pub(crate) fn token_over<K: Keep>(alloc: Global, keep: K) -> Result<Token<K>, Fail>
-    ensures { IfOk result (λ t. (w : World) → Shows K.terms t w → HasJobs w []) }
-{
-    match Token::new(alloc, keep) {
-        Ok(token) => Ok(token),
-        Err(_) => Err(Fail::new("the keeper refused")),
-    }
 }
 
 /// How a line over the input ends for a new token, and what it wrote.

@@ -1,3 +1,4 @@
 pub mod Wrappings
 pub mod Runnable
 pub mod Works
+pub mod Rooms

@@ -3,6 +3,7 @@
 ghost use Rattle.std.specs.Prelude.{◌≡◌, IfErr, IfOk, IsTrue};
 ghost use Rattle.std.specs.Result.{ForErr, ForOk};
 ghost use Rattle.mech.specs.declared.work.Work.TheVariants.{Cipher, CheckPin, ChangePin, ResetToken};
+ghost use Rattle.mech.specs.Rooms.{HasRoom};
 ghost use Rattle.mech.specs.Runnable.{is_runnable};
 ghost use Rattle.mech.specs.Works.{outcome_of};
 
@@ -31,6 +32,7 @@ pub struct Done {
     ghost question_is: { question ≡ job.value.question },
     ghost function_is: { function ≡ job.value.function },
     ghost value: { ForOk outcome (λ o. o ≡ outcome_of job.value.work) },
+    ghost room: { ForOk outcome (λ o. HasRoom job.value.work o) },
     ghost back: { ForErr outcome (λ work. work ≡ job.value.work) },
 }
 
@@ -59,6 +61,8 @@ impl Done {
     /// What the work gave, or for want of memory the work as it was.
     pub fn into_outcome(self) -> Result<Outcome, Work>
         ensures value { IfOk result (λ o. o ≡ outcome_of self.job.value.work) }
+        // It is no longer than its work's may be.
+        ensures room { IfOk result (λ o. HasRoom self.job.value.work o) }
         ensures back { IfErr result (λ work. work ≡ self.job.value.work) }
     {
         let Done { outcome, .. } = self;
@@ -70,8 +74,10 @@ impl Done {
 fn ciphered(alloc: Global, stream: Stream, part: Part, input: Bytes) -> Result<Outcome, Work>
     requires { IsTrue (is_runnable (Cipher stream part input)) }
     ensures value { IfOk result (λ o. o ≡ outcome_of (Cipher stream part input)) }
+    ensures room { IfOk result (λ o. HasRoom (Cipher stream part input) o) }
     ensures back { IfErr result (λ back. back ≡ Cipher stream part input) }
 {
+    stream.is_right();
     match part {
         Part::Update => {
             let mut further = stream.copied();
@@ -151,6 +157,7 @@ fn token_reset(label: Label, verifier: &Verifier, pin: &[u8]) -> Outcome
 fn work_done(alloc: Global, work: Work) -> Result<Outcome, Work>
     requires { IsTrue (is_runnable work) }
     ensures value { IfOk result (λ o. o ≡ outcome_of work) }
+    ensures room { IfOk result (λ o. HasRoom work o) }
     ensures back { IfErr result (λ back. back ≡ work) }
 {
     match work {

@@ -2,6 +2,7 @@
 
 ghost use Rattle.std.specs.Prelude.{◌≡◌, ◌≤◌, ◌+◌, ◌%◌, length, IfErr, IfOk, IfSome, IsTrue};
 ghost use Rattle.mech.specs.declared.work.Work.TheVariants.{Unwrap, Wrap};
+ghost use Rattle.mech.specs.Rooms.{HasRoom};
 ghost use Rattle.mech.specs.Runnable.{is_runnable};
 ghost use Rattle.mech.specs.Works.{outcome_of};
 ghost use Rattle.mech.specs.Wrappings.{value_wrapped_in};
@@ -18,6 +19,7 @@ use templates::unwrapped;
 pub(crate) fn wrapped(alloc: Global, key: Key, value: Bytes) -> Result<Outcome, Work>
     requires { IsTrue (is_runnable (Wrap key value)) }
     ensures value { IfOk result (λ o. o ≡ outcome_of (Wrap key value)) }
+    ensures room { IfOk result (λ o. HasRoom (Wrap key value) o) }
     ensures back { IfErr result (λ back. back ≡ Wrap key value) }
 {
     match wrap(alloc, &key, value.as_slice()) {

@@ -2,6 +2,7 @@
 
 ghost use Rattle.std.specs.Prelude.{◌≡◌, IfErr, IfOk};
 ghost use Rattle.mech.specs.declared.work.Work.TheVariants.{Sign, Take, Verify};
+ghost use Rattle.mech.specs.Rooms.{HasRoom};
 ghost use Rattle.mech.specs.Works.{outcome_of};
 
 use crate::outcome::Outcome;
@@ -22,6 +23,7 @@ pub(crate) fn taken(place: MacPlace, mut mac: Mac, input: &[u8]) -> Outcome
 /// Makes the signature of all data, with the last of it, or gives the work back for want of memory.
 pub(crate) fn signed(alloc: Global, mac: Mac, input: Bytes) -> Result<Outcome, Work>
     ensures value { IfOk result (λ o. o ≡ outcome_of (Sign mac input)) }
+    ensures room { IfOk result (λ o. HasRoom (Sign mac input) o) }
     ensures back { IfErr result (λ back. back ≡ Sign mac input) }
 {
     let mut whole = mac.copied();

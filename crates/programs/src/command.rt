@@ -14,6 +14,18 @@ pub(crate) const MAX_CONNECTIONS: u64 = (1 << 61) - 1;
 
 /// The command line of `tokend`.
 pub(crate) fn command<'a>(alloc: Global) -> Result<Command<'a>, Error> {
+    let command = Command::new(alloc, "tokend")
+        .about("A PKCS #11 software token")
+        .version(VERSION)
+        .subcommand_required(true)
+        .subcommand(stdio(alloc)?)?
+        .subcommand(serve(alloc)?)?
+        .subcommand(p11call(alloc)?)?;
+    Ok(command)
+}
+
+/// The command for one application on standard input and output.
+fn stdio<'a>(alloc: Global) -> Result<Command<'a>, Error> {
     let seed = Arg::new(alloc, "seed")
         .long("seed")
         .action(ArgAction::Set)
@@ -23,17 +35,15 @@ pub(crate) fn command<'a>(alloc: Global) -> Result<Command<'a>, Error> {
     let stdio = Command::new(alloc, "stdio")
         .about("Answers the frames of standard input on standard output, as application 0")
         .arg(seed)?;
+    Ok(stdio)
+}
+
+/// The command for calls to a daemon.
+fn p11call<'a>(alloc: Global) -> Result<Command<'a>, Error> {
     let p11call = Command::new(alloc, "p11call")
         .about("Sends calls to a daemon: one a line, in hexadecimal, and prints their replies so")
         .arg(needed(alloc, "socket", "The path of the daemon's socket"))?;
-    let command = Command::new(alloc, "tokend")
-        .about("A PKCS #11 software token")
-        .version(VERSION)
-        .subcommand_required(true)
-        .subcommand(stdio)?
-        .subcommand(serve(alloc)?)?
-        .subcommand(p11call)?;
-    Ok(command)
+    Ok(p11call)
 }
 
 /// The daemon's command.

@@ -10,6 +10,7 @@ use crate::p11call::ask_all;
 use crate::serve::serve;
 use clap::error::ErrorKind;
 use clap::{ArgMatches, Error};
+use hall::Token;
 use keep::ListKeep;
 use line::{Watched, Words, serve_one};
 use pin_record::Record;
@@ -18,7 +19,6 @@ use std::io::{Read, Write};
 use std::os::unix::net::UnixStream;
 use std::sync::Wait;
 use std::thread::Threads;
-use token::Token;
 
 /// The application of standard input.
 const STDIO_APP: u64 = 0;

@@ -7,7 +7,7 @@ use crate::failure::Failure;
 use crate::listening::listen;
 use cache::Cached;
 use clap::ArgMatches;
-use hall::{Gate, Seat, hold};
+use hall::{Gate, Seat, Token, hold};
 use keep::Keep;
 use keep_sql::SqlKeep;
 use sockets::SocketSeat;
@@ -19,7 +19,6 @@ use std::num::NonZeroUsize;
 use std::os::unix::net::UnixListener;
 use std::sync::{Arc, Wait};
 use std::thread::Threads;
-use token::Token;
 
 /// How many objects the cache has room for.
 const CAPACITY: usize = 128;
@@ -87,6 +86,19 @@ fn seed_in(rt: &HostRuntime, path: &str) -> Result<[u8; 32], Failure> {
     }
 }
 
+/// A token over a keeper behind a cache.
+fn token_over<K: Keep>(alloc: Global, keep: K) -> Result<Token<Cached<K>>, Failure> {
+    let capacity = NonZeroUsize::new(CAPACITY).ok_or(Failure::Memory)?;
+    let keep = match Cached::new(alloc, keep, capacity) {
+        Ok(keep) => keep,
+        Err((fault, _)) => return Err(fault.into()),
+    };
+    match Token::new(alloc, keep) {
+        Ok(token) => Ok(token),
+        Err((fault, _)) => Err(fault.into()),
+    }
+}
+
 /// Serves a token over a keeper.
 fn serve_over<K: Keep, R: Threads + Wait + Copy + Send + Drop + 'static, O: Write>(
     rt: &HostRuntime,
@@ -96,27 +108,39 @@ fn serve_over<K: Keep, R: Threads + Wait + Copy + Send + Drop + 'static, O: Writ
     output: &mut O,
 ) -> Result<(), Failure> {
     let alloc = rt.alloc();
-    let capacity = NonZeroUsize::new(CAPACITY).ok_or(Failure::Memory)?;
-    let keep = match Cached::new(alloc, keep, capacity) {
-        Ok(keep) => keep,
-        Err((fault, _)) => return Err(fault.into()),
-    };
-    let token = match Token::new(alloc, keep) {
-        Ok(token) => token,
-        Err((fault, _)) => return Err(fault.into()),
-    };
+    let token = token_over(alloc, keep)?;
     let Ok(gate) = Arc::new(alloc, OpenGate) else {
         return Err(Failure::Memory);
     };
+    let seats = ready_seats(rt, alloc, served, output)?;
+    match hold(threads, alloc, token, seats, &gate) {
+        Ok(held) => {
+            let ended = seats_ended(&held.seats);
+            drop(held);
+            ended
+        }
+        Err((fault, token)) => {
+            drop(token);
+            Err(fault.into())
+        }
+    }
+}
+
+/// The four seats on the socket, once the daemon listens and has said so.
+fn ready_seats<O: Write>(
+    rt: &HostRuntime,
+    alloc: Global,
+    served: &Served<'_>,
+    output: &mut O,
+) -> Result<(SocketSeat, SocketSeat, SocketSeat, SocketSeat), Failure>
+    ensures { IfOk result (λ seats. (⟦<SocketSeat as Seat>⟧.number seats.0 ≡ 0) × (⟦<SocketSeat as Seat>⟧.number seats.1 ≡ 1) × (⟦<SocketSeat as Seat>⟧.number seats.2 ≡ 2) × (⟦<SocketSeat as Seat>⟧.number seats.3 ≡ 3)) }
+{
     let listener = listen(rt, served.socket)?;
     let seats = seats_on(alloc, listener, served)?;
     writeln!(output, "ready")
         .and_then(|()| output.flush())
         .map_err(|_| Failure::Line)?;
-    match hold(threads, alloc, token, seats, &gate) {
-        Ok(held) => seats_ended(&held.seats),
-        Err((fault, _)) => Err(fault.into()),
-    }
+    Ok(seats)
 }
 
 /// Whether the seats ended as asked, and not for want of connections.

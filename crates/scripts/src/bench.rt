@@ -5,6 +5,7 @@ use crate::keepers::cached_list;
 use crate::random::random_for;
 use crate::replies::reply_of;
 use crate::steps::{Row, Step, Told};
+use crate::tokens::token_over;
 use ck_calls::{Call, Reply};
 use keep::{Keep, ListKeep};
 use pin_record::Record;
@@ -32,14 +33,12 @@ impl BenchOver<ListKeep> {
 
 impl<K: Keep> BenchOver<K> {
     pub fn over(alloc: Global, keep: K) -> Result<BenchOver<K>, Fail> {
-        match Token::new(alloc, keep) {
-            Ok(token) => Ok(BenchOver {
-                alloc,
-                token,
-                out: Vec::new(alloc),
-            }),
-            Err(_) => Err("the keeper refused".into()),
-        }
+        let token = token_over(alloc, keep)?;
+        Ok(BenchOver {
+            alloc,
+            token,
+            out: Vec::new(alloc),
+        })
     }
 
     /// The token's keeper, once the token has stopped.
@@ -72,8 +71,13 @@ impl<K: Keep> BenchOver<K> {
     pub fn expect(&mut self, place: impl Debug + Drop, row: Row) -> Result<(), Fail> {
         let (app, step, told) = row;
         let wanted = reply_of(self.alloc, told)?;
-        let got = self.told_at_last(app, step, wanted.is_some())?;
-        expect_told(place, (app, step), &wanted, &got)
+        match self.told_at_last(app, step, wanted.is_some()) {
+            Ok(got) => expect_so(place, (app, step), wanted, got),
+            Err(fault) => {
+                drop(wanted);
+                Err(fault)
+            }
+        }
     }
 
     /// What the application is told, at once or, if it is to be told something, of the question's result.
@@ -90,7 +94,7 @@ impl<K: Keep> BenchOver<K> {
             Step::Finish => Ok(self.finish(app, app)),
             Step::FinishOf(asker) => Ok(self.finish(app, asker)),
             Step::Goes => {
-                let _ = take_job(&mut self.out, app);
+                drop(take_job(&mut self.out, app));
                 self.token.gone(app);
                 Ok(None)
             }
@@ -102,9 +106,16 @@ impl<K: Keep> BenchOver<K> {
     }
 
     fn call(&mut self, app: u64, call: Call) -> Result<Option<Reply>, Fail> {
-        let random = random_for(self.alloc, &call)?;
-        let out = self.token.call(self.alloc, app, call, &random);
-        self.take_out(app, out)
+        match random_for(self.alloc, &call) {
+            Ok(random) => {
+                let out = self.token.call(self.alloc, app, call, &random);
+                self.take_out(app, out)
+            }
+            Err(fault) => {
+                drop(call);
+                Err(fault)
+            }
+        }
     }
 
     fn take_out(&mut self, app: u64, out: Out) -> Result<Option<Reply>, Fail> {
@@ -128,6 +139,18 @@ impl<K: Keep> BenchOver<K> {
 fn take_job(out: &mut Vec<(u64, Job)>, asker: u64) -> Option<Job> {
     let place = out.iter().position(|job| asker == job.0)?;
     Some(out.remove(place).1)
+}
+
+fn expect_so(
+    place: impl Debug + Drop,
+    step: (u64, Step),
+    wanted: Option<Reply>,
+    got: Option<Reply>,
+) -> Result<(), Fail> {
+    let told = expect_told(place, step, &wanted, &got);
+    drop(wanted);
+    drop(got);
+    told
 }
 
 /// Sees that the step at a place was told what is wanted.

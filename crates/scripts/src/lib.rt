@@ -10,6 +10,8 @@
 //!   token as one list of events, and `play_and_run` does both, each over a list and over a list behind a cache. `BenchOver` and
 //!   `run_over` take a keeper, as one that has a record of `record_with`.
 //! - `expect_neighbours` sees that the cases of a test have all neighbours of the tables of faults.
+//! - `Token`, `Event`, `Out` and `Job` are those of `token`, and `token_over` makes a token, for tests that use one without a
+//!   bench.
 //! - `expect_long_chain` and `expect_each_mechanism` give long texts to a `Server` at once and in pieces, there and back.
 //!
 //! ```text
@@ -33,6 +35,7 @@ mod runs;
 mod steps;
 mod stored;
 mod texts;
+mod tokens;
 
 pub use bench::{Bench, BenchOver, expect_told, play};
 pub use calls::call_of;
@@ -45,3 +48,5 @@ pub use runs::{play_and_run, play_and_run_questions, replies_to, run, run_over, 
 pub use steps::{Asked, Given, GivenMechanism, Row, Step, Told, Values};
 pub use stored::record_with;
 pub use texts::{NewToken, Server, add_output, expect_each_mechanism, expect_long_chain};
+pub use token::{Event, Job, Out, Token};
+pub use tokens::token_over;

@@ -9,12 +9,13 @@ use crate::keepers::cached_list;
 use crate::random::random_for;
 use crate::replies::reply_of;
 use crate::steps::{Row, Step, Told};
+use crate::tokens::token_over;
 use ck_calls::Reply;
 use keep::{Keep, ListKeep};
 use pin_record::Record;
 use std::alloc::Global;
 use std::test::Fail;
-use token::{Event, Token};
+use token::Event;
 
 /// Sees that a new token that takes all rows as one list of events gives the replies that they say, and that no question
 /// is left.
@@ -67,16 +68,12 @@ pub fn replies_to<K: Keep>(
     events: Vec<Event>,
 ) -> Result<Vec<(u64, Reply)>, Fail> {
     let events = with_random(alloc, events)?;
-    match Token::new(alloc, keep) {
-        Ok(mut token) => {
-            let ran = token.run(alloc, events, Vec::new(alloc));
-            if !ran.out.is_empty() || !ran.left.is_empty() {
-                return Err("jobs or events are left".into());
-            }
-            Ok(ran.replies)
-        }
-        Err(_) => Err("the keeper refused".into()),
+    let mut token = token_over(alloc, keep)?;
+    let ran = token.run(alloc, events, Vec::new(alloc));
+    if !ran.out.is_empty() || !ran.left.is_empty() {
+        return Err("jobs or events are left".into());
     }
+    Ok(ran.replies)
 }
 
 fn expect_replies(alloc: Global, replies: &[(u64, Reply)], rows: &[Row]) -> Result<(), Fail> {

@@ -1,1 +1,3 @@
 pub mod Ciphering
+mod Bounds
+pub mod Beginning

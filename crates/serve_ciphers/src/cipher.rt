@@ -10,7 +10,8 @@ ghost use Rattle.ck_types.specs.declared.rv.Rv.TheVariants as rv;
 ghost use Rattle.token_store.specs.declared.out.Out.TheVariants.{Reply as OutReply};
 ghost use Rattle.answers.specs.Cipher.{cipher_final, cipher_single, cipher_update};
 ghost use Rattle.answers.specs.CipherInit.{place_for};
-ghost use Rattle.token_store.specs.Refusing.{AtDesk};
+ghost use Rattle.token_store.specs.Refusing.{AtDesk, AtDeskIf};
+ghost use Rattle.token_store.specs.Short.{IsShortData};
 ghost use Rattle.token_store.specs.Shown.{IsFor, said_of};
 
 use crate::directions::{final_function, place_for, refused_row, single_function, update_function};
@@ -37,7 +38,7 @@ pub fn single(
     room: Option<u64>,
 ) -> Result<Out, Refusal>
     requires { desk.old.next_question < 2 ^ 63 }
-    ensures serves { AtDesk said_of (λ v. cipher_single direction v session input room) desk.old result desk.new }
+    ensures serves { AtDeskIf (IsShortData input room) said_of (λ v. cipher_single direction v session input room) desk.old result desk.new }
     ensures asker { IfOk result (IsFor app) }
 {
     let place = place_for(direction);
@@ -78,7 +79,7 @@ pub fn update(
     room: Option<u64>,
 ) -> Result<Out, Refusal>
     requires { desk.old.next_question < 2 ^ 63 }
-    ensures serves { AtDesk said_of (λ v. cipher_update direction v session input room) desk.old result desk.new }
+    ensures serves { AtDeskIf (IsShortData input room) said_of (λ v. cipher_update direction v session input room) desk.old result desk.new }
     ensures asker { IfOk result (IsFor app) }
 {
     let place = place_for(direction);

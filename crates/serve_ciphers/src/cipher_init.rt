@@ -1,11 +1,16 @@
 //! C_EncryptInit and C_DecryptInit (PKCS #11 v3.1, 5.8 and 5.10).
 
+ghost use Rattle.std.specs.Prelude.{◌≡◌};
+ghost use Rattle.sessions.specs.Sessions.{session_at};
 ghost use Rattle.answers.specs.CipherInit.{cipher_init};
-ghost use Rattle.token_store.specs.Refusing.{IsDone};
+ghost use Rattle.views.specs.Answering.{Replies};
+ghost use Rattle.token_store.specs.Refusing.{AtDesk, IsDone};
+ghost use Rattle.serve_ciphers.specs.Beginning.{by_key, cipher_for};
 
 use crate::directions::{permission, place_for};
 use crate::parameter::with_parameter;
 use aes_modes::Direction;
+use attrs::Object;
 use ck_calls::{Mechanism, Reply};
 use ck_types::Rv;
 use desk::Desk;
@@ -28,28 +33,66 @@ pub fn serve<K: Keep>(
 ) -> Result<Reply, Refusal>
     ensures { IsDone K.terms 0 (λ v. cipher_init direction v session mechanism key) store.old store.new desk.old result desk.new }
 {
-    let place = place_for(direction);
+    begin(alloc, desk, store, direction, session, &mechanism, key)
+}
+
+fn begin<K: Keep>(
+    alloc: Global,
+    desk: &mut Desk,
+    store: &mut Store<K>,
+    direction: Direction,
+    session: u64,
+    mechanism: &Option<Mechanism>,
+    key: u64,
+) -> Result<Reply, Refusal>
+    ensures { IsDone K.terms 0 (λ v. cipher_init direction v session mechanism.now key) store.old store.new desk.old result desk.new }
+{
     let _ = desk.state(session).ok_or(Row::NoSession)?;
     let Some(mechanism) = mechanism else {
-        desk.set_operation(session, place, None);
+        desk.set_operation(session, place_for(direction), None);
         return Ok(Reply::Code(Rv::Ok));
     };
-    if desk.operation(session, place).is_some() {
-        return Err(Refusal::Row(Row::OperationActive));
-    }
-    let cipher = find_for(Purpose::Cipher, mechanism.number).ok_or(Row::WrongMechanism)?;
-    let cipher = with_parameter(cipher, mechanism.parameter.as_slice()).ok_or(Row::WrongParameter)?;
+    let cipher = cipher_for(desk, direction, session, mechanism)?;
     let found = find(alloc, desk, store, key)?.ok_or(Row::NoKey)?;
-    if !is_secret_key(&found.object) {
+    begin_under(desk, direction, session, cipher, &found.object)
+}
+
+/// The mechanism of an operation that is to begin, where none is under way at its place.
+fn cipher_for(
+    desk: &Desk,
+    direction: Direction,
+    session: u64,
+    mechanism: &Mechanism,
+) -> Result<streams::Mechanism, Row>
+    ensures { result ≡ cipher_for direction (session_at desk.now.sessions.sessions session) mechanism.now }
+{
+    if desk.operation(session, place_for(direction)).is_some() {
+        return Err(Row::OperationActive);
+    }
+    let kind = find_for(Purpose::Cipher, mechanism.number).ok_or(Row::WrongMechanism)?;
+    with_parameter(kind, mechanism.parameter.as_slice()).ok_or(Row::WrongParameter)
+}
+
+/// Begins an operation under an object that was found, where that is an AES key and permits it.
+fn begin_under(
+    desk: &mut Desk,
+    direction: Direction,
+    session: u64,
+    cipher: streams::Mechanism,
+    key: &Object,
+) -> Result<Reply, Refusal>
+    ensures { AtDesk Replies (λ v. by_key direction v session cipher key.now) desk.old result desk.new }
+{
+    if !is_secret_key(key) {
         return Err(Refusal::Row(Row::NoKey));
     }
-    if !is_aes(&found.object) {
+    if !is_aes(key) {
         return Err(Refusal::Row(Row::WrongKeyType));
     }
-    if !found.object.flag(permission(direction)) {
+    if !key.flag(permission(direction)) {
         return Err(Refusal::Row(Row::KeyNotPermitted));
     }
-    let stream = Stream::new(cipher, direction, aes_key(&found.object));
-    desk.set_operation(session, place, Some(stream));
+    let stream = Stream::new(cipher, direction, aes_key(key));
+    desk.set_operation(session, place_for(direction), Some(stream));
     Ok(Reply::Code(Rv::Ok))
 }

@@ -1,6 +1,6 @@
 -- C_GenerateKey.
 use Rattle.std.proofs.Common.{◌≡◌, ℕ, Bool, true, false, cond, List, [], ◌∷◌, length, Option, Some, None, refl, ◌∙◌, ap}
-use Rattle.std.specs.Prelude.{find, nat_le, ◌==◌}
+use Rattle.std.specs.Prelude.{find, nat_le, not, ◌==◌}
 use Rattle.std.specs.Option.{option_map, unwrap_or}
 use Rattle.std.specs.Int.{w64, from_be_bytes}
 use Rattle.ck_types.specs.declared.entry.Entry.{Entry}
@@ -46,7 +46,7 @@ asked-len template =
 
 -- ---- the answer
 
-module _ (v : View) (session : ℕ) (m : Mechanism) (template : List Entry) (s : Session Operations) (there : session_of v session ≡ Some s) (kind : MechType) (is : generation_at m.number ≡ Some kind) (empty : (length m.parameter == 0) ≡ true) where
+module _ (v : View) (session : ℕ) (m : Mechanism) (template : List Entry) (s : Session Operations) (there : session_of v session ≡ Some s) (kind : MechType) (is : generation_at m.number ≡ Some kind) (empty : not (length m.parameter == 0) ≡ false) where
   abbrev pub state : SessionState
   state = state_of v.sessions.login s.read_write
 

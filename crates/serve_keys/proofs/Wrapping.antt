@@ -1,5 +1,5 @@
 -- C_WrapKey, where no row refuses.
-use Rattle.std.proofs.Common.{◌≡◌, ◌+◌, ℕ, true, false, List, [], length, Option, Some, None, refl, ap}
+use Rattle.std.proofs.Common.{◌≡◌, ◌+◌, ℕ, true, false, List, length, Option, Some, refl}
 use Rattle.std.specs.Prelude.{is_none, ◌==◌, ◌&&◌, not}
 use Rattle.ck_types.specs.declared.attr_type.AttrType.TheVariants as attr
 use Rattle.ck_types.specs.declared.entry.Entry.{Entry}

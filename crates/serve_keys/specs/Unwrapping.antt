@@ -1,5 +1,5 @@
 -- The last rows of C_UnwrapKey, and its question: the unwrapping key and the wrapped key are known to do.
-use Rattle.std.specs.Prelude.{ℕ, ◌-◌, List, [], ◌∷◌, ◌++◌, length, Option, Some}
+use Rattle.std.specs.Prelude.{ℕ, ◌-◌, List, [], ◌∷◌, length, Option, Some}
 use Rattle.ck_types.specs.declared.entry.Entry.{Entry}
 use Rattle.ck_types.specs.declared.rv.Rv.{Rv}
 use Rattle.ck_types.specs.declared.session_state.SessionState.{SessionState}
@@ -11,7 +11,6 @@ use Rattle.templates.specs.Faults.{template_fault}
 use Rattle.views.specs.Views.{View, UnwrapsKey}
 use Rattle.views.specs.Answering.{Answer, asks}
 use Rattle.views.specs.Checked.{by_rows}
-use Rattle.answers.specs.CreateObject.{makes_row}
 use Rattle.answers.specs.UnwrapKey.{key_ahead, unwrap_says, template_row}
 
 abbrev pub asks_by : View → ℕ → SessionState → List ℕ → List ℕ → List Entry → List ℕ → Option Rv → Answer

@@ -1,6 +1,6 @@
 //! C_GenerateKey (PKCS #11 v3.1, 5.18).
 
-ghost use Rattle.std.specs.Prelude.{◌≡◌, ◌+◌, ◌<◌, ◌^◌, length};
+ghost use Rattle.std.specs.Prelude.{◌≡◌, ◌+◌, ◌<◌, ◌^◌, ◌==◌, length, not};
 ghost use Rattle.ck_calls.specs.Need.{value_len_in};
 ghost use Rattle.answers.specs.GenerateKey.{generate_key};
 ghost use Rattle.token_store.specs.Refusing.{IsDone};
@@ -32,11 +32,34 @@ pub fn serve<K: Keep>(
     requires random { length random.now ≡ 16 + value_len_in template.now }
     ensures { IsDone K.terms 1 (λ v. generate_key v session mechanism template.now random.now) store.old store.new desk.old result desk.new }
 {
+    generate(alloc, desk, store, session, &mechanism, template, random)
+}
+
+fn generate<K: Keep>(
+    alloc: Global,
+    desk: &mut Desk,
+    store: &mut Store<K>,
+    session: u64,
+    mechanism: &Mechanism,
+    template: &Template,
+    random: &[u8],
+) -> Result<Reply, Refusal>
+    requires below { desk.old.handles.next_number < 2 ^ 63 }
+    requires random { length random.now ≡ 16 + value_len_in template.now }
+    ensures { IsDone K.terms 1 (λ v. generate_key v session mechanism.now template.now random.now) store.old store.new desk.old result desk.new }
+{
     let state = desk.state(session).ok_or(Row::NoSession)?;
     let generation = find_for(Purpose::Generation, mechanism.number).ok_or(Row::WrongMechanism)?;
-    if !mechanism.parameter.is_empty() {
+    if has_parameter(mechanism) {
         return Err(Refusal::Row(Row::WrongParameter));
     }
     let object = generated(alloc, state, generation, template, random)?;
     add_object(desk, store, session, state, object)
+}
+
+/// Whether a mechanism has a parameter, which none that generates keys takes.
+fn has_parameter(mechanism: &Mechanism) -> bool
+    ensures { result ≡ not (length mechanism.now.parameter == 0) }
+{
+    !mechanism.parameter.is_empty()
 }

@@ -1,8 +1,9 @@
 //! C_GenerateRandom (PKCS #11 v3.1, 5.19).
 
+ghost use Rattle.std.specs.Prelude.{◌≤◌, length};
 ghost use Rattle.views.specs.Answering.{Replies};
 ghost use Rattle.answers.specs.GenerateRandom.{generate_random};
-ghost use Rattle.token_store.specs.Refusing.{AtDesk};
+ghost use Rattle.token_store.specs.Refusing.{AtDeskIf};
 
 use ck_calls::Reply;
 use ck_types::Bytes;
@@ -23,7 +24,7 @@ pub fn serve(
     len: u64,
     random: &[u8],
 ) -> Result<Reply, Refusal>
-    ensures { AtDesk Replies (λ v. generate_random v session len random.now) desk.now result desk.now }
+    ensures { AtDeskIf (length random.now ≤ 32768) Replies (λ v. generate_random v session len random.now) desk.now result desk.now }
 {
     let _ = desk.state(session).ok_or(Row::NoSession)?;
     if len > RANDOM_LIMIT {

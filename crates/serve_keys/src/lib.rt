@@ -9,6 +9,7 @@
 //! ```
 #![tactic(auto)]
 
+mod found_key;
 pub mod generate_key;
 pub mod generate_random;
 pub mod unwrap_key;

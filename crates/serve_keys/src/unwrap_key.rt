@@ -1,7 +1,7 @@
 //! C_UnwrapKey (PKCS #11 v3.1, 5.18).
 
-ghost use Rattle.std.specs.Prelude.{◌≡◌, ◌<◌, ◌^◌, ◌-◌, [], IfOk, length, true};
-ghost use Rattle.guard.specs.Access.{is_user};
+ghost use Rattle.std.specs.Prelude.{◌≡◌, ◌<◌, ◌^◌, ◌-◌, ◌&&◌, not, [], IfOk, length, true};
+ghost use Rattle.guard.specs.Access.{is_rw, is_user};
 ghost use Rattle.views.specs.Outcomes.{Unwrapped};
 ghost use Rattle.answers.specs.UnwrapKey.{is_wrapped_length, unwrap_key, unwraps, unwrapped_result};
 ghost use Rattle.templates.specs.declared.call.Call.TheVariants as templates_call;
@@ -12,6 +12,7 @@ ghost use Rattle.token_store.specs.Shown.{IsFor, said_of};
 ghost use Rattle.serve_keys.specs.Objects.{object_in};
 ghost use Rattle.serve_keys.specs.Unwrapping.{asks_for_key};
 
+use crate::found_key::{is_no_key, key_in};
 use aes_block::Key;
 use attrs::Object;
 use ck_calls::{Function, Mechanism, Reply};
@@ -26,9 +27,7 @@ use precede::Row;
 use serve_objects::add_object;
 use std::alloc::Global;
 use templates::{unwrap_fault, unwraps_private_key, unwraps_token_key};
-use token_store::{
-    Found, Out, Refusal, Store, aes_key, ask, find, is_aes, is_secret_key, random_block,
-};
+use token_store::{Found, Out, Refusal, Store, aes_key, ask, find, is_aes, random_block};
 
 /// Asks for the key that a template makes of the value which is wrapped in the bytes, under an unwrapping key. The call's
 /// random bytes make its CKA_UNIQUE_ID. `CKR_SESSION_HANDLE_INVALID`, `CKR_MECHANISM_INVALID`,
@@ -56,8 +55,8 @@ pub fn serve<K: Keep>(
         app,
         desk,
         session,
-        mechanism,
-        key,
+        &mechanism,
+        &key,
         wrapped_key,
         template,
         random,
@@ -69,15 +68,15 @@ fn ask_unwrapped(
     app: u64,
     desk: &mut Desk,
     session: u64,
-    mechanism: Mechanism,
-    key: Option<Found>,
+    mechanism: &Mechanism,
+    key: &Option<Found>,
     wrapped_key: Bytes,
     template: Template,
     random: &[u8],
 ) -> Result<Out, Refusal>
     requires below { desk.old.next_question < 2 ^ 63 }
     requires random { length random.now ≡ 16 }
-    ensures serves { AtDesk said_of (λ v. unwraps v session mechanism (object_in key) wrapped_key template random.now (state_in v session) (template_fault (templates_call.Unwrap (length wrapped_key - 8)) (state_in v session) [] template)) desk.old result desk.new }
+    ensures serves { AtDesk said_of (λ v. unwraps v session mechanism.now (object_in key.now) wrapped_key template random.now (state_in v session) (template_fault (templates_call.Unwrap (length wrapped_key - 8)) (state_in v session) [] template)) desk.old result desk.new }
     ensures asker { IfOk result (IsFor app) }
 {
     let state = desk.state(session).ok_or(Row::NoSession)?;
@@ -85,11 +84,11 @@ fn ask_unwrapped(
     if !mechanism.parameter.is_empty() {
         return Err(Refusal::Row(Row::WrongParameter));
     }
-    let key = key.ok_or(Row::NoUnwrappingKey)?.object;
-    if !is_secret_key(&key) {
+    if is_no_key(key) {
         return Err(Refusal::Row(Row::NoUnwrappingKey));
     }
-    if !is_aes(&key) {
+    let key = key_in(key);
+    if !is_aes(key) {
         return Err(Refusal::Row(Row::WrongUnwrappingKeyType));
     }
     if !key.flag(AttrType::Unwrap) {
@@ -103,7 +102,7 @@ fn ask_unwrapped(
         desk,
         session,
         state,
-        aes_key(&key),
+        aes_key(key),
         wrapped_key,
         template,
         random,
@@ -127,6 +126,21 @@ fn is_user(state: SessionState) -> bool
     }
 }
 
+/// Why a template makes no key of so many wrapped bytes, if it makes none: its value is 8 bytes shorter.
+fn fault_of(state: SessionState, template: &Template, wrapped_len: usize) -> Option<Rv>
+    requires { is_wrapped_length wrapped_len ≡ true }
+    ensures { result ≡ template_fault (templates_call.Unwrap (wrapped_len - 8)) state [] template.now }
+{
+    unwrap_fault(state, template, wrapped_len - 8)
+}
+
+/// Whether a session in this state may have no such key: a token object is made in a R/W session.
+fn is_kept_back(is_token: bool, state: SessionState) -> bool
+    ensures { result ≡ (is_token && not (is_rw state)) }
+{
+    is_token && !is_read_write(state)
+}
+
 /// Asks for the key of a template, where the template makes one, a session in this state may and there is room.
 fn ask_for_key(
     app: u64,
@@ -144,11 +158,11 @@ fn ask_for_key(
     ensures serves { AtDesk said_of (λ v. asks_for_key v session state key wrapped template random.now) desk.old result desk.new }
     ensures asker { IfOk result (IsFor app) }
 {
-    if let Some(code) = unwrap_fault(state, &template, wrapped.len() - 8) {
+    if let Some(code) = fault_of(state, &template, wrapped.len()) {
         return Err(Refusal::Code(code));
     }
     let is_token = unwraps_token_key(&template);
-    if is_token && !is_read_write(state) {
+    if is_kept_back(is_token, state) {
         return Err(Refusal::Row(Row::TokenObjectReadOnly));
     }
     if unwraps_private_key(&template) && !is_user(state) {

@@ -1,6 +1,6 @@
 //! C_WrapKey (PKCS #11 v3.1, 5.18).
 
-ghost use Rattle.std.specs.Prelude.{◌≡◌, ◌<◌, ◌^◌, ◌&&◌, not, IfOk, Some, length, true};
+ghost use Rattle.std.specs.Prelude.{◌≡◌, ◌+◌, ◌<◌, ◌≤◌, ◌^◌, ◌&&◌, not, IfOk, Some, length, true};
 ghost use Rattle.ck_types.specs.declared.attr_type.AttrType.TheVariants as attr;
 ghost use Rattle.attrs.specs.Masking.{is_secret_key};
 ghost use Rattle.attrs.specs.Objects.{attribute_of, class_of, flag};
@@ -15,6 +15,7 @@ ghost use Rattle.token_store.specs.Shown.{Fits, IsFor, said_of};
 ghost use Rattle.token_store.specs.Stores.{Has};
 ghost use Rattle.serve_keys.specs.Objects.{object_in};
 
+use crate::found_key::{is_no_key, key_in};
 use attrs::Object;
 use ck_calls::{Function, Mechanism};
 use ck_types::{AttrType, Bytes};
@@ -24,7 +25,7 @@ use mech::Work;
 use mechanisms::{Purpose, find_for};
 use precede::Row;
 use std::alloc::Global;
-use token_store::{Found, Out, Refusal, Store, aes_key, ask_within, find, is_aes, is_secret_key};
+use token_store::{Found, Out, Refusal, Store, aes_key, ask_within, find, is_aes};
 
 /// How many bytes a wrapped key has more than its value.
 const WRAPPING_BYTES: u64 = 8;
@@ -54,9 +55,9 @@ pub fn serve<K: Keep>(
         app,
         desk,
         session,
-        mechanism,
-        wrapping_key,
-        key,
+        &mechanism,
+        &wrapping_key,
+        &key,
         room,
     )
 }
@@ -86,13 +87,13 @@ fn ask_wrapped(
     app: u64,
     desk: &mut Desk,
     session: u64,
-    mechanism: Mechanism,
-    wrapping_key: Option<Found>,
-    key: Option<Found>,
+    mechanism: &Mechanism,
+    wrapping_key: &Option<Found>,
+    key: &Option<Found>,
     room: Option<u64>,
 ) -> Result<Out, Refusal>
     requires { desk.old.next_question < 2 ^ 63 }
-    ensures serves { AtDesk said_of (λ v. wraps v session mechanism (object_in wrapping_key) (object_in key) room) desk.old result desk.new }
+    ensures serves { AtDesk said_of (λ v. wraps v session mechanism.now (object_in wrapping_key.now) (object_in key.now) room) desk.old result desk.new }
     ensures asker { IfOk result (IsFor app) }
 {
     let _ = desk.state(session).ok_or(Row::NoSession)?;
@@ -100,36 +101,50 @@ fn ask_wrapped(
     if !mechanism.parameter.is_empty() {
         return Err(Refusal::Row(Row::WrongParameter));
     }
-    let wrapping_key = wrapping_key.ok_or(Row::NoWrappingKey)?.object;
-    if !is_secret_key(&wrapping_key) {
+    if is_no_key(wrapping_key) {
         return Err(Refusal::Row(Row::NoWrappingKey));
     }
-    let key = key.ok_or(Row::NoKey)?.object;
-    if !is_secret_key(&key) {
+    if is_no_key(key) {
         return Err(Refusal::Row(Row::NoKey));
     }
-    if !is_aes(&wrapping_key) {
+    let wrapping_key = key_in(wrapping_key);
+    let key = key_in(key);
+    if !is_aes(wrapping_key) {
         return Err(Refusal::Row(Row::WrongWrappingKeyType));
     }
-    if !wrapping_key.flag(AttrType::Wrap) {
+    if !may_wrap(wrapping_key) {
         return Err(Refusal::Row(Row::KeyNotPermitted));
     }
-    if !key.flag(AttrType::Extractable) {
+    if !is_extractable(key) {
         return Err(Refusal::Row(Row::KeyUnextractable));
     }
-    if lacks_trust(&wrapping_key, &key) {
+    if lacks_trust(wrapping_key, key) {
         return Err(Refusal::Row(Row::KeyNotWrappable));
     }
-    let value = value_of(&key);
+    let value = value_of(key);
     if !is_value_length(value.len()) {
         return Err(Refusal::Row(Row::KeyLength));
     }
-    let wanted = value.len() as u64 + WRAPPING_BYTES;
+    let wanted = wrapped_len(value);
     let work = Work::Wrap {
-        key: aes_key(&wrapping_key),
+        key: aes_key(wrapping_key),
         value: Bytes::from_slice(alloc, value)?,
     };
     Ok(ask_within(app, desk, Function::WrapKey, session, work, wanted, room))
+}
+
+/// Whether a key may wrap others.
+fn may_wrap(key: &Object) -> bool
+    ensures { result ≡ flag key.now attr.Wrap }
+{
+    key.flag(AttrType::Wrap)
+}
+
+/// Whether a key may be wrapped at all.
+fn is_extractable(key: &Object) -> bool
+    ensures { result ≡ flag key.now attr.Extractable }
+{
+    key.flag(AttrType::Extractable)
 }
 
 /// Whether a key may be wrapped by trusted keys alone, and the wrapping key is none (PKCS #11 v3.1, 4.10).
@@ -144,9 +159,18 @@ fn value_of(key: &Object) -> &[u8]
     requires { is_secret_key (class_of key.now) ≡ true }
     ensures value { attribute_of key.now attr.Value ≡ Some result.now }
     ensures length { value_len key.now ≡ length result.now }
+    ensures within { length result.now ≤ 1024 }
 {
     let _entries = key.entries();
     key.value()
+}
+
+/// How many bytes the wrapping of a value has.
+fn wrapped_len(value: &[u8]) -> u64
+    requires { length value.now ≤ 1024 }
+    ensures { result ≡ length value.now + 8 }
+{
+    value.len() as u64 + WRAPPING_BYTES
 }
 
 /// Whether so many bytes can be wrapped: two or more whole halves of a block (RFC 3394, 2).

@@ -1,30 +1,19 @@
 -- The operations of a session that sign and verify.
-use Rattle.std.proofs.Common.{◌≡◌, ℕ, true, false, not, List, [], ◌∷◌, Option, Some, None, Bor, refl, sym, ap, subst}
-use Rattle.std.specs.Prelude.{is_some, is_none, option_map}
-use Rattle.std.specs.Option.{option_copied}
-use Rattle.ck_types.specs.declared.entry.Entry.{Entry}
-use Rattle.ck_types.specs.declared.mech_type.MechType.{MechType}
-use Rattle.ck_calls.specs.declared.fields.Mechanism.{Mechanism}
+use Rattle.std.proofs.Common.{◌≡◌, ℕ, false, List, [], Option, Some, None, refl, sym, subst}
+use Rattle.std.specs.Prelude.{is_none}
 use Rattle.ck_calls.specs.declared.function.Function.TheVariants as functions
 use Rattle.ck_calls.specs.declared.reply.Reply.{Reply}
-use Rattle.mechanisms.specs.Table.{key_type_of as key_type_for}
-use Rattle.macs.specs.declared.mechanism.Mechanism.{Mechanism as MacMechanism}
 use Rattle.macs.specs.Authentication.{Authentication}
 use Rattle.macs.specs.Codes.{code_length}
-use Rattle.attrs.specs.Masking.{is_secret_key}
-use Rattle.attrs.specs.Objects.{flag, class_of, key_type_of}
-use Rattle.precede.specs.declared.row.Row.TheVariants.{NoKey, WrongKeyType, KeyNotPermitted}
 use Rattle.keep.specs.Contents.{Contents}
 use Rattle.sessions.specs.declared.Session.{Session}
 use Rattle.sessions.specs.Sessions.{session_at}
 use Rattle.ops.specs.declared.place.MacPlace.{MacPlace}
-use Rattle.ops.specs.declared.place.MacPlace.TheVariants.{Sign, Verify}
+use Rattle.ops.specs.declared.place.MacPlace.TheVariants.{Sign}
 use Rattle.ops.specs.Operations.{MacOperation, Operations, mac_in, mac_of, mac_placed_in, with_mac as in_sessions}
 use Rattle.desk.specs.Desks.{DeskState}
 use Rattle.views.specs.Views.{View, Signs}
-use Rattle.views.specs.Answering.{Said, Replies, Answer, becomes, unless, session_of, object_at, with_mac}
-use Rattle.views.specs.Checked.{is_of_type}
-use Rattle.answers.specs.MacInit.{mac_permission, code_at, code_with, mac_begins, mac_init}
+use Rattle.views.specs.Answering.{Said, Replies, Answer, becomes, session_of, with_mac}
 use Rattle.answers.specs.Mac.{mac_has_taken, sign, sign_final}
 use Rattle.token_store.specs.Asking.{asks_within}
 use Rattle.token_store.specs.Shown.{view_of, Fits, Gives}
@@ -45,10 +34,6 @@ seated-at : (o : Option (Session Operations)) (place : MacPlace) (x : MacOperati
 seated-at None place x is = let k : None ≡ Some x = is in cc
 seated-at (Some s) place x is = refl
 
-pub idle-is : (r : Option (Bor Authentication)) (o : Option MacOperation) → option_map mac_of (option_copied r) ≡ o → is_some r ≡ false → is_some o ≡ false
-idle-is None o is idle = ap is_some (sym is)
-idle-is (Some x) o is idle = let k : true ≡ false = idle in cc
-
 -- a signature is asked for
 module _ (v : View) (session : ℕ) (a : Authentication) (under_way : mac_in (session_of v session) Sign ≡ Some (mac_of a)) (room : Option ℕ) where
   there : is_none (session_of v session) ≡ false
@@ -59,19 +44,6 @@ module _ (v : View) (session : ℕ) (a : Authentication) (under_way : mac_in (se
 
   pub final-asks : sign_final v session room ≡ asks_within functions.SignFinal session (Signs (mac_of a) []) (code_length a.mechanism) room v
   final-asks = rw (there, under_way) refl
-
--- an operation begins
-module _ (v : View) (session : ℕ) (there : is_none (session_of v session) ≡ false) (p : MacPlace) (m : Option Mechanism) (key : ℕ) where
-  module _ (given : Mechanism) (kind : MechType) (mechanism : MacMechanism) (o : List Entry) (is : m ≡ Some given) (idle : is_some (mac_in (session_of v session) p) ≡ false) (built : code_at given.number ≡ Some kind) (fits : code_with kind given.parameter ≡ Some mechanism) (found : object_at v key ≡ Some o) where
-    -- what is left to test is the key
-    abbrev pub by_key : Answer
-    by_key = unless v ((NoKey, not (is_secret_key (class_of o))) ∷ (WrongKeyType, not (is_of_type (key_type_for kind) (key_type_of o))) ∷ (KeyNotPermitted, not (flag o (mac_permission p))) ∷ []) (mac_begins p v session mechanism o)
-
-    pub by-key : mac_init p v session m key ≡ by_key
-    by-key = at p idle where
-      at : (p : MacPlace) → is_some (mac_in (session_of v session) p) ≡ false → mac_init p v session m key ≡ unless v ((NoKey, not (is_secret_key (class_of o))) ∷ (WrongKeyType, not (is_of_type (key_type_for kind) (key_type_of o))) ∷ (KeyNotPermitted, not (flag o (mac_permission p))) ∷ []) (mac_begins p v session mechanism o)
-      at Sign idle = rw (there, is, idle, built, fits, found) refl
-      at Verify idle = rw (there, is, idle, built, fits, found) refl
 
 -- an answer at the desk, written otherwise
 pub gives-is : (a b : Answer) (c : Contents) (d d' : DeskState) (said : Said) → a ≡ b → Gives b d.sessions.login c said c d' → Gives a d.sessions.login c said c d'

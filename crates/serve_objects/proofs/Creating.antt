@@ -1,36 +1,24 @@
 -- C_CreateObject: an object that is new.
-use Rattle.std.proofs.Common.{◌≡◌, ◌≢◌, ℕ, ◌+◌, ◌<◌, ◌≤◌, Bool, true, false, cond, not, List, [], ◌∷◌, ◌++◌, map, length, Option, Some, None, Result, Ok, Err, refl, sym, ◌∙◌, ap, arith}
-use Rattle.std.specs.Prelude.{filter, ◌==◌, ◌&&◌, nat_le}
+use Rattle.std.proofs.Common.{◌≡◌, ◌≢◌, ℕ, ◌+◌, ◌<◌, ◌≤◌, Bool, true, false, cond, not, List, [], ◌∷◌, ◌++◌, map, Option, Some, None, refl, sym, ◌∙◌, ap, arith}
+use Rattle.std.specs.Prelude.{filter, ◌==◌}
 use Rattle.std.specs.Option.{option_map}
 use Rattle.std.specs.List.{AllByRecursion}
-use Rattle.std.proofs.lemmas.Bool.{eqb-true, ne_eqb}
+use Rattle.std.proofs.lemmas.Bool.{ne_eqb}
 use Rattle.ck_types.specs.declared.entry.Entry.{Entry}
 use Rattle.ck_types.specs.declared.attr_type.AttrType.TheVariants as attr
-use Rattle.ck_types.specs.declared.rv.Rv.{Rv}
-use Rattle.ck_types.specs.declared.rv.Rv.TheVariants as rv
-use Rattle.ck_types.specs.declared.rv.Rv.TheVariants.{HostMemory}
-use Rattle.ck_types.specs.declared.session_state.SessionState.{SessionState}
-use Rattle.ck_calls.specs.declared.reply.Reply.TheVariants.{Code, Object}
+use Rattle.ck_calls.specs.declared.reply.Reply.TheVariants.{Object}
 use Rattle.attrs.specs.Objects.{flag}
-use Rattle.guard.specs.Access.{is_public, is_rw, is_visible}
-use Rattle.templates.specs.declared.call.Call.TheVariants.{Create}
-use Rattle.templates.specs.Faults.{template_fault}
-use Rattle.templates.specs.Made.{object_made, given_value, Answers as IsAnswered}
-use Rattle.precede.specs.Row.{code_of}
-use Rattle.precede.specs.declared.row.Row.TheVariants.{ObjectLimit}
+use Rattle.guard.specs.Access.{is_public}
 use Rattle.handles.specs.declared.Handle.{Handle}
 use Rattle.handles.specs.Handles.{number_of, with_handle}
 use Rattle.handles.proofs.HandleLemmas.{number_of-push}
 use Rattle.keep.specs.Contents.{Contents, Kept, IdsRise, IsSound, with_object}
-use Rattle.sessions.specs.declared.Session.{Session}
-use Rattle.sessions.specs.Sessions.{state_of}
 use Rattle.desk.specs.Desks.{DeskState, SameDesk}
-use Rattle.ops.specs.Operations.{Operations}
 use Rattle.views.specs.Views.{TokenObject, SessionObject, View, sees}
-use Rattle.views.specs.Answering.{Replies, Answer, unless, replies, session_of}
-use Rattle.answers.specs.CreateObject.{adds_token_object, adds_session_object, adds, create_object}
+use Rattle.views.specs.Answering.{Replies}
+use Rattle.answers.specs.CreateObject.{adds_token_object, adds_session_object}
 use Rattle.token_store.specs.Shown.{sees_kept, token_object, session_object, view_of, IsNoted, Fits, Gives}
-use Rattle.lists.proofs.ListLemmas.{find-passes, find-push_fails, filter-push_passes, All-push, map-push, length-map}
+use Rattle.lists.proofs.ListLemmas.{find-push_fails, filter-push_passes, All-push, map-push}
 
 -- ---- the next id
 

@@ -1,32 +1,21 @@
 -- C_SetAttributeValue: an object that changes.
-use Rattle.std.proofs.Common.{◌≡◌, ℕ, suc, ◌<◌, ◌≤◌, Bool, true, false, cond, not, List, [], ◌∷◌, map, Option, Some, None, refl, sym, subst, ◌∙◌, ap, arith, inl, inr}
-use Rattle.std.specs.Prelude.{find, filter, ◌==◌, ◌&&◌, IfSome}
+use Rattle.std.proofs.Common.{◌≡◌, ℕ, suc, ◌<◌, ◌≤◌, Bool, true, false, cond, List, [], ◌∷◌, map, Option, Some, None, refl, sym, subst, ◌∙◌, ap, arith, inl, inr}
+use Rattle.std.specs.Prelude.{find, filter, ◌==◌}
 use Rattle.std.specs.Option.{option_map}
 use Rattle.std.proofs.lemmas.Bool.{cases_Bool, cases_eq, eq-eqb, ne_eqb}
 use Rattle.ck_types.specs.declared.entry.Entry.{Entry}
-use Rattle.ck_types.specs.declared.attr_type.AttrType.TheVariants as attr
-use Rattle.ck_types.specs.declared.rv.Rv.{Rv}
 use Rattle.ck_types.specs.declared.rv.Rv.TheVariants.{Ok}
-use Rattle.ck_types.specs.declared.session_state.SessionState.{SessionState}
 use Rattle.ck_calls.specs.declared.reply.Reply.TheVariants.{Code}
-use Rattle.attrs.specs.Objects.{flag}
-use Rattle.guard.specs.Access.{is_public, is_rw}
-use Rattle.templates.specs.declared.call.Call.TheVariants.{Set}
-use Rattle.templates.specs.Faults.{template_fault}
-use Rattle.templates.specs.Made.{object_made}
+use Rattle.guard.specs.Access.{is_public}
 use Rattle.handles.specs.Handles.{IsTable}
-use Rattle.keep.specs.Contents.{Contents, Kept, IdsRise, IsSound, IsTokenObject, replaced_at, with_replacement}
-use Rattle.sessions.specs.declared.Session.{Session}
-use Rattle.sessions.specs.Sessions.{state_of}
+use Rattle.keep.specs.Contents.{Contents, Kept, IdsRise, IsSound, replaced_at, with_replacement}
 use Rattle.desk.specs.declared.own_object.OwnObject.{OwnObject}
 use Rattle.desk.specs.Desks.{DeskState, replaced_own}
-use Rattle.ops.specs.Operations.{Operations}
-use Rattle.token_store.specs.declared.finding.Found.{Found}
 use Rattle.lists.specs.Places.{first_place, kept_place, seen_place}
 use Rattle.views.specs.Views.{SessionObject, View, sees}
 use Rattle.views.specs.Changes.{Stays, Replace, seen as seen_after, replaced_at as replaced_seen}
-use Rattle.views.specs.Answering.{Replies, replies, session_of, object_at, place_of}
-use Rattle.answers.specs.SetAttributeValue.{rewritten_own, puts, set_attribute_value}
+use Rattle.views.specs.Answering.{Replies, place_of}
+use Rattle.answers.specs.SetAttributeValue.{rewritten_own, puts}
 use Rattle.token_store.specs.Shown.{sees_kept, session_object, view_of, rekept, IsAsPublic, Changes, Fits, Gives}
 use Rattle.token_store.specs.Found.{IsAt}
 use Rattle.lists.proofs.ListLemmas.{find-filter_none, place-none, kept-hidden, kept-seen, kept_place-map}

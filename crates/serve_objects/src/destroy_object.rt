@@ -1,6 +1,6 @@
 //! C_DestroyObject (PKCS #11 v3.1, 5.7).
 
-ghost use Rattle.std.specs.Prelude.{◌≡◌, List, IfErr, IsErrOf};
+ghost use Rattle.std.specs.Prelude.{◌≡◌, List, IfErr, IfOk, IsErrOf};
 ghost use Rattle.ck_types.specs.declared.entry.Entry.{Entry};
 ghost use Rattle.desk.specs.Desks.{SameDesk};
 ghost use Rattle.handles.specs.Handles.{IsTable};
@@ -11,6 +11,7 @@ ghost use Rattle.answers.specs.DestroyObject.{destroy_object, destroyed};
 ghost use Rattle.token_store.specs.declared.refusal.Refusal.TheVariants.{Device};
 ghost use Rattle.token_store.specs.Found.{IsAt};
 ghost use Rattle.token_store.specs.Refusing.{Does, IsDone, IsPlain};
+ghost use Rattle.token_store.specs.Short.{IsShort};
 ghost use Rattle.token_store.specs.Shown.{Fits, view_of};
 ghost use Rattle.token_store.specs.Stores.{Has};
 
@@ -56,6 +57,7 @@ fn destroy<K: Keep>(
     ensures cause { IsErrOf result Device → Rises (K.terms.failures store.old.keep) (K.terms.failures store.new.keep) }
     ensures plain { IsPlain result }
     ensures stays { IfErr result (λ refusal. SameDesk desk.old desk.new) }
+    ensures short { IfOk result (λ reply. IsShort reply) }
 {
     match id {
         Some(id) => {

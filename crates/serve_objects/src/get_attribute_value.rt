@@ -1,8 +1,10 @@
 //! C_GetAttributeValue (PKCS #11 v3.1, 5.7).
 
-ghost use Rattle.std.specs.Prelude.{◌≡◌, ◌∷◌, [], IfOk};
+ghost use Rattle.std.specs.Prelude.{◌≡◌, ◌≤◌, ◌∷◌, [], IfOk, length};
+ghost use Rattle.views.specs.Answering.{Replies};
 ghost use Rattle.answers.specs.GetAttributeValue.{attribute_told, attributes_told, code_of_all, get_attribute_value, has_code, unavailable};
-ghost use Rattle.token_store.specs.Refusing.{IsDone};
+ghost use Rattle.token_store.specs.Refusing.{IsDoneIf};
+ghost use Rattle.token_store.specs.Short.{IsShort};
 
 use attrs::{Object, find_attribute};
 use ck_calls::{AttributeQuery, AttributeValue, Query, Reply};
@@ -23,7 +25,7 @@ pub fn serve<K: Keep>(
     handle: u64,
     query: &Query,
 ) -> Result<Reply, Refusal>
-    ensures { IsDone K.terms 0 (λ v. get_attribute_value v session handle query.now) store.old store.new desk.now result desk.now }
+    ensures { IsDoneIf (length query.now ≤ 32) K.terms Replies 0 (λ c v. get_attribute_value v session handle query.now) store.old store.new desk.now result desk.now }
 {
     let _ = desk.state(session).ok_or(Row::NoSession)?;
     let found = find(alloc, desk, store, handle)?.ok_or(Row::NoObject)?;
@@ -32,8 +34,10 @@ pub fn serve<K: Keep>(
 
 /// The attributes that are asked for, and the code of the whole.
 fn tell(alloc: Global, object: &Object, query: &[AttributeQuery]) -> Result<Reply, AllocError>
-    ensures { IfOk result (λ reply. reply ≡ attributes_told object.now query.now) }
+    ensures told { IfOk result (λ reply. reply ≡ attributes_told object.now query.now) }
+    ensures short { IfOk result (λ reply. length query.now ≤ 32 → IsShort reply) }
 {
+    let _entries = object.entries();
     let mut code = Rv::Ok;
     let mut values = Items::new(alloc);
     for asked in query {

@@ -1,6 +1,6 @@
 //! C_SetAttributeValue (PKCS #11 v3.1, 5.7).
 
-ghost use Rattle.std.specs.Prelude.{◌≡◌, List, IfSome, IfErr, IsErrOf};
+ghost use Rattle.std.specs.Prelude.{◌≡◌, List, IfSome, IfErr, IfOk, IsErrOf};
 ghost use Rattle.ck_types.specs.declared.entry.Entry.{Entry};
 ghost use Rattle.guard.specs.Access.{is_public};
 ghost use Rattle.desk.specs.Desks.{SameDesk};
@@ -12,6 +12,7 @@ ghost use Rattle.answers.specs.SetAttributeValue.{puts, set_attribute_value};
 ghost use Rattle.token_store.specs.declared.refusal.Refusal.TheVariants.{Device};
 ghost use Rattle.token_store.specs.Found.{IsAt};
 ghost use Rattle.token_store.specs.Refusing.{Does, IsDone, IsPlain};
+ghost use Rattle.token_store.specs.Short.{IsShort};
 ghost use Rattle.token_store.specs.Shown.{Fits, view_of};
 ghost use Rattle.token_store.specs.Stores.{Has};
 
@@ -65,6 +66,7 @@ fn put<K: Keep>(
     ensures cause { IsErrOf result Device → Rises (K.terms.failures store.old.keep) (K.terms.failures store.new.keep) }
     ensures plain { IsPlain result }
     ensures stays { IfErr result (λ refusal. SameDesk desk.old desk.new) }
+    ensures short { IfOk result (λ reply. IsShort reply) }
 {
     match id {
         Some(id) => {

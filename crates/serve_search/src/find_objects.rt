@@ -1,6 +1,9 @@
 //! C_FindObjects and C_FindObjectsFinal (PKCS #11 v3.1, 5.7.6 and 5.7.7).
 
-ghost use Rattle.std.specs.Prelude.{◌≡◌};
+ghost use Rattle.std.specs.Prelude.{◌≡◌, option_copied, take};
+ghost use Rattle.std.specs.Option.{option_map};
+ghost use Rattle.sessions.specs.Sessions.{session_at};
+ghost use Rattle.ops.specs.Operations.{search_in};
 ghost use Rattle.views.specs.Answering.{Replies};
 ghost use Rattle.answers.specs.FindObjects.{answered_at_once, find_objects, find_objects_final};
 ghost use Rattle.token_store.specs.Refusing.{AtDesk};
@@ -21,11 +24,19 @@ pub fn serve(alloc: Global, desk: &mut Desk, session: u64, max_count: u64) -> Re
     ensures { AtDesk Replies (λ v. find_objects v session max_count) desk.old result desk.new }
 {
     let _ = desk.state(session).ok_or(Row::NoSession)?;
-    let search = desk.search(session).ok_or(Row::NoOperation)?;
     let count = at_once(max_count);
-    let handles = Items::from_slice(alloc, search.first(count))?;
+    let found = next_found(desk, session, count).ok_or(Row::NoOperation)?;
+    let handles = Items::from_slice(alloc, found)?;
     desk.advance_search(session, count);
     Ok(Reply::Objects(handles))
+}
+
+/// The handles that a session's search answers next, at most so many, if it has a search.
+fn next_found(desk: &Desk, session: u64, count: usize) -> Option<&[u64]>
+    ensures { option_copied result ≡ option_map (take count) (search_in (session_at desk.now.sessions.sessions session)) }
+{
+    let search = desk.search(session)?;
+    Some(search.first(count))
 }
 
 /// Ends a search. `CKR_SESSION_HANDLE_INVALID` where there is no such session, `CKR_OPERATION_NOT_INITIALIZED` where it has

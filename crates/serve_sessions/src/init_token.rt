@@ -1,6 +1,9 @@
 //! C_InitToken (PKCS #11 v3.1, 5.5): the token is initialised, for the first time or again.
 
-ghost use Rattle.std.specs.Prelude.{◌≡◌, ◌<◌, ◌^◌, IfOk, Some, None, length};
+ghost use Rattle.std.specs.Prelude.{◌≡◌, ◌<◌, ◌^◌, ◌≤◌, IfOk, Some, None, length};
+ghost use Rattle.std.specs.Option.{option_map};
+ghost use Rattle.ck_types.specs.declared.user_type.UserType.TheVariants.{So};
+ghost use Rattle.pin_record.specs.Records.{initialized_record, tries_limit, verifier_of};
 ghost use Rattle.views.specs.Answering.{Replies};
 ghost use Rattle.answers.specs.InitToken.{init_token, inited, reset};
 ghost use Rattle.token_store.specs.Refusing.{IsDone, IsDoneAs};
@@ -112,8 +115,17 @@ pub fn reset<K: Keep>(
         let record = end_check(record, UserType::So, true, under_way);
         return store_record(desk, store, record, Rv::SessionExists);
     }
-    let Some(verifier) = record.verifier(UserType::So).copied() else {
+    let Some(record) = renewed(&record, label, under_way) else {
         return Err(Refusal::Code(Rv::FunctionFailed));
     };
-    reset_to(desk, store, Record::initialized(label, verifier, under_way))
+    reset_to(desk, store, record)
+}
+
+/// The record of a token that is initialised again: of what it was, the SO's PIN stays.
+fn renewed(before: &Record, label: Label, under_way: u8) -> Option<Record>
+    requires { under_way ≤ tries_limit }
+    ensures { result ≡ option_map (λ verifier. initialized_record label verifier under_way) (verifier_of before.now So) }
+{
+    let verifier = before.verifier(UserType::So).copied()?;
+    Some(Record::initialized(label, verifier, under_way))
 }

@@ -4,6 +4,7 @@ ghost use Rattle.std.specs.Prelude.{◌≡◌, ◌<◌, ◌^◌, IfOk, IsFalse, 
 ghost use Rattle.ck_types.specs.declared.user_type.UserType.TheVariants.{So};
 ghost use Rattle.desk.specs.Desks.{IsDiscreet};
 ghost use Rattle.keep.specs.Contents.{Contents};
+ghost use Rattle.pin_record.specs.Records.{is_locked};
 ghost use Rattle.sessions.specs.Sessions.{has_read_only};
 ghost use Rattle.views.specs.Answering.{Replies};
 ghost use Rattle.answers.specs.Login.{is_in, keeps_out, login, may_log_in, right_pin, user_of};
@@ -17,7 +18,7 @@ use ck_types::{Bytes, Rv, UserType};
 use desk::Desk;
 use keep::Keep;
 use mech::Work;
-use pin_record::end_check;
+use pin_record::{Record, end_check};
 use precede::Row;
 use token_store::{Out, Refusal, Store};
 
@@ -53,6 +54,13 @@ fn keeps_out(who: UserType, read_only: bool) -> bool
     }
 }
 
+/// Whether all tries of a PIN are used, so that no check of it may begin.
+fn has_no_try_left(record: &Record, who: UserType) -> bool
+    ensures { result ≡ is_locked «record».now who }
+{
+    record.is_locked(who)
+}
+
 /// Begins a check of a PIN, which is charged before it: `CKR_SESSION_HANDLE_INVALID`, `CKR_USER_TYPE_INVALID`,
 /// `CKR_USER_ALREADY_LOGGED_IN`, `CKR_USER_ANOTHER_ALREADY_LOGGED_IN`, `CKR_SESSION_READ_ONLY_EXISTS`,
 /// `CKR_USER_PIN_NOT_INITIALIZED`, `CKR_PIN_LOCKED`.
@@ -82,7 +90,7 @@ pub fn serve<K: Keep>(
     }
     let record = store.get_record();
     let verifier = record.verifier(who).copied().ok_or(Row::PinNotSet)?;
-    if record.is_locked(who) {
+    if has_no_try_left(&record, who) {
         return Err(Refusal::Row(Row::PinLocked));
     }
     let work = Work::CheckPin { who, verifier, pin };

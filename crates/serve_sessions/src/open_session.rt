@@ -1,8 +1,8 @@
 //! C_OpenSession (PKCS #11 v3.1, 5.6).
 
-ghost use Rattle.std.specs.Prelude.{◌<◌, ◌^◌};
+ghost use Rattle.std.specs.Prelude.{◌≡◌, ◌<◌, ◌^◌};
 ghost use Rattle.views.specs.Answering.{Replies};
-ghost use Rattle.answers.specs.OpenSession.{open_session};
+ghost use Rattle.answers.specs.OpenSession.{has_other_flags, is_read_write, is_serial, open_session};
 ghost use Rattle.token_store.specs.Refusing.{AtDesk};
 
 use crate::SLOT;
@@ -23,13 +23,13 @@ pub fn serve(desk: &mut Desk, slot: u64, flags: u64) -> Result<Reply, Refusal>
     if slot != SLOT {
         return Err(Refusal::Row(Row::NoSlot));
     }
-    if flags & SERIAL_SESSION == 0 {
+    if !is_serial(flags) {
         return Err(Refusal::Row(Row::NotSerial));
     }
-    if flags | FLAGS != FLAGS {
+    if has_other_flags(flags) {
         return Err(Refusal::Row(Row::UnknownFlag));
     }
-    let read_write = flags & RW_SESSION != 0;
+    let read_write = is_read_write(flags);
     if desk.logged_in() == Some(UserType::So) && !read_write {
         return Err(Refusal::Row(Row::SoLoggedIn));
     }
@@ -37,4 +37,22 @@ pub fn serve(desk: &mut Desk, slot: u64, flags: u64) -> Result<Reply, Refusal>
         return Err(Refusal::Row(Row::SessionLimit));
     }
     Ok(Reply::Session(desk.open_session(read_write)?))
+}
+
+fn is_serial(flags: u64) -> bool
+    ensures { result ≡ is_serial flags }
+{
+    flags & SERIAL_SESSION != 0
+}
+
+fn is_read_write(flags: u64) -> bool
+    ensures { result ≡ is_read_write flags }
+{
+    flags & RW_SESSION != 0
+}
+
+fn has_other_flags(flags: u64) -> bool
+    ensures { result ≡ has_other_flags flags }
+{
+    flags | FLAGS != FLAGS
 }

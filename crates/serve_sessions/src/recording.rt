@@ -7,7 +7,8 @@ ghost use Rattle.pin_record.specs.Records.{tries_limit, tries_of, verifier_of};
 ghost use Rattle.views.specs.Answering.{Replies};
 ghost use Rattle.views.specs.Refusals.{set_apart};
 ghost use Rattle.answers.specs.Pins.{is_pin_length, resets};
-ghost use Rattle.token_store.specs.Refusing.{IsDone, IsDoneAs};
+ghost use Rattle.token_store.specs.Refusing.{IsDone, IsDoneIf};
+ghost use Rattle.token_store.specs.Short.{IsShortTask};
 ghost use Rattle.token_store.specs.Shown.{IsFor, said_of, task_of};
 ghost use Rattle.serve_sessions.specs.Recording.{asks_charged, codes_with};
 
@@ -41,7 +42,7 @@ pub(crate) fn ask_charged<K: Keep>(
     requires runnable { IsTrue (is_runnable work) }
     requires set { is_some (verifier_of «record» who) ≡ true }
     requires unlocked { tries_of «record» who < tries_limit }
-    ensures done { IsDoneAs K.terms said_of 1 (λ c v. asks_charged «record» v function session (task_of work) who) store.old store.new desk.old result desk.new }
+    ensures done { IsDoneIf (IsShortTask (task_of work)) K.terms said_of 1 (λ c v. asks_charged «record» v function session (task_of work) who) store.old store.new desk.old result desk.new }
     ensures asker { IfOk result (IsFor app) }
 {
     store.set_record(begin_check(record, who))?;

@@ -1,5 +1,5 @@
 -- Objects that are written again one after the other, in a transaction.
-use Rattle.std.proofs.Common.{◌≡◌, ℕ, List, [], ◌∷◌, ◌++◌, codes, take, length, get_or, false, inl, Ok, Result, ◌≤◌, IsTrue, refl, sym, subst, ◌<◌, ◌+◌, arith}
+use Rattle.std.proofs.Common.{◌≡◌, ℕ, List, [], ◌∷◌, ◌++◌, codes, take, length, get_or, false, true, inl, Ok, Err, Result, OnOk, ◌≤◌, IsTrue, refl, sym, subst, ◌<◌, ◌+◌, arith}
 use Rattle.std.proofs.lemmas.List.{take_more, take_all}
 use Rattle.sqlite_value.specs.declared.value.Value.TheVariants.{Blob, Int}
 use Rattle.sqlite.specs.Store.{Ghosts}
@@ -10,7 +10,8 @@ use Rattle.sqlite.specs.declared.error.Error.{Error}
 use Rattle.sqlite.proofs.InsideLemmas.{inside_keeps, keeps_then}
 use Rattle.sqlite.proofs.StateLemmas.{survives_then}
 use Rattle.sql_tables.specs.declared.renewals.Renewal.{Renewal}
-use Rattle.sql_tables.specs.RanEach.{RanEach}
+use Rattle.sql_tables.specs.RanEach.{RanEach, RanRenewals}
+use Rattle.sql_tables.proofs.Inside.{Inside, one_keeps, still_inside}
 
 abbrev pub again_text : List ℕ
 again_text = codes "UPDATE objects SET body = ?2 WHERE id = ?1"
@@ -60,3 +61,25 @@ pub stopped_keeps : {S : Type 0} (g : Ghosts S) (es : List Renewal) (begun old n
 stopped_keeps g es begun old new params r wrote lasts ran clean mode =
     let before = wrote.1 (omega (arith, lasts.clean)) mode in
     keeps_then (state g begun) (state g old) (state g new) before.1 (inside_keeps (state g old) (state g new) 0 false again_text params r (ran clean before.0))
+
+-- and then the record
+module _ {S : Type 0} (g : Ghosts S) (all : List Renewal) (bytes : List ℕ) (begun mid last : Held S) (r : Result ℕ Error) (each : HasCleanDisk (state g mid) → IsTrue begun.in_transaction → IsTrue mid.in_transaction × RanEach g all begun mid)
+    (kept : HasCleanDisk (state g mid) → IsTrue begun.in_transaction → KeepsCommit (state g begun) (state g mid)) (one : Inside (codes "UPDATE record SET body = ?1") (Blob bytes ∷ []) (state g mid) (state g last) r)
+    (stays : Survives (state g mid) (state g last) (λ _. ⊥)) (clean : HasCleanDisk (state g last)) where
+  mid_clean : HasCleanDisk (state g mid)
+  mid_clean = omega (arith, stays.clean)
+
+  pub all_inside : IsTrue begun.in_transaction → OnOk r (IsTrue (state g last).in_transaction)
+  all_inside mode = still_inside _ (Blob bytes ∷ []) (state g mid) (state g last) r (one clean (each mid_clean mode).0)
+
+  pub all_keep : IsTrue begun.in_transaction → KeepsCommit (state g begun) (state g last)
+  all_keep mode = keeps_then (state g begun) (state g mid) (state g last) (kept mid_clean mode) (one_keeps _ (Blob bytes ∷ []) (state g mid) (state g last) r one clean (each mid_clean mode).0)
+
+  pub all_ran : (before : Held S) → begun ≡ record before { in_transaction = true } → OnOk r (RanRenewals g all bytes before (state g last).now)
+  all_ran before is = made r one
+    where
+      made : (r : Result ℕ Error) → Inside (codes "UPDATE record SET body = ?1") (Blob bytes ∷ []) (state g mid) (state g last) r → OnOk r (RanRenewals g all bytes before (state g last).now)
+      made (Err e) one = tt
+      made (Ok n) one =
+          let ran = each mid_clean (rw is) in
+          record { mid = mid; last = last; count = n; each = rw is at ran.1; one = (one clean ran.0).0; is = refl }

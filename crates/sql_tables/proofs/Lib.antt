@@ -21,3 +21,5 @@ pub mod ListedIds
 pub mod Pairs
 pub mod Each
 pub mod Renews
+pub mod Commits
+pub mod Inside

@@ -12,6 +12,7 @@ ghost use Rattle.sql_tables.specs.Store.{HasRows, IsAtRows, IsReady, Sees, Shows
 ghost use Rattle.sql_tables.specs.RanEach.{RanEach, RanRenewals};
 ghost use Rattle.sql_tables.specs.Renewed.{AreNatural, renewed};
 
+use crate::transactions::finish;
 use sqlite::{Alter, Connection, Error, Transaction, params};
 
 /// A body that is written again, and the row that it goes into.
@@ -50,6 +51,23 @@ fn write_each<S: Alter>(tx: &mut Transaction<'_, S>, renewals: &[Renewal]) -> Re
     Ok(())
 }
 
+/// Writes each body, and then that of the record, up to the first that sqlite refuses.
+fn write_all<S: Alter>(
+    tx: &mut Transaction<'_, S>,
+    renewals: &[Renewal],
+    bytes: &[u8],
+) -> Result<usize, Error>
+    ensures same_reference { tx.new.conn.ghost_name ≡ tx.old.conn.ghost_name }
+    ensures ran { HasCleanDisk (state S.Store tx.new.conn.now) → (before : _) → tx.old.conn.now ≡ record before { in_transaction = true }
+        → OnOk result (RanRenewals S.Store renewals.now bytes.now before (state S.Store tx.new.conn.now).now) }
+    ensures inside { HasCleanDisk (state S.Store tx.new.conn.now) → IsTrue (state S.Store tx.old.conn.now).in_transaction → OnOk result (IsTrue (state S.Store tx.new.conn.now).in_transaction) }
+    ensures kept { HasCleanDisk (state S.Store tx.new.conn.now) → IsTrue (state S.Store tx.old.conn.now).in_transaction → KeepsCommit (state S.Store tx.old.conn.now) (state S.Store tx.new.conn.now) }
+    ensures survives { Survives (state S.Store tx.old.conn.now) (state S.Store tx.new.conn.now) (λ _. ⊥) }
+{
+    write_each(tx, renewals)?;
+    tx.execute("UPDATE record SET body = ?1", params![bytes])
+}
+
 /// Writes each body and that of the record, or none. `false` says that a transaction was open.
 fn run_renewals<S: Alter>(
     conn: &mut Connection<S>,
@@ -71,9 +89,8 @@ fn run_renewals<S: Alter>(
         return Ok(false);
     }
     let mut tx = conn.transaction();
-    write_each(&mut tx, renewals)?;
-    tx.execute("UPDATE record SET body = ?1", params![bytes])?;
-    tx.commit()?;
+    let done = write_all(&mut tx, renewals, bytes);
+    finish(tx, done)?;
     let _ended = conn.is_autocommit();
     Ok(true)
 }

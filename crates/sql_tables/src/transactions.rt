@@ -1,11 +1,65 @@
 //! Statements that are committed together.
 
-ghost use Rattle.std.specs.Prelude.{◌≡◌, [], false, true, IsTrue, IfOk, OnErr};
-ghost use Rattle.sqlite.specs.State.{HasCleanDisk, Survives};
+ghost use Rattle.std.specs.Prelude.{◌≡◌, [], false, true, IsOk, IsTrue, IfOk, OnOk, OnErr};
+ghost use Rattle.sqlite.specs.State.{HasCleanDisk, KeepsCommit, Shows, Survives};
 ghost use Rattle.sqlite.specs.Held.{state};
 ghost use Rattle.sql_tables.specs.Ran.{RanPair, RanThree};
 
-use sqlite::{Alter, Connection, Error, params};
+use sqlite::{Alter, Connection, Error, Transaction, params};
+
+/// Commits what was done, and undoes it where a statement was refused.
+pub(crate) fn finish<S: Alter>(
+    tx: Transaction<'_, S>,
+    done: Result<usize, Error>,
+) -> Result<(), Error>
+    ensures ended { tx.exit.0.now.in_transaction ≡ false }
+    ensures whole { OnOk result (IsOk done) }
+    ensures shows { HasCleanDisk (state S.Store tx.exit.0.now) → OnOk result (Shows (state S.Store tx.entry.conn.now) (state S.Store tx.exit.0.now) (state S.Store tx.entry.conn.now).now (state S.Store tx.entry.conn.now).now false) }
+    ensures undone { HasCleanDisk (state S.Store tx.exit.0.now) → IsTrue (state S.Store tx.exit.0.now).is_open → OnOk done (IsTrue (state S.Store tx.entry.conn.now).in_transaction)
+        → OnErr result (IsTrue (state S.Store tx.entry.conn.now).is_open × ((state S.Store tx.exit.0.now).now ≡ (state S.Store tx.entry.conn.now).committed) × ((state S.Store tx.exit.0.now).committed ≡ (state S.Store tx.entry.conn.now).committed)) }
+    ensures survives { Survives (state S.Store tx.entry.conn.now) (state S.Store tx.exit.0.now) (λ trees. IsOk done × (trees ≡ (state S.Store tx.entry.conn.now).now.trees)) }
+{
+    done?;
+    tx.commit()
+}
+
+/// Runs both statements, up to the first that sqlite refuses.
+fn execute_pair<S: Alter>(
+    tx: &mut Transaction<'_, S>,
+    first: &str,
+    second: &str,
+    bytes: &[u8],
+) -> Result<usize, Error>
+    ensures same_reference { tx.new.conn.ghost_name ≡ tx.old.conn.ghost_name }
+    ensures ran { HasCleanDisk (state S.Store tx.new.conn.now) → (before : _) → tx.old.conn.now ≡ record before { in_transaction = true }
+        → OnOk result (RanPair S.Store first.now second.now bytes.now before (state S.Store tx.new.conn.now).now) }
+    ensures inside { HasCleanDisk (state S.Store tx.new.conn.now) → IsTrue (state S.Store tx.old.conn.now).in_transaction → OnOk result (IsTrue (state S.Store tx.new.conn.now).in_transaction) }
+    ensures kept { HasCleanDisk (state S.Store tx.new.conn.now) → IsTrue (state S.Store tx.old.conn.now).in_transaction → KeepsCommit (state S.Store tx.old.conn.now) (state S.Store tx.new.conn.now) }
+    ensures survives { Survives (state S.Store tx.old.conn.now) (state S.Store tx.new.conn.now) (λ _. ⊥) }
+{
+    tx.execute(first, &[])?;
+    tx.execute(second, params![bytes])
+}
+
+/// Runs all three statements, up to the first that sqlite refuses.
+fn execute_three<S: Alter>(
+    tx: &mut Transaction<'_, S>,
+    first: &str,
+    second: &str,
+    third: &str,
+    bytes: &[u8],
+) -> Result<usize, Error>
+    ensures same_reference { tx.new.conn.ghost_name ≡ tx.old.conn.ghost_name }
+    ensures ran { HasCleanDisk (state S.Store tx.new.conn.now) → (before : _) → tx.old.conn.now ≡ record before { in_transaction = true }
+        → OnOk result (RanThree S.Store first.now second.now third.now bytes.now before (state S.Store tx.new.conn.now).now) }
+    ensures inside { HasCleanDisk (state S.Store tx.new.conn.now) → IsTrue (state S.Store tx.old.conn.now).in_transaction → OnOk result (IsTrue (state S.Store tx.new.conn.now).in_transaction) }
+    ensures kept { HasCleanDisk (state S.Store tx.new.conn.now) → IsTrue (state S.Store tx.old.conn.now).in_transaction → KeepsCommit (state S.Store tx.old.conn.now) (state S.Store tx.new.conn.now) }
+    ensures survives { Survives (state S.Store tx.old.conn.now) (state S.Store tx.new.conn.now) (λ _. ⊥) }
+{
+    tx.execute(first, &[])?;
+    tx.execute(second, &[])?;
+    tx.execute(third, params![bytes])
+}
 
 /// Both statements or neither. `false` says that a transaction was open.
 pub(crate) fn run_pair<S: Alter>(
@@ -29,9 +83,8 @@ pub(crate) fn run_pair<S: Alter>(
         return Ok(false);
     }
     let mut tx = conn.transaction();
-    tx.execute(first, &[])?;
-    tx.execute(second, params![bytes])?;
-    tx.commit()?;
+    let done = execute_pair(&mut tx, first, second, bytes);
+    finish(tx, done)?;
     let _ended = conn.is_autocommit();
     Ok(true)
 }
@@ -59,10 +112,8 @@ pub(crate) fn run_three<S: Alter>(
         return Ok(false);
     }
     let mut tx = conn.transaction();
-    tx.execute(first, &[])?;
-    tx.execute(second, &[])?;
-    tx.execute(third, params![bytes])?;
-    tx.commit()?;
+    let done = execute_three(&mut tx, first, second, third, bytes);
+    finish(tx, done)?;
     let _ended = conn.is_autocommit();
     Ok(true)
 }

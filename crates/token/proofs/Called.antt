@@ -20,6 +20,7 @@ use Rattle.views.specs.Answering.{Replies, Answer, Reveal, pin_checked_in}
 use Rattle.answers.specs.Answers.{answer}
 use Rattle.views.specs.Refusals.{apart, refusal}
 use Rattle.token_model.specs.Worlds.{World, answer_at, checks_of, list_change, called, reveal_by_call, reveal_to_call, says_called, stepped}
+use Rattle.token_store.specs.Short.{IsShortSaid}
 use Rattle.token_store.specs.Shown.{view_of, objects_of, said_of, Changes}
 use Rattle.token.specs.Applications.{desk_at, checks_after, others_seated, told_as, Depicts, Shows}
 use Rattle.token.proofs.Seats.{seated-is}
@@ -107,3 +108,9 @@ blames-device (Err Device) plain is = refl
 pub stays-called : (r : Result Out Fault) (before desk : DeskState) → IfOk r (λ out. apart (said_of out) ≡ None) → IfErr r (λ fault. SameDesk before desk) → IsSome (apart (said_of (told_as r))) → SameDesk before desk
 stays-called (Ok out) before desk plain stays some = let k : false ≡ true = subst IsSome plain some in cc
 stays-called (Err fault) before desk plain stays some = stays
+
+-- what is told of a fault is short
+pub short-called : (r : Result Out Fault) → IfOk r (λ out. IsShortSaid (said_of out)) → IsShortSaid (said_of (told_as r))
+short-called (Ok out) short = short
+short-called (Err Memory) short = tt
+short-called (Err Device) short = tt

@@ -1,8 +1,11 @@
 -- Which definition answers a call, and what is told of it.
-use Rattle.std.proofs.Common.{◌≡◌, ℕ, ◌^◌, ◌≤◌, arith, Bool, true, false, cond, List, Option, Some, None, Result, Ok, Err, refl, sym, ap, subst}
+use Rattle.std.proofs.Common.{◌≡◌, ℕ, ◌^◌, ◌≤◌, arith, Bool, true, false, cond, List, length, Option, Some, None, Result, Ok, Err, refl, sym, ap, subst}
 use Rattle.std.specs.Prelude.{is_some, ◌||◌, nat_le, IfOk}
 use Rattle.std.specs.Option.{option_map}
+use Rattle.std.proofs.lemmas.Bool.{cond_both, leb-true}
 use Rattle.ck_calls.specs.declared.call.Call.{Call}
+use Rattle.ck_calls.specs.declared.call.Call.TheVariants as calls
+use Rattle.ck_calls.specs.Need.{random_bytes}
 use Rattle.ck_types.specs.declared.rv.Rv.{Rv}
 use Rattle.ck_calls.specs.declared.reply.Reply.{Reply}
 use Rattle.ck_calls.specs.declared.reply.Reply.TheVariants.{Code}
@@ -27,13 +30,14 @@ use Rattle.token_store.specs.declared.out.Out.{Out}
 use Rattle.token_store.specs.declared.out.Out.TheVariants.{Reply as OutReply}
 use Rattle.token_store.specs.declared.refusal.Refusal.{Refusal}
 use Rattle.token_store.specs.declared.refusal.Refusal.TheVariants as refusals
-use Rattle.token_store.specs.Refusing.{AtDesk, IsDone, IsDoneAs, IsServed, settled}
+use Rattle.token_store.specs.Refusing.{AtDeskIf, IsDoneIf, IsServedIf, settled}
+use Rattle.token_store.specs.Short.{IsShortCall}
 use Rattle.token_store.specs.Shown.{IsFor, question_of, said_of, view_of}
 use Rattle.token_store.specs.Stores.{StoreState, Serves}
 use Rattle.token_store.proofs.Gaves.{gave-reply}
 use Rattle.token_store.proofs.Plain.{plain-at-desk, stays-at-desk}
 use Rattle.token_store.proofs.Refusals.{serves-at-desk}
-use Rattle.token_store.proofs.Serving.{blamed, served-as}
+use Rattle.token_store.proofs.Serving.{blamed, served-as, short-settled}
 
 closed-is : (c : Contents) (d : DeskState) → is_closed (view_of c d) ≡ is_busy d
 unfolding is_closed
@@ -77,19 +81,19 @@ module _ {K : Type 0} (terms : Terms K) (app : ℕ) (in_use : Bool) (call x : Ca
   answers v = answer_to v x random (reveal_by_call x in_use)
 
   abbrev pub IsCallServed : StoreState K → StoreState K → DeskState → Result Out Fault → DeskState → Type 0
-  IsCallServed old new before out desk = IsServed terms (IsFor app) (λ v. answer_to v call random (reveal_by_call call in_use)) old new before out desk
+  IsCallServed old new before out desk = IsServedIf (IsShortCall call) terms (IsFor app) (λ v. answer_to v call random (reveal_by_call call in_use)) old new before out desk
 
   -- a call at the desk and the store
-  pub call-done : (writes : ℕ) (old new : StoreState K) (before desk : DeskState) (r : Result Reply Refusal) (out : Result Out Fault) → writes ≤ 1 → out ≡ settled OutReply r → IsDone terms writes answers old new before r desk → IsCallServed old new before out desk
+  pub call-done : (writes : ℕ) (old new : StoreState K) (before desk : DeskState) (r : Result Reply Refusal) (out : Result Out Fault) → writes ≤ 1 → out ≡ settled OutReply r → IsDoneIf (IsShortCall x) terms Replies writes (λ c. answers) old new before r desk → IsCallServed old new before out desk
   call-done writes old new before desk r out few told done = rw (is, told) (served-as terms Replies OutReply (IsFor app) writes answers old new before desk r (λ t. refl) few (for-reply app r) done)
 
   -- which may ask
-  pub call-asked : (writes : ℕ) → writes ≤ 1 → (old new : StoreState K) (before desk : DeskState) (r : Result Out Refusal) (out : Result Out Fault) → out ≡ settled (λ out. out) r → IfOk r (IsFor app) → IsDoneAs terms said_of writes (λ c. answers) old new before r desk → IsCallServed old new before out desk
+  pub call-asked : (writes : ℕ) → writes ≤ 1 → (old new : StoreState K) (before desk : DeskState) (r : Result Out Refusal) (out : Result Out Fault) → out ≡ settled (λ out. out) r → IfOk r (IsFor app) → IsDoneIf (IsShortCall x) terms said_of writes (λ c. answers) old new before r desk → IsCallServed old new before out desk
   call-asked writes few old new before desk r out told for done = rw (is, told) (served-as terms said_of (λ out. out) (IsFor app) writes answers old new before desk r (λ t. refl) few (for-out app r for) done)
 
   -- and at the desk alone
   at-desk : {T : Type 0} (tell : T → Said) (as_out : T → Out) (store : StoreState K) (before desk : DeskState) (r : Result T Refusal) (out : Result Out Fault) → ((t : T) → said_of (as_out t) ≡ tell t) → ((v : View) → (answers v).change ≡ Stays) → out ≡ settled as_out r → IfOk (settled as_out r) (IsFor app)
-      → AtDesk tell answers before r desk → IsCallServed store store before out desk
+      → AtDeskIf (IsShortCall x) tell answers before r desk → IsCallServed store store before out desk
   at-desk tell as_out store before desk r out same quiet told for does = rw (is, told) (record {
     serves = λ sure c h fits. serves-at-desk terms tell as_out (answers (view_of c before)) c store before desk r same (quiet (view_of c before)) h fits (does.serves c fits);
     says = for;
@@ -97,20 +101,25 @@ module _ {K : Type 0} (terms : Terms K) (app : ℕ) (in_use : Bool) (call x : Ca
     cause = λ device. absurd (does.cause (blamed as_out r device));
     plain = plain-at-desk tell as_out answers before desk r same (λ v. ((proper-answer_to x random).fair v (reveal_by_call x in_use)).plain) does;
     stays = stays-at-desk tell as_out answers before desk r does;
+    short = λ few. short-settled tell as_out r same (does.short few);
   })
 
   still-call : is_still_function (function_of x) ≡ true → (v : View) → (answers v).change ≡ Stays
   still-call quiet v = ((proper-answer_to x random).fair v (reveal_by_call x in_use)).still quiet
 
-  pub call-at-desk : (store : StoreState K) (before desk : DeskState) (r : Result Reply Refusal) (out : Result Out Fault) → is_still_function (function_of x) ≡ true → out ≡ settled OutReply r → AtDesk Replies answers before r desk → IsCallServed store store before out desk
+  pub call-at-desk : (store : StoreState K) (before desk : DeskState) (r : Result Reply Refusal) (out : Result Out Fault) → is_still_function (function_of x) ≡ true → out ≡ settled OutReply r → AtDeskIf (IsShortCall x) Replies answers before r desk → IsCallServed store store before out desk
   call-at-desk store before desk r out quiet told does = at-desk Replies OutReply store before desk r out (λ t. refl) (still-call quiet) told (for-reply app r) does
 
-  pub call-asking : (store : StoreState K) (before desk : DeskState) (r : Result Out Refusal) (out : Result Out Fault) → is_still_function (function_of x) ≡ true → out ≡ settled (λ out. out) r → IfOk r (IsFor app) → AtDesk said_of answers before r desk → IsCallServed store store before out desk
+  pub call-asking : (store : StoreState K) (before desk : DeskState) (r : Result Out Refusal) (out : Result Out Fault) → is_still_function (function_of x) ≡ true → out ≡ settled (λ out. out) r → IfOk r (IsFor app) → AtDeskIf (IsShortCall x) said_of answers before r desk → IsCallServed store store before out desk
   call-asking store before desk r out quiet told for does = at-desk said_of (λ out. out) store before desk r out (λ t. refl) (still-call quiet) told (for-out app r for) does
 
   -- one of a PIN that begins no check
-  pub call-unchecked : (store : StoreState K) (before desk : DeskState) (r : Result Out Refusal) (out : Result Out Fault) → ((v : View) → (answers v).change ≡ Stays) → out ≡ settled (λ out. out) r → IfOk r (IsFor app) → AtDesk said_of answers before r desk → IsCallServed store store before out desk
+  pub call-unchecked : (store : StoreState K) (before desk : DeskState) (r : Result Out Refusal) (out : Result Out Fault) → ((v : View) → (answers v).change ≡ Stays) → out ≡ settled (λ out. out) r → IfOk r (IsFor app) → AtDeskIf (IsShortCall x) said_of answers before r desk → IsCallServed store store before out desk
   call-unchecked store before desk r out quiet told for does = at-desk said_of (λ out. out) store before desk r out (λ t. refl) quiet told (for-out app r for) does
+
+-- no more random bytes come with a call than it may ask for
+pub random-few : (call : Call) (s len : ℕ) (random : List ℕ) → call ≡ calls.GenerateRandom s len → length random ≡ random_bytes call → length random ≤ 32768
+random-few call s len random is as_many = rw (as_many, is) (cond_both (nat_le len 32768) len 0 (λ n. n ≤ 32768) (λ yes. leb-true len 32768 yes) (λ no. omega arith))
 
 -- C_InitPIN changes nothing that others see before its end
 pub still-init_pin : (v : View) (s : ℕ) (pin random : List ℕ) → (init_pin v s pin random).change ≡ Stays

@@ -12,6 +12,7 @@ use Rattle.keep.specs.Contents.{Contents}
 use Rattle.keep.specs.Keeping.{Counted, Terms}
 use Rattle.mech.specs.declared.job.Job.{Job}
 use Rattle.mech.specs.declared.outcome.Outcome.{Outcome}
+use Rattle.mech.specs.Rooms.{HasRoom}
 use Rattle.mech.specs.Works.{outcome_of}
 use Rattle.desk.specs.Desks.{DeskState, SameDesk}
 use Rattle.views.specs.declared.fault.Fault.{Fault}
@@ -25,15 +26,17 @@ use Rattle.views.proofs.Checks.{plain-row}
 use Rattle.token_model.specs.Worlds.{reveal_by_outcome, value_of}
 use Rattle.token_store.specs.declared.refusal.Refusal.{Refusal}
 use Rattle.token_store.specs.declared.refusal.Refusal.TheVariants as refusals
-use Rattle.token_store.specs.Refusing.{DoesAs, IsDoneAs, IsPlainAs}
+use Rattle.token_store.specs.Refusing.{DoesAs, IsDoneAs, IsDoneIf, IsPlainAs}
+use Rattle.token_store.specs.Short.{IsShort, IsShortTask}
 use Rattle.token_store.specs.Shown.{objects_of, question_of, task_of, over, view_of, Fits, Gives}
 use Rattle.token_store.specs.Stores.{StoreState, Has, Gave, Serves}
 use Rattle.token_store.proofs.Gaves.{gave-quiet, gave-reply}
 use Rattle.token_store.proofs.Refusals.{does_as-is}
 use Rattle.token.specs.declared.ending.Others.{Others}
 use Rattle.token.specs.Applications.{Finishes, answer_to_job, by_job, reveal_by_job, told_result}
-use Rattle.token.specs.Endings.{EndsBy, settled_reply, under_way_of}
+use Rattle.token.specs.Endings.{EndsBy, IsShortOutcome, settled_reply, under_way_of}
 use Rattle.token.proofs.Outcomes.{answer_by, answer-ends, ends_by, work-value}
+use Rattle.token.proofs.Shortness.{outcome-short}
 use Rattle.views.specs.Views.{sees}
 use Rattle.views.specs.Changes.{Stays, in_list}
 use Rattle.token_store.specs.Stores.{LeavesTried}
@@ -45,20 +48,21 @@ over-view c d none = let f : Option Job → View = λ q. record (view_of c d) { 
 
 module _ {K : Type 0} (terms : Terms K) where
   -- the same answer, written otherwise
-  pub done-is : (writes : ℕ) (f g : Contents → View → Answer) (old new : StoreState K) (before : DeskState) (r : Result Reply Refusal) (desk : DeskState) → ((c : Contents) → f c (view_of c before) ≡ g c (view_of c before)) → IsDoneAs terms Replies writes g old new before r desk → IsDoneAs terms Replies writes f old new before r desk
+  pub done-is : {given : Type 0} (writes : ℕ) (f g : Contents → View → Answer) (old new : StoreState K) (before : DeskState) (r : Result Reply Refusal) (desk : DeskState) → ((c : Contents) → f c (view_of c before) ≡ g c (view_of c before)) → IsDoneIf given terms Replies writes g old new before r desk → IsDoneIf given terms Replies writes f old new before r desk
   done-is writes f g old new before r desk same done = record {
     serves = λ sure c h fits. does_as-is terms Replies (f c (view_of c before)) (g c (view_of c before)) c old new before desk r (same c) (done.serves sure c h fits);
     counts = done.counts;
     cause = done.cause;
     plain = done.plain;
     stays = done.stays;
+    short = done.short;
   }
 
   untouched : (store : StoreState K) → Counted terms store.keep store.keep 0 1
   untouched store = record { steady = λ s. s; doubt = omega arith; failures = omega arith; tried = omega arith; bounded = omega arith }
 
   -- an outcome is answered by what it is alone
-  pub ends-as : (s : ℕ) (x : Outcome) (others : Others) (old new : StoreState K) (before : DeskState) (r : Result Reply Refusal) (desk : DeskState) → IsDoneAs terms Replies 1 (λ c v. ends_by v (objects_of c) (under_way_of others) others.in_session s x) old new before r desk → EndsBy terms s x others old new before r desk
+  pub ends-as : (s : ℕ) (x : Outcome) (others : Others) (old new : StoreState K) (before : DeskState) (r : Result Reply Refusal) (desk : DeskState) → IsDoneIf (IsShortOutcome x) terms Replies 1 (λ c v. ends_by v (objects_of c) (under_way_of others) others.in_session s x) old new before r desk → EndsBy terms s x others old new before r desk
   ends-as s x others old new before r desk done w q is session =
       done-is 1 (λ c v. answer_by v (objects_of c) (under_way_of others) others.in_session q w x) (λ c v. ends_by v (objects_of c) (under_way_of others) others.in_session s x) old new before r desk
       (λ c.
@@ -70,28 +74,39 @@ module _ {K : Type 0} (terms : Terms K) where
       done
 
   -- it changes the desk alone
-  pub done-at-desk : (a : View → Answer) (store : StoreState K) (d desk : DeskState) (reply : Reply) → d.question ≡ None → set_apart reply ≡ None → ((v : View) → (a v).change ≡ Stays) → ((c : Contents) → Fits c d.handles.entries → Gives (a (view_of c d)) d.sessions.login c (Replies reply) c desk) → IsDoneAs terms Replies 1 (λ c v. a (answered v)) store store d (Ok reply) desk
-  done-at-desk a store d desk reply none plain still gives = record {
+  pub done-at-desk : {given : Type 0} (a : View → Answer) (store : StoreState K) (d desk : DeskState) (reply : Reply) → d.question ≡ None → set_apart reply ≡ None → ((v : View) → (a v).change ≡ Stays) → ((c : Contents) → Fits c d.handles.entries → Gives (a (view_of c d)) d.sessions.login c (Replies reply) c desk) → (given → IsShort reply) → IsDoneIf given terms Replies 1 (λ c v. a (answered v)) store store d (Ok reply) desk
+  done-at-desk a store d desk reply none plain still gives short = record {
     serves = λ sure c h fits. rw (over-view c d none) (gave-quiet terms (a (view_of c d)) d.sessions.login c store store (Replies reply) desk h (λ l may. may) (still (view_of c d)) (gives c fits));
     counts = untouched store;
     cause = λ device. let k : Ok reply ≡ Err refusals.Device = device in cc;
     plain = plain;
     stays = tt;
+    short = short;
   }
 
   -- a code that changes nothing
-  pub done-code : (code : Rv) (store : StoreState K) (d : DeskState) → d.question ≡ None → set_apart (Code code) ≡ None → IsDoneAs terms Replies 1 (λ c v. refuses (answered v) code) store store d (Err (refusals.Code code)) d
+  pub done-code : {given : Type 0} (code : Rv) (store : StoreState K) (d : DeskState) → d.question ≡ None → set_apart (Code code) ≡ None → IsDoneIf given terms Replies 1 (λ c v. refuses (answered v) code) store store d (Err (refusals.Code code)) d
   done-code code store d none plain = record {
     serves = λ sure c h fits. (ap (λ v. refuses v code) (over-view c d none), record { has = h; leaves = λ l may. may; desk = refl });
     counts = untouched store;
     cause = λ device. let k : Err (refusals.Code code) ≡ Err refusals.Device = device in cc;
     plain = plain;
     stays = refl;
+    short = λ few. tt;
   }
 
   -- what another crate has done at a view without a question
-  pub done-over : (f : Contents → View → Answer) (old new : StoreState K) (d desk : DeskState) (r : Result Reply Refusal) → d.question ≡ None → IsDoneAs terms Replies 1 f old new d r desk → IsDoneAs terms Replies 1 (λ c v. f c (answered v)) old new d r desk
-  done-over f old new d desk r none done = done-is 1 (λ c v. f c (answered v)) f old new d r desk (λ c. ap (f c) (over-view c d none)) done
+  pub done-over : {given : Type 0} (f : Contents → View → Answer) (old new : StoreState K) (d desk : DeskState) (r : Result Reply Refusal) → d.question ≡ None → IsDoneAs terms Replies 1 f old new d r desk → IsDoneIf given terms Replies 1 (λ c v. f c (answered v)) old new d r desk
+  done-over f old new d desk r none done =
+      let over_done = done-is 1 (λ c v. f c (answered v)) f old new d r desk (λ c. ap (f c) (over-view c d none)) done in
+      record {
+        serves = over_done.serves;
+        counts = over_done.counts;
+        cause = over_done.cause;
+        plain = over_done.plain;
+        stays = over_done.stays;
+        short = λ few. over_done.short tt;
+      }
 
 -- ---- and what is told of it
 
@@ -123,6 +138,13 @@ stays-told mid desk (Err (refusals.Code code)) stays = tt
 stays-told mid desk (Err refusals.Memory) stays = stays
 stays-told mid desk (Err refusals.Device) stays = stays
 
+short-told : (r : Result Reply Refusal) → IfOk r (λ reply. IsShort reply) → IfOk (settled_reply r) (λ reply. IsShort reply)
+short-told (Ok reply) short = short
+short-told (Err (refusals.Row row)) short = tt
+short-told (Err (refusals.Code code)) short = tt
+short-told (Err refusals.Memory) short = tt
+short-told (Err refusals.Device) short = tt
+
 -- ---- the result of the job
 
 module _ {K : Type 0} (terms : Terms K) (job : Job) (others : Others) (old new : StoreState K) (before : DeskState) where
@@ -137,8 +159,8 @@ module _ {K : Type 0} (terms : Terms K) (job : Job) (others : Others) (old new :
       let f : Option Job → Answer = λ q. answer_question (record v { question = option_map (by_job job) (option_map question_of q) }) (option_map (by_job job) (option_map question_of q)) (value_of (task_of job.work)) (reveal c) in
       ap f asked
 
-  pub finishes-by : (s : ℕ) (j : Job) (x : Outcome) (mid desk : DeskState) (r : Result Reply Refusal) (out : Result Reply Fault) → before.question ≡ Some j → s ≡ j.session → x ≡ outcome_of job.work → mid ≡ over before → out ≡ settled_reply r → EndsBy terms s x others old new mid r desk → Finishes terms job reveal old new before out desk
-  finishes-by s j x mid desk r out asked session is mid-is told ends =
+  pub finishes-by : (s : ℕ) (j : Job) (x : Outcome) (mid desk : DeskState) (r : Result Reply Refusal) (out : Result Reply Fault) → before.question ≡ Some j → s ≡ j.session → x ≡ outcome_of job.work → mid ≡ over before → out ≡ settled_reply r → HasRoom job.work x → EndsBy terms s x others old new mid r desk → Finishes terms job reveal old new before out desk
+  finishes-by s j x mid desk r out asked session is mid-is told room ends =
       let q = by_job job (question_of j) in
       let done = ends job.work q is (sym session) in
       let value : told_of x ≡ value_of (task_of job.work) = ap told_of is ∙ work-value job.work in
@@ -154,6 +176,7 @@ module _ {K : Type 0} (terms : Terms K) (job : Job) (others : Others) (old new :
         cause = λ device. done.cause (blamed-told r device);
         plain = plain-told r done.plain;
         stays = subst (λ d. IfErr (settled_reply r) (λ fault. SameDesk d desk)) mid-is (stays-told mid desk r done.stays);
+        short = λ few. short-told r (done.short (outcome-short job.work x is room few));
       })
 
 module _ {K : Type 0} (terms : Terms K) (job : Job) (reveal : Contents → Reveal) (store : StoreState K) (before : DeskState) where
@@ -165,6 +188,7 @@ module _ {K : Type 0} (terms : Terms K) (job : Job) (reveal : Contents → Revea
     cause = λ device. let k : Err Memory ≡ Err Device = device in cc;
     plain = tt;
     stays = refl;
+    short = λ few. tt;
   })
 
   -- no question is pending
@@ -182,6 +206,7 @@ module _ {K : Type 0} (terms : Terms K) (job : Job) (reveal : Contents → Revea
     cause = λ device. let k : Ok (Code FunctionFailed) ≡ Err Device = device in cc;
     plain = refl;
     stays = tt;
+    short = λ few. tt;
   }
 
 -- the reveals of what is counted
@@ -192,6 +217,7 @@ finishes-as terms job f g old new before r desk same done = record {
   cause = done.cause;
   plain = done.plain;
   stays = done.stays;
+  short = done.short;
 }
 
 -- ---- whatever is kept
@@ -205,3 +231,9 @@ module _ {K : Type 0} (terms : Terms K) (job : Job) (reveal : Contents → Revea
   pub stays-finished : (r : Result Reply Fault) (desk : DeskState) → Finishes terms job reveal old new before r desk → IsSome (set_apart (told_result r)) → SameDesk (over before) desk
   stays-finished (Ok reply) desk done some = let k : false ≡ true = subst IsSome done.plain some in cc
   stays-finished (Err fault) desk done some = done.stays
+
+-- what is told of a fault is short
+pub short-result : (r : Result Reply Fault) → IfOk r (λ reply. IsShort reply) → IsShort (told_result r)
+short-result (Ok reply) short = short
+short-result (Err Memory) short = tt
+short-result (Err Device) short = tt

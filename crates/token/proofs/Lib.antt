@@ -3,6 +3,7 @@ pub mod Steps
 pub mod Called
 pub mod Resulted
 pub mod Outcomes
+mod Shortness
 pub mod Endings
 pub mod Jobs
 pub mod Accounts

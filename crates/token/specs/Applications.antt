@@ -23,7 +23,8 @@ use Rattle.views.specs.Answering.{Said, Replies, Answer, Reveal, has_session, pi
 use Rattle.answers.specs.Answers.{answer_result}
 use Rattle.views.specs.Refusals.{refusal, apart, set_apart}
 use Rattle.token_model.specs.Worlds.{World, is_in_session, checks_of, Move, Goes, Refuses, value_of, reveal_by_outcome, reveal_to_task, stepped, unchecked, finish_refused}
-use Rattle.token_store.specs.Shown.{objects_of, view_of, Fits, said_of, question_of, over}
+use Rattle.token_store.specs.Short.{IsShort, IsShortTask}
+use Rattle.token_store.specs.Shown.{objects_of, task_of, view_of, Fits, said_of, question_of, over}
 use Rattle.token_store.specs.Stores.{StoreState, Has, Serves}
 
 -- ---- all desks
@@ -85,13 +86,14 @@ abbrev pub reveal_by_job : Job → (UserType → ℕ) → Bool → Contents → 
 reveal_by_job job under_way in_use c = reveal_by_outcome (question_of job).task (value_of (question_of job).task) (objects_of c) under_way in_use
 
 -- The answer to the result of the job is given, or it is refused, and the desk is without its question; at most one write
--- is tried, and the device is to blame only where a failure of the keeper was counted.
+-- is tried, and the device is to blame only where a failure of the keeper was counted. What is told of a short task is short.
 pub record Finishes {K : Type 0} (terms : Terms K) (job : Job) (reveal : Contents → Reveal) (old new : StoreState K) (before : DeskState) (result : Result Reply Fault) (desk : DeskState) : Type 0 where
   pub serves : terms.doubt new.keep ≡ 0 → (c : Contents) → Has terms old c → Fits c before.handles.entries → Serves terms Replies (answer_to_job job (view_of c before) (reveal c)) c old new before (over before) result desk
   pub counts : Counted terms old.keep new.keep 0 1
   pub cause : IsErrOf result Device → Rises (terms.failures old.keep) (terms.failures new.keep)
   pub plain : IfOk result (λ reply. set_apart reply ≡ None)
   pub stays : IfErr result (λ fault. SameDesk (over before) desk)
+  pub short : IsShortTask (task_of job.work) → IfOk result (λ reply. IsShort reply)
 
 -- the answer to the job's own value, and the world after it; or what a refusal leaves
 abbrev pub answer_by : World → ℕ → Job → Answer

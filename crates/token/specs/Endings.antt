@@ -1,5 +1,5 @@
 -- The end of a question at its desk, by what the other applications have under way.
-use Rattle.std.specs.Prelude.{◌≡◌, ℕ, Result, Ok, Err}
+use Rattle.std.specs.Prelude.{◌≡◌, ℕ, ◌≤◌, Result, Ok, Err, length}
 use Rattle.ck_types.specs.declared.rv.Rv.TheVariants as rv
 use Rattle.ck_types.specs.declared.user_type.UserType.{UserType}
 use Rattle.ck_types.specs.declared.user_type.UserType.TheVariants.{So, User}
@@ -9,6 +9,7 @@ use Rattle.precede.specs.Row.{code_of}
 use Rattle.keep.specs.Keeping.{Terms}
 use Rattle.mech.specs.declared.outcome.Outcome.{Outcome}
 use Rattle.mech.specs.declared.work.Work.{Work}
+use Rattle.mech.specs.Rooms.{given_of}
 use Rattle.mech.specs.Works.{outcome_of}
 use Rattle.desk.specs.Desks.{DeskState}
 use Rattle.views.specs.declared.fault.Fault.{Fault}
@@ -20,7 +21,8 @@ use Rattle.answers.specs.Answers.{answer_outcome}
 use Rattle.token_model.specs.Worlds.{reveal_by_outcome}
 use Rattle.token_store.specs.declared.refusal.Refusal.{Refusal}
 use Rattle.token_store.specs.declared.refusal.Refusal.TheVariants as refusals
-use Rattle.token_store.specs.Refusing.{IsDoneAs}
+use Rattle.token_store.specs.Refusing.{IsDoneIf}
+use Rattle.token_store.specs.Short.{most_data}
 use Rattle.token_store.specs.Shown.{objects_of, task_of}
 use Rattle.token_store.specs.Stores.{StoreState}
 use Rattle.token.specs.declared.ending.Others.{Others}
@@ -30,11 +32,15 @@ abbrev pub under_way_of : Others → UserType → ℕ
 under_way_of o So = o.so_checks
 under_way_of o User = o.user_checks
 
--- The outcome of some work is answered as the definition of its question says.
+-- a frame has room for what the work gave
+abbrev pub IsShortOutcome : Outcome → Type 0
+IsShortOutcome outcome = length (given_of outcome) ≤ most_data
+
+-- The outcome of some work is answered as the definition of its question says, and shortly where it is short.
 abbrev pub EndsBy : {K : Type 0} → Terms K → ℕ → Outcome → Others → StoreState K → StoreState K → DeskState → Result Reply Refusal → DeskState → Type 0
 EndsBy terms session outcome others old new before result desk =
     (work : Work) (q : Question) → outcome ≡ outcome_of work → q.session ≡ session
-    → IsDoneAs terms Replies 1 (λ c v. answer_outcome v q (task_of work) (told_of outcome) (reveal_by_outcome (task_of work) (told_of outcome) (objects_of c) (under_way_of others) others.in_session)) old new before result desk
+    → IsDoneIf (IsShortOutcome outcome) terms Replies 1 (λ c v. answer_outcome v q (task_of work) (told_of outcome) (reveal_by_outcome (task_of work) (told_of outcome) (objects_of c) (under_way_of others) others.in_session)) old new before result desk
 
 -- what is told of it
 abbrev pub settled_reply : Result Reply Refusal → Result Reply Fault

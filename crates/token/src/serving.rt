@@ -5,7 +5,8 @@ ghost use Rattle.ck_calls.specs.Need.{random_bytes};
 ghost use Rattle.desk.specs.Desks.{is_busy};
 ghost use Rattle.token_model.specs.Worlds.{reveal_by_call};
 ghost use Rattle.answers.specs.Answers.{answer, answer_to};
-ghost use Rattle.token_store.specs.Refusing.{IsServed};
+ghost use Rattle.token_store.specs.Refusing.{IsServedIf};
+ghost use Rattle.token_store.specs.Short.{IsShortCall};
 ghost use Rattle.token_store.specs.Shown.{IsFor};
 
 use aes_modes::Direction;
@@ -42,7 +43,7 @@ pub(crate) fn serve<K: Keep>(
     in_use: bool,
 ) -> Result<Out, Fault>
     requires { length random.now ≡ random_bytes call }
-    ensures { IsServed K.terms (IsFor app) (λ v. answer v call random.now (reveal_by_call call in_use)) store.old store.new desk.old result desk.new }
+    ensures { IsServedIf (IsShortCall call) K.terms (IsFor app) (λ v. answer v call random.now (reveal_by_call call in_use)) store.old store.new desk.old result desk.new }
 {
     if desk.is_busy() {
         return Ok(Out::Reply(Reply::Code(Row::Busy.code(Rv::Ok))));
@@ -62,7 +63,7 @@ fn dispatch<K: Keep>(
 ) -> Result<Out, Fault>
     requires random { length random.now ≡ random_bytes call }
     requires free { is_busy desk.old ≡ false }
-    ensures { IsServed K.terms (IsFor app) (λ v. answer_to v call random.now (reveal_by_call call in_use)) store.old store.new desk.old result desk.new }
+    ensures { IsServedIf (IsShortCall call) K.terms (IsFor app) (λ v. answer_to v call random.now (reveal_by_call call in_use)) store.old store.new desk.old result desk.new }
 {
     match call {
         // Slot and token management (PKCS #11 v3.1, 5.5).

@@ -22,7 +22,8 @@ ghost use Rattle.answers.specs.Answers.{answer};
 ghost use Rattle.views.specs.Refusals.{apart, refusal, set_apart};
 ghost use Rattle.token_model.specs.Worlds.{World, called, checks_of, goes, happens, is_init_token, others_checking, reply_to, reveal_by_call, says_called, without_checks};
 ghost use Rattle.token_model.specs.Tries.{IsSound};
-ghost use Rattle.token_store.specs.Shown.{IsFor, over, said_of};
+ghost use Rattle.token_store.specs.Shown.{IsFor, over, said_of, task_of};
+ghost use Rattle.token_store.specs.Short.{IsShort, IsShortCall, IsShortSaid, IsShortTask};
 ghost use Rattle.token.specs.Applications.{Finishes, HasJobs, reveal_by_job, checks_after, has_session_at, others_seated, HasNumbers, IsOpen, IsOther, TakesJob, desk_at, is_answer, move_of, opening, told_as, told_result, Shows};
 ghost use Rattle.token_store.specs.Stores.{Served};
 ghost use Rattle.token.specs.Runs.{AccountsFor, Advances, IsRun, IsStep, IsTakenBy, Lasting, LeavesBy, LeftBy, MayLeave, call_change};
@@ -32,7 +33,7 @@ use crate::ran::Ran;
 use crate::serving::serve;
 use ck_calls::{Call, Function, Reply};
 use ck_types::{Rv, UserType};
-use desk::Desk;
+use desk::{Desk, Question};
 use keep::{Keep, KeepFault};
 use mech::{Done, Job, Work};
 use std::alloc::{AllocError, Global};
@@ -106,6 +107,8 @@ impl<K: Keep> Token<K> {
         // Of the other applications nothing changes, nor where it is refused of this one, but the memory at hand.
         ensures others { (b : ℕ) → b ≢ app → SameDesk (desk_at self.old.desks b) (desk_at self.new.desks b) }
         ensures stays { IsSome (apart (said_of result)) → SameDesk (desk_at self.old.desks app) (desk_at self.new.desks app) }
+        // A call with data that a frame has room for is told of as shortly, or asks for what is.
+        ensures short { IsShortCall call → IsShortSaid (said_of result) }
     {
         told_as(serve_app(
             alloc,
@@ -138,6 +141,8 @@ impl<K: Keep> Token<K> {
         // Of the other applications nothing changes, nor where it is refused of this one, but its question and the memory at hand.
         ensures others { (b : ℕ) → b ≢ app → desk_at self.new.desks b ≡ desk_at self.old.desks b }
         ensures stays { IsSome (set_apart result) → SameDesk (over (desk_at self.old.desks app)) (desk_at self.new.desks app) }
+        // What is told of a short job is short.
+        ensures short { IsShortTask (task_of done.job.value.work) → IsShort result }
     {
         if !is_open(&self.desks, app, &done) {
             return Reply::Code(Rv::FunctionFailed);
@@ -305,6 +310,7 @@ fn serve_app<K: Keep>(
     ensures cause { IsErrOf result Device → Rises (K.terms.failures store.old.keep) (K.terms.failures store.new.keep) }
     ensures plain { IfOk result (λ out. apart (said_of out) ≡ None) }
     ensures stays { IfErr result (λ fault. SameDesk (desk_at desks.old.entries app) (desk_at desks.new.entries app)) }
+    ensures short { IsShortCall call → IfOk result (λ out. IsShortSaid (said_of out)) }
 {
     checks.reserve(1)?;
     let in_use = is_in_use_for(desks, app, &call);
@@ -333,6 +339,7 @@ fn serve_seated<K: Keep>(
     ensures cause { IsErrOf result Device → Rises (K.terms.failures store.old.keep) (K.terms.failures store.new.keep) }
     ensures plain { IfOk result (λ out. apart (said_of out) ≡ None) }
     ensures stays { IfErr result (λ fault. SameDesk (desk_at desks.old.entries app) (desk_at desks.new.entries app)) }
+    ensures short { IsShortCall call → IfOk result (λ out. IsShortSaid (said_of out)) }
 {
     seat(alloc, desks, app)?;
     match desks.get_mut(&app) {
@@ -415,17 +422,22 @@ fn seat(alloc: Global, desks: &mut BTreeMap<u64, Desk>, app: u64) -> Result<(), 
     Ok(())
 }
 
+/// Whether a job that was run is of the application's question.
+fn is_of(done: &Done, app: u64, question: &Question) -> bool
+    ensures { result ≡ is_answer (Some question.now) app done.now.job.value }
+{
+    done.app() == app
+        && done.question() == question.number()
+        && done.function() == question.function()
+}
+
 /// Whether a job that was run is of the application's pending question.
 fn is_open(desks: &BTreeMap<u64, Desk>, app: u64, done: &Done) -> bool
     ensures { result ≡ is_answer (desk_at desks.now.entries app).question app done.now.job.value }
 {
     match desks.get(&app) {
         Some(desk) => match desk.question() {
-            Some(question) => {
-                done.app() == app
-                    && done.question() == question.number()
-                    && done.function() == question.function()
-            }
+            Some(question) => is_of(done, app, question),
             None => false,
         },
         None => false,

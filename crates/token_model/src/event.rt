@@ -3,7 +3,7 @@
 use ck_calls::Call;
 
 /// What happens to a token.
-#[derive(Debug, Drop)]
+#[derive(Drop)]
 pub enum Event {
     /// An application calls, with the random bytes that the call takes.
     Call {

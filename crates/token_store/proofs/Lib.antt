@@ -8,3 +8,5 @@ pub mod Seeing
 pub mod Seated
 pub mod Listing
 mod Searched
+pub mod Lengths
+pub mod Reading

@@ -23,7 +23,7 @@ use Rattle.token_store.specs.declared.out.Out.{Out}
 use Rattle.token_store.specs.declared.out.Out.TheVariants.{Reply as OutReply}
 use Rattle.token_store.specs.declared.refusal.Refusal.{Refusal}
 use Rattle.token_store.specs.declared.refusal.Refusal.TheVariants as refusals
-use Rattle.token_store.specs.Refusing.{of_make_fault, AtDesk, DoesAtDesk, IsPlain, IsPlainAs, settled}
+use Rattle.token_store.specs.Refusing.{of_make_fault, AtDeskIf, DoesAtDesk, IsPlain, IsPlainAs, settled}
 use Rattle.token_store.specs.Shown.{said_of, view_of, Fits}
 use Rattle.token_store.proofs.Refusals.{IsFault}
 
@@ -105,7 +105,7 @@ module _ {T : Type 0} (tell : T → Said) (as_out : T → Out) (f : View → Ans
   plain-does (Err refusals.Memory) same plain does = tt
   plain-does (Err refusals.Device) same plain does = tt
 
-  pub plain-at-desk : (r : Result T Refusal) → ((t : T) → said_of (as_out t) ≡ tell t) → ((v : View) → apart (f v).says ≡ None) → AtDesk tell f before r desk → IfOk (settled as_out r) (λ out. apart (said_of out) ≡ None)
+  pub plain-at-desk : {given : Type 0} (r : Result T Refusal) → ((t : T) → said_of (as_out t) ≡ tell t) → ((v : View) → apart (f v).says ≡ None) → AtDeskIf given tell f before r desk → IfOk (settled as_out r) (λ out. apart (said_of out) ≡ None)
   plain-at-desk r same plain does = plain-does r same plain (does.serves at (fits-fitting before.handles.entries))
 
   stays-does : (r : Result T Refusal) → DoesAtDesk tell (f (view_of at before)) at before r desk → IfErr (settled as_out r) (λ fault. SameDesk before desk)
@@ -115,5 +115,5 @@ module _ {T : Type 0} (tell : T → Said) (as_out : T → Out) (f : View → Ans
   stays-does (Err refusals.Memory) does = does
   stays-does (Err refusals.Device) does = absurd does
 
-  pub stays-at-desk : (r : Result T Refusal) → AtDesk tell f before r desk → IfErr (settled as_out r) (λ fault. SameDesk before desk)
+  pub stays-at-desk : {given : Type 0} (r : Result T Refusal) → AtDeskIf given tell f before r desk → IfErr (settled as_out r) (λ fault. SameDesk before desk)
   stays-at-desk r does = stays-does r (does.serves at (fits-fitting before.handles.entries))

@@ -1,3 +1,4 @@
+pub mod Short
 pub mod Shown
 pub mod Stores
 pub mod Found

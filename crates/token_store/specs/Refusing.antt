@@ -20,6 +20,7 @@ use Rattle.token_store.specs.declared.out.Out.{Out}
 use Rattle.token_store.specs.declared.out.Out.TheVariants.{Reply as OutReply}
 use Rattle.token_store.specs.declared.refusal.Refusal.{Refusal}
 use Rattle.token_store.specs.declared.refusal.Refusal.TheVariants as refusals
+use Rattle.token_store.specs.Short.{IsShortSaid}
 use Rattle.token_store.specs.Shown.{view_of, said_of, Fits, Gives}
 use Rattle.token_store.specs.Stores.{StoreState, Has, LeavesAsBefore, Gave, Refused, Served}
 
@@ -44,10 +45,14 @@ DoesAtDesk tell a c old (Err (refusals.Code code)) new = (a ≡ refuses (view_of
 DoesAtDesk tell a c old (Err refusals.Memory) new = SameDesk old new
 DoesAtDesk tell a c old (Err refusals.Device) new = ⊥
 
--- what a call does that asks no store, in one clause; so no keeper is to blame
-pub record AtDesk {T : Type 0} (tell : T → Said) (f : View → Answer) (old : DeskState) (result : Result T Refusal) (new : DeskState) : Type 0 where
+-- what a call does that asks no store, in one clause; so no keeper is to blame, and what is told is short where this is given
+pub record AtDeskIf (given : Type 0) {T : Type 0} (tell : T → Said) (f : View → Answer) (old : DeskState) (result : Result T Refusal) (new : DeskState) : Type 0 where
   pub serves : (c : Contents) → Fits c old.handles.entries → DoesAtDesk tell (f (view_of c old)) c old result new
   pub cause : IsErrOf result refusals.Device → ⊥
+  pub short : given → IfOk result (λ out. IsShortSaid (tell out))
+
+abbrev pub AtDesk : {T : Type 0} → (T → Said) → (View → Answer) → DeskState → Result T Refusal → DeskState → Type 0
+AtDesk tell f old result new = AtDeskIf (Unit {0}) tell f old result new
 
 -- ---- at the desk and the store
 
@@ -80,13 +85,18 @@ IsPlainAs tell (Err refusals.Device) = Unit {0}
 
 -- What a call or the end of a question does, in one clause: its answer is given or refused while the store is honest, it
 -- tries no more than so many writes, and the device is to blame only where a failure of the keeper was counted. Whether
--- or not the store is honest, a refusal leaves the desk, but for the memory that is at hand.
-pub record IsDoneAs {K T : Type 0} (terms : Terms K) (tell : T → Said) (writes : ℕ) (f : Contents → View → Answer) (old new : StoreState K) (before : DeskState) (result : Result T Refusal) (desk : DeskState) : Type 0 where
+-- or not the store is honest, a refusal leaves the desk, but for the memory that is at hand, and what is told is short where
+-- this is given.
+pub record IsDoneIf (given : Type 0) {K T : Type 0} (terms : Terms K) (tell : T → Said) (writes : ℕ) (f : Contents → View → Answer) (old new : StoreState K) (before : DeskState) (result : Result T Refusal) (desk : DeskState) : Type 0 where
   pub serves : DoneAs terms tell f old new before result desk
   pub counts : Counted terms old.keep new.keep 0 writes
   pub cause : IsErrOf result refusals.Device → Rises (terms.failures old.keep) (terms.failures new.keep)
   pub plain : IsPlainAs tell result
   pub stays : IfErr result (λ refusal. SameDesk before desk)
+  pub short : given → IfOk result (λ out. IsShortSaid (tell out))
+
+abbrev pub IsDoneAs : {K T : Type 0} → Terms K → (T → Said) → ℕ → (Contents → View → Answer) → StoreState K → StoreState K → DeskState → Result T Refusal → DeskState → Type 0
+IsDoneAs terms tell writes f old new before result desk = IsDoneIf (Unit {0}) terms tell writes f old new before result desk
 
 -- ---- and where it replies, to the view alone
 
@@ -111,11 +121,12 @@ abbrev pub settled : {T : Type 0} → (T → Out) → Result T Refusal → Resul
 settled as_out (Ok out) = Ok (as_out out)
 settled as_out (Err refusal) = refused_as refusal
 
--- and in one clause
-pub record IsServed {K : Type 0} (terms : Terms K) (kind : Out → Type 0) (f : View → Answer) (old new : StoreState K) (before : DeskState) (result : Result Out Fault) (desk : DeskState) : Type 0 where
+-- and in one clause, in which what is told is short where this is given
+pub record IsServedIf (given : Type 0) {K : Type 0} (terms : Terms K) (kind : Out → Type 0) (f : View → Answer) (old new : StoreState K) (before : DeskState) (result : Result Out Fault) (desk : DeskState) : Type 0 where
   pub serves : Served terms said_of f old new before before result desk
   pub says : IfOk result kind
   pub counts : Counted terms old.keep new.keep 0 1
   pub cause : IsErrOf result faults.Device → Rises (terms.failures old.keep) (terms.failures new.keep)
   pub plain : IfOk result (λ out. apart (said_of out) ≡ None)
   pub stays : IfErr result (λ fault. SameDesk before desk)
+  pub short : given → IfOk result (λ out. IsShortSaid (said_of out))

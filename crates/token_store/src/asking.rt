@@ -1,10 +1,12 @@
 //! Questions of a call.
 
-ghost use Rattle.std.specs.Prelude.{◌≡◌, ◌<◌, ◌^◌, IsTrue, length};
+ghost use Rattle.std.specs.Prelude.{◌≡◌, ℕ, ◌<◌, ◌^◌, IsTrue, Some, length};
 ghost use Rattle.desk.specs.Desks.{with_question};
 ghost use Rattle.keep.specs.Contents.{Contents};
 ghost use Rattle.mech.specs.Runnable.{is_runnable};
+ghost use Rattle.token_store.specs.declared.out.Out.TheVariants.{Ask};
 ghost use Rattle.token_store.specs.Asking.{asks_within};
+ghost use Rattle.token_store.specs.Short.{IsShortSaid, IsShortTask};
 ghost use Rattle.token_store.specs.Shown.{Fits, Gives, IsFor, question_of, said_of, task_of, view_of};
 
 use crate::out::Out;
@@ -19,6 +21,7 @@ pub fn ask(app: u64, desk: &mut Desk, function: Function, session: u64, work: Wo
     ensures asker { result.app ≡ app }
     ensures question { question_of result ≡ record { number = desk.old.next_question; function = function; session = session; task = task_of work } }
     ensures asked { desk.new ≡ with_question desk.old result }
+    ensures short { IsShortTask (task_of work) → IsShortSaid (said_of (Ask result)) }
 {
     let job = Job {
         app,
@@ -45,6 +48,7 @@ pub fn ask_within(
     requires runnable { IsTrue (is_runnable work) }
     ensures gives { (c : Contents) → Fits c desk.old.handles.entries → Gives (asks_within function session (task_of work) wanted room (view_of c desk.old)) desk.old.sessions.login c (said_of result) c desk.new }
     ensures asker { IsFor app result }
+    ensures short { ((n : ℕ) → room ≡ Some n → IsShortTask (task_of work)) → IsShortSaid (said_of result) }
 {
     let Some(room) = room else {
         return Out::Reply(Reply::Output(Output::Length(wanted)));

@@ -1,7 +1,8 @@
 -- Replies as bytes. The form is this project's: a return code in 64 bits, and fields where the function
 -- has some with that code. The payload of a reply does not tell the function, so it is read by the
 -- function of its call.
-use Rattle.std.specs.Prelude.{◌≡◌, ℕ, ◌≤◌, List, length, Option, Some, None, Result, Err, Bool, true, false, nat_lt, ◌==◌, ◌||◌, if◌then◌else◌}
+use Rattle.std.specs.Prelude.{◌≡◌, ℕ, ◌<◌, ◌≤◌, ◌^◌, List, length, Option, Some, None, Result, Err, Bool, true, false, nat_lt, ◌==◌, ◌||◌, if◌then◌else◌}
+use Rattle.std.specs.List.{AllByRecursion}
 use Rattle.ck_types.specs.declared.rv.Rv.{Rv}
 use Rattle.ck_types.specs.declared.rv.Rv.TheVariants as rv
 use Rattle.ck_types.specs.Numbers.{rv_number}
@@ -13,7 +14,7 @@ use Rattle.ck_calls.specs.declared.reply.Output.{Output}
 use Rattle.ck_calls.specs.declared.reply.Output.TheVariants.{Length, Data}
 use Rattle.ck_calls.specs.declared.reply.Reply.{Reply}
 use Rattle.ck_calls.specs.declared.reply.Reply.TheVariants as replies
-use Rattle.ck_calls.specs.Fields.{token_info, mechanism_info, session_info, numbers, output, attribute_values}
+use Rattle.ck_calls.specs.Fields.{token_info, mechanism_info, session_info, numbers, output, attribute_value, attribute_values}
 use Rattle.ck_calls.specs.Functions.{function_number, function_at}
 use Rattle.wire.specs.declared.fault.WireFault.{WireFault}
 use Rattle.wire.specs.declared.fault.WireFault.TheVariants as faults
@@ -105,6 +106,20 @@ Fits-reply (replies.Objects objects) = (pair return_code numbers).Fits (rv.Ok, o
 Fits-reply (replies.Output out) = (pair return_code output).Fits (rv.Ok, out)
 Fits-reply (replies.BufferTooSmall wanted) = (pair return_code output).Fits (rv.BufferTooSmall, Length wanted)
 Fits-reply (replies.Random bytes) = (pair return_code byte_string).Fits (rv.Ok, bytes)
+
+-- Whether no list and no byte string of a reply is above its limit, each value is as long as is told, and values come with one of
+-- their codes. Then each part has an encoding, since the types bound its other numbers.
+abbrev pub IsWithinLimits : Reply → Type 0
+IsWithinLimits (replies.MechanismList mechanisms) = length mechanisms ≤ 1024
+IsWithinLimits (replies.AttributeValues code values) = (carries shapes.AttributeValues code ≡ true) × (length values ≤ 32) × AllByRecursion attribute_value.Fits values
+IsWithinLimits (replies.Objects objects) = length objects ≤ 1024
+IsWithinLimits (replies.Output (Data bytes)) = length bytes < 2 ^ 32
+IsWithinLimits (replies.Random bytes) = length bytes < 2 ^ 32
+IsWithinLimits _ = Unit {0}
+
+-- the replies that have a frame
+abbrev pub HasReplyFrame : Reply → Type 0
+HasReplyFrame reply = Fits-reply reply × (length (reply_payload reply) ≤ most)
 
 -- whether a reply has a shape
 abbrev pub HasShape : Shape → Reply → Type 0

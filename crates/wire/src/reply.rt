@@ -1,13 +1,15 @@
 //! The payload and the frame of a reply.
 
 ghost use Rattle.std.specs.Prelude.{◌≡◌, ◌==◌, IfOk};
+ghost use Rattle.std.specs.List.{AllByRecursion};
+ghost use Rattle.ck_types.specs.Format.{number64};
 ghost use Rattle.ck_types.specs.Coding.{Appends, Decodes};
 ghost use Rattle.ck_types.specs.Numbers.{rv_number};
 ghost use Rattle.ck_calls.specs.declared.function.Function.{Function as TheFunction};
 ghost use Rattle.ck_calls.specs.declared.reply.Reply.{Reply as TheReply};
 ghost use Rattle.ck_calls.specs.Functions.{function_number, function_at};
 ghost use Rattle.wire.specs.Messages.{Reads, Writes};
-ghost use Rattle.wire.specs.Replies.{decode_reply, decode_after, decode_carried, reply_said, reply_in, reply_payload, Fits-reply, IsReplyTo, IsReplyAt, too_small};
+ghost use Rattle.wire.specs.Replies.{decode_reply, decode_after, decode_carried, reply_said, reply_in, reply_payload, Fits-reply, IsWithinLimits, IsReplyTo, IsReplyAt, too_small};
 
 use crate::encode::encode_2;
 use crate::fault::WireFault;
@@ -176,6 +178,56 @@ pub fn read_reply(alloc: Global, function: u16, payload: &[u8]) -> Result<Reply,
     reply_in(alloc, function, payload)
 }
 
+/// What the type of a slice says of its numbers. It does nothing: a proof cites it.
+#[inline(always)]
+fn numbers_fit(numbers: &[u64])
+    ensures { AllByRecursion number64.Fits numbers.now }
+{}
+
+/// What the type of a reply says of its numbers, each of which is read. It does nothing: a proof cites it.
+#[inline(always)]
+fn reply_fits(reply: &Reply)
+    ensures { IsWithinLimits reply.now → Fits-reply reply.now }
+{
+    match reply {
+        Reply::Code(_) | Reply::AttributeValues { .. } | Reply::Random(_) => {}
+        Reply::TokenInfo(
+            TokenInfo {
+                label,
+                flags,
+                session_count,
+                rw_session_count,
+            },
+        ) => {
+            let _label = label.as_slice();
+            let _numbers = (*flags, *session_count, *rw_session_count);
+        }
+        Reply::MechanismInfo(
+            MechanismInfo {
+                min_key_size,
+                max_key_size,
+                flags,
+            },
+        ) => {
+            let _numbers = (*min_key_size, *max_key_size, *flags);
+        }
+        Reply::SessionInfo(SessionInfo { slot, .. }) => {
+            let _slot = *slot;
+        }
+        Reply::MechanismList(numbers) | Reply::Objects(numbers) => {
+            numbers_fit(numbers.as_slice());
+        }
+        Reply::Session(number)
+        | Reply::Object(number)
+        | Reply::ObjectSize(number)
+        | Reply::BufferTooSmall(number)
+        | Reply::Output(Output::Length(number)) => {
+            let _number = *number;
+        }
+        Reply::Output(Output::Data(_)) => {}
+    }
+}
+
 /// The frame of a reply: the length of its payload, and the payload.
 ///
 /// # Errors
@@ -183,8 +235,11 @@ pub fn read_reply(alloc: Global, function: u16, payload: &[u8]) -> Result<Reply,
 /// `TooLong` for a payload above the limit, else `Malformed` where a part of the reply has no encoding,
 /// else `Memory`.
 pub fn write_reply(alloc: Global, reply: &Reply) -> Result<Vec<u8>, WireFault>
-    ensures { Writes (reply_payload reply.now) (Fits-reply reply.now) result }
+    ensures writes { Writes (reply_payload reply.now) (Fits-reply reply.now) result }
+    // A reply within the limits has an encoding.
+    ensures fits { IsWithinLimits reply.now → Fits-reply reply.now }
 {
+    reply_fits(reply);
     if reply_len(reply) > MAX_PAYLOAD_LEN {
         return Err(WireFault::TooLong);
     }

@@ -119,16 +119,18 @@ fn verify(alloc: Global) -> Result<Call, Fail> {
     })
 }
 
-/// Whether this is the frame of the call.
-fn is_frame_of(alloc: Global, frame: &[u8], call: &Call) -> Result<bool, Fail> {
+/// Whether the call that is read from the frame has this frame: no other call has it.
+fn is_frame_read(alloc: Global, frame: &[u8]) -> Result<bool, Fail> {
     let again = read_call(alloc, frame.get(4..).unwrap_or(&[]))?;
-    Ok(again == *call)
+    let written = write_call(alloc, &again);
+    drop(again);
+    Ok(written?.as_slice() == frame)
 }
 
 /// Whether the call has a frame of so many bytes, and is read from it.
 fn is_call_read_again(alloc: Global, call: &Call, len: usize) -> Result<bool, Fail> {
     let frame = write_call(alloc, call)?;
-    Ok(frame.len() == len && is_frame_of(alloc, &frame, call)?)
+    Ok(frame.len() == len && is_frame_read(alloc, &frame)?)
 }
 
 fn is_call_at_read_again(alloc: Global, place: usize) -> Result<bool, Fail> {
@@ -239,7 +241,9 @@ fn is_frame_to(
     reply: &Reply,
 ) -> Result<bool, Fail> {
     let again = read_reply(alloc, function.number(), frame.get(4..).unwrap_or(&[]))?;
-    Ok(again == *reply)
+    let is_same = again == *reply;
+    drop(again);
+    Ok(is_same)
 }
 
 /// Whether the reply has a frame of so many bytes, and is read from it.
@@ -275,7 +279,10 @@ fn refusal_of(alloc: Global, reply: &Reply) -> Option<WireFault> {
 /// Why a C_GenerateRandom of so many bytes has no reply.
 fn refusal_of_random(alloc: Global, len: usize) -> Result<Option<WireFault>, Fail> {
     let random = vec![in alloc; 0u8; len]?;
-    Ok(refusal_of(alloc, &Reply::Random(Bytes::from_vec(random))))
+    let reply = Reply::Random(Bytes::from_vec(random));
+    let refusal = refusal_of(alloc, &reply);
+    drop(reply);
+    Ok(refusal)
 }
 
 /// Why a C_CreateObject with so many attributes, each of so many bytes, has no frame.
@@ -289,7 +296,9 @@ fn refusal_of_template(alloc: Global, count: u64, len: usize) -> Result<Option<W
         session: 1,
         template,
     };
-    Ok(write_call(alloc, &call).err())
+    let refusal = write_call(alloc, &call).err();
+    drop(call);
+    Ok(refusal)
 }
 
 #[test]

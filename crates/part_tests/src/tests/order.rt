@@ -72,10 +72,13 @@ fn answer(function: u16, from: usize, to: usize) -> Option<u64> {
 /// nothing where none of its rows holds.
 fn is_answered_by_its_ends(function: u16, codes: &[u64]) -> bool {
     let count = codes.len();
-    answer(function, 0, count) == Some(0x6)
-        && answer(function, 0, 16) == Some(0x6)
-        && answer(function, count.saturating_sub(1), count) == codes.last().copied()
-        && answer(function, count, 16).is_none()
+    let answers = [
+        answer(function, 0, count),
+        answer(function, 0, 16),
+        answer(function, count.saturating_sub(1), count),
+        answer(function, count, 16),
+    ];
+    answers == [Some(0x6), Some(0x6), codes.last().copied(), None]
 }
 
 /// Whether the row answers its code where it alone holds, and where all from it on hold.

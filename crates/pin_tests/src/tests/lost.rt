@@ -6,10 +6,9 @@ use ck_calls::{Reply, need};
 use ck_types::{Rv, UserType};
 use keep::{Keep, ListKeep};
 use scripts::given::*;
-use scripts::{Row, Step, Told, call_of};
+use scripts::{Job, Out, Row, Step, Token, Told, call_of, token_over};
 use std::alloc::Global;
 use std::test::*;
-use token::{Job, Out, Token};
 
 #[test]
 fn a_charge_stays_when_its_application_goes(rt: HostRuntime) -> Result<(), Fail> {
@@ -85,21 +84,18 @@ fn reply_to(
 
 /// The code that a late result is answered. The check of a right PIN began with a try before it.
 fn late_code(alloc: Global, token: &mut Token<ListKeep>, before: &[Step]) -> Result<Reply, Fail> {
-    let _ = reply_to(alloc, token, A, OPEN)?;
+    drop(reply_to(alloc, token, A, OPEN)?);
     let job = job_of(alloc, token, A, LOGIN)?;
     token.gone(A);
     for step in before {
-        let _ = reply_to(alloc, token, A, *step)?;
+        drop(reply_to(alloc, token, A, *step)?);
     }
     Ok(token.finish(alloc, A, job.run(alloc)))
 }
 
 /// A token over a store whose user has one try.
 fn token_with_a_try(alloc: Global) -> Result<Token<ListKeep>, Fail> {
-    match Token::new(alloc, ListKeep::new(alloc, record_with(0, 1)?)) {
-        Ok(token) => Ok(token),
-        Err(_) => Err("the keeper refused".into()),
-    }
+    token_over(alloc, ListKeep::new(alloc, record_with(0, 1)?))
 }
 
 /// What a late result is answered, and the replies to the next steps of an application of the number.

@@ -6,12 +6,12 @@ use keep::{Keep, KeepFault, ListKeep};
 use keep_sql::SqlKeep;
 use pin_record::Record;
 use sqlite::{Alter, Connection, FileStore, Files, Options};
-use sqlite_disk::{Crash, Fuse, Memory};
+use sqlite_disk::{Crash, Disk, Fuse, Memory};
 use std::alloc::Global;
 use std::process::Abort;
 use std::test::Fail;
 
-type Disk = Fuse<Memory>;
+type Machine = Fuse<Memory>;
 
 /// More calls than a run makes.
 const MANY: u64 = 1 << 40;
@@ -27,7 +27,7 @@ const CHANGES: [Change; 8] = [
     Insert(4),
 ];
 
-fn files(alloc: Global, log: u64, db: u64) -> Files<Disk> {
+fn files(alloc: Global, log: u64, db: u64) -> Files<Machine> {
     Files {
         log: Fuse::new(Memory::new(alloc), log),
         db: Fuse::new(Memory::new(alloc), db),
@@ -35,7 +35,7 @@ fn files(alloc: Global, log: u64, db: u64) -> Files<Disk> {
 }
 
 /// The store in the files, or the files where they couldn't be opened.
-fn open(alloc: Global, files: Files<Disk>) -> Result<SqlKeep<FileStore<Disk>>, Files<Disk>> {
+fn open<D: Disk + Drop>(alloc: Global, files: Files<D>) -> Result<SqlKeep<FileStore<D>>, Files<D>> {
     if !files.may_be_used() {
         return Err(files);
     }
@@ -63,7 +63,7 @@ fn make_all<K: Keep>(alloc: Global, keep: &mut K) -> (usize, bool) {
 }
 
 /// The files as a crash leaves them.
-fn crashed(mut files: Files<Disk>) -> Files<Disk> {
+fn crashed(mut files: Files<Machine>) -> Files<Machine> {
     files.log.crash();
     files.db.crash();
     files
@@ -76,7 +76,7 @@ fn made<S: Alter + Drop>(alloc: Global, mut keep: SqlKeep<S>) -> (S, usize, bool
 }
 
 /// Opens the store, makes the changes up to the first that is refused, and crashes.
-fn run(alloc: Global, files: Files<Disk>) -> (Files<Disk>, usize, bool) {
+fn run(alloc: Global, files: Files<Machine>) -> (Files<Machine>, usize, bool) {
     match open(alloc, files) {
         Err(files) => (crashed(files), 0, true),
         Ok(keep) => {
@@ -111,7 +111,7 @@ fn has_changes_or_one<S: Alter + Drop>(
 }
 
 /// Whether the store in the files has what so many changes make, or these and the next.
-fn is_kept(alloc: Global, files: Files<Disk>, changes: usize) -> Result<bool, Fail> {
+fn is_kept(alloc: Global, files: Files<Machine>, changes: usize) -> Result<bool, Fail> {
     match open(alloc, files) {
         Ok(keep) => has_changes_or_one(alloc, keep, changes),
         Err(_) => Ok(false),

@@ -85,15 +85,22 @@ fn a_new_store_of_format_1_is_taken_over(rt: HostRuntime) -> Result<(), Fail> {
 /// The ids go on after the last that was given.
 #[test]
 fn a_store_that_was_taken_over_goes_on(rt: HostRuntime) -> Result<(), Fail> {
-    let alloc = rt.alloc();
-    let mut keep = opened(alloc, store(alloc, &old_bodies(alloc)?)?)?;
-    assert!(rt; keep.ids(alloc)?.as_slice() == [1, 3, 4].as_slice());
-    make(alloc, &mut keep, Change::Insert(7))?;
-    make(alloc, &mut keep, Change::Replace(3, 8))?;
-    make(alloc, &mut keep, Change::Remove(1))?;
-    assert!(rt; keep.ids(alloc)?.as_slice() == [3, 4, 6].as_slice());
+    let mut keep = opened(rt.alloc(), store(rt.alloc(), &old_bodies(rt.alloc())?)?)?;
+    goes_on(&rt, rt.alloc(), &mut keep)
+}
+
+fn goes_on<K: Keep>(rt: &impl Abort, alloc: Global, keep: &mut K) -> Result<(), Fail> {
+    assert!(rt; has_ids(alloc, keep, &[1, 3, 4])?);
+    make(alloc, keep, Change::Insert(7))?;
+    make(alloc, keep, Change::Replace(3, 8))?;
+    make(alloc, keep, Change::Remove(1))?;
+    assert!(rt; has_ids(alloc, keep, &[3, 4, 6])?);
     assert_eq!(rt; keep.failures(), 0);
     Ok(())
+}
+
+fn has_ids<K: Keep>(alloc: Global, keep: &mut K, ids: &[u64]) -> Result<bool, Fail> {
+    Ok(keep.ids(alloc)?.as_slice() == ids)
 }
 
 /// All but the last byte.

@@ -91,13 +91,33 @@ fn object_body(alloc: Global, object: &Object, is_old: bool) -> Result<Vec<u8>, 
 /// The bodies of the store, the record's and each object's in format 1 or in format 2. An object between
 /// was removed, and so was the last.
 pub(super) fn bodies(alloc: Global, old_record: bool, old: [bool; 3]) -> Result<Bodies, Fail> {
-    let key = aes_key(alloc)?;
-    let data = data_object(alloc, true, 9)?;
     let mut objects = Vec::new(alloc);
-    objects.push((1, object_body(alloc, &key, old[0])?))?;
-    objects.push((3, object_body(alloc, &data, old[1])?))?;
-    objects.push((4, object_body(alloc, &key, old[2])?))?;
+    push_key(alloc, &mut objects, 1, old[0])?;
+    push_data(alloc, &mut objects, 3, old[1])?;
+    push_key(alloc, &mut objects, 4, old[2])?;
     Ok((record_body(alloc, old_record)?, objects))
+}
+
+fn push_key(
+    alloc: Global,
+    objects: &mut Vec<(i64, Vec<u8>)>,
+    id: i64,
+    is_old: bool,
+) -> Result<(), Fail> {
+    let key = aes_key(alloc)?;
+    objects.push((id, object_body(alloc, &key, is_old)?))?;
+    Ok(())
+}
+
+fn push_data(
+    alloc: Global,
+    objects: &mut Vec<(i64, Vec<u8>)>,
+    id: i64,
+    is_old: bool,
+) -> Result<(), Fail> {
+    let data = data_object(alloc, true, 9)?;
+    objects.push((id, object_body(alloc, &data, is_old)?))?;
+    Ok(())
 }
 
 /// The same, each in format 1, and each in format 2.

@@ -1,7 +1,7 @@
 //! The keepers over which each test runs.
 
+use super::seats::hold_rows;
 use cache::Cached;
-use hall_scripts::hold_rows;
 use keep::{Keep, ListKeep};
 use keep_sql::SqlKeep;
 use pin_record::Record;

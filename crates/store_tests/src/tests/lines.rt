@@ -11,10 +11,9 @@ use scripts::Step::{
     CreateObject, FindObjects, FindObjectsInit, GenerateRandom, GetAttributeValue, GetObjectSize,
 };
 use scripts::given::*;
-use scripts::{BenchOver, Given, Row, Told};
+use scripts::{BenchOver, Given, Out, Row, Token, Told};
 use std::alloc::Global;
 use std::test::*;
-use token::{Out, Token};
 
 /// What a line takes, how it ends, and what it writes.
 #[derive(Clone, Copy)]

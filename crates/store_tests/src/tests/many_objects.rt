@@ -11,10 +11,9 @@ use scripts::Step::{
     SetAttributeValue,
 };
 use scripts::given::*;
-use scripts::{Given, Row, Told, call_of, replies_to, reply_of};
+use scripts::{Event, Given, Row, Told, call_of, replies_to, reply_of};
 use std::alloc::Global;
 use std::test::*;
-use token::Event;
 
 const COUNT: u8 = 129;
 

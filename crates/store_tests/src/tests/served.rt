@@ -1,16 +1,11 @@
 //! Lines for a token over a keeper, and rows whose calls they take.
 
-ghost use Rattle.std.specs.Prelude.{[], IfOk};
-ghost use Rattle.token_model.specs.Worlds.{World};
-ghost use Rattle.token.specs.Applications.{HasJobs, Shows};
-
 use ck_calls::Function;
 use keep::Keep;
 use line::{LineFault, Watched, Words, serve_one};
-use scripts::{Row, call_of, expect_told, reply_of};
+use scripts::{Row, Token, call_of, expect_told, reply_of, token_over};
 use std::alloc::Global;
 use std::test::*;
-use token::Token;
 use wire::{FrameReader, read_reply, write_call};
 
 /// A line that has ended: how, what it wrote, and the token after it.
@@ -19,15 +14,6 @@ pub(super) struct Served<K: Keep> {
     pub(super) ended: Result<u64, LineFault>,
     pub(super) written: Vec<u8>,
     pub(super) token: Token<K>,
-}
-
-fn token_over<K: Keep>(alloc: Global, keep: K) -> Result<Token<K>, Fail>
-    ensures { IfOk result (λ t. (w : World) → Shows K.terms t w → HasJobs w []) }
-{
-    match Token::new(alloc, keep) {
-        Ok(token) => Ok(token),
-        Err(_) => Err(Fail::new("the keeper refused")),
-    }
 }
 
 /// A line of application 0 over the input, for a new token over the keeper, with the random bytes of the seed of zeros.
@@ -49,7 +35,9 @@ pub(super) fn frames_of(alloc: Global, rows: &[Row]) -> Result<Vec<u8>, Fail> {
     let mut frames = Vec::new(alloc);
     for (_, step, _) in rows {
         let call = call_of(alloc, *step)?;
-        frames.extend_from_slice(&write_call(alloc, &call)?)?;
+        let frame = write_call(alloc, &call);
+        drop(call);
+        frames.extend_from_slice(&frame?)?;
     }
     Ok(frames)
 }

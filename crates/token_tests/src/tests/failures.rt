@@ -7,11 +7,10 @@ use failing_keep::{FailingKeep, Failure};
 use keep::{Keep, KeepFault, ListKeep};
 use pin_record::Record;
 use scripts::given::*;
-use scripts::{Asked, BenchOver, Row, Step, Told, Values, expect_told, reply_of, run_over};
+use scripts::{Asked, BenchOver, Row, Step, Token, Told, Values, expect_told, reply_of, run_over};
 use std::alloc::Global;
 use std::process::Abort;
 use std::test::*;
-use token::Token;
 
 const ASKED: Asked = &[(LABEL, Some(2))];
 

@@ -2,9 +2,8 @@ use Rattle.std.proofs.Common.{◌≡◌, ◌++◌, ◌∙◌, ap, List, ℕ, tak
 use Rattle.std.proofs.lemmas.Result.{err_from_is_err_and}
 use Rattle.wire.specs.Stream.{Held}
 use Rattle.line.specs.Lines.{Leads, messages}
-use Rattle.line.specs.Noting.{HasFailed}
 use Rattle.line.proofs.Leading.{leads-none, leads-then}
-use Rattle.line.proofs.Noting.{made-none, made-more, passed, unfailing-none, unfailing-then, failed-after}
+use Rattle.line.proofs.Noting.{made-none, made-more, passed, unfailing-none, unfailing-then, writes-after}
 use Rattle.line.proofs.Serving.{serving-none, serving-kept, serving-more, serves-memory, serves-fault}
 use Rattle.line.proofs.serve.serve_frames.Goals as goal
 use Rattle.line.proofs.serve.serve_frames.Goals.{in-Ok+in-Ok-feed+in_ok-answer_all-in-Ok, in-Err+else-not-is_interrupted}
@@ -17,7 +16,7 @@ pieces-init g c = record {
 }
 
 pub returns-in-Err-feed-clause-serves : goal.returns-in-Err-feed-clause-serves
-returns-in-Err-feed-clause-serves g c = serves-memory _ _ c.pieces.frames c.pieces.count _ _ _ _ _ (take c.in-Ok.len c.read.new.buf) c.pieces.invariant.so_far c.in-Ok.ensures.bytes.0
+returns-in-Err-feed-clause-serves g c = serves-memory _ c.pieces.frames c.pieces.count _ _ _ _ _ (take c.in-Ok.len c.read.new.buf) c.pieces.invariant.so_far c.in-Ok.ensures.bytes.0
 
 pub returns-in_err-answer_all-in-Ok-clause-serves : goal.returns-in_err-answer_all-in-Ok-clause-serves
 returns-in_err-answer_all-in-Ok-clause-serves g c =
@@ -26,8 +25,12 @@ returns-in_err-answer_all-in-Ok-clause-serves g c =
     let fed : c.feed.new.self.bytes ≡ c.pieces.frames.bytes ++ take c.in-Ok.len c.read.new.buf = ap (λ (h : Held). h.bytes) c.in-Ok-feed.ensures.1 ∙ ap (λ (y : List ℕ). c.pieces.frames.bytes ++ y) c.split_at.ensures.front in
     rw (p.1, p.2) (serves-fault (Leads g.K.Keep.terms c.args.app c.args.token.now c.pieces.token c.args.words.now c.pieces.words) _ c.pieces.frames c.feed.new.self c.pieces.count _ _ _ _ _ (take c.in-Ok.len c.read.new.buf) so c.in-Ok.ensures.bytes.0 fed _ _ _ _ _
     (λ ms rs. leads-then g.K.Keep.terms c.args.app c.args.token.now c.pieces.token c.answer_all.new.token c.args.words.now c.pieces.words c.answer_all.new.words (messages so.payloads) ms so.said rs so.led)
-    (HasFailed c.pieces.writer c.answer_all.new.writer) (HasFailed c.args.writer.now c.answer_all.new.writer) (failed-after c.args.writer.now c.pieces.writer c.answer_all.new.writer c.pieces.invariant.writes)
     c.in_err-answer_all-in-Ok.field-0.0 c.in_err-answer_all-in-Ok.ensures.answers)
+
+pub returns-in_err-answer_all-in-Ok-clause-writes : goal.returns-in_err-answer_all-in-Ok-clause-writes
+returns-in_err-answer_all-in-Ok-clause-writes g c =
+    let p = err_from_is_err_and c.from_residual.result c.from_residual.ensures.1 in
+    rw (p.1, p.2) (writes-after (Unit {0}) ℕ c.args.writer.now c.pieces.writer c.answer_all.new.writer c.in_err-answer_all-in-Ok.field-0.0 c.pieces.invariant.writes c.in_err-answer_all-in-Ok.ensures.writes)
 
 pub pieces-preserved : goal.pieces-preserved
 pieces-preserved g c = record {
@@ -37,7 +40,7 @@ pieces-preserved g c = record {
         let fed : b.feed.new.self.bytes ≡ c.pieces.frames.bytes ++ take b.in-Ok.len c.read.new.buf = ap (λ (h : Held). h.bytes) b.in-Ok-feed.ensures.1 ∙ ap (λ (y : List ℕ). c.pieces.frames.bytes ++ y) b.split_at.ensures.front in
         rw (b.writer-is, b.token-is, b.words-is, b.frames-is, b.count-is) (serving-more (Leads g.K.Keep.terms c.args.app c.args.token.now c.pieces.token c.args.words.now c.pieces.words) _ c.pieces.frames b.feed.new.self c.pieces.count _ _ _ _ _ (take b.in-Ok.len c.read.new.buf) so b.in-Ok.ensures.bytes.0 fed _ _ _ _ _
         (λ ms rs. leads-then g.K.Keep.terms c.args.app c.args.token.now c.pieces.token b.answer_all.new.token c.args.words.now c.pieces.words b.answer_all.new.words (messages so.payloads) ms so.said rs so.led)
-        _ _ b.in_ok-answer_all-in-Ok.ensures.answers)
+        _ b.in_ok-answer_all-in-Ok.ensures.answers)
     | in-Err+else-not-is_interrupted b ↦ rw (b.writer-is, b.token-is, b.words-is, b.frames-is, b.count-is) (serving-kept _ c.pieces.frames c.pieces.count _ _ _ _ _ c.pieces.invariant.so_far b.in-Err.ensures.bytes)
   ];
   reads = elim c.match-read.branch [

@@ -1,6 +1,4 @@
-use Rattle.std.proofs.Common.{◌≡◌, rules, Some, None, [], sym, ◌∙◌, ap}
-use Rattle.std.specs.Prelude.{option_map}
-use Rattle.std.specs.Option.{option_copied}
+use Rattle.std.proofs.Common.{refl, length, ◌≡◌, rules, Some, None, [], ◌∙◌}
 use Rattle.ck_types.specs.declared.rv.Rv.TheVariants as rv
 use Rattle.ck_calls.specs.declared.reply.Reply.TheVariants.{Code}
 use Rattle.precede.specs.Row.{code_of}
@@ -14,37 +12,45 @@ use Rattle.answers.specs.Cipher.{final_function}
 use Rattle.token_store.specs.Shown.{view_of}
 use Rattle.token_store.specs.Asking.{asks_within}
 use Rattle.serve_ciphers.specs.Steps.{refused_row}
-use Rattle.serve_ciphers.proofs.Ciphering.{seated-at, tested, final-refused, final-asks, gives-is, gives-with}
+use Rattle.serve_ciphers.proofs.Bounds.{last-short}
+use Rattle.serve_ciphers.proofs.Ciphering.{under-way, IsTested, fault_in, tested, final-refused, final-asks, gives-is, gives-with}
 use Rattle.serve_ciphers.proofs.cipher.last.Goals as goal
+use Rattle.serve_ciphers.proofs.cipher.last.Goals.{After-room_of}
+
+-- an operation is under way, and it was asked for the room
+asked : (c : After-room_of)
+    → (operation_in (session_at c.args.desk.now.sessions.sessions c.args.session) (place_for c.args.direction) ≡ Some (operation_of c.in_ok-operation.operation.now))
+    × IsTested (fault_in c.room_of.result) c.in_ok-operation.operation.now Last []
+asked c = (
+  under-way c.operation.result _ c.in_ok-operation.operation (rw c.place_for-place.ensures at c.operation.ensures) c.in_ok-operation.ensures.ok_part,
+  tested c.in_ok-operation.operation.now Last [] c.room_of.result c.room_of.ensures.len_range c.room_of.ensures.counter_end c.room_of.ensures.faults,
+)
 
 pub returns-in-Err-clause-serves : goal.returns-in-Err-clause-serves
 returns-in-Err-clause-serves c = record {
   serves = λ k fits.
+      let met = asked (goal.at.returns-in-Err-clause-serves c).After-room_of in
       let d = c.args.desk.now in
       let v = view_of k d in
-      let s = c.in_ok-operation.operation.now in
-      let way : operation_in (session_at d.sessions.sessions c.args.session) (place_for c.args.direction) ≡ Some (operation_of s) = rw c.place_for-place.ensures at (sym c.operation.ensures ∙ ap (λ r. option_map operation_of (option_copied r)) c.in_ok-operation.ensures.ok_part) in
-      let there = seated-at (session_at d.sessions.sessions c.args.session) (place_for c.args.direction) (operation_of s) way in
-      let told = tested s Last [] c.room_of.result c.room_of.ensures.len_range c.room_of.ensures.counter_end c.room_of.ensures.faults in
+      let refused = final-refused v c.args.session c.args.direction c.in_ok-operation.operation.now met.0 c.args.room c.in-Err.fault (rw c.in-Err.is at met.1) in
       rw (c.end.ensures.out, c.end.ensures.ended, c.refused_row.ensures, c.place_for-place.ensures)
-      (gives-is _ (ends v c.args.session (place_for c.args.direction) (refused_row c.args.direction c.in-Err.fault)) k d _ _
-      (final-refused v c.args.session there c.args.direction s way c.args.room c.in-Err.fault (rw c.in-Err.is at told))
+      (gives-is _ (ends v c.args.session (place_for c.args.direction) (refused_row c.args.direction c.in-Err.fault)) k d _ _ refused
       (gives-with k d c.args.session (place_for c.args.direction) None (Code (code_of rv.Ok (refused_row c.args.direction c.in-Err.fault))) fits));
   cause = search rules;
+  short = search rules;
 }
 
 pub returns-clause-serves : goal.returns-clause-serves
 returns-clause-serves c = record {
   serves = λ k fits.
-      let d = c.args.desk.now in
-      let v = view_of k d in
+      let met = asked (goal.at.returns-clause-serves c).After-room_of in
+      let v = view_of k c.args.desk.now in
       let s = c.in_ok-operation.operation.now in
-      let way : operation_in (session_at d.sessions.sessions c.args.session) (place_for c.args.direction) ≡ Some (operation_of s) = rw c.place_for-place.ensures at (sym c.operation.ensures ∙ ap (λ r. option_map operation_of (option_copied r)) c.in_ok-operation.ensures.ok_part) in
-      let there = seated-at (session_at d.sessions.sessions c.args.session) (place_for c.args.direction) (operation_of s) way in
-      let told = tested s Last [] c.room_of.result c.room_of.ensures.len_range c.room_of.ensures.counter_end c.room_of.ensures.faults in
       let room : c.in-Ok.wanted ≡ wanted Last s 0 = c.in-Ok.ensures.room in
-      gives-is _ (asks_within (final_function c.args.direction) c.args.session (Ciphers Last (operation_of s) []) (wanted Last s 0) c.args.room v) k d _ _
-      (final-asks v c.args.session there c.args.direction s way c.args.room (rw c.in-Ok.is at told))
+      gives-is _ (asks_within (final_function c.args.direction) c.args.session (Ciphers Last (operation_of s) []) (wanted Last s 0) c.args.room v) k c.args.desk.now _ _
+      (final-asks v c.args.session c.args.direction s met.0 c.args.room (rw c.in-Ok.is at met.1))
       (rw (c.final_function.ensures, c.copied-stream.ensures, c.from_vec.ensures ∙ c.new.ensures.items, room) at (c.ask_within.ensures.gives k fits));
   cause = search rules;
+  short = λ _. c.ask_within.ensures.short (λ n is.
+      rw (c.copied-stream.ensures, c.from_vec.ensures ∙ c.new.ensures.items) (last-short c.in_ok-operation.operation.now.mechanism c.in_ok-operation.operation.now.direction (length c.in_ok-operation.operation.now.taken) 0 refl));
 }

@@ -1,6 +1,5 @@
-use Rattle.std.proofs.Common.{◌≡◌, rules, Some, None, sym, ◌∙◌, ap, false, length}
-use Rattle.std.specs.Prelude.{option_map}
-use Rattle.std.specs.Option.{option_copied}
+use Rattle.std.proofs.Common.{◌≡◌, rules, Some, None, sym, ◌∙◌, false, length}
+use Rattle.std.proofs.lemmas.Bool.{eqb-true, not-false}
 use Rattle.ck_types.specs.declared.rv.Rv.TheVariants as rv
 use Rattle.ck_calls.specs.declared.reply.Reply.TheVariants.{Code}
 use Rattle.precede.specs.Row.{code_of}
@@ -14,39 +13,48 @@ use Rattle.answers.specs.Cipher.{has_taken, single_function}
 use Rattle.token_store.specs.Shown.{view_of}
 use Rattle.token_store.specs.Asking.{asks_within}
 use Rattle.serve_ciphers.specs.Steps.{refused_row}
-use Rattle.serve_ciphers.proofs.Ciphering.{seated-at, tested, single-refused, single-asks, gives-is, gives-with}
+use Rattle.serve_ciphers.proofs.Bounds.{room-short, single-short}
+use Rattle.serve_ciphers.proofs.Ciphering.{under-way, IsTested, fault_in, tested, single-refused, single-asks, gives-is, gives-with}
 use Rattle.serve_ciphers.proofs.cipher.single.Goals as goal
+use Rattle.serve_ciphers.proofs.cipher.single.Goals.{After-room_of}
+
+-- an operation is under way that has taken nothing, and it was asked for the room
+asked : (c : After-room_of)
+    → (operation_in (session_at c.args.desk.now.sessions.sessions c.args.session) (place_for c.args.direction) ≡ Some (operation_of c.in_ok-operation.operation.now))
+    × (has_taken (operation_of c.in_ok-operation.operation.now) ≡ false)
+    × IsTested (fault_in c.room_of.result) c.in_ok-operation.operation.now Last c.args.input
+asked c = (
+  under-way c.operation.result _ c.in_ok-operation.operation (rw c.place_for-place.ensures at c.operation.ensures) c.in_ok-operation.ensures.ok_part,
+  sym c.has_taken.ensures ∙ c.if-has_taken.false,
+  rw c.as_slice.ensures at (tested c.in_ok-operation.operation.now Last c.as_slice.result.now c.room_of.result c.room_of.ensures.len_range c.room_of.ensures.counter_end c.room_of.ensures.faults),
+)
 
 pub returns-in-Err-clause-serves : goal.returns-in-Err-clause-serves
 returns-in-Err-clause-serves c = record {
   serves = λ k fits.
+      let met = asked (goal.at.returns-in-Err-clause-serves c).After-room_of in
       let d = c.args.desk.now in
       let v = view_of k d in
-      let s = c.in_ok-operation.operation.now in
-      let way : operation_in (session_at d.sessions.sessions c.args.session) (place_for c.args.direction) ≡ Some (operation_of s) = rw c.place_for-place.ensures at (sym c.operation.ensures ∙ ap (λ r. option_map operation_of (option_copied r)) c.in_ok-operation.ensures.ok_part) in
-      let there = seated-at (session_at d.sessions.sessions c.args.session) (place_for c.args.direction) (operation_of s) way in
-      let fresh : has_taken (operation_of s) ≡ false = sym c.has_taken.ensures ∙ c.if-has_taken.false in
-      let told = rw c.as_slice.ensures at (tested s Last c.as_slice.result.now c.room_of.result c.room_of.ensures.len_range c.room_of.ensures.counter_end c.room_of.ensures.faults) in
+      let refused = single-refused v c.args.session c.args.direction c.in_ok-operation.operation.now met.0 c.args.input c.args.room met.1 c.in-Err.fault (rw c.in-Err.is at met.2) in
       rw (c.end-in-Err.ensures.out, c.end-in-Err.ensures.ended, c.refused_row.ensures, c.place_for-place.ensures)
-      (gives-is _ (ends v c.args.session (place_for c.args.direction) (refused_row c.args.direction c.in-Err.fault)) k d _ _
-      (single-refused v c.args.session there c.args.direction s way c.args.input c.args.room fresh c.in-Err.fault (rw c.in-Err.is at told))
+      (gives-is _ (ends v c.args.session (place_for c.args.direction) (refused_row c.args.direction c.in-Err.fault)) k d _ _ refused
       (gives-with k d c.args.session (place_for c.args.direction) None (Code (code_of rv.Ok (refused_row c.args.direction c.in-Err.fault))) fits));
   cause = search rules;
+  short = search rules;
 }
 
 pub returns-clause-serves : goal.returns-clause-serves
 returns-clause-serves c = record {
   serves = λ k fits.
-      let d = c.args.desk.now in
-      let v = view_of k d in
+      let met = asked (goal.at.returns-clause-serves c).After-room_of in
+      let v = view_of k c.args.desk.now in
       let s = c.in_ok-operation.operation.now in
-      let way : operation_in (session_at d.sessions.sessions c.args.session) (place_for c.args.direction) ≡ Some (operation_of s) = rw c.place_for-place.ensures at (sym c.operation.ensures ∙ ap (λ r. option_map operation_of (option_copied r)) c.in_ok-operation.ensures.ok_part) in
-      let there = seated-at (session_at d.sessions.sessions c.args.session) (place_for c.args.direction) (operation_of s) way in
-      let fresh : has_taken (operation_of s) ≡ false = sym c.has_taken.ensures ∙ c.if-has_taken.false in
-      let told = rw c.as_slice.ensures at (tested s Last c.as_slice.result.now c.room_of.result c.room_of.ensures.len_range c.room_of.ensures.counter_end c.room_of.ensures.faults) in
       let room : c.in-Ok.wanted ≡ wanted Last s (length c.args.input) = rw c.as_slice.ensures at c.in-Ok.ensures.room in
-      gives-is _ (asks_within (single_function c.args.direction) c.args.session (Ciphers Last (operation_of s) c.args.input) (wanted Last s (length c.args.input)) c.args.room v) k d _ _
-      (single-asks v c.args.session there c.args.direction s way c.args.input c.args.room fresh (rw c.in-Ok.is at told))
+      gives-is _ (asks_within (single_function c.args.direction) c.args.session (Ciphers Last (operation_of s) c.args.input) (wanted Last s (length c.args.input)) c.args.room v) k c.args.desk.now _ _
+      (single-asks v c.args.session c.args.direction s met.0 c.args.input c.args.room met.1 (rw c.in-Ok.is at met.2))
       (rw (c.single_function.ensures, c.copied-stream.ensures, room) at (c.ask_within.ensures.gives k fits));
   cause = search rules;
+  short = λ few. c.ask_within.ensures.short (λ n is.
+      let none = eqb-true _ _ (not-false _ (sym c.has_taken.ensures ∙ c.if-has_taken.false)) in
+      rw c.copied-stream.ensures (single-short c.in_ok-operation.operation.now.mechanism c.in_ok-operation.operation.now.direction (length c.in_ok-operation.operation.now.taken) (length c.args.input) none (room-short c.args.input c.args.room few n is)));
 }

@@ -4,16 +4,17 @@ use Rattle.templates.specs.declared.call.Call.TheVariants.{Unwrap}
 use Rattle.templates.specs.Faults.{template_fault}
 use Rattle.answers.specs.UnwrapKey.{unwrap_key, unwraps}
 use Rattle.answers.proofs.Proper.UnwrapKey.{fair-unwraps}
-use Rattle.token_store.specs.Shown.{view_of}
+use Rattle.token_store.specs.Shown.{said_of, view_of}
 use Rattle.serve_keys.specs.Objects.{object_in}
-use Rattle.serve_keys.proofs.Reading.{done-read, found-is}
+use Rattle.token_store.proofs.Reading.{done-read}
+use Rattle.serve_keys.proofs.Reading.{found-is}
 use Rattle.serve_keys.proofs.unwrap_key.serve.Goals as goal
 
 pub returns-clause-done : goal.returns-clause-done
 returns-clause-done g c =
     let k = c.in_ok-key.key in
     let n = length c.args.wrapped_key - 8 in
-    done-read g.K.Keep.terms (λ v. unwrap_key v c.args.session c.args.mechanism c.args.unwrapping_key c.args.wrapped_key c.args.template c.args.random.now)
+    done-read g.K.Keep.terms said_of (λ v. unwrap_key v c.args.session c.args.mechanism c.args.unwrapping_key c.args.wrapped_key c.args.template c.args.random.now)
     (λ v. unwraps v c.args.session c.args.mechanism (object_in k) c.args.wrapped_key c.args.template c.args.random.now (state_in v c.args.session) (template_fault (Unwrap n) (state_in v c.args.session) [] c.args.template))
     c.args.store.now c.find.new.store c.args.desk.now c.ask_unwrapped.new.desk c.ask_unwrapped.result
     c.find.ensures.same c.find.ensures.ids c.find.ensures.counts

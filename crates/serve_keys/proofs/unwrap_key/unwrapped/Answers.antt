@@ -1,4 +1,4 @@
-use Rattle.std.proofs.Common.{rules, sym, ◌∙◌}
+use Rattle.std.proofs.Common.{rules}
 use Rattle.token_store.specs.Shown.{view_of}
 use Rattle.token_store.proofs.Refusals.{does-is}
 use Rattle.token_store.proofs.Seated.{seated}
@@ -17,4 +17,5 @@ returns-then-next_handle-lt-NUMBER_LIMIT g c = record {
   cause = search rules;
   plain = c.add_object.ensures.plain;
   stays = c.add_object.ensures.stays;
+  short = search rules;
 }

@@ -1,6 +1,6 @@
 use Rattle.std.proofs.Common.{◌≡◌, ◌+◌, rules, Some, length, is_none, sym, ◌∙◌, ap}
 use Rattle.ck_calls.specs.declared.function.Function.TheVariants as functions
-use Rattle.views.specs.Views.{View, WrapsKey}
+use Rattle.views.specs.Views.{WrapsKey}
 use Rattle.answers.specs.WrapKey.{wraps}
 use Rattle.token_store.specs.Asking.{asks_within}
 use Rattle.token_store.specs.Shown.{view_of}
@@ -16,22 +16,23 @@ returns-clause-serves c = record {
       let d = c.args.desk.now in
       let v = view_of x d in
       let s = seated _ _ c.state.result _ c.state.ensures c.in_ok-ok_or.ensures.ok_part in
-      let w = c.in_ok-wrapping_key.field-0.object in
-      let k = c.in_ok-key.field-0.object in
+      let w = c.key_in-wrapping_key.result.now in
+      let k = c.key_in-key.result.now in
       let value = c.value_of-value.result.now in
       let may : MayWrap w k = record {
-        wrapping = sym c.is_secret_key.ensures ∙ c.if-not-is_secret_key.false;
-        key = sym c.is_secret_key-2.ensures ∙ c.if-not-is_secret_key-2.false;
+        wrapping = c.key_in-wrapping_key.ensures.key;
+        key = c.key_in-key.ensures.key;
         aes = sym c.is_aes.ensures ∙ c.if-not-is_aes.false;
-        permitted = sym c.flag.ensures ∙ c.if-not-flag.false;
-        extractable = sym c.flag-2.ensures ∙ c.if-not-flag-2.false;
+        permitted = sym c.may_wrap.ensures ∙ c.if-not-may_wrap.false;
+        extractable = sym c.is_extractable.ensures ∙ c.if-not-is_extractable.false;
         trusted = sym c.lacks_trust.ensures ∙ c.if-lacks_trust.false;
       } in
-      let found : wraps v c.args.session c.args.mechanism (object_in c.args.wrapping_key) (object_in c.args.key) c.args.room ≡ wraps v c.args.session c.args.mechanism (Some w) (Some k) c.args.room =
-      ap (λ o. wraps v c.args.session c.args.mechanism (object_in o) (object_in c.args.key) c.args.room) c.in_ok-wrapping_key.ensures.ok_part
-      ∙ ap (λ o. wraps v c.args.session c.args.mechanism (Some w) (object_in o) c.args.room) c.in_ok-key.ensures.ok_part in
+      let found : wraps v c.args.session c.args.mechanism.now (object_in c.args.wrapping_key.now) (object_in c.args.key.now) c.args.room ≡ wraps v c.args.session c.args.mechanism.now (Some w) (Some k) c.args.room =
+      ap (λ o. wraps v c.args.session c.args.mechanism.now o (object_in c.args.key.now) c.args.room) c.key_in-wrapping_key.ensures.found
+      ∙ ap (λ o. wraps v c.args.session c.args.mechanism.now (Some w) o c.args.room) c.key_in-key.ensures.found in
       gives-is _ (asks_within functions.WrapKey c.args.session (WrapsKey (Some c.aes_key.result) (Some value)) (length value + 8) c.args.room v) x d _ _
-      (found ∙ wraps-asks v c.args.session c.args.mechanism c.args.room (ap is_none s.1) c.in_ok-ok_or-2.field-0 (sym c.find_for.ensures ∙ c.in_ok-ok_or-2.ensures.ok_part) (sym c.is_empty.ensures ∙ c.if-not-is_empty.false) w k may c.aes_key.result value c.aes_key.ensures c.value_of-value.ensures.value c.value_of-value.ensures.length (sym c.is_value_length.ensures ∙ c.if-not-is_value_length.false))
-      (rw (c.in_ok-from_slice.ensures) at (c.ask_within.ensures.gives x fits));
+      (found ∙ wraps-asks v c.args.session c.args.mechanism.now c.args.room (ap is_none s.1) c.in_ok-ok_or-2.field-0 (sym c.find_for.ensures ∙ c.in_ok-ok_or-2.ensures.ok_part) (sym c.is_empty.ensures ∙ c.if-not-is_empty.false) w k may c.aes_key.result value c.aes_key.ensures c.value_of-value.ensures.value c.value_of-value.ensures.length (sym c.is_value_length.ensures ∙ c.if-not-is_value_length.false))
+      (rw (c.in_ok-from_slice.ensures, c.wrapped_len-wanted.ensures) at (c.ask_within.ensures.gives x fits));
   cause = search rules;
+  short = λ _. c.ask_within.ensures.short (λ n is. rw (c.in_ok-from_slice.ensures) c.value_of-value.ensures.within);
 }

@@ -2,16 +2,17 @@ use Rattle.std.proofs.Common.{◌∙◌, ap, refl}
 use Rattle.views.specs.Answering.{object_at}
 use Rattle.answers.specs.WrapKey.{wrap_key, wraps}
 use Rattle.answers.proofs.Proper.WrapKey.{fair-wraps}
-use Rattle.token_store.specs.Shown.{view_of}
+use Rattle.token_store.specs.Shown.{said_of, view_of}
 use Rattle.serve_keys.specs.Objects.{object_in}
-use Rattle.serve_keys.proofs.Reading.{done-read, found-is}
+use Rattle.token_store.proofs.Reading.{done-read}
+use Rattle.serve_keys.proofs.Reading.{found-is}
 use Rattle.serve_keys.proofs.wrap_key.serve.Goals as goal
 
 pub returns-clause-done : goal.returns-clause-done
 returns-clause-done g c =
     let w = c.in_ok-wrapping_key.wrapping_key in
     let k = c.in_ok-wrapping_key.key in
-    done-read g.K.Keep.terms (λ v. wrap_key v c.args.session c.args.mechanism c.args.wrapping_key c.args.key c.args.room) (λ v. wraps v c.args.session c.args.mechanism (object_in w) (object_in k) c.args.room)
+    done-read g.K.Keep.terms said_of (λ v. wrap_key v c.args.session c.args.mechanism c.args.wrapping_key c.args.key c.args.room) (λ v. wraps v c.args.session c.args.mechanism (object_in w) (object_in k) c.args.room)
     c.args.store.now c.find_both.new.store c.args.desk.now c.ask_wrapped.new.desk c.ask_wrapped.result
     c.find_both.ensures.same c.find_both.ensures.ids c.find_both.ensures.counts
     (λ v. (fair-wraps v c.args.session c.args.mechanism (object_in w) (object_in k) c.args.room).still refl)

@@ -25,4 +25,5 @@ returns-clause-serves c = record {
       (sign-asks v c.args.session a way c.args.room c.args.input fresh)
       (rw (c.copied-mac.ensures, c.code_len-wanted.ensures, c.mechanism.ensures.value) at (c.ask_within.ensures.gives k fits));
   cause = search rules;
+  short = search rules;
 }

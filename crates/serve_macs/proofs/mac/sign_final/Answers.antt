@@ -23,4 +23,5 @@ returns-clause-serves c = record {
       (final-asks v c.args.session a way c.args.room)
       (rw (c.copied-mac.ensures, c.from_vec.ensures ∙ c.new.ensures.items, c.code_len-wanted.ensures, c.mechanism.ensures.value) at (c.ask_within.ensures.gives k fits));
   cause = search rules;
+  short = search rules;
 }

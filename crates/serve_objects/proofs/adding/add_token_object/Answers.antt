@@ -11,8 +11,9 @@ returns g c = record {
       (c.in_ok-id.ensures.has sure k h) (c.in_ok-id.ensures.leaves k h)
       (gives-added k c.args.desk.now c.reserve_handles.new.self c.args.object.now c.in_ok-id.id c.give_handle.result h.sound fits c.requires.seen c.reserve_handles.ensures.same (c.in_ok-id.ensures.id sure k h)
       (rw (c.give_handle.ensures.given, c.flag.ensures) at c.give_handle.ensures.handle)));
-  counts = search rules;
+  counts = c.insert.ensures.counts;
   cause = search rules;
   plain = refl;
   stays = tt;
+  short = λ _. tt;
 }

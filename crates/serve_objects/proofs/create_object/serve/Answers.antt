@@ -16,10 +16,11 @@ returns g c = record {
       does-is _ _ _ k _ _ d c.add_object.new.desk c.add_object.result
       (create-is (view_of k d) c.args.session c.args.template.now s.0 s.1 c.args.random.now c.in_ok-object.object (rw s.2 made.0) made.1)
       (rw s.2 (c.add_object.ensures.serves sure k h fits));
-  counts = search rules;
-  cause = search rules;
+  counts = c.add_object.ensures.counts;
+  cause = c.add_object.ensures.cause;
   plain = c.add_object.ensures.plain;
   stays = c.add_object.ensures.stays;
+  short = c.add_object.ensures.short;
 }
 
 pub returns-in_err-object : goal.returns-in_err-object
@@ -29,4 +30,5 @@ returns-in_err-object g c = record {
   cause = search rules;
   plain = plain-made c.from_residual-in_err-object.result c.in_err-object.field-0.0 _ _ c.from_residual-in_err-object.ensures.1 c.in_err-object.ensures (fault-plain _ _ _ _);
   stays = search rules;
+  short = search rules;
 }

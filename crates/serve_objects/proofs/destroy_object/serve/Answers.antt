@@ -29,4 +29,5 @@ returns g c = record {
   cause = search rules;
   plain = c.destroy.ensures.plain;
   stays = c.destroy.ensures.stays;
+  short = λ _. c.destroy.ensures.short;
 }

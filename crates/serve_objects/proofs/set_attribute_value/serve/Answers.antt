@@ -34,6 +34,7 @@ returns g c = record {
   cause = search rules;
   plain = c.put.ensures.plain;
   stays = c.put.ensures.stays;
+  short = λ _. c.put.ensures.short;
 }
 
 pub returns-in_err-object : goal.returns-in_err-object
@@ -43,4 +44,5 @@ returns-in_err-object g c = record {
   cause = search rules;
   plain = plain-made c.from_residual-in_err-object.result c.in_err-object.field-0.0 _ _ c.from_residual-in_err-object.ensures.1 c.in_err-object.ensures.made (fault-plain _ _ _ _);
   stays = search rules;
+  short = search rules;
 }

@@ -21,4 +21,5 @@ returns g c = record {
   cause = search rules;
   plain = refl;
   stays = tt;
+  short = search rules;
 }

@@ -10,4 +10,5 @@ returns c = record {
       let there = seated _ _ c.state.result _ c.state.ensures c.in_ok-ok_or.ensures.ok_part in
       rw c.close.ensures (gives-closed k c.args.desk.now c.args.session (ap is_none there.1) fits);
   cause = search rules;
+  short = search rules;
 }

@@ -7,4 +7,5 @@ pub returns : goal.returns
 returns c = record {
   serves = λ k fits. rw c.close_all.ensures (gives-all-closed k c.args.desk.now c.args.slot (eq-eqb c.args.slot 0 c.if-slot-ne-SLOT.false) fits);
   cause = search rules;
+  short = search rules;
 }

@@ -22,6 +22,7 @@ returns-then-not-may_log_in g c = record {
   cause = search rules;
   plain = c.store_record.ensures.plain;
   stays = c.store_record.ensures.stays;
+  short = search rules;
 }
 
 pub returns : goal.returns
@@ -39,4 +40,5 @@ returns g c = record {
   cause = search rules;
   plain = refl;
   stays = tt;
+  short = search rules;
 }

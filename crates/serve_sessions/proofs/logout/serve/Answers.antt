@@ -10,4 +10,5 @@ returns c = record {
       let there = seated _ _ c.state.result _ c.state.ensures c.in_ok-ok_or.ensures.ok_part in
       rw c.logout.ensures (gives-logged-out k c.args.desk.now c.args.session (ap is_none there.1) (ap is_none (sym c.logged_in.ensures.login ∙ c.in_ok-ok_or-2.ensures.ok_part)) fits);
   cause = search rules;
+  short = search rules;
 }

@@ -20,6 +20,7 @@ returns-clause-done g c = record {
   cause = search rules;
   plain = refl;
   stays = tt;
+  short = c.ask.ensures.short;
 }
 
 pub returns-in_err-set_record-clause-done : goal.returns-in_err-set_record-clause-done
@@ -34,4 +35,5 @@ returns-in_err-set_record-clause-done g c = record {
   cause = search rules;
   plain = plain_as-fault said_of c.from_residual.result (fault-of c.from_residual.result _ c.from_residual.ensures.1);
   stays = search rules;
+  short = search rules;
 }

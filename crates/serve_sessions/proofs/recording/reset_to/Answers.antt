@@ -13,10 +13,11 @@ returns g c = record {
   serves = λ sure k h fits.
       let r = c.args.«record» in
       gave-change _ _ _ k _ _ _ _ (after_reset r k) (c.in_ok-reset.ensures.has k h) (c.in_ok-reset.ensures.leaves k h) (gives-reset k c.args.desk.now r fits);
-  counts = search rules;
+  counts = c.reset.ensures.counts;
   cause = search rules;
   plain = refl;
   stays = tt;
+  short = search rules;
 }
 
 pub returns-in_err-reset : goal.returns-in_err-reset
@@ -27,8 +28,9 @@ returns-in_err-reset g c = record {
       let a = resets r (view_of k d) in
       does-refused _ a k _ _ d d c.from_residual.result (fault-of c.from_residual.result _ c.from_residual.ensures.1)
       (refused-reset _ a k _ _ d r refl (c.in_err-reset.ensures.same k h) (c.in_err-reset.ensures.leaves_or k h));
-  counts = search rules;
+  counts = c.reset.ensures.counts;
   cause = search rules;
   plain = plain-fault c.from_residual.result (fault-of c.from_residual.result _ c.from_residual.ensures.1);
   stays = search rules;
+  short = search rules;
 }

@@ -17,6 +17,7 @@ returns g c = record {
   cause = search rules;
   plain = c.requires;
   stays = tt;
+  short = search rules;
 }
 
 pub returns-in_err-set_record : goal.returns-in_err-set_record
@@ -31,4 +32,5 @@ returns-in_err-set_record g c = record {
   cause = search rules;
   plain = plain-fault c.from_residual.result (fault-of c.from_residual.result _ c.from_residual.ensures.1);
   stays = search rules;
+  short = search rules;
 }

@@ -1,71 +1,29 @@
-use Rattle.std.proofs.Common.{◌≡◌, IsTrue, refl, sym, subst, arith, rules}
-use Rattle.sqlite.specs.Tree.{Trees}
-use Rattle.sqlite.specs.Effect.{Database}
-use Rattle.sqlite.specs.State.{HasCleanDisk, Survives}
-use Rattle.sqlite.specs.Held.{state}
-use Rattle.sqlite.proofs.StateLemmas.{survives_then}
-use Rattle.sqlite.proofs.Callers.{survives_begin}
+use Rattle.std.proofs.Common.{rules}
 use Rattle.sql_tables.specs.RanEach.{RanRenewals}
+use Rattle.sql_tables.proofs.Commits.{all_or_none, none_left, is_made, is_up, on_err}
 use Rattle.sql_tables.proofs.renewals.run_renewals.Goals as goal
 
+pub returns-in_err-finish-clause-none : goal.returns-in_err-finish-clause-none
+returns-in_err-finish-clause-none g c = λ clean up.
+    on_err c.from_residual.result
+    (none_left g.S.Store c.args.conn.now c.transaction-tx.result.conn.now c.write_all-done.new.tx.conn.now c.finish.new.tx.0 c.conn-1.given.0 c.write_all-done.result c.transaction-tx.ensures.begun (search rules) (λ was. c.is_autocommit.ensures.settled (search rules) was) c.write_all-done.ensures.inside c.write_all-done.ensures.kept c.finish.ensures.survives.clean c.in_err-finish.ensures.undone clean up)
+
+pub returns-in_err-finish-clause-crash : goal.returns-in_err-finish-clause-crash
+returns-in_err-finish-clause-crash g c =
+    all_or_none g.S.Store c.args.conn.now c.transaction-tx.result.conn.now c.write_all-done.new.tx.conn.now c.finish.new.tx.0 c.conn-1.given.0 c.write_all-done.result c.transaction-tx.ensures.begun (search rules)
+    (RanRenewals g.S.Store c.args.renewals.now c.args.bytes.now c.args.conn.now) (λ late. c.write_all-done.ensures.ran late c.args.conn.now c.transaction-tx.ensures.begun) c.write_all-done.ensures.survives c.finish.ensures.survives
+
 pub returns-clause-all : goal.returns-clause-all
-returns-clause-all g c clean _ =
-    let old = c.args.conn.now in
-    let mid = c.write_each.new.tx.conn.now in
-    let last = c.execute.new.self.conn.now in
-    let begun = c.transaction-tx.ensures.begun in
-    let ran = λ (clean : HasCleanDisk (state g.S.Store last)).
-    let each = c.in_ok-write_each.ensures.ran (omega (arith, c.execute.ensures.survives.clean)) (rw begun) in
-    let one = rw c.params-to_sql.ensures at (c.in_ok-execute.ensures.runs clean each.0) in
-    let all : RanRenewals g.S.Store c.args.renewals.now c.args.bytes.now old (state g.S.Store last).now =
-    record { mid = mid; last = last; count = c.in_ok-execute.field-0; each = rw begun at each.1; one = one.0; is = refl } in all in
-    let end = c.commit.new.self.0 in
-    let same : end ≡ c.conn-2-1.given.0 = search rules in
-    let late : HasCleanDisk (state g.S.Store end) = search rules in
-    subst (λ h. RanRenewals g.S.Store c.args.renewals.now c.args.bytes.now old (state g.S.Store h).committed) same
-    (subst (RanRenewals g.S.Store c.args.renewals.now c.args.bytes.now old) (sym (c.in_ok-commit.ensures.ok late).1.committed_is) (ran (omega (arith, c.commit.ensures.survives.clean))))
+returns-clause-all g c = λ clean _.
+    is_made g.S.Store c.args.conn.now c.transaction-tx.result.conn.now c.write_all-done.new.tx.conn.now c.finish.new.tx.0 c.conn-1.given.0 c.write_all-done.result c.transaction-tx.ensures.begun (search rules)
+    c.in_ok-finish.ensures.shows clean (RanRenewals g.S.Store c.args.renewals.now c.args.bytes.now c.args.conn.now) (λ late. c.write_all-done.ensures.ran late c.args.conn.now c.transaction-tx.ensures.begun) c.in_ok-finish.ensures.whole c.finish.ensures.survives.clean
+
+pub returns-clause-up : goal.returns-clause-up
+returns-clause-up g c = λ clean _.
+    is_up g.S.Store c.args.conn.now c.transaction-tx.result.conn.now c.write_all-done.new.tx.conn.now c.finish.new.tx.0 c.conn-1.given.0 c.write_all-done.result c.transaction-tx.ensures.begun (search rules)
+    c.in_ok-finish.ensures.shows clean
 
 pub returns-clause-crash : goal.returns-clause-crash
 returns-clause-crash g c =
-    let old = c.args.conn.now in
-    let mid = c.write_each.new.tx.conn.now in
-    let last = c.execute.new.self.conn.now in
-    let begun = c.transaction-tx.ensures.begun in
-    let ran = λ (clean : HasCleanDisk (state g.S.Store last)).
-    let each = c.in_ok-write_each.ensures.ran (omega (arith, c.execute.ensures.survives.clean)) (rw begun) in
-    let one = rw c.params-to_sql.ensures at (c.in_ok-execute.ensures.runs clean each.0) in
-    let all : RanRenewals g.S.Store c.args.renewals.now c.args.bytes.now old (state g.S.Store last).now =
-    record { mid = mid; last = last; count = c.in_ok-execute.field-0; each = rw begun at each.1; one = one.0; is = refl } in all in
-    let inside = survives_then (state g.S.Store c.transaction-tx.result.conn.now) (state g.S.Store mid) (state g.S.Store last) _ _ (λ _. ⊥) (λ _ db none. none) (λ _ db none. none)
-    c.write_each.ensures.survives c.execute.ensures.survives in
-    let P = λ (trees : Trees). (db : Database) × RanRenewals g.S.Store c.args.renewals.now c.args.bytes.now old db × (trees ≡ db.trees) in
-    let whole = survives_then (state g.S.Store old) (state g.S.Store last) (state g.S.Store c.commit.new.self.0) _ _ P (λ _ db none. absurd none)
-    (λ clean db is. (_, ran (omega (arith, c.commit.ensures.survives.clean)), is)) (survives_begin g.S.Store old (state g.S.Store last) _ (rw begun at inside)) c.commit.ensures.survives in
-    let same : c.commit.new.self.0 ≡ c.conn-2-1.given.0 = search rules in
-    subst (λ h. Survives (state g.S.Store old) (state g.S.Store h) P) same whole
-
-pub returns-in_err-commit-clause-crash : goal.returns-in_err-commit-clause-crash
-returns-in_err-commit-clause-crash g c =
-    let old = c.args.conn.now in
-    let mid = c.write_each.new.tx.conn.now in
-    let last = c.execute.new.self.conn.now in
-    let begun = c.transaction-tx.ensures.begun in
-    let ran = λ (clean : HasCleanDisk (state g.S.Store last)).
-    let each = c.in_ok-write_each.ensures.ran (omega (arith, c.execute.ensures.survives.clean)) (rw begun) in
-    let one = rw c.params-to_sql.ensures at (c.in_ok-execute.ensures.runs clean each.0) in
-    let all : RanRenewals g.S.Store c.args.renewals.now c.args.bytes.now old (state g.S.Store last).now =
-    record { mid = mid; last = last; count = c.in_ok-execute.field-0; each = rw begun at each.1; one = one.0; is = refl } in all in
-    let inside = survives_then (state g.S.Store c.transaction-tx.result.conn.now) (state g.S.Store mid) (state g.S.Store last) _ _ (λ _. ⊥) (λ _ db none. none) (λ _ db none. none)
-    c.write_each.ensures.survives c.execute.ensures.survives in
-    let P = λ (trees : Trees). (db : Database) × RanRenewals g.S.Store c.args.renewals.now c.args.bytes.now old db × (trees ≡ db.trees) in
-    let whole = survives_then (state g.S.Store old) (state g.S.Store last) (state g.S.Store c.commit.new.self.0) _ _ P (λ _ db none. absurd none)
-    (λ clean db is. (_, ran (omega (arith, c.commit.ensures.survives.clean)), is)) (survives_begin g.S.Store old (state g.S.Store last) _ (rw begun at inside)) c.commit.ensures.survives in
-    let same : c.commit.new.self.0 ≡ c.conn-2-1.given.0 = search rules in
-    subst (λ h. Survives (state g.S.Store old) (state g.S.Store h) P) same whole
-
-pub returns-clause-up : goal.returns-clause-up
-returns-clause-up g c clean _ =
-    let end = c.commit.new.self.0 in
-    let same : end ≡ c.conn-2-1.given.0 = search rules in
-    let late : HasCleanDisk (state g.S.Store end) = search rules in
-    subst (λ h. IsTrue (state g.S.Store h).is_open) same (c.in_ok-commit.ensures.ok late).1.is_open
+    all_or_none g.S.Store c.args.conn.now c.transaction-tx.result.conn.now c.write_all-done.new.tx.conn.now c.finish.new.tx.0 c.conn-1.given.0 c.write_all-done.result c.transaction-tx.ensures.begun (search rules)
+    (RanRenewals g.S.Store c.args.renewals.now c.args.bytes.now c.args.conn.now) (λ late. c.write_all-done.ensures.ran late c.args.conn.now c.transaction-tx.ensures.begun) c.write_all-done.ensures.survives c.finish.ensures.survives

@@ -18,3 +18,6 @@ returns-clause-ok g c =
 pub returns-clause-id : goal.returns-clause-id
 returns-clause-id g c = λ clean b h.
     c.last_id.ensures.value _ (c.in_ok-insert_row.ensures.id clean b c.in_ok-ensure_open.ensures.open (held_on (state g.S.Store c.args.conn.now) (state g.S.Store c.ensure_open.new.conn) b c.ensure_open.ensures.kept h))
+
+pub returns-clause-limit : goal.returns-clause-limit
+returns-clause-limit g c = c.last_id.ensures.limit

@@ -1,71 +1,29 @@
-use Rattle.std.proofs.Common.{◌≡◌, IsTrue, refl, sym, subst, arith, rules}
-use Rattle.sqlite.specs.Tree.{Trees}
-use Rattle.sqlite.specs.Effect.{Database}
-use Rattle.sqlite.specs.State.{HasCleanDisk, Survives}
-use Rattle.sqlite.specs.Held.{state}
-use Rattle.sqlite.proofs.StateLemmas.{survives_then}
-use Rattle.sqlite.proofs.Callers.{survives_begin}
+use Rattle.std.proofs.Common.{rules}
 use Rattle.sql_tables.specs.Ran.{RanPair}
+use Rattle.sql_tables.proofs.Commits.{all_or_none, none_left, is_made, is_up, on_err}
 use Rattle.sql_tables.proofs.transactions.run_pair.Goals as goal
 
+pub returns-in_err-finish-clause-neither : goal.returns-in_err-finish-clause-neither
+returns-in_err-finish-clause-neither g c = λ clean up.
+    on_err c.from_residual.result
+    (none_left g.S.Store c.args.conn.now c.transaction-tx.result.conn.now c.execute_pair-done.new.tx.conn.now c.finish.new.tx.0 c.conn-1.given.0 c.execute_pair-done.result c.transaction-tx.ensures.begun (search rules) (λ was. c.is_autocommit.ensures.settled (search rules) was) c.execute_pair-done.ensures.inside c.execute_pair-done.ensures.kept c.finish.ensures.survives.clean c.in_err-finish.ensures.undone clean up)
+
+pub returns-in_err-finish-clause-crash : goal.returns-in_err-finish-clause-crash
+returns-in_err-finish-clause-crash g c =
+    all_or_none g.S.Store c.args.conn.now c.transaction-tx.result.conn.now c.execute_pair-done.new.tx.conn.now c.finish.new.tx.0 c.conn-1.given.0 c.execute_pair-done.result c.transaction-tx.ensures.begun (search rules)
+    (RanPair g.S.Store c.args.first.now c.args.second.now c.args.bytes.now c.args.conn.now) (λ late. c.execute_pair-done.ensures.ran late c.args.conn.now c.transaction-tx.ensures.begun) c.execute_pair-done.ensures.survives c.finish.ensures.survives
+
 pub returns-clause-both : goal.returns-clause-both
-returns-clause-both g c clean _ =
-    let old = c.args.conn.now in
-    let mid = c.execute.new.self.conn.now in
-    let last = c.execute-2.new.self.conn.now in
-    let begun = c.transaction-tx.ensures.begun in
-    let ran = λ (clean : HasCleanDisk (state g.S.Store last)).
-    let one = c.in_ok-execute.ensures.runs (omega (arith, c.execute-2.ensures.survives.clean)) (rw begun) in
-    let two = rw c.params-to_sql.ensures at (c.in_ok-execute-2.ensures.runs clean one.1.mode) in
-    let both : RanPair g.S.Store c.args.first.now c.args.second.now c.args.bytes.now old (state g.S.Store last).now =
-    record { mid = mid; last = last; counts = (c.in_ok-execute.field-0, c.in_ok-execute-2.field-0); one = rw begun at one.0; two = two.0; is = refl } in both in
-    let end = c.commit.new.self.0 in
-    let same : end ≡ c.conn-2-1.given.0 = search rules in
-    let late : HasCleanDisk (state g.S.Store end) = search rules in
-    subst (λ h. RanPair g.S.Store c.args.first.now c.args.second.now c.args.bytes.now old (state g.S.Store h).committed) same
-    (subst (RanPair g.S.Store c.args.first.now c.args.second.now c.args.bytes.now old) (sym (c.in_ok-commit.ensures.ok late).1.committed_is) (ran (omega (arith, c.commit.ensures.survives.clean))))
+returns-clause-both g c = λ clean _.
+    is_made g.S.Store c.args.conn.now c.transaction-tx.result.conn.now c.execute_pair-done.new.tx.conn.now c.finish.new.tx.0 c.conn-1.given.0 c.execute_pair-done.result c.transaction-tx.ensures.begun (search rules)
+    c.in_ok-finish.ensures.shows clean (RanPair g.S.Store c.args.first.now c.args.second.now c.args.bytes.now c.args.conn.now) (λ late. c.execute_pair-done.ensures.ran late c.args.conn.now c.transaction-tx.ensures.begun) c.in_ok-finish.ensures.whole c.finish.ensures.survives.clean
+
+pub returns-clause-up : goal.returns-clause-up
+returns-clause-up g c = λ clean _.
+    is_up g.S.Store c.args.conn.now c.transaction-tx.result.conn.now c.execute_pair-done.new.tx.conn.now c.finish.new.tx.0 c.conn-1.given.0 c.execute_pair-done.result c.transaction-tx.ensures.begun (search rules)
+    c.in_ok-finish.ensures.shows clean
 
 pub returns-clause-crash : goal.returns-clause-crash
 returns-clause-crash g c =
-    let old = c.args.conn.now in
-    let mid = c.execute.new.self.conn.now in
-    let last = c.execute-2.new.self.conn.now in
-    let begun = c.transaction-tx.ensures.begun in
-    let ran = λ (clean : HasCleanDisk (state g.S.Store last)).
-    let one = c.in_ok-execute.ensures.runs (omega (arith, c.execute-2.ensures.survives.clean)) (rw begun) in
-    let two = rw c.params-to_sql.ensures at (c.in_ok-execute-2.ensures.runs clean one.1.mode) in
-    let both : RanPair g.S.Store c.args.first.now c.args.second.now c.args.bytes.now old (state g.S.Store last).now =
-    record { mid = mid; last = last; counts = (c.in_ok-execute.field-0, c.in_ok-execute-2.field-0); one = rw begun at one.0; two = two.0; is = refl } in both in
-    let inside = survives_then (state g.S.Store c.transaction-tx.result.conn.now) (state g.S.Store mid) (state g.S.Store last) _ _ (λ _. ⊥) (λ _ db none. none) (λ _ db none. none)
-    c.execute.ensures.survives c.execute-2.ensures.survives in
-    let P = λ (trees : Trees). (db : Database) × RanPair g.S.Store c.args.first.now c.args.second.now c.args.bytes.now old db × (trees ≡ db.trees) in
-    let whole = survives_then (state g.S.Store old) (state g.S.Store last) (state g.S.Store c.commit.new.self.0) _ _ P (λ _ db none. absurd none)
-    (λ clean db is. (_, ran (omega (arith, c.commit.ensures.survives.clean)), is)) (survives_begin g.S.Store old (state g.S.Store last) _ (rw begun at inside)) c.commit.ensures.survives in
-    let same : c.commit.new.self.0 ≡ c.conn-2-1.given.0 = search rules in
-    subst (λ h. Survives (state g.S.Store old) (state g.S.Store h) P) same whole
-
-pub returns-in_err-commit-clause-crash : goal.returns-in_err-commit-clause-crash
-returns-in_err-commit-clause-crash g c =
-    let old = c.args.conn.now in
-    let mid = c.execute.new.self.conn.now in
-    let last = c.execute-2.new.self.conn.now in
-    let begun = c.transaction-tx.ensures.begun in
-    let ran = λ (clean : HasCleanDisk (state g.S.Store last)).
-    let one = c.in_ok-execute.ensures.runs (omega (arith, c.execute-2.ensures.survives.clean)) (rw begun) in
-    let two = rw c.params-to_sql.ensures at (c.in_ok-execute-2.ensures.runs clean one.1.mode) in
-    let both : RanPair g.S.Store c.args.first.now c.args.second.now c.args.bytes.now old (state g.S.Store last).now =
-    record { mid = mid; last = last; counts = (c.in_ok-execute.field-0, c.in_ok-execute-2.field-0); one = rw begun at one.0; two = two.0; is = refl } in both in
-    let inside = survives_then (state g.S.Store c.transaction-tx.result.conn.now) (state g.S.Store mid) (state g.S.Store last) _ _ (λ _. ⊥) (λ _ db none. none) (λ _ db none. none)
-    c.execute.ensures.survives c.execute-2.ensures.survives in
-    let P = λ (trees : Trees). (db : Database) × RanPair g.S.Store c.args.first.now c.args.second.now c.args.bytes.now old db × (trees ≡ db.trees) in
-    let whole = survives_then (state g.S.Store old) (state g.S.Store last) (state g.S.Store c.commit.new.self.0) _ _ P (λ _ db none. absurd none)
-    (λ clean db is. (_, ran (omega (arith, c.commit.ensures.survives.clean)), is)) (survives_begin g.S.Store old (state g.S.Store last) _ (rw begun at inside)) c.commit.ensures.survives in
-    let same : c.commit.new.self.0 ≡ c.conn-2-1.given.0 = search rules in
-    subst (λ h. Survives (state g.S.Store old) (state g.S.Store h) P) same whole
-
-pub returns-clause-up : goal.returns-clause-up
-returns-clause-up g c clean _ =
-    let end = c.commit.new.self.0 in
-    let same : end ≡ c.conn-2-1.given.0 = search rules in
-    let late : HasCleanDisk (state g.S.Store end) = search rules in
-    subst (λ h. IsTrue (state g.S.Store h).is_open) same (c.in_ok-commit.ensures.ok late).1.is_open
+    all_or_none g.S.Store c.args.conn.now c.transaction-tx.result.conn.now c.execute_pair-done.new.tx.conn.now c.finish.new.tx.0 c.conn-1.given.0 c.execute_pair-done.result c.transaction-tx.ensures.begun (search rules)
+    (RanPair g.S.Store c.args.first.now c.args.second.now c.args.bytes.now c.args.conn.now) (λ late. c.execute_pair-done.ensures.ran late c.args.conn.now c.transaction-tx.ensures.begun) c.execute_pair-done.ensures.survives c.finish.ensures.survives

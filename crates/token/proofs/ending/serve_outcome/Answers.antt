@@ -24,7 +24,7 @@ returns-in-Piece g c =
     let o = Some (operation_of c.in-Piece.stream) in
     let reply = Output (Data c.in-Piece.output) in
     rw (c.in-Piece.is, c.piece.ensures.reply, c.piece.ensures.left) (ends-as g.K.Keep.terms s x c.args.others.now c.args.store.now _ c.args.desk.now _ _
-    (done-at-desk g.K.Keep.terms (λ v. becomes reply (with_operation v s p o)) c.args.store.now c.args.desk.now _ reply c.requires refl (λ v. refl) (λ k fits. ciphering.gives-with k c.args.desk.now s p o reply fits)))
+    (done-at-desk g.K.Keep.terms (λ v. becomes reply (with_operation v s p o)) c.args.store.now c.args.desk.now _ reply c.requires refl (λ v. refl) (λ k fits. ciphering.gives-with k c.args.desk.now s p o reply fits) (λ few. few)))
 
 pub returns-in-Rest : goal.returns-in-Rest
 returns-in-Rest g c =
@@ -33,7 +33,7 @@ returns-in-Rest g c =
     let p = place_for c.in-Rest.direction in
     let reply = Output (Data c.in-Rest.output) in
     rw (c.in-Rest.is, c.rest.ensures.reply, c.rest.ensures.left) (ends-as g.K.Keep.terms s x c.args.others.now c.args.store.now _ c.args.desk.now _ _
-    (done-at-desk g.K.Keep.terms (λ v. becomes reply (with_operation v s p None)) c.args.store.now c.args.desk.now _ reply c.requires refl (λ v. refl) (λ k fits. ciphering.gives-with k c.args.desk.now s p None reply fits)))
+    (done-at-desk g.K.Keep.terms (λ v. becomes reply (with_operation v s p None)) c.args.store.now c.args.desk.now _ reply c.requires refl (λ v. refl) (λ k fits. ciphering.gives-with k c.args.desk.now s p None reply fits) (λ few. few)))
 
 pub returns-in-BadPadding : goal.returns-in-BadPadding
 returns-in-BadPadding g c =
@@ -42,7 +42,7 @@ returns-in-BadPadding g c =
     let p = place_for c.in-BadPadding.direction in
     let reply = Code rv.EncryptedDataInvalid in
     rw (c.in-BadPadding.is, c.bad_padding.ensures.reply, c.bad_padding.ensures.left) (ends-as g.K.Keep.terms s x c.args.others.now c.args.store.now _ c.args.desk.now _ _
-    (done-at-desk g.K.Keep.terms (λ v. becomes reply (with_operation v s p None)) c.args.store.now c.args.desk.now _ reply c.requires refl (λ v. refl) (λ k fits. ciphering.gives-with k c.args.desk.now s p None reply fits)))
+    (done-at-desk g.K.Keep.terms (λ v. becomes reply (with_operation v s p None)) c.args.store.now c.args.desk.now _ reply c.requires refl (λ v. refl) (λ k fits. ciphering.gives-with k c.args.desk.now s p None reply fits) (λ few. tt)))
 
 -- ---- a message's
 
@@ -53,7 +53,7 @@ returns-in-Taken g c =
     let o = Some (mac_of c.in-Taken.mac) in
     let reply = Code rv.Ok in
     rw (c.in-Taken.is, c.taken.ensures.reply, c.taken.ensures.left) (ends-as g.K.Keep.terms s x c.args.others.now c.args.store.now _ c.args.desk.now _ _
-    (done-at-desk g.K.Keep.terms (λ v. becomes reply (with_mac v s c.in-Taken.place o)) c.args.store.now c.args.desk.now _ reply c.requires refl (λ v. refl) (λ k fits. signing.gives-with k c.args.desk.now s c.in-Taken.place o reply fits)))
+    (done-at-desk g.K.Keep.terms (λ v. becomes reply (with_mac v s c.in-Taken.place o)) c.args.store.now c.args.desk.now _ reply c.requires refl (λ v. refl) (λ k fits. signing.gives-with k c.args.desk.now s c.in-Taken.place o reply fits) (λ few. tt)))
 
 pub returns-in-Signature : goal.returns-in-Signature
 returns-in-Signature g c =
@@ -61,21 +61,21 @@ returns-in-Signature g c =
     let x = out.Signature c.in-Signature.signature in
     let reply = Output (Data c.in-Signature.signature) in
     rw (c.in-Signature.is, c.signed.ensures.reply, c.signed.ensures.left) (ends-as g.K.Keep.terms s x c.args.others.now c.args.store.now _ c.args.desk.now _ _
-    (done-at-desk g.K.Keep.terms (λ v. becomes reply (with_mac v s place.Sign None)) c.args.store.now c.args.desk.now _ reply c.requires refl (λ v. refl) (λ k fits. signing.gives-with k c.args.desk.now s place.Sign None reply fits)))
+    (done-at-desk g.K.Keep.terms (λ v. becomes reply (with_mac v s place.Sign None)) c.args.store.now c.args.desk.now _ reply c.requires refl (λ v. refl) (λ k fits. signing.gives-with k c.args.desk.now s place.Sign None reply fits) (λ few. few)))
 
 pub returns-in-RightSignature : goal.returns-in-RightSignature
 returns-in-RightSignature g c =
     let s = c.args.session in
     let reply = Code rv.Ok in
     rw (c.in-RightSignature.is, c.verified.ensures.reply, c.verified.ensures.left) (ends-as g.K.Keep.terms s out.RightSignature c.args.others.now c.args.store.now _ c.args.desk.now _ _
-    (done-at-desk g.K.Keep.terms (λ v. becomes reply (with_mac v s place.Verify None)) c.args.store.now c.args.desk.now _ reply c.requires refl (λ v. refl) (λ k fits. signing.gives-with k c.args.desk.now s place.Verify None reply fits)))
+    (done-at-desk g.K.Keep.terms (λ v. becomes reply (with_mac v s place.Verify None)) c.args.store.now c.args.desk.now _ reply c.requires refl (λ v. refl) (λ k fits. signing.gives-with k c.args.desk.now s place.Verify None reply fits) (λ few. tt)))
 
 pub returns-in-WrongSignature : goal.returns-in-WrongSignature
 returns-in-WrongSignature g c =
     let s = c.args.session in
     let reply = Code rv.SignatureInvalid in
     rw (c.in-WrongSignature.is, c.verified-in-WrongSignature.ensures.reply, c.verified-in-WrongSignature.ensures.left) (ends-as g.K.Keep.terms s out.WrongSignature c.args.others.now c.args.store.now _ c.args.desk.now _ _
-    (done-at-desk g.K.Keep.terms (λ v. becomes reply (with_mac v s place.Verify None)) c.args.store.now c.args.desk.now _ reply c.requires refl (λ v. refl) (λ k fits. signing.gives-with k c.args.desk.now s place.Verify None reply fits)))
+    (done-at-desk g.K.Keep.terms (λ v. becomes reply (with_mac v s place.Verify None)) c.args.store.now c.args.desk.now _ reply c.requires refl (λ v. refl) (λ k fits. signing.gives-with k c.args.desk.now s place.Verify None reply fits) (λ few. tt)))
 
 -- ---- a key's
 
@@ -83,7 +83,7 @@ pub returns-in-Wrapped : goal.returns-in-Wrapped
 returns-in-Wrapped g c =
     let reply = Output (Data c.in-Wrapped.bytes) in
     rw (c.in-Wrapped.is) (ends-as g.K.Keep.terms c.args.session (out.Wrapped c.in-Wrapped.bytes) c.args.others.now c.args.store.now _ c.args.desk.now _ _
-    (done-at-desk g.K.Keep.terms (λ v. replies v reply) c.args.store.now c.args.desk.now c.args.desk.now reply c.requires refl (λ v. refl) (λ k fits. record { says = refl; view = refl; changes = refl; fits = fits })))
+    (done-at-desk g.K.Keep.terms (λ v. replies v reply) c.args.store.now c.args.desk.now c.args.desk.now reply c.requires refl (λ v. refl) (λ k fits. record { says = refl; view = refl; changes = refl; fits = fits }) (λ few. few)))
 
 pub returns-in-Unwrapped : goal.returns-in-Unwrapped
 returns-in-Unwrapped g c =

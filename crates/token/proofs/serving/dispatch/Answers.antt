@@ -2,7 +2,7 @@ use Rattle.std.proofs.Common.{refl, rules, arith}
 use Rattle.ck_calls.specs.declared.call.Call.TheVariants as call
 use Rattle.ck_types.specs.declared.rv.Rv.TheVariants.{FunctionNotSupported}
 use Rattle.answers.specs.Answers.{answer_to}
-use Rattle.token.proofs.Dispatching.{call-done, call-asked, call-at-desk, call-asking, call-unchecked, still-init_pin}
+use Rattle.token.proofs.Dispatching.{call-done, call-asked, call-at-desk, call-asking, call-unchecked, random-few, still-init_pin}
 use Rattle.token.proofs.serving.dispatch.Goals as goal
 
 pub returns-in-OpenSession : goal.returns-in-OpenSession
@@ -123,7 +123,12 @@ returns-in-GetMechanismInfo g c = call-at-desk g.K.Keep.terms c.args.app c.args.
 
 pub returns-in-GenerateRandom : goal.returns-in-GenerateRandom
 unfolding answer_to
-returns-in-GenerateRandom g c = call-at-desk g.K.Keep.terms c.args.app c.args.in_use c.args.call (call.GenerateRandom c.in-GenerateRandom.session c.in-GenerateRandom.len) c.args.random.now c.in-GenerateRandom.is c.args.store.now c.args.desk.now _ c.serve-in-GenerateRandom.result c.settle-in-GenerateRandom.result refl c.settle-in-GenerateRandom.ensures c.serve-in-GenerateRandom.ensures
+returns-in-GenerateRandom g c = call-at-desk g.K.Keep.terms c.args.app c.args.in_use c.args.call (call.GenerateRandom c.in-GenerateRandom.session c.in-GenerateRandom.len) c.args.random.now c.in-GenerateRandom.is c.args.store.now c.args.desk.now _ c.serve-in-GenerateRandom.result c.settle-in-GenerateRandom.result refl c.settle-in-GenerateRandom.ensures
+    (record {
+      serves = c.serve-in-GenerateRandom.ensures.serves;
+      cause = c.serve-in-GenerateRandom.ensures.cause;
+      short = λ _. c.serve-in-GenerateRandom.ensures.short (random-few c.args.call c.in-GenerateRandom.session c.in-GenerateRandom.len c.args.random.now c.in-GenerateRandom.is c.requires.random);
+    })
 
 pub returns-in-GenerateKey : goal.returns-in-GenerateKey
 unfolding answer_to

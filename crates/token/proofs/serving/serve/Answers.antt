@@ -12,6 +12,7 @@ returns-then-is_busy g c = rw (c.code.ensures) (record {
   cause = search rules;
   plain = refl;
   stays = tt;
+  short = λ few. tt;
 })
 
 pub returns : goal.returns
@@ -23,4 +24,5 @@ returns g c = record {
   cause = c.dispatch.ensures.cause;
   plain = c.dispatch.ensures.plain;
   stays = c.dispatch.ensures.stays;
+  short = c.dispatch.ensures.short;
 }

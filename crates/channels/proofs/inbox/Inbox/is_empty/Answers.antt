@@ -14,5 +14,5 @@ what_came P Q (Err e) m no_error = search rules
 
 pub returns-clause-lost : goal.returns-clause-lost
 returns-clause-lost g c = λ no_error.
-    let came = what_came _ _ c.try_recv_as.result c.try_recv_as.ensures.rule (subst IsFalse c.is_err.ensures.value no_error) in
+    let came = what_came _ _ c.try_recv_as.result c.try_recv_as.ensures.rule (subst IsFalse (c.is_some.ensures ∙ c.err.ensures.variant) no_error) in
     (came.0, ap taken_of came.1 ∙ ap (λ (v : InwardView). taken_of (after_take v came.0)) c.args.self.now.takes)

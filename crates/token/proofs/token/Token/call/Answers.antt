@@ -1,6 +1,6 @@
 use Rattle.std.proofs.Common.{sym, ◌∙◌}
 use Rattle.token.specs.Applications.{desk_at}
-use Rattle.token.proofs.Called.{shows-called, says-called, leaves-called, blames-device, stays-called}
+use Rattle.token.proofs.Called.{shows-called, says-called, leaves-called, blames-device, stays-called, short-called}
 use Rattle.token.proofs.token.Token.call.Goals as goal
 
 pub returns-clause-world : goal.returns-clause-world
@@ -23,3 +23,6 @@ returns-clause-cause g c = λ is. rw (← c.self.view_is) (c.serve_app.ensures.c
 
 pub returns-clause-stays : goal.returns-clause-stays
 returns-clause-stays g c = λ some. rw (← c.self.view_is) (stays-called c.serve_app.result (desk_at c.self.inside.desks.entries c.args.app) (desk_at c.serve_app.new.desks.entries c.args.app) c.serve_app.ensures.plain c.serve_app.ensures.stays (rw c.told_as.ensures at some))
+
+pub returns-clause-short : goal.returns-clause-short
+returns-clause-short g c = λ few. rw c.told_as.ensures (short-called c.serve_app.result (c.serve_app.ensures.short few))

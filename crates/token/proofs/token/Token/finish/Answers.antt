@@ -1,7 +1,7 @@
 use Rattle.std.proofs.Common.{refl, sym, ◌∙◌}
 use Rattle.std.proofs.lemmas.Bool.{true≢false}
 use Rattle.token.specs.Applications.{desk_at}
-use Rattle.token.proofs.Endings.{blames-device, stays-finished}
+use Rattle.token.proofs.Endings.{blames-device, short-result, stays-finished}
 use Rattle.token.proofs.Jobs.{asked-of, told-has, told-other}
 use Rattle.token.proofs.Resulted.{taken, open-numbers, shows-open, tells-open, leaves-open}
 use Rattle.token.proofs.token.Token.finish.Goals as goal
@@ -27,6 +27,9 @@ returns-clause-cause g c = λ blamed. rw (← c.self.view_is) (c.finish_app.ensu
 
 pub returns-clause-stays : goal.returns-clause-stays
 returns-clause-stays g c = λ some. rw (← c.self.view_is) (stays-finished g.K.Keep.terms c.args.done.job.value _ _ _ (desk_at c.self.inside.desks.entries c.args.app) c.finish_app.result (desk_at c.finish_app.new.desks.entries c.args.app) c.finish_app.ensures.finishes (rw c.told_result-reply.ensures at some))
+
+pub returns-clause-short : goal.returns-clause-short
+returns-clause-short g c = λ few. rw c.told_result-reply.ensures (short-result c.finish_app.result (c.finish_app.ensures.finishes.short few))
 
 -- ---- a job of no pending question, and one that has its numbers
 

@@ -1,0 +1,3 @@
+mod ciphers;
+mod keys;
+mod searches;

@@ -1,2 +1,0 @@
-mod beside;
-mod not_started;
