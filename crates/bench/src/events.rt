@@ -3,6 +3,7 @@
 ghost use Rattle.std.specs.Prelude.{All, IfOk};
 ghost use Rattle.token_model.specs.Events.{HasRandom};
 
+use crate::calls::failed;
 use crate::run::{Run, Unit};
 use ck_calls::Call;
 use keep::ListKeep;
@@ -38,19 +39,37 @@ fn events_of(alloc: Global, count: u32) -> Result<Vec<Event>, AllocError>
     Ok(events)
 }
 
+// How many replies a new token gives in one run of these events.
+fn replies_to(alloc: Global, events: Vec<Event>) -> io::Result<usize>
+    requires { All HasRandom events.items }
+{
+    match Token::new(alloc, ListKeep::new(alloc, Record::new())) {
+        Ok(mut token) => {
+            let ran = token.run(alloc, events, Vec::new(alloc));
+            let count = ran.replies.len();
+            drop(ran);
+            drop(token);
+            Ok(count)
+        }
+        Err(refused) => {
+            drop(refused);
+            drop(events);
+            Err(failed())
+        }
+    }
+}
+
 /// So many events of two applications, in one run of a new token.
 pub(crate) fn events(rt: &impl CpuClock, alloc: Global, count: u32) -> io::Result<Run> {
     let events = events_of(alloc, count)?;
-    let Ok(mut token) = Token::new(alloc, ListKeep::new(alloc, Record::new())) else {
-        return Err(io::Error::from(io::ErrorKind::OutOfMemory));
-    };
-    let start = rt.thread_cpu_time()?;
-    let ran = token.run(alloc, events, Vec::new(alloc));
+    let start = rt.thread_cpu_time();
+    let replies = replies_to(alloc, events)?;
+    let time = rt.thread_cpu_time()?.saturating_sub(start?);
     Ok(Run {
         what: "token, events in one run",
         unit: Unit::Event,
         count,
-        sum: (ran.replies.len() as u128).to_be_bytes(),
-        time: rt.thread_cpu_time()?.saturating_sub(start),
+        sum: (replies as u128).to_be_bytes(),
+        time,
     })
 }

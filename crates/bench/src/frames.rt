@@ -2,7 +2,7 @@
 
 ghost use Rattle.std.specs.Prelude.{None, Some};
 
-use crate::reading::{SESSION, failed};
+use crate::calls::{SESSION, failed};
 use crate::run::{KEY, Run, Unit, key_of};
 use aes_modes::{Direction, ecb};
 use ck_calls::{Call, Mechanism};
@@ -130,6 +130,26 @@ fn stream_of(alloc: Global, text_len: u32, count: u32) -> io::Result<Vec<u8>> {
     Ok(stream)
 }
 
+// How many calls a new token is given by a line.
+fn serve_new<R: Read, W: Write>(
+    alloc: Global,
+    reader: &mut Watched<R>,
+    writer: &mut Watched<W>,
+) -> io::Result<u64> {
+    match Token::new(alloc, ListKeep::new(alloc, Record::new())) {
+        Ok(mut token) => {
+            let mut words = Words::for_app([0; 32], 0);
+            let served = serve_one(alloc, reader, writer, &mut token, &mut words);
+            drop(token);
+            served.map_err(|_| failed())
+        }
+        Err(refused) => {
+            drop(refused);
+            Err(failed())
+        }
+    }
+}
+
 /// So many texts, each by C_EncryptInit and C_Encrypt, read in pieces of no more than `most` bytes.
 pub(crate) fn frames(
     rt: &impl CpuClock,
@@ -140,10 +160,6 @@ pub(crate) fn frames(
     count: u32,
 ) -> io::Result<Run> {
     let stream = stream_of(alloc, text_len, count)?;
-    let Ok(mut token) = Token::new(alloc, ListKeep::new(alloc, Record::new())) else {
-        return Err(failed());
-    };
-    let mut words = Words::for_app([0; 32], 0);
     let mut reader = Watched::new(Pieces {
         rest: &stream,
         most,
@@ -153,9 +169,7 @@ pub(crate) fn frames(
         last: 0,
     });
     let start = rt.thread_cpu_time()?;
-    let Ok(replies) = serve_one(alloc, &mut reader, &mut writer, &mut token, &mut words) else {
-        return Err(failed());
-    };
+    let replies = serve_new(alloc, &mut reader, &mut writer)?;
     let time = rt.thread_cpu_time()?.saturating_sub(start);
     let tally = writer.into_inner();
     let sum = u128::from(tally.written) << 64 | u128::from(replies) << 8 | u128::from(tally.last);

@@ -1,9 +1,9 @@
 // Logins and logouts, beside the derivations of a key alone.
 
-use crate::reading::{SESSION, failed, new_token, open, reply_to};
+use crate::calls::{SESSION, new_token, open, succeeds};
 use crate::run::{Run, Unit};
-use ck_calls::{Call, Reply};
-use ck_types::{Bytes, Rv};
+use ck_calls::Call;
+use ck_types::Bytes;
 use hmac_sha2::pbkdf2;
 use keep::ListKeep;
 use pin_record::ROUNDS;
@@ -22,14 +22,6 @@ const SO_PIN: &[u8] = b"so-pin";
 const USER_PIN: &[u8] = b"user-pin";
 
 const LABEL: [u8; 32] = *b"the token of the bench          ";
-
-// One call, which is answered by the code 0.
-fn succeeds(alloc: Global, token: &mut Token<ListKeep>, call: Call) -> io::Result<()> {
-    match reply_to(alloc, token, call)? {
-        Reply::Code(Rv::Ok) => Ok(()),
-        _ => Err(failed()),
-    }
-}
 
 fn login(alloc: Global, token: &mut Token<ListKeep>, user_type: u64, pin: &[u8]) -> io::Result<()> {
     let call = Call::Login {
@@ -61,24 +53,26 @@ fn init_pin(alloc: Global, token: &mut Token<ListKeep>) -> io::Result<()> {
     succeeds(alloc, token, call)
 }
 
-// A token on which both PINs are set, with a session.
-fn initialised(alloc: Global) -> io::Result<Token<ListKeep>> {
-    let mut token = new_token(alloc)?;
-    init_token(alloc, &mut token)?;
-    open(alloc, &mut token)?;
-    login(alloc, &mut token, SO, SO_PIN)?;
-    init_pin(alloc, &mut token)?;
-    logout(alloc, &mut token)?;
-    Ok(token)
+// Sets both PINs, and opens a session.
+fn initialise(alloc: Global, token: &mut Token<ListKeep>) -> io::Result<()> {
+    init_token(alloc, token)?;
+    open(alloc, token)?;
+    login(alloc, token, SO, SO_PIN)?;
+    init_pin(alloc, token)?;
+    logout(alloc, token)
 }
 
-/// So many logins of the user, each with its logout.
-pub(crate) fn logins(rt: &impl CpuClock, alloc: Global, count: u32) -> io::Result<Run> {
-    let mut token = initialised(alloc)?;
+fn logins_in(
+    rt: &impl CpuClock,
+    alloc: Global,
+    token: &mut Token<ListKeep>,
+    count: u32,
+) -> io::Result<Run> {
+    initialise(alloc, token)?;
     let start = rt.thread_cpu_time()?;
     for _ in 0..count {
-        login(alloc, &mut token, USER, USER_PIN)?;
-        logout(alloc, &mut token)?;
+        login(alloc, token, USER, USER_PIN)?;
+        logout(alloc, token)?;
     }
     Ok(Run {
         what: "Login and Logout",
@@ -87,6 +81,14 @@ pub(crate) fn logins(rt: &impl CpuClock, alloc: Global, count: u32) -> io::Resul
         sum: u128::from(count).to_be_bytes(),
         time: rt.thread_cpu_time()?.saturating_sub(start),
     })
+}
+
+/// So many logins of the user, each with its logout.
+pub(crate) fn logins(rt: &impl CpuClock, alloc: Global, count: u32) -> io::Result<Run> {
+    let mut token = new_token(alloc)?;
+    let run = logins_in(rt, alloc, &mut token, count);
+    drop(token);
+    run
 }
 
 /// As many derivations alone, of as many rounds as a login's.

@@ -37,6 +37,7 @@
 //! ```
 #![tactic(auto)]
 
+mod calls;
 mod events;
 mod frames;
 mod logins;

@@ -1,13 +1,12 @@
 // Data enciphered and deciphered through a token, in pieces beside single calls, and what memory it takes.
 
+use crate::calls::{SESSION, failed, new_token, open, reply_to, succeeds};
 use crate::frames::template;
-use crate::reading::{SESSION, failed, reply_to};
 use crate::run::{Report, Run, Unit};
 use aes_modes::Direction;
 use ck_calls::{Call, Mechanism, Output, Reply};
 use ck_types::{Bytes, MechType};
 use keep::ListKeep;
-use pin_record::Record;
 use std::alloc::Global;
 use std::rt::Files;
 use std::time::CpuClock;
@@ -83,26 +82,32 @@ const PIECE_LEN: u32 = 65_536;
 
 const HALF: u32 = 8192;
 
-// What a call gives.
-fn given_by(alloc: Global, token: &mut Token<ListKeep>, call: Call) -> io::Result<Bytes> {
-    match reply_to(alloc, token, call)? {
-        Reply::Output(Output::Data(bytes)) => Ok(bytes),
+// The length and the last byte of the data that a call gives.
+fn ends_of(reply: &Reply) -> io::Result<(u64, u8)> {
+    match reply {
+        Reply::Output(Output::Data(bytes)) => Ok((
+            bytes.len() as u64,
+            bytes.as_slice().last().copied().unwrap_or(0),
+        )),
         _ => Err(failed()),
     }
 }
 
-// A token with a session, which has a key.
-fn opened(alloc: Global) -> io::Result<Token<ListKeep>> {
-    let Ok(mut token) = Token::new(alloc, ListKeep::new(alloc, Record::new())) else {
-        return Err(failed());
-    };
-    drop(reply_to(alloc, &mut token, Call::OpenSession { slot: 0, flags: 6 })?);
+fn given_by(alloc: Global, token: &mut Token<ListKeep>, call: Call) -> io::Result<(u64, u8)> {
+    let reply = reply_to(alloc, token, call)?;
+    let ends = ends_of(&reply);
+    drop(reply);
+    ends
+}
+
+// Opens a session and makes a key.
+fn make_key(alloc: Global, token: &mut Token<ListKeep>) -> io::Result<()> {
+    open(alloc, token)?;
     let create = Call::CreateObject {
         session: SESSION,
         template: template(alloc)?,
     };
-    drop(reply_to(alloc, &mut token, create)?);
-    Ok(token)
+    succeeds(alloc, token, create)
 }
 
 impl Cipher {
@@ -166,8 +171,7 @@ impl Cipher {
 
     // Begins an operation.
     fn begin(self, alloc: Global, token: &mut Token<ListKeep>) -> io::Result<()> {
-        drop(reply_to(alloc, token, self.init(alloc)?)?);
-        Ok(())
+        succeeds(alloc, token, self.init(alloc)?)
     }
 
     // Gives a text in this way, and tells the length and the last byte of what comes.
@@ -178,18 +182,18 @@ impl Cipher {
         way: Way,
         text: &[u8],
     ) -> io::Result<(u64, u8)> {
-        let data = Bytes::from_slice(alloc, text)?;
         let room = Some(text.len() as u64);
-        let call = match way {
-            Way::Piece => self.update(data, room),
+        match way {
+            Way::Piece => {
+                let part = Bytes::from_slice(alloc, text)?;
+                given_by(alloc, token, self.update(part, room))
+            }
             Way::Call => {
                 self.begin(alloc, token)?;
-                self.single(data, room)
+                let data = Bytes::from_slice(alloc, text)?;
+                given_by(alloc, token, self.single(data, room))
             }
-        };
-        let bytes = given_by(alloc, token, call)?;
-        let slice = bytes.as_slice();
-        Ok((slice.len() as u64, slice.last().copied().unwrap_or(0)))
+        }
     }
 
     // Gives a text so many times, and adds up the lengths and the last bytes of what comes.
@@ -212,23 +216,31 @@ impl Cipher {
     }
 }
 
-// A row.
-fn row(
-    rt: &impl CpuClock,
+// The sum of a row, over a token with a session and a key.
+fn sum_in(
     alloc: Global,
-    what: &'static str,
-    cipher: Cipher,
-    way: Way,
+    token: &mut Token<ListKeep>,
+    (cipher, way): (Cipher, Way),
     len: u32,
     count: u32,
-) -> io::Result<Run> {
+) -> io::Result<u128> {
     let text = vec![in alloc; 0x5a_u8; len as usize]?;
-    let mut token = opened(alloc)?;
-    let start = rt.thread_cpu_time()?;
     if let Way::Piece = way {
-        cipher.begin(alloc, &mut token)?;
+        cipher.begin(alloc, token)?;
     }
-    let sum = cipher.give_all(alloc, &mut token, way, &text, count)?;
+    cipher.give_all(alloc, token, way, &text, count)
+}
+
+fn row_in(
+    rt: &impl CpuClock,
+    alloc: Global,
+    token: &mut Token<ListKeep>,
+    (what, cipher, way, len): (&'static str, Cipher, Way, u32),
+    count: u32,
+) -> io::Result<Run> {
+    make_key(alloc, token)?;
+    let start = rt.thread_cpu_time()?;
+    let sum = sum_in(alloc, token, (cipher, way), len, count)?;
     Ok(Run {
         what,
         unit: Unit::Bytes(len),
@@ -238,18 +250,31 @@ fn row(
     })
 }
 
+// A row, on a token of its own.
+fn row(
+    rt: &impl CpuClock,
+    alloc: Global,
+    row: (&'static str, Cipher, Way, u32),
+    count: u32,
+) -> io::Result<Run> {
+    let mut token = new_token(alloc)?;
+    let run = row_in(rt, alloc, &mut token, row, count);
+    drop(token);
+    run
+}
+
 /// Prints a row for each mechanism, direction and way.
 pub(crate) fn print_pieces(
     rt: &(impl CpuClock + Print),
     alloc: Global,
     report: Report,
 ) -> io::Result<()> {
-    for (what, cipher, way, len) in ROWS {
+    for wanted in ROWS {
         let count = match report {
             Report::Sums => 2,
-            Report::Times => ROW_LEN / (*len).max(1),
+            Report::Times => ROW_LEN / wanted.3.max(1),
         };
-        row(rt, alloc, what, *cipher, *way, *len, count)?.print(rt, 16, report)?;
+        row(rt, alloc, *wanted, count)?.print(rt, 16, report)?;
     }
     Ok(())
 }
@@ -265,17 +290,28 @@ fn print_resident<R: Files + Alloc + Print>(rt: &R, after: u64) -> io::Result<()
     Ok(())
 }
 
-/// Prints the memory that is resident before, amid and after a GiB of C_EncryptUpdate.
-pub(crate) fn print_memory<R: Files + Alloc + Print>(rt: &R, alloc: Global) -> io::Result<()> {
+fn print_memory_in<R: Files + Alloc + Print>(
+    rt: &R,
+    alloc: Global,
+    token: &mut Token<ListKeep>,
+) -> io::Result<()> {
     let text = vec![in alloc; 0x5a_u8; PIECE_LEN as usize]?;
-    let mut token = opened(alloc)?;
-    CBC.begin(alloc, &mut token)?;
+    make_key(alloc, token)?;
+    CBC.begin(alloc, token)?;
     let mut given = 0u64;
     print_resident(rt, given)?;
     for _ in 0..2 {
-        let sum = CBC.give_all(alloc, &mut token, Way::Piece, &text, HALF)?;
+        let sum = CBC.give_all(alloc, token, Way::Piece, &text, HALF)?;
         given = given.wrapping_add((sum >> 64) as u64);
         print_resident(rt, given)?;
     }
     Ok(())
+}
+
+/// Prints the memory that is resident before, amid and after a GiB of C_EncryptUpdate.
+pub(crate) fn print_memory<R: Files + Alloc + Print>(rt: &R, alloc: Global) -> io::Result<()> {
+    let mut token = new_token(alloc)?;
+    let printed = print_memory_in(rt, alloc, &mut token);
+    drop(token);
+    printed
 }

@@ -1,6 +1,7 @@
 // Searches among many token objects.
 
-use crate::reading::{SESSION, failed, new_object, new_token, open, reply_to};
+use crate::calls::{SESSION, failed, new_token, open, reply_to, succeeds};
+use crate::reading::new_object;
 use crate::run::{Run, Unit};
 use ck_calls::{Call, Reply};
 use ck_types::{AttrType, Bytes, Entry, Template};
@@ -24,36 +25,71 @@ fn by_label(alloc: Global) -> Result<Template, AllocError> {
     Ok(template)
 }
 
-// A token with so many token objects, all of which the application sees.
-fn filled(alloc: Global, objects: u32) -> io::Result<Token<ListKeep>> {
-    let mut token = new_token(alloc)?;
-    open(alloc, &mut token)?;
+// Opens a session and makes so many token objects, all of which the application sees.
+fn fill(alloc: Global, token: &mut Token<ListKeep>, objects: u32) -> io::Result<()> {
+    open(alloc, token)?;
     for number in 0..objects {
         let label = if number % 100 == 0 { WANTED } else { OTHER };
-        let call = new_object(alloc, label)?;
-        let Reply::Object(_) = reply_to(alloc, &mut token, call)? else {
-            return Err(failed());
-        };
+        succeeds(alloc, token, new_object(alloc, label)?)?;
     }
-    Ok(token)
+    Ok(())
+}
+
+fn begin(alloc: Global, token: &mut Token<ListKeep>) -> io::Result<()> {
+    let call = Call::FindObjectsInit {
+        session: SESSION,
+        template: by_label(alloc)?,
+    };
+    succeeds(alloc, token, call)
+}
+
+fn count_of(reply: &Reply) -> io::Result<usize> {
+    match reply {
+        Reply::Objects(handles) => Ok(handles.len()),
+        _ => Err(failed()),
+    }
+}
+
+// How many objects the search finds, at most 1,024.
+fn found(alloc: Global, token: &mut Token<ListKeep>) -> io::Result<usize> {
+    let call = Call::FindObjects {
+        session: SESSION,
+        max_count: 1024,
+    };
+    let reply = reply_to(alloc, token, call)?;
+    let count = count_of(&reply);
+    drop(reply);
+    count
 }
 
 // One search: how many objects it finds.
 fn search(alloc: Global, token: &mut Token<ListKeep>) -> io::Result<usize> {
-    let begins = Call::FindObjectsInit {
-        session: SESSION,
-        template: by_label(alloc)?,
-    };
-    drop(reply_to(alloc, token, begins)?);
-    let tells = Call::FindObjects {
-        session: SESSION,
-        max_count: 1024,
-    };
-    let Reply::Objects(handles) = reply_to(alloc, token, tells)? else {
-        return Err(failed());
-    };
-    drop(reply_to(alloc, token, Call::FindObjectsFinal { session: SESSION })?);
-    Ok(handles.len())
+    begin(alloc, token)?;
+    let count = found(alloc, token)?;
+    succeeds(alloc, token, Call::FindObjectsFinal { session: SESSION })?;
+    Ok(count)
+}
+
+fn searching_in(
+    rt: &impl CpuClock,
+    alloc: Global,
+    token: &mut Token<ListKeep>,
+    what: &'static str,
+    (objects, count): (u32, u32),
+) -> io::Result<Run> {
+    fill(alloc, token, objects)?;
+    let mut found = 0u128;
+    let start = rt.thread_cpu_time()?;
+    for _ in 0..count {
+        found = found.wrapping_add(search(alloc, token)? as u128);
+    }
+    Ok(Run {
+        what,
+        unit: Unit::Exchange,
+        count,
+        sum: found.to_be_bytes(),
+        time: rt.thread_cpu_time()?.saturating_sub(start),
+    })
 }
 
 /// So many searches by label, each begun, told and ended, over so many token objects, of which one in a hundred is found.
@@ -64,17 +100,8 @@ pub(crate) fn searching(
     objects: u32,
     count: u32,
 ) -> io::Result<Run> {
-    let mut token = filled(alloc, objects)?;
-    let mut found = 0u128;
-    let start = rt.thread_cpu_time()?;
-    for _ in 0..count {
-        found = found.wrapping_add(search(alloc, &mut token)? as u128);
-    }
-    Ok(Run {
-        what,
-        unit: Unit::Exchange,
-        count,
-        sum: found.to_be_bytes(),
-        time: rt.thread_cpu_time()?.saturating_sub(start),
-    })
+    let mut token = new_token(alloc)?;
+    let run = searching_in(rt, alloc, &mut token, what, (objects, count));
+    drop(token);
+    run
 }

@@ -1,11 +1,12 @@
 // A store in a file: what is written durably, what is read, and how long it takes to open it.
 
-use crate::reading::failed;
+use crate::calls::failed;
 use attrs::{AttributeRow, Form, Object, attributes};
 use cache::Cached;
 use ck_types::{AttrType, Bytes, Entry, Items, ObjectClass};
 use keep::Keep;
 use keep_sql::SqlKeep;
+use sqlite::{FileFrom, FileStore};
 use sqlite_disk::Unknown;
 use std::alloc::Global;
 use std::io;
@@ -106,17 +107,16 @@ fn print_over<K: Keep>(
     insert_keys(&mut cached, key, OBJECTS.saturating_sub(INSERTS))
 }
 
+fn open(rt: &HostRuntime, path: &str) -> io::Result<SqlKeep<FileStore<FileFrom<Unknown>>>> {
+    SqlKeep::open(rt, path, Unknown).map_err(|_| failed())
+}
+
 /// Over a store in a new file: durable inserts, reads by id with and without a cache, and the opening of a store of many
 /// objects, by the clock on the wall.
 pub(crate) fn print_stores(rt: &HostRuntime, path: &str) -> io::Result<()> {
     let key = token_key(rt.alloc())?;
-    let Ok(keep) = SqlKeep::open(rt, path, Unknown) else {
-        return Err(failed());
-    };
-    print_over(rt, rt.alloc(), &key, keep)?;
+    print_over(rt, rt.alloc(), &key, open(rt, path)?)?;
     let since = Instant::now(rt)?;
-    match SqlKeep::open(rt, path, Unknown) {
-        Ok(_) => print_rate(rt, "objects of a store that is opened", OBJECTS, since),
-        Err(_) => Err(failed()),
-    }
+    drop(open(rt, path)?);
+    print_rate(rt, "objects of a store that is opened", OBJECTS, since)
 }

@@ -136,6 +136,31 @@ pub(crate) fn session_info(alloc: Global) -> io::Result<Vec<Vec<u8>>> {
     Ok(frames)
 }
 
+/// The frame of C_EncryptInit, by a mechanism with a parameter.
+fn encrypt_init(alloc: Global, mechanism: MechType, parameter: &[u8]) -> io::Result<Vec<u8>> {
+    let mechanism = Mechanism {
+        number: mechanism.number(),
+        parameter: Bytes::from_slice(alloc, parameter)?,
+    };
+    let call = Call::EncryptInit {
+        session: SESSION,
+        mechanism: Some(mechanism),
+        key: KEY,
+    };
+    frame(alloc, call)
+}
+
+/// The frame of C_Encrypt of a text.
+fn encrypt(alloc: Global, text_len: usize) -> io::Result<Vec<u8>> {
+    let text = vec![in alloc; 0x5a_u8; text_len]?;
+    let call = Call::Encrypt {
+        session: SESSION,
+        data: Bytes::from_slice(alloc, &text)?,
+        room: Some(ROOM as u64),
+    };
+    frame(alloc, call)
+}
+
 /// The frames of C_EncryptInit and C_Encrypt of a text, by a mechanism with a parameter.
 pub(crate) fn encryption(
     alloc: Global,
@@ -143,22 +168,8 @@ pub(crate) fn encryption(
     parameter: &[u8],
     text_len: usize,
 ) -> io::Result<Vec<Vec<u8>>> {
-    let text = vec![in alloc; 0x5a_u8; text_len]?;
-    let init = Call::EncryptInit {
-        session: SESSION,
-        mechanism: Some(Mechanism {
-            number: mechanism.number(),
-            parameter: Bytes::from_slice(alloc, parameter)?,
-        }),
-        key: KEY,
-    };
-    let encrypt = Call::Encrypt {
-        session: SESSION,
-        data: Bytes::from_slice(alloc, &text)?,
-        room: Some(ROOM as u64),
-    };
     let mut frames = Vec::new(alloc);
-    frames.push(frame(alloc, init)?)?;
-    frames.push(frame(alloc, encrypt)?)?;
+    frames.push(encrypt_init(alloc, mechanism, parameter)?)?;
+    frames.push(encrypt(alloc, text_len)?)?;
     Ok(frames)
 }

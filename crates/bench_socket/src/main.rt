@@ -18,24 +18,22 @@ mod echo;
 mod measures;
 
 use measures::{print_calls, print_echo};
+use std::thread::Threads;
 use std::{env, io};
+
+/// Does what the words say, after the program's name.
+fn run<T: Threads>(rt: HostRuntime, threads: &T, words: &[String]) -> io::Result<()> {
+    match words {
+        [_, what, socket] if what.as_str() == "calls" => print_calls(rt, threads, socket.as_str()),
+        [_, what, socket] if what.as_str() == "echo" => print_echo(rt, threads, socket.as_str()),
+        _ => println!(rt; "bench_socket: calls SOCKET, or echo SOCKET"),
+    }
+}
 
 fn main(rt: HostRuntime) -> io::Result<()> {
     let mut words = Vec::new(rt.alloc());
     for word in env::args(&rt)? {
         words.push(word)?;
     }
-    match (words.get(1), words.get(2)) {
-        (Some(what), Some(socket)) if what.as_str() == "calls" => print_calls(
-            rt,
-            &rt,
-            socket.as_str(),
-        ),
-        (Some(what), Some(socket)) if what.as_str() == "echo" => print_echo(
-            rt,
-            &rt,
-            socket.as_str(),
-        ),
-        _ => println!(rt; "bench_socket: calls SOCKET, or echo SOCKET"),
-    }
+    run(rt, &rt, &words)
 }

@@ -120,36 +120,58 @@ fn print_rate(rt: &HostRuntime, what: &str, rate: u64, other: u64) -> io::Result
     )
 }
 
+/// Measures how often a second a client's frames are all answered, and prints it beside the echo.
+fn print_frames(
+    rt: &HostRuntime,
+    client: &mut Client,
+    what: &str,
+    (frames, count): (&[Vec<u8>], u64),
+    echoes: u64,
+) -> io::Result<()> {
+    let rate = call_rate(rt, client, frames, count)?;
+    print_rate(rt, what, rate, echoes)
+}
+
+fn print_session_info(rt: &HostRuntime, client: &mut Client, echoes: u64) -> io::Result<()> {
+    let frames = session_info(rt.alloc())?;
+    print_frames(
+        rt,
+        client,
+        "C_GetSessionInfo",
+        (&frames, ROUND_TRIPS),
+        echoes,
+    )
+}
+
+fn print_block(rt: &HostRuntime, client: &mut Client, echoes: u64) -> io::Result<()> {
+    const WHAT: &str = "C_EncryptInit and C_Encrypt, ECB, 16 bytes";
+    let frames = encryption(rt.alloc(), MechType::AesEcb, &[], BLOCK_LEN)?;
+    print_frames(rt, client, WHAT, (&frames, ROUND_TRIPS), echoes)
+}
+
+fn print_text(rt: &HostRuntime, client: &mut Client, echoes: u64) -> io::Result<()> {
+    const WHAT: &str = "C_EncryptInit and C_Encrypt, CBC_PAD, 16 KiB";
+    let frames = encryption(rt.alloc(), MechType::AesCbcPad, &[3; 16], LONG_LEN)?;
+    print_frames(rt, client, WHAT, (&frames, LONG_ROUND_TRIPS), echoes)
+}
+
+/// Measures one client, beside an echo.
+fn print_client(rt: &HostRuntime, socket: &str, echoes: u64) -> io::Result<()> {
+    let mut client = Client::connect(rt, socket)?;
+    print_session_info(rt, &mut client, echoes)?;
+    print_block(rt, &mut client, echoes)?;
+    print_text(rt, &mut client, echoes)
+}
+
 /// Measures a daemon, beside an echo.
 pub(crate) fn print_calls<T: Threads>(
     rt: HostRuntime,
     threads: &T,
     socket: &str,
 ) -> io::Result<()> {
-    let alloc = rt.alloc();
     let echoes = echo_rate(&rt, threads, socket, ROUND_TRIPS)?;
     print_rate(&rt, "echo of 32 bytes", echoes, echoes)?;
-    let mut client = Client::connect(&rt, socket)?;
-    let info = session_info(alloc)?;
-    let block = encryption(alloc, MechType::AesEcb, &[], BLOCK_LEN)?;
-    let text = encryption(alloc, MechType::AesCbcPad, &[3; 16], LONG_LEN)?;
-    for (what, frames, count) in [
-        ("C_GetSessionInfo", &info, ROUND_TRIPS),
-        (
-            "C_EncryptInit and C_Encrypt, ECB, 16 bytes",
-            &block,
-            ROUND_TRIPS,
-        ),
-        (
-            "C_EncryptInit and C_Encrypt, CBC_PAD, 16 KiB",
-            &text,
-            LONG_ROUND_TRIPS,
-        ),
-    ] {
-        let rate = call_rate(&rt, &mut client, frames, count)?;
-        print_rate(&rt, what, rate, echoes)?;
-    }
-    drop(client);
+    print_client(&rt, socket, echoes)?;
     let one = rate_of_one(&rt, socket)?;
     let four = rate_of_four(rt, threads, socket)?;
     print_rate(&rt, "C_GetSessionInfo, one client", one, echoes)?;

@@ -38,9 +38,9 @@ fn answer<R: Wait>(rt: &R, port: &mut Port) -> Option<Out>
     ensures sent { sent_of (view port.new.inward_pass) ≡ sent_of (view port.old.inward_pass) }
     ensures got { IfSome result (λ o. got_of (view port.new.outward_pass) ≡ got_of (view port.old.outward_pass) ++ o ∷ []) }
 {
-    match port.get(rt) {
-        Some(Outward::Answer(out)) => Some(out),
-        _ => None,
+    match port.get(rt)? {
+        Outward::Answer(out) => Some(out),
+        Outward::Go | Outward::Stop => None,
     }
 }
 
@@ -63,7 +63,10 @@ fn work<G: Gate, R: Wait>(
     }
     match answer(rt, port)? {
         Out::Reply(reply) => Some(reply),
-        Out::Ask(_) => None,
+        Out::Ask(job) => {
+            drop(job);
+            None
+        }
     }
 }
 

@@ -192,6 +192,8 @@ pub(crate) fn join_seat<S: Seat + Drop + Send + 'static, R: Threads>(
 {
     let Ended { seat, ends, whole } = thread.join(rt);
     if !whole {
+        drop(seat);
+        drop(ends);
         return None;
     }
     let Ends {

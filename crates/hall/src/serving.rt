@@ -73,6 +73,7 @@ pub(crate) fn serve_seats<M: Machine, R: Wait>(
             Some(Inward::Put { seat, event }) => {
                 let at = seat as usize;
                 if at >= outboxes.len() {
+                    drop(event);
                     return false;
                 }
                 let outbox = &mut outboxes[at];

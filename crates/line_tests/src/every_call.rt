@@ -1,23 +1,31 @@
 //! Each of the 41 calls through a line: written as a frame, answered with CKR_OK, and its reply read; and how many random
 //! bytes each takes.
 
-use crate::long_texts::frames_of;
-use ck_calls::{Call, Function, Reply, need};
+use crate::keepers::frame_of;
+use ck_calls::{Function, Reply, need};
 use keep::ListKeep;
 use line::{LineFault, Watched, Words, serve_one};
 use pin_record::Record;
-use scripts::{EVERY_CALL, Step, call_of, expect_told, reply_of, token_over};
+use scripts::{EVERY_CALL, Step, call_of, expect_row, token_over};
 use std::alloc::Global;
 use std::process::Abort;
 use std::test::*;
 use wire::{FrameReader, read_reply};
 
-fn calls(alloc: Global) -> Result<Vec<Call>, Fail> {
-    let mut calls = Vec::new(alloc);
+/// The frames of all calls.
+fn all_frames(alloc: Global) -> Result<Vec<u8>, Fail> {
+    let mut frames = Vec::new(alloc);
     for (_, step, _) in EVERY_CALL {
-        calls.push(call_of(alloc, *step)?)?;
+        frames.extend_from_slice(&frame_of(alloc, *step)?)?;
     }
-    Ok(calls)
+    Ok(frames)
+}
+
+fn function_of(alloc: Global, step: Step) -> Result<Function, Fail> {
+    let call = call_of(alloc, step)?;
+    let function = Function::of(&call);
+    drop(call);
+    Ok(function)
 }
 
 /// How a line for a new token ends that takes the frames, and what it writes.
@@ -30,44 +38,59 @@ fn served(
     let mut writer = Watched::new(Vec::<u8>::new(alloc));
     let mut token = token_over(alloc, ListKeep::new(alloc, Record::new()))?;
     let ended = serve_one(alloc, &mut reader, &mut writer, &mut token, words);
+    drop(token);
     Ok((ended, writer.into_inner()))
 }
 
 /// The reply in a payload that begins with CKR_OK.
-fn ok_reply(alloc: Global, call: &Call, payload: &[u8]) -> Result<Reply, Fail> {
-    let function = Function::of(call);
+fn ok_reply(alloc: Global, step: Step, payload: &[u8]) -> Result<Reply, Fail> {
+    let function = function_of(alloc, step)?;
     if !payload.starts_with(&[0; 8]) {
         return Err(Fail::new(format_args!("{function:?}: {payload:?}")));
     }
     Ok(read_reply(alloc, function.number(), payload)?)
 }
 
+/// Sees that these are the frames of what all rows are told.
+fn expect_replies(alloc: Global, written: &[u8]) -> Result<(), Fail> {
+    let mut frames = FrameReader::new(alloc);
+    frames.feed(written)?;
+    for row in EVERY_CALL {
+        let payload = frames.next(alloc)?.ok_or("a reply is missing")?;
+        let got = ok_reply(alloc, row.1, &payload)?;
+        expect_row(alloc, "a line", *row, Some(got))?;
+    }
+    if frames.is_empty() {
+        Ok(())
+    } else {
+        Err("replies that no row tells".into())
+    }
+}
+
 #[test]
 fn each_call_is_written_and_answered_with_ok_and_its_reply_is_read(
     rt: HostRuntime,
 ) -> Result<(), Fail> {
-    let calls = calls(rt.alloc())?;
     let mut words = Words::for_app([0; 32], 0);
-    let (ended, written) = served(rt.alloc(), &frames_of(rt.alloc(), &calls)?, &mut words)?;
-    assert_eq!(rt; ended, Ok(calls.len() as u64));
-    let mut frames = FrameReader::new(rt.alloc());
-    frames.feed(&written)?;
-    for (call, (app, step, told)) in calls.iter().zip(EVERY_CALL) {
-        let payload = frames.next(rt.alloc())?.ok_or("a reply is missing")?;
-        let got = Some(ok_reply(rt.alloc(), call, &payload)?);
-        expect_told("a line", (*app, *step), &reply_of(rt.alloc(), *told)?, &got)?;
+    let (ended, written) = served(rt.alloc(), &all_frames(rt.alloc())?, &mut words)?;
+    assert_eq!(rt; ended, Ok(EVERY_CALL.len() as u64));
+    expect_replies(rt.alloc(), &written)
+}
+
+/// Whether one of the rows calls the function of this number.
+fn has_row(alloc: Global, number: u16) -> Result<bool, Fail> {
+    for (_, step, _) in EVERY_CALL {
+        if function_of(alloc, *step)?.number() == number {
+            return Ok(true);
+        }
     }
-    assert!(rt; frames.is_empty(), "replies that no row tells");
-    Ok(())
+    Ok(false)
 }
 
 #[test]
 fn each_of_the_41_functions_has_its_row(rt: HostRuntime) -> Result<(), Fail> {
-    let calls = calls(rt.alloc())?;
     for number in 1..=41 {
-        let has_row = calls
-            .iter()
-            .any(|call| Function::of(call).number() == number);
+        let has_row = has_row(rt.alloc(), number)?;
         assert!(rt; has_row, "function {number}");
     }
     Ok(())
@@ -89,17 +112,30 @@ fn taken(step: Step) -> usize {
     }
 }
 
+fn need_of(alloc: Global, step: Step) -> Result<usize, Fail> {
+    let call = call_of(alloc, step)?;
+    let need = need(&call);
+    drop(call);
+    Ok(need)
+}
+
+/// How many random bytes all calls need, each as many as it is to take.
+fn needed(rt: &impl Abort, alloc: Global) -> Result<usize, Fail> {
+    let mut sum = 0usize;
+    for (_, step, _) in EVERY_CALL {
+        let need = need_of(alloc, *step)?;
+        assert_eq!(rt; need, taken(*step), "{step:?}");
+        sum = sum.saturating_add(need);
+    }
+    Ok(sum)
+}
+
 #[test]
 fn a_line_takes_the_random_bytes_that_its_calls_need(rt: HostRuntime) -> Result<(), Fail> {
-    let calls = calls(rt.alloc())?;
-    let mut sum = 0usize;
-    for (call, (_, step, _)) in calls.iter().zip(EVERY_CALL) {
-        assert_eq!(rt; need(call), taken(*step), "{step:?}");
-        sum = sum.saturating_add(need(call));
-    }
+    let sum = needed(&rt, rt.alloc())?;
     let mut words = Words::for_app([0; 32], 0);
-    let (ended, _) = served(rt.alloc(), &frames_of(rt.alloc(), &calls)?, &mut words)?;
-    assert_eq!(rt; ended, Ok(calls.len() as u64));
+    let (ended, _) = served(rt.alloc(), &all_frames(rt.alloc())?, &mut words)?;
+    assert_eq!(rt; ended, Ok(EVERY_CALL.len() as u64));
     let mut others = Words::for_app([0; 32], 0);
     let _ = others.take(rt.alloc(), sum)?;
     let next = others.take(rt.alloc(), 16)?;

@@ -23,12 +23,19 @@ const STEPS: &[Step] = &[
 /// How often these calls, and the token's making before them, ask the keeper for what may be refused.
 const CALLS: u64 = 5;
 
+/// The frame of a step's call.
+pub(crate) fn frame_of(alloc: Global, step: Step) -> Result<Vec<u8>, Fail> {
+    let call = call_of(alloc, step)?;
+    let frame = write_call(alloc, &call);
+    drop(call);
+    Ok(frame?)
+}
+
 /// The frames of the steps.
 fn input(alloc: Global) -> Result<Vec<u8>, Fail> {
     let mut frames = Vec::new(alloc);
     for step in STEPS {
-        let call = call_of(alloc, *step)?;
-        frames.extend_from_slice(&write_call(alloc, &call)?)?;
+        frames.extend_from_slice(&frame_of(alloc, *step)?)?;
     }
     Ok(frames)
 }
@@ -40,7 +47,9 @@ fn output(alloc: Global, input: &[u8], n: u64, failure: Failure) -> Result<Vec<u
     let mut words = Words::for_app([0; 32], 0);
     let mut reader = Watched::new(input);
     let mut writer = Watched::new(Vec::<u8>::new(alloc));
-    serve_one(alloc, &mut reader, &mut writer, &mut token, &mut words)?;
+    let ended = serve_one(alloc, &mut reader, &mut writer, &mut token, &mut words);
+    drop(token);
+    ended?;
     Ok(writer.into_inner())
 }
 

@@ -22,7 +22,7 @@ impl Server for NewLine {
 }
 
 /// The frames of the calls.
-pub(crate) fn frames_of(alloc: Global, calls: &[Call]) -> Result<Vec<u8>, Fail> {
+fn frames_of(alloc: Global, calls: &[Call]) -> Result<Vec<u8>, Fail> {
     let mut frames = Vec::new(alloc);
     for call in calls {
         frames.extend_from_slice(&write_call(alloc, call)?)?;
@@ -38,7 +38,10 @@ fn outputs(alloc: Global, calls: &[Call], written: &[u8]) -> Result<Vec<u8>, Fai
     for call in calls {
         let payload = frames.next(alloc)?.ok_or("a reply is missing")?;
         let function = Function::of(call).number();
-        add_output(&mut bytes, &read_reply(alloc, function, &payload)?)?;
+        let reply = read_reply(alloc, function, &payload)?;
+        let added = add_output(&mut bytes, &reply);
+        drop(reply);
+        added?;
     }
     Ok(bytes)
 }

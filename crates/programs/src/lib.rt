@@ -21,6 +21,3 @@ mod serve;
 pub use args::refuse_args;
 pub use p11call::ask;
 pub use run::tokend_with;
-
-#[cfg(test)]
-mod tests;

@@ -121,10 +121,10 @@ impl<K: Keep> BenchOver<K> {
     fn take_out(&mut self, app: u64, out: Out) -> Result<Option<Reply>, Fail> {
         match out {
             Out::Reply(reply) => Ok(Some(reply)),
-            Out::Ask(job) => {
-                self.out.push((app, job))?;
-                Ok(None)
-            }
+            Out::Ask(job) => match self.out.push((app, job)).ok() {
+                Some(()) => Ok(None),
+                None => Err("no memory for a job".into()),
+            },
         }
     }
 
@@ -166,6 +166,34 @@ pub fn expect_told(
     Err(Fail::new(format_args!(
         "row {place:?}: wanted {wanted:?}, got {got:?}, where {app} makes {step:?}"
     )))
+}
+
+/// Sees that a row was told as it says. What was got is let go.
+pub fn expect_row(
+    alloc: Global,
+    place: impl Debug + Drop,
+    (app, step, told): Row,
+    got: Option<Reply>,
+) -> Result<(), Fail> {
+    match reply_of(alloc, told) {
+        Ok(wanted) => expect_so(place, (app, step), wanted, got),
+        Err(fault) => {
+            drop(got);
+            Err(fault)
+        }
+    }
+}
+
+/// Sees that a new token over the keeper goes as the rows say, and gives the keeper back.
+pub fn play_over<K: Keep>(alloc: Global, keep: K, rows: &[Row]) -> Result<K, Fail> {
+    let mut bench = BenchOver::over(alloc, keep)?;
+    match bench.play(rows) {
+        Ok(()) => Ok(bench.into_keep()),
+        Err(fault) => {
+            drop(bench);
+            Err(fault)
+        }
+    }
 }
 
 /// Sees that a new token goes as the rows say by calls one after the other.

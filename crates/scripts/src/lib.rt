@@ -6,12 +6,13 @@
 //! - `EVERY_CALL` has rows of all calls, each answered with CKR_OK.
 //! - `Row`, `Step` and `Told` are the vocabulary; `call_of` and `reply_of` make a call and a reply of them, and `random_for`
 //!   gives a call its random bytes.
-//! - `Bench` is a token that takes steps one after the other. `play` plays rows on a new one, `run` gives them to a new
+//! - `Bench` is a token that takes steps one after the other. `play` plays rows on a new one, `play_over` on one over a keeper
+//!   that it gives back, `run` gives them to a new
 //!   token as one list of events, and `play_and_run` does both, each over a list and over a list behind a cache. `BenchOver` and
 //!   `run_over` take a keeper, as one that has a record of `record_with`.
 //! - `expect_neighbours` sees that the cases of a test have all neighbours of the tables of faults.
 //! - `Token`, `Event`, `Out` and `Job` are those of `token`, and `token_over` makes a token, for tests that use one without a
-//!   bench.
+//!   bench: `told_at_once`, `told_code` and `opened_session` make a call of it.
 //! - `expect_long_chain` and `expect_each_mechanism` give long texts to a `Server` at once and in pieces, there and back.
 //!
 //! ```text
@@ -37,11 +38,11 @@ mod stored;
 mod texts;
 mod tokens;
 
-pub use bench::{Bench, BenchOver, expect_told, play};
+pub use bench::{Bench, BenchOver, expect_row, expect_told, play, play_over};
 pub use calls::call_of;
 pub use every_call::EVERY_CALL;
 pub use keepers::{cached, cached_list};
-pub use order::{LeftOut, Pair, expect_neighbours};
+pub use order::{Case, LeftOut, Pair, expect_neighbours};
 pub use random::random_for;
 pub use replies::reply_of;
 pub use runs::{play_and_run, play_and_run_questions, replies_to, run, run_over, with_finishes};
@@ -49,4 +50,4 @@ pub use steps::{Asked, Given, GivenMechanism, Row, Step, Told, Values};
 pub use stored::record_with;
 pub use texts::{NewToken, Server, add_output, expect_each_mechanism, expect_long_chain};
 pub use token::{Event, Job, Out, Token};
-pub use tokens::token_over;
+pub use tokens::{opened_session, token_over, told_at_once, told_code};

@@ -11,22 +11,35 @@ use std::test::Fail;
 /// Two faults, and a call with both.
 pub type Pair = (Fault, Fault, Step);
 
+/// A case in which two faults hold.
+pub trait Case {
+    /// The faults, and the call.
+    fn pair(&self) -> Pair;
+}
+
+/// Two faults, a call with the second alone, and one with both.
+impl Case for (Fault, Fault, Step, Step) {
+    fn pair(&self) -> Pair {
+        (self.0, self.1, self.3)
+    }
+}
+
 /// Two faults of a function that can't both hold.
 pub type LeftOut = (Function, Fault, Fault);
 
 /// Sees that of each call's table the fault given is the second row, after a pending question, and that each row after it has a
 /// pair with the one before it, or that these are left out.
-pub fn expect_neighbours(
+pub fn expect_neighbours<C: Case>(
     alloc: Global,
     seconds: &[(Fault, Step)],
-    pairs: &[Pair],
+    cases: &[&[C]],
     left_out: &[LeftOut],
 ) -> Result<(), Fail> {
     for (fault, step) in seconds {
         let function = function_of(alloc, *step)?;
         match rows(function.number()) {
             [Fault::Busy, second, rest @ ..] if second == fault => {
-                expect_rest(alloc, function, *fault, rest, (pairs, left_out))?
+                expect_rest(alloc, function, *fault, rest, (cases, left_out))?
             }
             _ => return Err("a table that begins otherwise".into()),
         }
@@ -34,19 +47,19 @@ pub fn expect_neighbours(
     Ok(())
 }
 
-fn expect_rest(
+fn expect_rest<C: Case>(
     alloc: Global,
     function: Function,
     before: Fault,
     rest: &[Fault],
-    (pairs, left_out): (&[Pair], &[LeftOut]),
+    (cases, left_out): (&[&[C]], &[LeftOut]),
 ) -> Result<(), Fail> {
     let mut first = before;
     for second in rest {
         let is_left_out = left_out
             .iter()
             .any(|out| *out == (function, first, *second));
-        if !is_left_out && !has_pair(alloc, function, (first, *second), pairs)? {
+        if !is_left_out && !has_pair(alloc, function, (first, *second), cases)? {
             return Err(Fail::new(format_args!("{function:?}: {first:?}, {second:?}")));
         }
         first = *second;
@@ -54,21 +67,27 @@ fn expect_rest(
     Ok(())
 }
 
-/// Whether one of the pairs is of these faults of the function.
-fn has_pair(
+/// Whether one of the cases is of these faults of the function.
+fn has_pair<C: Case>(
     alloc: Global,
     function: Function,
     faults: (Fault, Fault),
-    pairs: &[Pair],
+    cases: &[&[C]],
 ) -> Result<bool, Fail> {
-    for (first, second, both) in pairs {
-        if (*first, *second) == faults && function_of(alloc, *both)? == function {
-            return Ok(true);
+    for chapter in cases {
+        for case in *chapter {
+            let (first, second, both) = case.pair();
+            if (first, second) == faults && function_of(alloc, both)? == function {
+                return Ok(true);
+            }
         }
     }
     Ok(false)
 }
 
 fn function_of(alloc: Global, step: Step) -> Result<Function, Fail> {
-    Ok(Function::of(&call_of(alloc, step)?))
+    let call = call_of(alloc, step)?;
+    let function = Function::of(&call);
+    drop(call);
+    Ok(function)
 }

@@ -16,8 +16,13 @@ use std::test::*;
 /// How many rows of the script are told as they say, and the store after them.
 fn told_over<S: Alter + Drop>(alloc: Global, keep: SqlKeep<S>) -> Result<(usize, S), Fail> {
     let mut bench = BenchOver::over(alloc, keep)?;
-    let told = told_as_wanted(alloc, &mut bench)?;
-    Ok((told, bench.into_keep().close().into_store()))
+    match told_as_wanted(alloc, &mut bench) {
+        Ok(told) => Ok((told, bench.into_keep().close().into_store())),
+        Err(fault) => {
+            drop(bench);
+            Err(fault)
+        }
+    }
 }
 
 /// How many rows of the script were told as they say before the machine stopped, and its files.

@@ -2,7 +2,7 @@
 
 use super::keepers::{Script, see_over_each};
 use super::served::{Served, expect_served, frames_of, serve};
-use ck_calls::{Call, Reply};
+use ck_calls::Call;
 use ck_types::{AttrType, Rv};
 use keep::Keep;
 use line::LineFault;
@@ -11,7 +11,7 @@ use scripts::Step::{
     CreateObject, FindObjects, FindObjectsInit, GenerateRandom, GetAttributeValue, GetObjectSize,
 };
 use scripts::given::*;
-use scripts::{BenchOver, Given, Out, Row, Token, Told};
+use scripts::{Given, Row, Token, Told, opened_session, play_over, told_code};
 use std::alloc::Global;
 use std::test::*;
 
@@ -30,17 +30,20 @@ impl Script for Bytes<'_> {
             written,
             mut token,
         } = serve(alloc, keep, self.input)?;
+        let gone = expect_gone(alloc, &mut token);
+        drop(token);
+        gone?;
         if ended != self.ended || written.as_slice() != self.written {
             return Err(Fail::new(format_args!("{ended:?}, {written:?}")));
         }
-        expect_gone(alloc, &mut token)
+        Ok(())
     }
 }
 
 /// Sees that the line's application has no session.
 fn expect_gone<K: Keep>(alloc: Global, token: &mut Token<K>) -> Result<(), Fail> {
-    match token.call(alloc, 0, Call::GetSessionInfo { session: 1 }, &[]) {
-        Out::Reply(Reply::Code(Rv::SessionHandleInvalid)) => Ok(()),
+    match told_code(alloc, token, 0, Call::GetSessionInfo { session: 1 })? {
+        Some(Rv::SessionHandleInvalid) => Ok(()),
         _ => Err("the application has not gone".into()),
     }
 }
@@ -153,13 +156,21 @@ impl Script for After<'_> {
             written,
             mut token,
         } = serve(alloc, keep, self.input)?;
+        let left = expect_left(alloc, &mut token);
+        let keep = token.into_keep();
+        left?;
         if ended != self.ended || !written.starts_with(BEFORE_REPLIES) {
             return Err(Fail::new(format_args!("{ended:?}, {written:?}")));
         }
-        expect_gone(alloc, &mut token)?;
-        expect_no_object(alloc, &mut token)?;
-        BenchOver::over(alloc, token.into_keep())?.play(self.found)
+        drop(play_over(alloc, keep, self.found)?);
+        Ok(())
     }
+}
+
+/// Sees that the line's application is gone, and its objects.
+fn expect_left<K: Keep>(alloc: Global, token: &mut Token<K>) -> Result<(), Fail> {
+    expect_gone(alloc, token)?;
+    expect_no_object(alloc, token)
 }
 
 #[test]
@@ -188,13 +199,9 @@ fn a_cut_frame_changes_nothing(rt: HostRuntime) -> Result<(), Fail> {
 
 /// Sees that a new session of the line's application has none of its objects.
 fn expect_no_object<K: Keep>(alloc: Global, token: &mut Token<K>) -> Result<(), Fail> {
-    let open = Call::OpenSession { slot: 0, flags: 6 };
-    let Out::Reply(Reply::Session(session)) = token.call(alloc, 0, open, &[]) else {
-        return Err("no session".into());
-    };
-    let ask = Call::GetObjectSize { session, object: 1 };
-    match token.call(alloc, 0, ask, &[]) {
-        Out::Reply(Reply::Code(Rv::ObjectHandleInvalid)) => Ok(()),
+    let session = opened_session(alloc, token, 0)?;
+    match told_code(alloc, token, 0, Call::GetObjectSize { session, object: 1 })? {
+        Some(Rv::ObjectHandleInvalid) => Ok(()),
         _ => Err("an object is left".into()),
     }
 }

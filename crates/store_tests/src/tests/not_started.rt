@@ -3,10 +3,10 @@
 ghost use Rattle.std.specs.Prelude.{◌≡◌, None, true, IfOk};
 
 use ck_calls::{Call, Reply};
-use hall::{Gate, HallFault, Seat, SeatEvent, hold_with};
+use hall::{Gate, HallFault, Held, Seat, SeatEvent, hold_with};
 use keep::{Keep, ListKeep};
 use pin_record::Record;
-use scripts::{Out, Token, token_over};
+use scripts::{Token, opened_session, token_over, told_code};
 use std::alloc::Global;
 use std::sync::atomic::{AtomicBool, Ordering};
 use std::sync::{Arc, Wait};
@@ -65,20 +65,19 @@ impl Gate for Open {
 /// A token with one session, of application 1.
 fn token_with_session<K: Keep>(alloc: Global, keep: K) -> Result<Token<K>, Fail> {
     let mut token = token_over(alloc, keep)?;
-    let open = Call::OpenSession { slot: 0, flags: 6 };
-    match token.call(alloc, 1, open, &[]) {
-        Out::Reply(Reply::Session(1)) => Ok(token),
-        _ => Err("no session".into()),
+    match opened_session(alloc, &mut token, 1) {
+        Ok(_) => Ok(token),
+        Err(fault) => {
+            drop(token);
+            Err(fault)
+        }
     }
 }
 
 /// Whether application 1 has its session.
-fn has_session<K: Keep>(alloc: Global, token: &mut Token<K>) -> bool {
+fn has_session<K: Keep>(alloc: Global, token: &mut Token<K>) -> Result<bool, Fail> {
     let ask = Call::GetSessionInfo { session: 1 };
-    matches!(
-        token.call(alloc, 1, ask, &[]),
-        Out::Reply(Reply::SessionInfo(_))
-    )
+    Ok(told_code(alloc, token, 1, ask)?.is_none())
 }
 
 /// Sees whether all seats were asked, where no stack is too large; or that none was, that this is told, and that the token comes
@@ -100,17 +99,28 @@ fn expect_asked<K: Keep, R: Threads + Wait + Copy + Send + Drop + 'static>(
     let gate = Arc::new(alloc, Open)?;
     let token = token_with_session(alloc, keep)?;
     let (was_started, mut token) = match hold_with(rt, alloc, token, seats, &gate, stacks) {
-        Ok(held) => (true, held.token),
-        Err((HallFault::Thread, token)) => (false, token),
-        Err((HallFault::Memory, _)) => return Err("out of memory".into()),
+        Ok(
+            Held {
+                token,
+                seats,
+                passes,
+            },
+        ) => {
+            drop(seats);
+            drop(passes);
+            (true, token)
+        }
+        Err((fault, token)) => (fault != HallFault::Thread, token),
     };
-    if was_started != is_started || is_asked.load(Ordering::SeqCst) != is_started {
-        return Err("seats were asked, or none".into());
+    let has_session = has_session(alloc, &mut token);
+    drop(token);
+    if !has_session? {
+        return Err("the token is another one".into());
     }
-    if has_session(alloc, &mut token) {
+    if was_started == is_started && is_asked.load(Ordering::SeqCst) == is_started {
         Ok(())
     } else {
-        Err("the token is another one".into())
+        Err("seats were asked, or none".into())
     }
 }
 

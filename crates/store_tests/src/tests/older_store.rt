@@ -5,7 +5,7 @@ use keep::Keep;
 use keep_sql::SqlKeep;
 use pin_record::Record;
 use scripts::given::*;
-use scripts::{BenchOver, Row, Step, Told, record_with};
+use scripts::{Row, Step, Told, play_over, record_with};
 use sqlite::{Alter, Connection, Error, MemStore, params};
 use std::alloc::{AllocError, Global};
 use std::process::Abort;
@@ -60,9 +60,7 @@ fn rounds(record: &Record) -> [Option<u32>; 2] {
 
 /// Sees that a token over the keeper goes as the rows say, and that its record then has these rounds.
 fn played<K: Keep>(alloc: Global, keep: K, rows: &[Row], wanted: [u32; 2]) -> Result<K, Fail> {
-    let mut bench = BenchOver::over(alloc, keep)?;
-    bench.play(rows)?;
-    let keep = bench.into_keep();
+    let keep = play_over(alloc, keep, rows)?;
     if rounds(&keep.get_record()) == wanted.map(Some) {
         Ok(keep)
     } else {

@@ -3,7 +3,7 @@
 use ck_calls::Function;
 use keep::Keep;
 use line::{LineFault, Watched, Words, serve_one};
-use scripts::{Row, Token, call_of, expect_told, reply_of, token_over};
+use scripts::{Row, Step, Token, call_of, expect_row, token_over};
 use std::alloc::Global;
 use std::test::*;
 use wire::{FrameReader, read_reply, write_call};
@@ -49,21 +49,39 @@ pub(super) fn expect_served<K: Keep>(
     keep: K,
     rows: &[Row],
 ) -> Result<Vec<u8>, Fail> {
-    let Served { ended, written, .. } = serve(alloc, keep, &frames_of(alloc, rows)?)?;
+    let Served {
+        ended,
+        written,
+        token,
+    } = serve(alloc, keep, &frames_of(alloc, rows)?)?;
+    drop(token);
     if ended != Ok(rows.len() as u64) {
         return Err(Fail::new(format_args!("the line ended as {ended:?}")));
     }
+    expect_frames(alloc, rows, &written)?;
+    Ok(written)
+}
+
+/// Sees that these are the frames of what the rows are told.
+fn expect_frames(alloc: Global, rows: &[Row], written: &[u8]) -> Result<(), Fail> {
     let mut frames = FrameReader::new(alloc);
-    frames.feed(&written)?;
-    for (app, step, told) in rows {
+    frames.feed(written)?;
+    for row in rows {
         let payload = frames.next(alloc)?.ok_or("a reply is missing")?;
-        let number = Function::of(&call_of(alloc, *step)?).number();
-        let got = Some(read_reply(alloc, number, &payload)?);
-        expect_told("a line", (*app, *step), &reply_of(alloc, *told)?, &got)?;
+        let got = read_reply(alloc, number_of(alloc, row.1)?, &payload)?;
+        expect_row(alloc, "a line", *row, Some(got))?;
     }
     if frames.is_empty() {
-        Ok(written)
+        Ok(())
     } else {
         Err("replies that no row tells".into())
     }
+}
+
+/// The number of the function that a step calls.
+fn number_of(alloc: Global, step: Step) -> Result<u16, Fail> {
+    let call = call_of(alloc, step)?;
+    let number = Function::of(&call).number();
+    drop(call);
+    Ok(number)
 }

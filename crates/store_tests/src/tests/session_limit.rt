@@ -14,10 +14,16 @@ struct AllSessions;
 impl Script for AllSessions {
     fn see<K: Keep>(&self, alloc: Global, keep: K) -> Result<(), Fail> {
         let mut bench = BenchOver::over(alloc, keep)?;
-        bench.fill((A, OPEN), 1, 64)?;
-        bench.expect(65, (A, OPEN, SESSION_LIMIT))?;
-        bench.fill((B, OPEN), 1, 64)
+        let seen = fill(&mut bench);
+        drop(bench);
+        seen
     }
+}
+
+fn fill<K: Keep>(bench: &mut BenchOver<K>) -> Result<(), Fail> {
+    bench.fill((A, OPEN), 1, 64)?;
+    bench.expect(65, (A, OPEN, SESSION_LIMIT))?;
+    bench.fill((B, OPEN), 1, 64)
 }
 
 #[test]

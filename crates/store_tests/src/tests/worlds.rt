@@ -2,6 +2,7 @@
 //! token, and the sessions, private objects and object numbers of another application.
 
 use super::keepers::{Comparison, compare_over_each};
+use ck_calls::Reply;
 use ck_types::AttrType;
 use keep::Keep;
 use scripts::Step::{
@@ -10,7 +11,7 @@ use scripts::Step::{
     SignInit, WrapKey,
 };
 use scripts::given::*;
-use scripts::{BenchOver, Given, Row, Step, Told, expect_told, record_with};
+use scripts::{BenchOver, Given, Row, Step, Told, record_with};
 use std::alloc::Global;
 use std::test::*;
 
@@ -95,29 +96,60 @@ struct Worlds;
 impl Comparison for Worlds {
     fn see<K: Keep>(&self, alloc: Global, one: K, other: K) -> Result<(), Fail> {
         let mut one = BenchOver::over(alloc, one)?;
-        one.play(ONE)?;
-        let mut other = BenchOver::over(alloc, other)?;
-        other.play(OTHER)?;
-        for (number, step) in CALLS.iter().enumerate() {
-            let told = one.told(A, *step)?;
-            if told.is_none() {
-                return Err(Fail::new(format_args!("call {number} asks a question")));
-            }
-            expect_told(number, (A, *step), &told, &other.told(A, *step)?)?;
-        }
-        expect_unlike(one, other)
+        let seen = see_beside(alloc, &mut one, other);
+        drop(one);
+        seen
     }
 }
 
-/// Sees that the keys do differ, which a result that is asked for shows.
-fn expect_unlike<K: Keep>(mut one: BenchOver<K>, mut other: BenchOver<K>) -> Result<(), Fail> {
+fn see_beside<K: Keep>(alloc: Global, one: &mut BenchOver<K>, other: K) -> Result<(), Fail> {
+    let mut other = BenchOver::over(alloc, other)?;
+    let seen = expect_alike(one, &mut other);
+    drop(other);
+    seen
+}
+
+/// Sees that A is told the same on both, though the keys differ, which a result that is asked for shows.
+fn expect_alike<K: Keep>(one: &mut BenchOver<K>, other: &mut BenchOver<K>) -> Result<(), Fail> {
+    one.play(ONE)?;
+    other.play(OTHER)?;
+    for (number, step) in CALLS.iter().enumerate() {
+        if !tell_alike(one, other, *step)? {
+            return Err(Fail::new(format_args!(
+                "call {number} tells them apart, or asks a question"
+            )));
+        }
+    }
     const ENCRYPTS: Row = (A, Encrypt(1, TEXT, Some(16)), Told::Nothing);
     one.expect("a question", ENCRYPTS)?;
     other.expect("a question", ENCRYPTS)?;
-    if one.told(A, Finish)? == other.told(A, Finish)? {
+    if tell_alike(one, other, Finish)? {
         return Err("both keys have one value".into());
     }
     Ok(())
+}
+
+/// Whether both tell A the same, and at once.
+fn tell_alike<K: Keep>(
+    one: &mut BenchOver<K>,
+    other: &mut BenchOver<K>,
+    step: Step,
+) -> Result<bool, Fail> {
+    let told = one.told(A, step)?;
+    match other.told(A, step) {
+        Ok(got) => Ok(are_alike(told, got)),
+        Err(fault) => {
+            drop(told);
+            Err(fault)
+        }
+    }
+}
+
+fn are_alike(told: Option<Reply>, got: Option<Reply>) -> bool {
+    let alike = told.is_some() && told == got;
+    drop(told);
+    drop(got);
+    alike
 }
 
 #[test]

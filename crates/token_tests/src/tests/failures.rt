@@ -7,7 +7,7 @@ use failing_keep::{FailingKeep, Failure};
 use keep::{Keep, KeepFault, ListKeep};
 use pin_record::Record;
 use scripts::given::*;
-use scripts::{Asked, BenchOver, Row, Step, Token, Told, Values, expect_told, reply_of, run_over};
+use scripts::{Asked, BenchOver, Row, Step, Token, Told, Values, expect_row, run_over};
 use std::alloc::Global;
 use std::process::Abort;
 use std::test::*;
@@ -60,19 +60,50 @@ fn refused_row(
     failure: Failure,
 ) -> Result<Option<usize>, Fail> {
     let mut bench = BenchOver::over(alloc, failing(alloc, n, failure))?;
+    let refused = refused_on(rt, alloc, &mut bench, code_of(failure));
+    drop(bench);
+    refused
+}
+
+fn refused_on(
+    rt: &impl Abort,
+    alloc: Global,
+    bench: &mut BenchOver<FailingKeep<ListKeep>>,
+    code: Rv,
+) -> Result<Option<usize>, Fail> {
     let mut refused = None;
     for (place, row) in ROWS.iter().enumerate() {
-        let (app, step, told) = *row;
-        let wanted = reply_of(alloc, told)?;
-        let mut got = bench.told(app, step)?;
-        if got == Some(Reply::Code(code_of(failure))) {
+        if is_refused(alloc, bench, place, *row, code)? {
             assert!(rt; refused.is_none(), "a second refusal");
             refused = Some(place);
-            got = bench.told(app, step)?;
+            bench.expect(place, *row)?;
         }
-        expect_told(place, (app, step), &wanted, &got)?;
     }
     Ok(refused)
+}
+
+/// Whether a row is refused by the code. It goes as it says otherwise.
+fn is_refused(
+    alloc: Global,
+    bench: &mut BenchOver<FailingKeep<ListKeep>>,
+    place: usize,
+    row: Row,
+    code: Rv,
+) -> Result<bool, Fail> {
+    let got = bench.told(row.0, row.1)?;
+    if is_code(&got, code) {
+        drop(got);
+        return Ok(true);
+    }
+    expect_row(alloc, place, row, got)?;
+    Ok(false)
+}
+
+fn is_code(told: &Option<Reply>, code: Rv) -> bool {
+    match told {
+        Some(Reply::Code(told)) => *told == code,
+        _ => false,
+    }
 }
 
 /// The rows, of which the one at the place is refused when it comes first.

@@ -4,7 +4,7 @@ use ck_types::Label;
 use keep::ListKeep;
 use pin_record::{Record, Verifier};
 use scripts::given::*;
-use scripts::{Bench, Row, Step, Told};
+use scripts::{Row, Step, Told, play_over};
 use std::alloc::Global;
 use std::test::*;
 use token_store::Store;
@@ -16,11 +16,13 @@ const ROWS: &[Row] = &[
 ];
 
 fn store_of_one(alloc: Global) -> Result<Store<ListKeep>, Fail> {
-    let mut bench = Bench::new(alloc)?;
-    bench.play(ROWS)?;
-    match Store::adopt(alloc, bench.into_keep()) {
+    let keep = play_over(alloc, ListKeep::new(alloc, Record::new()), ROWS)?;
+    match Store::adopt(alloc, keep) {
         Ok(store) => Ok(store),
-        Err(_) => Err("the keeper refused".into()),
+        Err(refused) => {
+            drop(refused);
+            Err("the keeper refused".into())
+        }
     }
 }
 

@@ -3,7 +3,7 @@
 use super::script::ROWS;
 use keep::{Keep, ListKeep};
 use pin_record::Record;
-use scripts::Bench;
+use scripts::play_over;
 use std::alloc::Global;
 use std::test::Fail;
 
@@ -29,9 +29,8 @@ pub(super) fn states(alloc: Global) -> Result<Vec<Lasting>, Fail> {
     let mut states = Vec::new(alloc);
     for len in 0..=ROWS.len() {
         let rows = ROWS.get(..len).unwrap_or(&[]);
-        let mut bench = Bench::new(alloc)?;
-        bench.play(rows)?;
-        states.push(lasting_of(alloc, &mut bench.into_keep())?)?;
+        let mut keep = play_over(alloc, ListKeep::new(alloc, Record::new()), rows)?;
+        states.push(lasting_of(alloc, &mut keep)?)?;
     }
     Ok(states)
 }

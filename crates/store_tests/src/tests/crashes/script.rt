@@ -20,8 +20,6 @@ const NAME: &[u8] = b"the token of the tests          ";
 
 const NEW_NAME: &[u8] = b"the same token under a new label";
 
-const DEVICE_ERROR: Reply = Reply::Code(Rv::DeviceError);
-
 /// The rows. A check of a PIN is charged where it begins.
 pub(super) const ROWS: &[Row] = &[
     (A, Step::InitToken(0, SO_PIN, NAME), Told::Nothing),
@@ -53,28 +51,35 @@ pub(super) fn told_as_wanted<K: Keep>(
 ) -> Result<usize, Fail> {
     for (number, (app, step, told)) in ROWS.iter().enumerate() {
         let got = bench.told(*app, *step)?;
-        if got != reply_of(alloc, *told)? {
-            expect_device_error(number, &got)?;
+        if !is_told(alloc, *told, &got)? {
+            expect_device_error(number, got)?;
             expect_refused(bench)?;
             return Ok(number);
         }
+        drop(got);
     }
     Ok(ROWS.len())
+}
+
+fn is_told(alloc: Global, told: Told, got: &Option<Reply>) -> Result<bool, Fail> {
+    let wanted = reply_of(alloc, told)?;
+    let is_told = *got == wanted;
+    drop(wanted);
+    Ok(is_told)
 }
 
 /// Sees that another application is refused an object, though it may open a session.
 fn expect_refused<K: Keep>(bench: &mut BenchOver<K>) -> Result<(), Fail> {
     drop(bench.told(B, OPEN)?);
     let got = bench.told(B, Step::CreateObject(1, TOKEN_DATA))?;
-    expect_device_error("another application", &got)
+    expect_device_error("another application", got)
 }
 
-fn expect_device_error(
-    place: impl std::fmt::Debug + Drop,
-    got: &Option<Reply>,
-) -> Result<(), Fail> {
-    if *got == Some(DEVICE_ERROR) {
-        return Ok(());
-    }
-    Err(Fail::new(format_args!("{place:?}: {got:?}")))
+fn expect_device_error(place: impl std::fmt::Debug + Drop, got: Option<Reply>) -> Result<(), Fail> {
+    let seen = match &got {
+        Some(Reply::Code(Rv::DeviceError)) => Ok(()),
+        _ => Err(Fail::new(format_args!("{place:?}: {got:?}"))),
+    };
+    drop(got);
+    seen
 }

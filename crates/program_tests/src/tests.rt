@@ -3,7 +3,7 @@ ghost use Rattle.std.specs.Prelude.{None};
 mod daemon;
 mod peers;
 
-use crate::{ask, refuse_args, tokend_with};
+use programs::{ask, refuse_args, tokend_with};
 use std::alloc::{AllocError, Global};
 use std::io::{self, Error, ErrorKind, Read, Write};
 use std::sync::Wait;

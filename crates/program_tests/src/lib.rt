@@ -1,0 +1,6 @@
+//! Tests of `programs`: `tests.rt` has command lines over strings of bytes, `tests/daemon.rt` a daemon in a thread and clients of
+//! its socket, and `tests/peers.rt` the seats of a socket before peers that break off.
+#![tactic(auto)]
+
+#[cfg(test)]
+mod tests;
