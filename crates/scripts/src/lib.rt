@@ -42,7 +42,7 @@ pub use bench::{Bench, BenchOver, expect_row, expect_told, play, play_over};
 pub use calls::call_of;
 pub use every_call::EVERY_CALL;
 pub use keepers::{cached, cached_list};
-pub use order::{Case, LeftOut, Pair, expect_neighbours};
+pub use order::{LeftOut, Pair, expect_neighbours};
 pub use random::random_for;
 pub use replies::reply_of;
 pub use runs::{play_and_run, play_and_run_questions, replies_to, run, run_over, with_finishes};

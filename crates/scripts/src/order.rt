@@ -11,35 +11,22 @@ use std::test::Fail;
 /// Two faults, and a call with both.
 pub type Pair = (Fault, Fault, Step);
 
-/// A case in which two faults hold.
-pub trait Case {
-    /// The faults, and the call.
-    fn pair(&self) -> Pair;
-}
-
-/// Two faults, a call with the second alone, and one with both.
-impl Case for (Fault, Fault, Step, Step) {
-    fn pair(&self) -> Pair {
-        (self.0, self.1, self.3)
-    }
-}
-
 /// Two faults of a function that can't both hold.
 pub type LeftOut = (Function, Fault, Fault);
 
 /// Sees that of each call's table the fault given is the second row, after a pending question, and that each row after it has a
 /// pair with the one before it, or that these are left out.
-pub fn expect_neighbours<C: Case>(
+pub fn expect_neighbours(
     alloc: Global,
     seconds: &[(Fault, Step)],
-    cases: &[&[C]],
+    pairs: &[Pair],
     left_out: &[LeftOut],
 ) -> Result<(), Fail> {
     for (fault, step) in seconds {
         let function = function_of(alloc, *step)?;
         match rows(function.number()) {
             [Fault::Busy, second, rest @ ..] if second == fault => {
-                expect_rest(alloc, function, *fault, rest, (cases, left_out))?
+                expect_rest(alloc, function, *fault, rest, (pairs, left_out))?
             }
             _ => return Err("a table that begins otherwise".into()),
         }
@@ -47,19 +34,19 @@ pub fn expect_neighbours<C: Case>(
     Ok(())
 }
 
-fn expect_rest<C: Case>(
+fn expect_rest(
     alloc: Global,
     function: Function,
     before: Fault,
     rest: &[Fault],
-    (cases, left_out): (&[&[C]], &[LeftOut]),
+    (pairs, left_out): (&[Pair], &[LeftOut]),
 ) -> Result<(), Fail> {
     let mut first = before;
     for second in rest {
         let is_left_out = left_out
             .iter()
             .any(|out| *out == (function, first, *second));
-        if !is_left_out && !has_pair(alloc, function, (first, *second), cases)? {
+        if !is_left_out && !has_pair(alloc, function, (first, *second), pairs)? {
             return Err(Fail::new(format_args!("{function:?}: {first:?}, {second:?}")));
         }
         first = *second;
@@ -67,19 +54,16 @@ fn expect_rest<C: Case>(
     Ok(())
 }
 
-/// Whether one of the cases is of these faults of the function.
-fn has_pair<C: Case>(
+/// Whether one of the pairs is of these faults of the function.
+fn has_pair(
     alloc: Global,
     function: Function,
     faults: (Fault, Fault),
-    cases: &[&[C]],
+    pairs: &[Pair],
 ) -> Result<bool, Fail> {
-    for chapter in cases {
-        for case in *chapter {
-            let (first, second, both) = case.pair();
-            if (first, second) == faults && function_of(alloc, both)? == function {
-                return Ok(true);
-            }
+    for (first, second, both) in pairs {
+        if (*first, *second) == faults && function_of(alloc, *both)? == function {
+            return Ok(true);
         }
     }
     Ok(false)

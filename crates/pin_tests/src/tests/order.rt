@@ -9,7 +9,7 @@ use ck_types::Rv;
 use pin_record::Record;
 use precede::Row as Fault;
 use scripts::given::*;
-use scripts::{Bench, Step, Told, expect_neighbours};
+use scripts::{Bench, Pair, Step, Told, expect_neighbours};
 use std::alloc::Global;
 use std::test::*;
 
@@ -97,7 +97,16 @@ fn a_check_under_way_comes_before_every_fault(rt: HostRuntime) -> Result<(), Fai
     expect_busy(&mut bench)
 }
 
+/// The faults of the cases, each two with the call that has both.
+fn pairs(alloc: Global) -> Result<Vec<Pair>, Fail> {
+    let mut pairs = Vec::new(alloc);
+    for case in CASES {
+        pairs.push((case.first, case.second, case.both))?;
+    }
+    Ok(pairs)
+}
+
 #[test]
 fn each_pair_of_neighbours_has_a_case_or_is_left_out(rt: HostRuntime) -> Result<(), Fail> {
-    expect_neighbours(rt.alloc(), SECONDS, &[CASES], LEFT_OUT)
+    expect_neighbours(rt.alloc(), SECONDS, &pairs(rt.alloc())?, LEFT_OUT)
 }

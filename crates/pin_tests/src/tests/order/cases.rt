@@ -10,7 +10,7 @@ use precede::Row::{
 };
 use scripts::Step::{GetTokenInfo, InitPin, InitToken, Login, Logout, OpenSession, SetPin};
 use scripts::given::*;
-use scripts::{LeftOut, Pair, Row, Step, Told};
+use scripts::{LeftOut, Row, Step, Told};
 
 /// What the token starts from: a new store, one with both PINs, and one with both PINs locked.
 #[derive(Clone, Copy)]
@@ -30,12 +30,6 @@ pub(super) struct Case {
     pub(super) alone: Step,
     pub(super) between: &'static [Row],
     pub(super) both: Step,
-}
-
-impl scripts::Case for Case {
-    fn pair(&self) -> Pair {
-        (self.first, self.second, self.both)
-    }
 }
 
 /// The sessions: one that may write, one that may not, and none.
