@@ -8,11 +8,10 @@ use lib.ListN.{get_elem?}
 use Rattle.crossbeam_channel.specs.Fifo.{Pushes, Pops, Forks, Merges, Learns}
 use Rattle.atomic_table.proofs.Lists.{at_set, at_snoc}
 use Rattle.channels.specs.Lists.{of}
-use Rattle.channels.specs.Inward.{from, said, happened, all_happened, after_put, after_take, one_more, next_sending, sent_of, seats_of, taken_of, ended_of, IsTaking, with_ended, Fits, InwardRule, SentInAll}
+use Rattle.channels.specs.Inward.{from, said, each_of, happened, all_happened, after_put, after_take, one_more, next_sending, sent_of, seats_of, taken_of, ended_of, IsTaking, with_ended, Fits, InwardRule, SentInAll}
 use Rattle.channels.proofs.Rows.{Each, each_set, each_more, of-append, of-one, of-other, get_more, no_index}
 use Rattle.channels.specs.declared.messages.Event.{Event}
 use Rattle.channels.specs.declared.messages.Inward.{Inward}
-use Rattle.channels.specs.declared.messages.Inward.TheVariants.{Put, End}
 use Rattle.channels.specs.declared.inward.InwardView.{InwardView}
 use Rattle.channels.specs.declared.inward.InwardView.TheVariants.{Taking, Sending, Spent}
 
@@ -20,14 +19,21 @@ pub all_happened-append : (xs : List Inward) (x : Inward) → all_happened (xs +
 all_happened-append [] x = append-nil (happened x)
 all_happened-append (y ∷ ys) x = ap (λ l. happened y ++ l) (all_happened-append ys x) ∙ sym (append_assoc (happened y) (all_happened ys) (happened x))
 
+-- events of one seat are that seat's, and none is another's
+of-own : (s : ℕ) (es : List Event) → of s (each_of s es) ≡ es
+of-own s [] = refl
+of-own s (e ∷ es) = of-append s ((s, e) ∷ []) (each_of s es) ∙ ap (λ l. l ++ of s (each_of s es)) (of-one s s e refl) ∙ ap (λ l. e ∷ l) (of-own s es)
+
+of-another : (t s : ℕ) (es : List Event) → s ≢ t → of t (each_of s es) ≡ []
+of-another t s [] n = refl
+of-another t s (e ∷ es) n = of-append t ((s, e) ∷ []) (each_of s es) ∙ ap (λ l. l ++ of t (each_of s es)) (of-other t s e n) ∙ of-another t s es n
+
 -- what a message adds to its seat's events, and to another's
 grows : (x : Inward) (put : List (ℕ × Event)) → of (from x) (put ++ happened x) ≡ of (from x) put ++ said x
-grows (Put s e) put = of-append s put ((s, e) ∷ []) ∙ ap (λ l. of s put ++ l) (of-one s s e refl)
-grows (End s) put = of-append s put []
+grows x put = of-append (from x) put (happened x) ∙ ap (λ l. of (from x) put ++ l) (of-own (from x) (said x))
 
 still : (x : Inward) (put : List (ℕ × Event)) (t : ℕ) → from x ≢ t → of t (put ++ happened x) ≡ of t put
-still (Put s e) put t n = of-append t put ((s, e) ∷ []) ∙ ap (λ l. of t put ++ l) (of-other t s e n) ∙ append-nil (of t put)
-still (End s) put t n = of-append t put [] ∙ append-nil (of t put)
+still x put t n = of-append t put (happened x) ∙ ap (λ l. of t put ++ l) (of-another t (from x) (said x) n) ∙ append-nil (of t put)
 
 apart : (holder : ℕ → Option ℕ) (s t p q : ℕ) → holder s ≡ Some p → holder t ≡ Some q → q ≢ p → s ≢ t
 apart holder s t p q a b n e = n (let x : Some q ≡ Some p = sym b ∙ ap holder (sym e) ∙ a in cc)

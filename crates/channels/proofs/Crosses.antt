@@ -1,6 +1,6 @@
 -- Messages may go to another thread: they own all that they have.
 use Rattle.std.proofs.Common.{rules}
-use Rattle.std.proofs.Crossing.{crosses}
+use Rattle.std.proofs.Crossing.{crosses, Box-send}
 use denote.Param.Send.{IsSend, sendable, view_send, recorded_send, struct_send, enum_send}
 use denote.Param.SendFields.{declared_send, variants_send, as_row_send, VariantsHave}
 use Rattle.ck_calls.specs.contracts.fields.Mechanism as Mechanism
@@ -38,6 +38,7 @@ use Rattle.ck_calls.specs.contracts.call.Call as Call
 use Rattle.ck_calls.specs.contracts.reply.Reply as Reply
 use Rattle.token_store.specs.contracts.out.Out as Out
 use Rattle.channels.specs.contracts.messages.Event as Event
+use Rattle.channels.specs.contracts.messages.Letter as Letter
 use Rattle.channels.specs.contracts.messages.Inward as Inward
 use Rattle.channels.specs.contracts.messages.Outward as Outward
 use Rattle.noted.specs.contracts.Noted as Noted
@@ -273,8 +274,11 @@ appcall_send = declared_send AppCall.the_type (search sendable depth 20, (call_s
 event_send : IsSend Event.the_row
 event_send = variants_send Event.enum ((appcall_send, tt), ((search sendable depth 20, (done_send, tt)), ((search sendable depth 20, tt), tt)))
 
+letter_send : IsSend Letter.the_row
+letter_send = variants_send Letter.enum ((event_send, tt), ((out_send, tt), (tt, tt)))
+
 pub inward_send : IsSend Inward.the_row
-inward_send = variants_send Inward.enum ((search sendable depth 20, (event_send, tt)), ((search sendable depth 20, tt), tt))
+inward_send = variants_send Inward.enum ((search sendable depth 20, (Box-send Letter.the_row letter_send, tt)), ((search sendable depth 20, tt), tt))
 
 pub outward_send : IsSend Outward.the_row
-outward_send = variants_send Outward.enum (tt, (tt, ((out_send, tt), tt)))
+outward_send = variants_send Outward.enum ((Box-send Letter.the_row letter_send, tt), (tt, tt))

@@ -8,7 +8,6 @@ use Rattle.channels.specs.Outward.{answer_in, answers_in, after_give, after_get,
 use Rattle.channels.proofs.Rows.{Each, each_set, each_more, no_index}
 use Rattle.token_store.specs.declared.out.Out.{Out}
 use Rattle.channels.specs.declared.messages.Outward.{Outward}
-use Rattle.channels.specs.declared.messages.Outward.TheVariants.{Go, Stop, Answer}
 use Rattle.channels.specs.declared.outward.OutwardView.{OutwardView}
 use Rattle.channels.specs.declared.outward.OutwardView.TheVariants.{Both, Giving, Getting, Spent}
 

@@ -3,6 +3,7 @@ use Rattle.std.specs.Prelude.{◌≡◌, ℕ, ◌+◌, ◌≤◌, List, [], ◌�
 use mathlib.Core.Option.{some}
 use lib.ListN.{get_elem?}
 use Rattle.channels.specs.Lists.{of}
+use Rattle.channels.specs.Letters.{event_of}
 use Rattle.channels.specs.declared.messages.Event.{Event}
 use Rattle.channels.specs.declared.messages.Inward.{Inward}
 use Rattle.channels.specs.declared.messages.Inward.TheVariants.{Put, End}
@@ -11,18 +12,22 @@ use Rattle.channels.specs.declared.inward.InwardView.TheVariants.{Taking, Sendin
 
 -- the seat that a message is from
 abbrev pub from : Inward → ℕ
-from (Put s e) = s
+from (Put s l) = s
 from (End s) = s
 
 -- the event of a message, if it has one
 abbrev pub said : Inward → List Event
-said (Put s e) = e ∷ []
+said (Put s l) = event_of l.value
 said (End s) = []
 
--- the same with the seat's number
+-- events of one seat, each with its number
+abbrev pub each_of : ℕ → List Event → List (ℕ × Event)
+each_of s [] = []
+each_of s (e ∷ es) = (s, e) ∷ each_of s es
+
+-- the event of a message with its seat's number
 abbrev pub happened : Inward → List (ℕ × Event)
-happened (Put s e) = (s, e) ∷ []
-happened (End s) = []
+happened x = each_of (from x) (said x)
 
 abbrev pub all_happened : List Inward → List (ℕ × Event)
 all_happened [] = []

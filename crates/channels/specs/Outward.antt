@@ -3,16 +3,16 @@ use Rattle.std.specs.Prelude.{◌≡◌, ℕ, List, [], ◌∷◌, ◌++◌}
 use mathlib.Core.Option.{some}
 use lib.ListN.{get_elem?}
 use Rattle.token_store.specs.declared.out.Out.{Out}
+use Rattle.channels.specs.Letters.{answer_of}
 use Rattle.channels.specs.declared.messages.Outward.{Outward}
-use Rattle.channels.specs.declared.messages.Outward.TheVariants.{Go, Stop, Answer}
+use Rattle.channels.specs.declared.messages.Outward.TheVariants.{Letter, Stop}
 use Rattle.channels.specs.declared.outward.OutwardView.{OutwardView}
 use Rattle.channels.specs.declared.outward.OutwardView.TheVariants.{Both, Giving, Getting, Spent}
 
 -- the answer of a message, if it has one
 abbrev pub answer_in : Outward → List Out
-answer_in Go = []
+answer_in (Letter l) = answer_of l.value
 answer_in Stop = []
-answer_in (Answer o) = o ∷ []
 
 abbrev pub answers_in : List Outward → List Out
 answers_in [] = []

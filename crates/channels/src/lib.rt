@@ -6,7 +6,8 @@
 //! a value with no bytes, by which contracts know what it has put or taken. No rule speaks of two channels, nor of what an
 //! event does.
 //!
-//! - `messages` are what passes; `inward` and `outward` are the two rules.
+//! - `messages` are what passes; `inward` and `outward` are the two rules. An event and its answer go in a letter, one for each
+//!   seat, which is made once.
 //! - `Inbox` is the token's end of the inward channel, `Outbox` its end of one outward channel, and `Port` a seat's two ends.
 //!
 //! Where a call answers that a channel has ended, nothing was put or taken. No clause says that a message comes, or that a
@@ -16,8 +17,10 @@
 //! let mut inbox = Inbox::open(alloc)?;
 //! let (mut outbox, outward, outward_pass) = Outbox::open(alloc)?;
 //! let (inward, inward_pass) = inbox.add_seat()?;
-//! let mut port = Port { seat: 0, inward, inward_pass, outward, outward_pass };
-//! port.put(&rt, Inward::End { seat: 0 });
+//! let mut port = Port { seat: 0, letter: None, inward, inward_pass, outward, outward_pass };
+//! outbox.begin(&rt);
+//! port.get_empty(&rt);
+//! port.put(&rt, Event::Gone { app: 0 });
 //! inbox.take(&rt);
 //! ```
 #![tactic(auto)]

@@ -27,11 +27,23 @@ pub enum Event {
     Gone { app: u64 },
 }
 
+/// Room for an event or for its answer. Each seat has one letter, which goes to the token with the event and comes back with the
+/// answer. So a channel passes a pointer, and none of them takes memory for a message.
+#[derive(Drop)]
+pub enum Letter {
+    /// An event of a seat.
+    Event(Event),
+    /// What the token answers to it.
+    Answer(Out),
+    /// Nothing.
+    Empty,
+}
+
 /// A message to the token.
 #[derive(Drop)]
 pub enum Inward {
-    /// An event of a seat.
-    Put { seat: u64, event: Event },
+    /// The letter of a seat, with an event.
+    Put { seat: u64, letter: Box<Letter> },
     /// The mark that the seat puts no more.
     End { seat: u64 },
 }
@@ -39,10 +51,9 @@ pub enum Inward {
 /// A message to a seat.
 #[derive(Drop)]
 pub enum Outward {
-    /// It may begin.
-    Go,
+    /// Its letter: with what the token answers to its last event, or with nothing, where it may begin, and after an event that
+    /// isn't answered.
+    Letter(Box<Letter>),
     /// It is to stop before it begins.
     Stop,
-    /// What the token answers to its last event.
-    Answer(Out),
 }

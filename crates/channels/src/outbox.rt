@@ -7,15 +7,18 @@ ghost use Rattle.channels.specs.Outward.{answer_in, answers_in, given_of, got_of
 ghost use Rattle.channels.specs.declared.messages.Outward.{Outward};
 ghost use Rattle.channels.specs.declared.outward.OutwardView.TheVariants.{Giving, Getting};
 
-use crate::messages::Outward;
+use crate::messages::{Letter, Outward};
 use crate::outward::{Gives, OutwardRule, OutwardView, Sides, Total};
 use crossbeam_channel::{Pass, RuledReceiver, RuledSender, bounded_with};
 use std::alloc::{AllocError, Global};
 use std::sync::Wait;
+use token_store::Out;
 
-/// The token's end of one seat's channel, on which it gives answers. Its pass knows what was given.
+/// The token's end of one seat's channel, on which it gives answers. Its pass knows what was given. It has the seat's letter
+/// until the seat has the leave to begin.
 #[derive(Drop)]
 pub struct Outbox {
+    pub letter: Option<Box<Letter>>,
     pub outward: RuledSender<Outward, OutwardView, OutwardRule>,
     pub outward_pass: Pass<Outward, OutwardView>,
     pub ghost outward_pass_is: { IsSeatAt (sends_on outward) outward_pass },
@@ -23,8 +26,8 @@ pub struct Outbox {
 }
 
 impl Outbox {
-    /// Both ends of a new channel of capacity 1, on which nothing was given or got: the token's, and the receiver and the pass of
-    /// the seat. It allocates.
+    /// Both ends of a new channel of capacity 1, on which nothing was given or got: the token's with the seat's letter, and the
+    /// receiver and the pass of the seat. It allocates.
     pub fn open(
         alloc: Global,
     ) -> Result<
@@ -38,6 +41,9 @@ impl Outbox {
         ensures ends { IfOk result (λ r. (receives_on r.1 ≡ sends_on r.0.outward) × IsSeatAt (receives_on r.1) r.2) }
         ensures views { IfOk result (λ r. (given_of (view r.0.outward_pass) ≡ []) × (view r.2 ≡ Getting [])) }
     {
+        let Ok(letter) = Box::new(alloc, Letter::Empty) else {
+            return Err(AllocError);
+        };
         let (outward, other, mut outward_pass) = bounded_with::<
             Outward,
             OutwardView,
@@ -47,12 +53,45 @@ impl Outbox {
         let theirs = outward.another::<Sides>(&mut outward_pass);
         Ok((
             Outbox {
+                letter: Some(letter),
                 outward,
                 outward_pass,
             },
             other,
             theirs,
         ))
+    }
+
+    /// Gives the seat the leave to begin, which is its letter with nothing in it. False where it was given before, or the channel
+    /// has ended.
+    pub fn begin<R: Wait>(&mut self, rt: &R) -> bool
+        ensures same { sends_on self.new.outward ≡ sends_on self.old.outward }
+        ensures none { given_of (view self.new.outward_pass) ≡ given_of (view self.old.outward_pass) }
+    {
+        match self.letter.take() {
+            Some(letter) => self.give_back(rt, letter),
+            None => false,
+        }
+    }
+
+    /// Gives the seat its letter with an answer in it, and waits until there is room for it. False where the channel has ended, and
+    /// then nothing was given.
+    pub fn answer<R: Wait>(&mut self, rt: &R, mut letter: Box<Letter>, out: Out) -> bool
+        ensures same { sends_on self.new.outward ≡ sends_on self.old.outward }
+        ensures given { IsTrue result → given_of (view self.new.outward_pass) ≡ given_of (view self.old.outward_pass) ++ out ∷ [] }
+        ensures refused { IsFalse result → view self.new.outward_pass ≡ view self.old.outward_pass }
+    {
+        *letter = Letter::Answer(out);
+        self.give(rt, Outward::Letter(letter))
+    }
+
+    /// Gives the seat its letter with nothing in it, and waits until there is room for it. False where the channel has ended.
+    pub fn give_back<R: Wait>(&mut self, rt: &R, mut letter: Box<Letter>) -> bool
+        ensures same { sends_on self.new.outward ≡ sends_on self.old.outward }
+        ensures none { given_of (view self.new.outward_pass) ≡ given_of (view self.old.outward_pass) }
+    {
+        *letter = Letter::Empty;
+        self.give(rt, Outward::Letter(letter))
     }
 
     /// Gives a message to the seat, and waits until there is room for it. False where the channel has ended, and then nothing

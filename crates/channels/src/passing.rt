@@ -3,6 +3,7 @@
 ghost use Rattle.std.specs.Prelude.{◌≡◌, ◌++◌, [], ◌∷◌, IsTrue, IsFalse, IfNone, IfSome};
 ghost use Rattle.crossbeam_channel.specs.Claims.{view, IsSeatAt};
 ghost use Rattle.crossbeam_channel.specs.Ends.{sends_on, receives_on};
+ghost use Rattle.channels.specs.Letters.{answer_of};
 ghost use Rattle.channels.specs.Inward.{from, said, sent_of};
 ghost use Rattle.channels.specs.Outward.{answer_in, got_of};
 ghost use Rattle.channels.specs.declared.inward.InwardView.TheVariants.{Sending};
@@ -10,14 +11,14 @@ ghost use Rattle.channels.specs.declared.outward.OutwardView.TheVariants.{Gettin
 ghost use Rattle.channels.specs.Same.{SamePort};
 
 use crate::inward::Puts;
-use crate::messages::{Inward, Outward};
+use crate::messages::{Event, Inward, Letter, Outward};
 use crate::outward::Gets;
 use crate::port::{Ends, Port, SeatEnds};
 use std::sync::Wait;
-use std::thread;
+use std::{mem, thread};
 
 impl Port {
-    /// A seat's ends, as they came to its thread. Both passes are of the channels of their ends, and the inward one is of the
+    /// A seat's ends, as they came to its thread, without its letter. Both passes are of the channels of their ends, and the inward one is of the
     /// seat's number.
     pub fn enter(ends: SeatEnds) -> Port
         requires inward_pass { IsSeatAt (sends_on ends.inward) ends.inward_pass }
@@ -35,6 +36,7 @@ impl Port {
         } = ends;
         Port {
             seat,
+            letter: None,
             inward,
             inward_pass,
             outward,
@@ -52,11 +54,13 @@ impl Port {
     {
         let Port {
             seat,
+            letter,
             inward,
             inward_pass,
             outward,
             outward_pass,
         } = self;
+        drop(letter);
         Ends {
             seat,
             inward,
@@ -66,9 +70,36 @@ impl Port {
         }
     }
 
+    /// Puts an event of this seat in its letter, and waits until there is room for it. False where the letter isn't here, or the
+    /// channel has ended, and then nothing was put.
+    pub fn put<R: Wait>(&mut self, rt: &R, event: Event) -> bool
+        ensures same { SamePort self.old self.new }
+        ensures sent { IsTrue result → sent_of (view self.new.inward_pass) ≡ sent_of (view self.old.inward_pass) ++ event ∷ [] }
+        ensures refused { IsFalse result → view self.new.inward_pass ≡ view self.old.inward_pass }
+        ensures got { got_of (view self.new.outward_pass) ≡ got_of (view self.old.outward_pass) }
+    {
+        let Some(mut letter) = self.letter.take() else {
+            drop(event);
+            return false;
+        };
+        *letter = Letter::Event(event);
+        let seat = self.seat;
+        self.send(rt, Inward::Put { seat, letter })
+    }
+
+    /// Puts the mark that this seat puts no more, and waits until there is room for it. False where the channel has ended.
+    pub fn end<R: Wait>(&mut self, rt: &R) -> bool
+        ensures same { SamePort self.old self.new }
+        ensures sent { sent_of (view self.new.inward_pass) ≡ sent_of (view self.old.inward_pass) }
+        ensures got { got_of (view self.new.outward_pass) ≡ got_of (view self.old.outward_pass) }
+    {
+        let seat = self.seat;
+        self.send(rt, Inward::End { seat })
+    }
+
     /// Puts a message of this seat, and waits until there is room for it. False where the channel has ended, and then nothing
     /// was put.
-    pub fn put<R: Wait>(&mut self, rt: &R, message: Inward) -> bool
+    fn send<R: Wait>(&mut self, rt: &R, message: Inward) -> bool
         requires { from message ≡ self.old.seat }
         ensures same { SamePort self.old self.new }
         ensures sent { IsTrue result → sent_of (view self.new.inward_pass) ≡ sent_of (view self.old.inward_pass) ++ said message }
@@ -81,9 +112,49 @@ impl Port {
             .is_some()
     }
 
+    /// Gets the letter back, and takes out what it has. It waits for it, first in turns and then asleep. None where the seat is to
+    /// stop, or the channel has ended, and then no answer was got.
+    pub fn get<R: Wait>(&mut self, rt: &R) -> Option<Letter>
+        ensures same { SamePort self.old self.new }
+        ensures sent { sent_of (view self.new.inward_pass) ≡ sent_of (view self.old.inward_pass) }
+        ensures none { IfNone result (got_of (view self.new.outward_pass) ≡ got_of (view self.old.outward_pass)) }
+        ensures got { IfSome result (λ l. got_of (view self.new.outward_pass) ≡ got_of (view self.old.outward_pass) ++ answer_of l) }
+    {
+        match self.receive(rt) {
+            None | Some(Outward::Stop) => None,
+            Some(Outward::Letter(mut letter)) => {
+                let held = mem::replace(&mut *letter, Letter::Empty);
+                self.letter = Some(letter);
+                Some(held)
+            }
+        }
+    }
+
+    /// Gets the letter back with nothing in it. False where it has an answer, the seat is to stop, or the channel has ended.
+    pub fn get_empty<R: Wait>(&mut self, rt: &R) -> bool
+        ensures same { SamePort self.old self.new }
+        ensures sent { sent_of (view self.new.inward_pass) ≡ sent_of (view self.old.inward_pass) }
+        ensures got { IsTrue result → got_of (view self.new.outward_pass) ≡ got_of (view self.old.outward_pass) }
+    {
+        let Some(held) = self.get(rt) else {
+            return false;
+        };
+        match held {
+            Letter::Empty => true,
+            Letter::Event(event) => {
+                drop(event);
+                false
+            }
+            Letter::Answer(out) => {
+                drop(out);
+                false
+            }
+        }
+    }
+
     /// Gets the next message for this seat, and waits for it, first in turns and then asleep. None where the channel has ended,
     /// and then nothing was got.
-    pub fn get<R: Wait>(&mut self, rt: &R) -> Option<Outward>
+    fn receive<R: Wait>(&mut self, rt: &R) -> Option<Outward>
         ensures same { SamePort self.old self.new }
         ensures sent { sent_of (view self.new.inward_pass) ≡ sent_of (view self.old.inward_pass) }
         ensures none { IfNone result (view self.new.outward_pass ≡ view self.old.outward_pass) }

@@ -9,14 +9,16 @@ ghost use Rattle.channels.specs.declared.inward.InwardView.TheVariants.{Sending}
 ghost use Rattle.channels.specs.declared.outward.OutwardView.TheVariants.{Getting};
 
 use crate::inward::{InwardRule, InwardView};
-use crate::messages::{Inward, Outward};
+use crate::messages::{Inward, Letter, Outward};
 use crate::outward::{OutwardRule, OutwardView};
 use crossbeam_channel::{Pass, RuledReceiver, RuledSender};
 
-/// The ends of one seat: it puts events before the token, and gets answers. Its passes know what it put and what it got.
+/// The ends of one seat: it puts events before the token, and gets answers. Its passes know what it put and what it got. It has
+/// its letter from the leave to begin on, but while that is with the token.
 #[derive(Drop)]
 pub struct Port {
     pub seat: u64,
+    pub letter: Option<Box<Letter>>,
     pub inward: RuledSender<Inward, InwardView, InwardRule>,
     pub inward_pass: Pass<Inward, InwardView>,
     pub outward: RuledReceiver<Outward, OutwardView, OutwardRule>,

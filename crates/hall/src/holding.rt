@@ -20,7 +20,6 @@ use crate::seats::{Gate, Seat};
 use crate::serving::serve_seats;
 use crate::starting::{Started, start_all};
 use channels::inbox::Inbox;
-use channels::messages::Outward;
 use channels::outbox::Outbox;
 use keep::Keep;
 use std::alloc::Global;
@@ -72,10 +71,10 @@ fn serve_all<M: Machine, S: Seat + Drop + Send + 'static, R: Threads + Wait>(
         × Counts (M.doubt machine) (M.doubt result.token) (M.failures machine) (M.failures result.token) (replies_in (told_in history))
         × (M.doubt result.token ≡ 0 → (w : World) → M.shows machine w → HasJobs w [] → IsHistory (M.shows result.token) (M.leaves machine) (M.leaves result.token) w history) }
 {
-    outbox0.give(rt, Outward::Go);
-    outbox1.give(rt, Outward::Go);
-    outbox2.give(rt, Outward::Go);
-    outbox3.give(rt, Outward::Go);
+    outbox0.begin(rt);
+    outbox1.begin(rt);
+    outbox2.begin(rt);
+    outbox3.begin(rt);
     let mut outboxes = [outbox0, outbox1, outbox2, outbox3];
     if serve_seats(rt, alloc, &mut machine, &mut inbox, &mut outboxes) {
         let (outbox0, outbox1, outbox2, outbox3) = apart(outboxes);

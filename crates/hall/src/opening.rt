@@ -38,6 +38,7 @@ fn open_seat(alloc: Global, inbox: &mut Inbox, seat: u64) -> Result<(Outbox, Por
     let (inward, inward_pass) = inbox.add_seat()?;
     let port = Port {
         seat,
+        letter: None,
         inward,
         inward_pass,
         outward,

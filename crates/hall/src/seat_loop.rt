@@ -7,7 +7,7 @@ ghost use Rattle.token_store.specs.declared.out.Out.TheVariants.{Reply as OutRep
 ghost use Rattle.channels.specs.Inward.{sent_of};
 ghost use Rattle.channels.specs.Outward.{got_of};
 ghost use Rattle.channels.specs.Same.{SamePort};
-ghost use Rattle.channels.specs.declared.messages.Event.TheVariants.{Finish};
+ghost use Rattle.channels.specs.declared.messages.Event.TheVariants.{Finish, Gone};
 ghost use Rattle.hall.specs.SeatEvents.{heard_in, IsReady, IsTurn};
 ghost use Rattle.hall.specs.Exchanges.{Exchange};
 ghost use Rattle.hall.specs.SeatDoings.{Did, PortDid};
@@ -15,32 +15,35 @@ ghost use Rattle.hall.specs.Tells.{Grows};
 ghost use Rattle.hall.specs.declared.seats.SeatEvent.TheVariants.{Call as SeatCall};
 
 use crate::seats::{Gate, Seat, SeatEvent};
-use channels::messages::{AppCall, Event, Inward, Outward};
+use channels::messages::{AppCall, Event, Letter};
 use channels::port::Port;
 use ck_calls::Reply;
 use std::alloc::Global;
 use std::sync::Wait;
 use token::{Job, Out};
 
-/// Puts an event of this seat. False where the channel has ended.
-fn tell<R: Wait>(rt: &R, port: &mut Port, event: Event) -> bool
+/// Tells that an application goes, which isn't answered. False where a channel has ended.
+fn tell_gone<R: Wait>(rt: &R, port: &mut Port, app: u64) -> bool
     ensures same { SamePort port.old port.new }
-    ensures sent { IsTrue result → sent_of (view port.new.inward_pass) ≡ sent_of (view port.old.inward_pass) ++ event ∷ [] }
-    ensures got { got_of (view port.new.outward_pass) ≡ got_of (view port.old.outward_pass) }
+    ensures sent { IsTrue result → sent_of (view port.new.inward_pass) ≡ sent_of (view port.old.inward_pass) ++ Gone app ∷ [] }
+    ensures got { IsTrue result → got_of (view port.new.outward_pass) ≡ got_of (view port.old.outward_pass) }
 {
-    let seat = port.seat;
-    port.put(rt, Inward::Put { seat, event })
+    port.put(rt, Event::Gone { app }) && port.get_empty(rt)
 }
 
-/// An answer of the token. None where another message came, or the channel has ended.
+/// An answer of the token. None where the letter has none, or the channel has ended.
 fn answer<R: Wait>(rt: &R, port: &mut Port) -> Option<Out>
     ensures same { SamePort port.old port.new }
     ensures sent { sent_of (view port.new.inward_pass) ≡ sent_of (view port.old.inward_pass) }
     ensures got { IfSome result (λ o. got_of (view port.new.outward_pass) ≡ got_of (view port.old.outward_pass) ++ o ∷ []) }
 {
     match port.get(rt)? {
-        Outward::Answer(out) => Some(out),
-        Outward::Go | Outward::Stop => None,
+        Letter::Answer(out) => Some(out),
+        Letter::Event(event) => {
+            drop(event);
+            None
+        }
+        Letter::Empty => None,
     }
 }
 
@@ -58,7 +61,7 @@ fn work<G: Gate, R: Wait>(
 {
     gate.pass(port.seat as usize, app);
     let done = job.run(alloc);
-    if !tell(rt, port, Event::Finish { app, done }) {
+    if !port.put(rt, Event::Finish { app, done }) {
         return None;
     }
     match answer(rt, port)? {
@@ -82,7 +85,7 @@ fn ask<G: Gate, R: Wait>(
     ensures exchanges { IfSome result (λ r. (more : List Exchange) × IsTurn (SeatCall call) more × Did port.old more port.new × (heard_in more ≡ (call.app, r) ∷ [])) }
 {
     let app = call.app;
-    if !tell(rt, port, Event::Call(call)) {
+    if !port.put(rt, Event::Call(call)) {
         return None;
     }
     match answer(rt, port)? {
@@ -107,7 +110,7 @@ fn turn<S: Seat, G: Gate, R: Wait>(
     ensures exchanges { IsTrue result → (more : List Exchange) × IsTurn event more × Did port.old more port.new × (S.asked seat.new ≡ S.asked seat.old) × Grows (S.heard seat.old) (heard_in more) (S.heard seat.new) }
 {
     match event {
-        SeatEvent::Gone { app } => tell(rt, port, Event::Gone { app }),
+        SeatEvent::Gone { app } => tell_gone(rt, port, app),
         SeatEvent::Call(call) => {
             let app = call.app;
             let Some(reply) = ask(rt, alloc, port, gate, call) else {
@@ -134,8 +137,7 @@ pub(crate) fn run_seat<S: Seat, G: Gate, R: Wait>(
 {
     for _ in rt.forever() {
         let Some(event) = seat.next() else {
-            let number = port.seat;
-            return port.put(rt, Inward::End { seat: number });
+            return port.end(rt);
         };
         if !turn(rt, alloc, seat, port, gate, event) {
             return false;

@@ -98,10 +98,7 @@ fn begin<S: Seat, G: Gate, R: Wait>(
     ensures over { result.whole ≡ true → S.over result.seat }
 {
     let mut port = Port::enter(ends);
-    let whole = match port.get(rt) {
-        Some(Outward::Go) => run_seat(rt, alloc, &mut seat, &mut port, gate),
-        _ => false,
-    };
+    let whole = port.get_empty(rt) && run_seat(rt, alloc, &mut seat, &mut port, gate);
     Ended {
         seat,
         ends: port.leave(),

@@ -1,10 +1,11 @@
 //! The token's loop, in the calling thread.
 
-ghost use Rattle.std.specs.Prelude.{◌≡◌, ◌++◌, [], ◌∷◌, Option, List, ℕ, IsTrue};
+ghost use Rattle.std.specs.Prelude.{◌≡◌, ◌++◌, [], ◌∷◌, Option, List, ℕ, IsTrue, IfSome};
 ghost use Rattle.crossbeam_channel.specs.Claims.{view};
 ghost use Rattle.crossbeam_channel.specs.Ends.{sends_on};
 ghost use Rattle.token_model.specs.Worlds.{World};
 ghost use Rattle.token_store.specs.declared.out.Out.{Out as OutType};
+ghost use Rattle.channels.specs.Letters.{event_of};
 ghost use Rattle.channels.specs.Inward.{seats_of, taken_of, ended_of};
 ghost use Rattle.channels.specs.Outward.{given_of};
 ghost use Rattle.hall.specs.Exchanges.{Suits, app_of, listed};
@@ -13,18 +14,34 @@ ghost use Rattle.hall.specs.Outboxes.{OutboxesGave, SameOutboxes};
 
 use crate::machine::Machine;
 use channels::inbox::Inbox;
-use channels::messages::{Event, Inward, Outward};
+use channels::messages::{Event, Inward, Letter};
 use channels::outbox::Outbox;
 use std::alloc::Global;
+use std::mem;
 use std::sync::Wait;
 use token::Out;
 
-/// Takes an event, and gives its answer. False where the channel has ended.
+/// The event of a letter, which is taken out.
+fn taken_out(letter: &mut Letter) -> Option<Event>
+    ensures { IfSome result (λ e. event_of letter.old ≡ e ∷ []) }
+{
+    match mem::replace(letter, Letter::Empty) {
+        Letter::Event(event) => Some(event),
+        Letter::Answer(out) => {
+            drop(out);
+            None
+        }
+        Letter::Empty => None,
+    }
+}
+
+/// Takes an event, and gives its answer, in the seat's letter. False where the channel has ended.
 fn serve<M: Machine, R: Wait>(
     rt: &R,
     alloc: Global,
     machine: &mut M,
     outbox: &mut Outbox,
+    letter: Box<Letter>,
     event: Event,
 ) -> bool
     ensures same { sends_on outbox.new.outward ≡ sends_on outbox.old.outward }
@@ -35,15 +52,15 @@ fn serve<M: Machine, R: Wait>(
     match event {
         Event::Call(call) => {
             let out = machine.call(alloc, call);
-            outbox.give(rt, Outward::Answer(out))
+            outbox.answer(rt, letter, out)
         }
         Event::Finish { app, done } => {
             let reply = machine.finish(alloc, app, done);
-            outbox.give(rt, Outward::Answer(Out::Reply(reply)))
+            outbox.answer(rt, letter, Out::Reply(reply))
         }
         Event::Gone { app } => {
             machine.gone(app);
-            true
+            outbox.give_back(rt, letter)
         }
     }
 }
@@ -70,14 +87,18 @@ pub(crate) fn serve_seats<M: Machine, R: Wait>(
         match inbox.take(rt) {
             None => return false,
             Some(Inward::End { .. }) => ended += 1,
-            Some(Inward::Put { seat, event }) => {
+            Some(Inward::Put { seat, mut letter }) => {
                 let at = seat as usize;
                 if at >= outboxes.len() {
-                    drop(event);
+                    drop(letter);
                     return false;
                 }
+                let Some(event) = taken_out(&mut letter) else {
+                    drop(letter);
+                    return false;
+                };
                 let outbox = &mut outboxes[at];
-                if !serve(rt, alloc, machine, outbox, event) {
+                if !serve(rt, alloc, machine, outbox, letter, event) {
                     return false;
                 }
             }

@@ -10,7 +10,7 @@ returns-in-Gone-clause-exchanges g c = λ t.
     let more : List Exchange = (Gone c.in-Gone.app, None) ∷ [] in (
       more,
       subst (λ (a : SeatEvent). IsTurn a more) (sym c.in-Gone.is) refl,
-      (c.tell.ensures.sent t, c.tell.ensures.got ∙ sym (append-nil _)),
+      (c.tell_gone.ensures.sent t, c.tell_gone.ensures.got t ∙ sym (append-nil _)),
       refl,
       λ xs e. e ∙ ap Some (sym (append-nil xs)),
     )
