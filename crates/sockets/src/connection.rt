@@ -9,17 +9,12 @@ use line::{Words, reply_to_fault};
 use std::alloc::Global;
 use std::io::{ErrorKind, Read, Write};
 use std::os::unix::net::UnixStream;
-use std::{io, thread};
 use wire::{FrameReader, read_call, write_reply};
 
 /// How many bytes are read at once.
 const READ_LEN: usize = 4096;
 
-/// How many turns a read leaves to other threads before it sleeps.
-const TURNS: u32 = 40;
-
-/// A connection, the bytes that were read of it and not answered, and its application's random bytes. The stream blocks only while
-/// it is waited for asleep.
+/// A connection, the bytes that were read of it and not answered, and its application's random bytes.
 #[derive(Drop)]
 pub(crate) struct Connection {
     stream: UnixStream,
@@ -40,12 +35,11 @@ pub(crate) enum Asked {
 
 impl Connection {
     pub(crate) fn new(alloc: Global, stream: UnixStream, seed: [u8; 32], app: u64) -> Connection {
-        let has_ended = stream.set_nonblocking(true).is_err();
         Connection {
             stream,
             frames: FrameReader::new(alloc),
             words: Words::for_app(seed, app),
-            has_ended,
+            has_ended: false,
         }
     }
 
@@ -80,10 +74,10 @@ impl Connection {
         None
     }
 
-    /// Reads what has come, and waits for it. False at the end, and where that fails.
+    /// Reads what has come. False at the end, and where that fails.
     fn read_piece(&mut self) -> bool {
         let mut piece = [0u8; READ_LEN];
-        match self.read(&mut piece) {
+        match self.stream.read(&mut piece) {
             Ok(0) => false,
             Ok(len) => match piece.get(..len) {
                 Some(read) => self.frames.feed(read).is_ok(),
@@ -91,20 +85,6 @@ impl Connection {
             },
             Err(error) => error.kind() == ErrorKind::Interrupted,
         }
-    }
-
-    /// Reads what has come, and waits for it, first in turns and then asleep.
-    fn read(&mut self, piece: &mut [u8]) -> io::Result<usize> {
-        for _ in 0..TURNS {
-            match self.stream.read(piece) {
-                Err(error) if error.kind() == ErrorKind::WouldBlock => thread::yield_now(),
-                read => return read,
-            }
-        }
-        self.stream.set_nonblocking(false)?;
-        let read = self.stream.read(piece);
-        self.stream.set_nonblocking(true)?;
-        read
     }
 
     /// What a payload comes to. One that is no call is answered here.
@@ -132,26 +112,8 @@ impl Connection {
 
     fn send(&mut self, alloc: Global, reply: &Reply) -> bool {
         match write_reply(alloc, reply) {
-            Ok(frame) => self.write(&frame).is_ok(),
+            Ok(frame) => self.stream.write_all(&frame).is_ok(),
             Err(_) => false,
         }
-    }
-
-    /// Writes all bytes, and waits asleep where there is no room for them.
-    fn write(&mut self, bytes: &[u8]) -> io::Result<()> {
-        let written = match self.stream.write(bytes) {
-            Ok(written) => written,
-            Err(error) if error.kind() == ErrorKind::WouldBlock => 0,
-            Err(error) if error.kind() == ErrorKind::Interrupted => 0,
-            Err(error) => return Err(error),
-        };
-        let rest = bytes.get(written..).unwrap_or(&[]);
-        if rest.is_empty() {
-            return Ok(());
-        }
-        self.stream.set_nonblocking(false)?;
-        let written = self.stream.write_all(rest);
-        self.stream.set_nonblocking(true)?;
-        written
     }
 }
