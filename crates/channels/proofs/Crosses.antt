@@ -33,6 +33,7 @@ use Rattle.pin_record.specs.contracts.verifier.Verifier as Verifier
 use Rattle.mech.specs.contracts.work.Work as Work
 use Rattle.mech.specs.contracts.outcome.Outcome as Outcome
 use Rattle.mech.specs.contracts.job.Job as Job
+use Rattle.mech.specs.contracts.slot.Slot as Slot
 use Rattle.mech.specs.contracts.done.Done as Done
 use Rattle.ck_calls.specs.contracts.call.Call as Call
 use Rattle.ck_calls.specs.contracts.reply.Reply as Reply
@@ -121,11 +122,14 @@ work_send = search (stream_send, mac_send, key_send, items_send, verifier_send, 
 outcome_send : IsSend Outcome.the_row
 outcome_send = search (stream_send, mac_send, object_send, items_send, verifier_send, label_send, sendable) depth 60 fits 20000
 
+slot_send : IsSend Slot.the_row
+slot_send = variants_send Slot.enum ((work_send, tt), ((outcome_send, tt), (tt, tt)))
+
 job_send : IsSend Job.the_row
-job_send = declared_send Job.the_type (search sendable depth 20, (search sendable depth 20, (search sendable depth 60 fits 20000, (search sendable depth 20, (work_send, tt)))))
+job_send = declared_send Job.the_type (search sendable depth 20, (search sendable depth 20, (search sendable depth 60 fits 20000, (search sendable depth 20, (search (work_send, sendable, crosses) depth 20, (Box-send Slot.the_row slot_send, tt))))))
 
 done_send : IsSend Done.the_row
-done_send = declared_send Done.the_type (search sendable depth 20, (search sendable depth 20, (search sendable depth 60 fits 20000, (search (outcome_send, work_send, sendable, crosses) depth 20, (search (job_send, sendable, crosses) depth 20, tt)))))
+done_send = declared_send Done.the_type (search sendable depth 20, (search sendable depth 20, (search sendable depth 60 fits 20000, (Box-send Slot.the_row slot_send, (search (job_send, sendable, crosses) depth 20, tt)))))
 
 reply_send : IsSend Reply.the_row
 reply_send = search (items_send, label_send, sendable, crosses) depth 200 fits 100000

@@ -5,6 +5,8 @@ ghost use Rattle.ck_calls.specs.Need.{random_bytes};
 
 use ck_calls::Call;
 use mech::Done;
+use std::alloc::{AllocError, Global};
+use std::mem;
 use token_store::Out;
 
 /// A call of an application, with the random bytes that it takes, as many as `ck_calls::need` says.
@@ -37,6 +39,26 @@ pub enum Letter {
     Answer(Out),
     /// Nothing.
     Empty,
+}
+
+impl Letter {
+    /// A letter with nothing in it. It allocates.
+    pub(crate) fn new(alloc: Global) -> Result<Box<Letter>, AllocError> {
+        match Box::new(alloc, Letter::Empty) {
+            Ok(letter) => Ok(letter),
+            Err(refused) => {
+                drop(refused);
+                Err(AllocError)
+            }
+        }
+    }
+
+    /// Another content in the place of what it has, which is let go.
+    pub(crate) fn fill(&mut self, content: Letter)
+        ensures { self.new ≡ content }
+    {
+        drop(mem::replace(self, content));
+    }
 }
 
 /// A message to the token.

@@ -41,9 +41,7 @@ impl Outbox {
         ensures ends { IfOk result (λ r. (receives_on r.1 ≡ sends_on r.0.outward) × IsSeatAt (receives_on r.1) r.2) }
         ensures views { IfOk result (λ r. (given_of (view r.0.outward_pass) ≡ []) × (view r.2 ≡ Getting [])) }
     {
-        let Ok(letter) = Box::new(alloc, Letter::Empty) else {
-            return Err(AllocError);
-        };
+        let letter = Letter::new(alloc)?;
         let (outward, other, mut outward_pass) = bounded_with::<
             Outward,
             OutwardView,
@@ -81,7 +79,7 @@ impl Outbox {
         ensures given { IsTrue result → given_of (view self.new.outward_pass) ≡ given_of (view self.old.outward_pass) ++ out ∷ [] }
         ensures refused { IsFalse result → view self.new.outward_pass ≡ view self.old.outward_pass }
     {
-        *letter = Letter::Answer(out);
+        letter.fill(Letter::Answer(out));
         self.give(rt, Outward::Letter(letter))
     }
 
@@ -90,7 +88,7 @@ impl Outbox {
         ensures same { sends_on self.new.outward ≡ sends_on self.old.outward }
         ensures none { given_of (view self.new.outward_pass) ≡ given_of (view self.old.outward_pass) }
     {
-        *letter = Letter::Empty;
+        letter.fill(Letter::Empty);
         self.give(rt, Outward::Letter(letter))
     }
 

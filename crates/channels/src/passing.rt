@@ -82,7 +82,7 @@ impl Port {
             drop(event);
             return false;
         };
-        *letter = Letter::Event(event);
+        letter.fill(Letter::Event(event));
         let seat = self.seat;
         self.send(rt, Inward::Put { seat, letter })
     }

@@ -2,3 +2,4 @@ pub mod Wrappings
 pub mod Runnable
 pub mod Works
 pub mod Rooms
+pub mod Endings

@@ -1,8 +1,11 @@
 //! A job that was run.
 
-ghost use Rattle.std.specs.Prelude.{◌≡◌, IfErr, IfOk, IsTrue};
-ghost use Rattle.std.specs.Result.{ForErr, ForOk};
+ghost use Rattle.std.specs.Prelude.{◌≡◌, ◌≢◌, IfErr, IfOk, IsTrue};
+ghost use Rattle.mech.specs.declared.outcome.Outcome.{Outcome as OutcomeType};
+ghost use Rattle.mech.specs.declared.work.Work.{Work as WorkType};
 ghost use Rattle.mech.specs.declared.work.Work.TheVariants.{Cipher, CheckPin, ChangePin, ResetToken};
+ghost use Rattle.mech.specs.declared.slot.Slot.TheVariants.{Empty as EmptySlot, Outcome as OutcomeSlot, Work as WorkSlot};
+ghost use Rattle.mech.specs.Endings.{ended_as};
 ghost use Rattle.mech.specs.Rooms.{HasRoom};
 ghost use Rattle.mech.specs.Runnable.{is_runnable};
 ghost use Rattle.mech.specs.Works.{outcome_of};
@@ -11,29 +14,32 @@ use crate::job::Job;
 use crate::key_wrapping::{key_unwrapped, wrapped};
 use crate::message_codes::{signed, taken, verified};
 use crate::outcome::Outcome;
+use crate::slot::Slot;
 use crate::work::Work;
 use aes_modes::ModeFault;
 use ck_calls::Function;
 use ck_types::{Bytes, Label, UserType};
 use pin_record::Verifier;
 use std::alloc::Global;
+use std::mem;
 use std::snapshot::Snapshot;
 use streams::{Part, Stream};
 
-/// A job that was run. The job itself is for contracts alone, and takes no bytes.
+/// A job that was run, with what came of it in its slot. The job itself is for contracts alone, and takes no bytes.
 #[derive(Drop)]
 pub struct Done {
     app: u64,
     question: u64,
     function: Function,
-    outcome: Result<Outcome, Work>,
+    slot: Box<Slot>,
     job: Snapshot<Job>,
     ghost app_is: { app ≡ job.value.app },
     ghost question_is: { question ≡ job.value.question },
     ghost function_is: { function ≡ job.value.function },
-    ghost value: { ForOk outcome (λ o. o ≡ outcome_of job.value.work) },
-    ghost room: { ForOk outcome (λ o. HasRoom job.value.work o) },
-    ghost back: { ForErr outcome (λ work. work ≡ job.value.work) },
+    ghost full: { slot.value ≢ EmptySlot },
+    ghost value: { (o : OutcomeType) → slot.value ≡ OutcomeSlot o → o ≡ outcome_of job.value.work.value },
+    ghost room: { (o : OutcomeType) → slot.value ≡ OutcomeSlot o → HasRoom job.value.work.value o },
+    ghost back: { (given : WorkType) → slot.value ≡ WorkSlot given → given ≡ job.value.work.value },
 }
 
 impl Done {
@@ -60,13 +66,17 @@ impl Done {
 
     /// What the work gave, or for want of memory the work as it was.
     pub fn into_outcome(self) -> Result<Outcome, Work>
-        ensures value { IfOk result (λ o. o ≡ outcome_of self.job.value.work) }
+        ensures value { IfOk result (λ o. o ≡ outcome_of self.job.value.work.value) }
         // It is no longer than its work's may be.
-        ensures room { IfOk result (λ o. HasRoom self.job.value.work o) }
-        ensures back { IfErr result (λ work. work ≡ self.job.value.work) }
+        ensures room { IfOk result (λ o. HasRoom self.job.value.work.value o) }
+        ensures back { IfErr result (λ work. work ≡ self.job.value.work.value) }
     {
-        let Done { outcome, .. } = self;
-        outcome
+        let Done { mut slot, .. } = self;
+        match mem::replace(&mut *slot, Slot::Empty) {
+            Slot::Outcome(outcome) => Ok(outcome),
+            Slot::Work(work) => Err(work),
+            Slot::Empty => unreachable!(),
+        }
     }
 }
 
@@ -202,6 +212,28 @@ fn work_done(alloc: Global, work: Work) -> Result<Outcome, Work>
     }
 }
 
+/// The work is taken out of a slot.
+fn taken_out(slot: &mut Slot, work: Snapshot<Work>) -> Work
+    requires { slot.old ≡ WorkSlot work.value }
+    ensures { result ≡ work.value }
+{
+    match mem::replace(slot, Slot::Empty) {
+        Slot::Work(work) => work,
+        Slot::Outcome(_) | Slot::Empty => unreachable!(),
+    }
+}
+
+/// What came of work is put into a slot.
+fn put(slot: &mut Slot, outcome: Result<Outcome, Work>)
+    ensures { slot.new ≡ ended_as outcome }
+{
+    let ended = match outcome {
+        Ok(outcome) => Slot::Outcome(outcome),
+        Err(work) => Slot::Work(work),
+    };
+    drop(mem::replace(slot, ended));
+}
+
 impl Job {
     /// Does the work. It waits for nobody, and fails only for want of memory.
     pub fn run(self, alloc: Global) -> Done
@@ -213,14 +245,16 @@ impl Job {
             question,
             function,
             work,
+            mut slot,
             ..
         } = self;
-        let outcome = work_done(alloc, work);
+        let work = taken_out(&mut *slot, work);
+        put(&mut *slot, work_done(alloc, work));
         Done {
             app,
             question,
             function,
-            outcome,
+            slot,
             job,
         }
     }

@@ -1,19 +1,67 @@
 //! The work of a question.
 
-ghost use Rattle.std.specs.Prelude.{IsTrue};
+ghost use Rattle.std.specs.Prelude.{◌≡◌, IfOk, IsTrue};
+ghost use Rattle.mech.specs.declared.slot.Slot.TheVariants.{Work as WorkSlot};
 ghost use Rattle.mech.specs.Runnable.{is_runnable};
 
+use crate::slot::Slot;
 use crate::work::Work;
 use ck_calls::Function;
+use std::alloc::{AllocError, Global};
+use std::snapshot::Snapshot;
 
 /// The work of a question, and whose question it is: the application, the question's number, and the
-/// function and session of the call that asked it.
+/// function and session of the call that asked it. The work stands in a slot of its own, so that a job is small; beside it,
+/// it is for contracts alone, and takes no bytes.
 #[derive(Drop)]
 pub struct Job {
     pub app: u64,
     pub question: u64,
     pub function: Function,
     pub session: u64,
-    pub work: Work,
-    pub ghost runnable: { IsTrue (is_runnable work) },
+    pub work: Snapshot<Work>,
+    pub(crate) slot: Box<Slot>,
+    pub ghost has: { slot.value ≡ WorkSlot work.value },
+    pub ghost runnable: { IsTrue (is_runnable work.value) },
+}
+
+impl Job {
+    /// The job of this work. It allocates the slot; where memory is refused there is no job.
+    pub fn new(
+        alloc: Global,
+        app: u64,
+        question: u64,
+        function: Function,
+        session: u64,
+        work: Work,
+    ) -> Result<Job, AllocError>
+        requires { IsTrue (is_runnable work) }
+        ensures { IfOk result (λ job. (job.app ≡ app) × (job.question ≡ question) × (job.function ≡ function) × (job.session ≡ session) × (job.work.value ≡ work)) }
+    {
+        let snapshot = Snapshot::of(&work);
+        match Box::new(alloc, Slot::Work(work)) {
+            Ok(slot) => Ok(Job {
+                app,
+                question,
+                function,
+                session,
+                work: snapshot,
+                slot,
+            }),
+            Err(refused) => {
+                drop(refused);
+                Err(AllocError)
+            }
+        }
+    }
+
+    /// The work.
+    pub fn work(&self) -> &Work
+        ensures { result.now ≡ self.now.work.value }
+    {
+        match &*self.slot {
+            Slot::Work(work) => work,
+            Slot::Outcome(_) | Slot::Empty => unreachable!(),
+        }
+    }
 }

@@ -23,9 +23,11 @@ mod job;
 mod key_wrapping;
 mod message_codes;
 mod outcome;
+mod slot;
 mod work;
 
 pub use done::Done;
 pub use job::Job;
 pub use outcome::Outcome;
+pub use slot::Slot;
 pub use work::Work;

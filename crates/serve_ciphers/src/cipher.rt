@@ -30,6 +30,7 @@ use token_store::{Out, Refusal, ask_within};
 /// operation (`CKR_OPERATION_ACTIVE`), and of a length that the mechanism takes, with a counter for each block
 /// (`CKR_DATA_LEN_RANGE`, `CKR_ENCRYPTED_DATA_LEN_RANGE`); else the operation ends.
 pub fn single(
+    alloc: Global,
     app: u64,
     desk: &mut Desk,
     direction: Direction,
@@ -58,6 +59,7 @@ pub fn single(
         input,
     };
     Ok(ask_within(
+        alloc,
         app,
         desk,
         single_function(direction),
@@ -65,12 +67,13 @@ pub fn single(
         work,
         wanted,
         room,
-    ))
+    )?)
 }
 
 /// Takes a piece of any length: asks for what it adds to the output, or tells the room for it, in bytes. Where the
 /// mechanism has no counter for each block the operation ends (`CKR_DATA_LEN_RANGE`).
 pub fn update(
+    alloc: Global,
     app: u64,
     desk: &mut Desk,
     direction: Direction,
@@ -95,6 +98,7 @@ pub fn update(
         input,
     };
     Ok(ask_within(
+        alloc,
         app,
         desk,
         update_function(direction),
@@ -102,7 +106,7 @@ pub fn update(
         work,
         wanted as u64,
         room,
-    ))
+    )?)
 }
 
 /// Ends the data: asks for the rest of the output, or tells the room for it, in bytes. Data that is no text of the
@@ -133,6 +137,7 @@ pub fn last(
         input: Bytes::from_vec(Vec::new(alloc)),
     };
     Ok(ask_within(
+        alloc,
         app,
         desk,
         final_function(direction),
@@ -140,7 +145,7 @@ pub fn last(
         work,
         wanted,
         room,
-    ))
+    )?)
 }
 
 /// The operation at a place ends, with the code of a row.

@@ -52,6 +52,7 @@ pub fn serve<K: Keep>(
 {
     let key = find(alloc, desk, store, unwrapping_key)?;
     ask_unwrapped(
+        alloc,
         app,
         desk,
         session,
@@ -65,6 +66,7 @@ pub fn serve<K: Keep>(
 
 /// Asks for the unwrapping under what was found, where the rows of the call's table let it.
 fn ask_unwrapped(
+    alloc: Global,
     app: u64,
     desk: &mut Desk,
     session: u64,
@@ -98,6 +100,7 @@ fn ask_unwrapped(
         return Err(Refusal::Row(Row::WrappedLength));
     }
     ask_for_key(
+        alloc,
         app,
         desk,
         session,
@@ -143,6 +146,7 @@ fn is_kept_back(is_token: bool, state: SessionState) -> bool
 
 /// Asks for the key of a template, where the template makes one, a session in this state may and there is room.
 fn ask_for_key(
+    alloc: Global,
     app: u64,
     desk: &mut Desk,
     session: u64,
@@ -178,7 +182,7 @@ fn ask_for_key(
         template,
         random: random_block(random),
     };
-    Ok(Out::Ask(ask(app, desk, Function::UnwrapKey, session, work)))
+    Ok(Out::Ask(ask(alloc, app, desk, Function::UnwrapKey, session, work)?))
 }
 
 /// Adds the key that was made of the unwrapped value, and gives its handle. `CKR_FUNCTION_FAILED` where there is no such

@@ -130,7 +130,16 @@ fn ask_wrapped(
         key: aes_key(wrapping_key),
         value: Bytes::from_slice(alloc, value)?,
     };
-    Ok(ask_within(app, desk, Function::WrapKey, session, work, wanted, room))
+    Ok(ask_within(
+        alloc,
+        app,
+        desk,
+        Function::WrapKey,
+        session,
+        work,
+        wanted,
+        room,
+    )?)
 }
 
 /// Whether a key may wrap others.

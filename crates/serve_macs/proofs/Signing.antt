@@ -9,12 +9,12 @@ use Rattle.keep.specs.Contents.{Contents}
 use Rattle.sessions.specs.declared.Session.{Session}
 use Rattle.sessions.specs.Sessions.{session_at}
 use Rattle.ops.specs.declared.place.MacPlace.{MacPlace}
-use Rattle.ops.specs.declared.place.MacPlace.TheVariants.{Sign}
+use Rattle.ops.specs.declared.place.MacPlace.TheVariants.{Sign, Verify}
 use Rattle.ops.specs.Operations.{MacOperation, Operations, mac_in, mac_of, mac_placed_in, with_mac as in_sessions}
 use Rattle.desk.specs.Desks.{DeskState}
-use Rattle.views.specs.Views.{View, Signs}
-use Rattle.views.specs.Answering.{Said, Replies, Answer, becomes, session_of, with_mac}
-use Rattle.answers.specs.Mac.{mac_has_taken, sign, sign_final}
+use Rattle.views.specs.Views.{View, Signs, Takes}
+use Rattle.views.specs.Answering.{Said, Replies, Answer, asks, becomes, session_of, with_mac}
+use Rattle.answers.specs.Mac.{mac_has_taken, mac_update, mac_update_function, sign, sign_final}
 use Rattle.token_store.specs.Asking.{asks_within}
 use Rattle.token_store.specs.Shown.{view_of, Fits, Gives}
 
@@ -44,6 +44,11 @@ module _ (v : View) (session : ℕ) (a : Authentication) (under_way : mac_in (se
 
   pub final-asks : sign_final v session room ≡ asks_within functions.SignFinal session (Signs (mac_of a) []) (code_length a.mechanism) room v
   final-asks = rw (there, under_way) refl
+
+-- a piece is taken
+pub update-asks : (v : View) (session : ℕ) (place : MacPlace) (a : Authentication) → mac_in (session_of v session) place ≡ Some (mac_of a) → (input : List ℕ) → mac_update place v session input ≡ asks v (mac_update_function place) session (Takes place (mac_of a) input)
+update-asks v session Sign a under_way input = rw (seated-at (session_of v session) Sign (mac_of a) under_way, under_way) refl
+update-asks v session Verify a under_way input = rw (seated-at (session_of v session) Verify (mac_of a) under_way, under_way) refl
 
 -- an answer at the desk, written otherwise
 pub gives-is : (a b : Answer) (c : Contents) (d d' : DeskState) (said : Said) → a ≡ b → Gives b d.sessions.login c said c d' → Gives a d.sessions.login c said c d'

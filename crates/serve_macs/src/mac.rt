@@ -27,6 +27,7 @@ use token_store::{Out, Refusal, ask, ask_within};
 /// C_Sign: takes all data at once, and asks for its signature, or tells the room for it, in bytes. It is the only data of its
 /// operation (`CKR_OPERATION_ACTIVE`); else the operation ends.
 pub fn sign(
+    alloc: Global,
     app: u64,
     desk: &mut Desk,
     session: u64,
@@ -45,7 +46,16 @@ pub fn sign(
     let wanted = mac.mechanism().code_len() as u64;
     let mac = mac.copied();
     let work = Work::Sign { mac, input };
-    Ok(ask_within(app, desk, Function::Sign, session, work, wanted, room))
+    Ok(ask_within(
+        alloc,
+        app,
+        desk,
+        Function::Sign,
+        session,
+        work,
+        wanted,
+        room,
+    )?)
 }
 
 /// C_SignFinal: ends the data, and asks for its signature, or tells the room for it, in bytes.
@@ -68,13 +78,23 @@ pub fn sign_final(
         mac,
         input: Bytes::from_vec(Vec::new(alloc)),
     };
-    Ok(ask_within(app, desk, Function::SignFinal, session, work, wanted, room))
+    Ok(ask_within(
+        alloc,
+        app,
+        desk,
+        Function::SignFinal,
+        session,
+        work,
+        wanted,
+        room,
+    )?)
 }
 
 /// C_Verify: takes all data at once, and asks whether a signature is its. It is the only data of its operation
 /// (`CKR_OPERATION_ACTIVE`), and the signature has the length of the mechanism's (`CKR_SIGNATURE_LEN_RANGE`); else the
 /// operation ends.
 pub fn verify(
+    alloc: Global,
     app: u64,
     desk: &mut Desk,
     session: u64,
@@ -99,7 +119,7 @@ pub fn verify(
         input,
         signature,
     };
-    Ok(Out::Ask(ask(app, desk, Function::Verify, session, work)))
+    Ok(Out::Ask(ask(alloc, app, desk, Function::Verify, session, work)?))
 }
 
 /// C_VerifyFinal: ends the data, and asks whether a signature is its. The signature has the length of the mechanism's
@@ -126,11 +146,12 @@ pub fn verify_final(
         input: Bytes::from_vec(Vec::new(alloc)),
         signature,
     };
-    Ok(Out::Ask(ask(app, desk, Function::VerifyFinal, session, work)))
+    Ok(Out::Ask(ask(alloc, app, desk, Function::VerifyFinal, session, work)?))
 }
 
 /// C_SignUpdate and C_VerifyUpdate: asks for a piece of any length to be taken.
 pub fn update(
+    alloc: Global,
     app: u64,
     desk: &mut Desk,
     place: MacPlace,
@@ -145,7 +166,7 @@ pub fn update(
     let mac = desk.mac(session, place).ok_or(Row::NoOperation)?;
     let mac = mac.copied();
     let work = Work::Take { place, mac, input };
-    Ok(Out::Ask(ask(app, desk, update_function(place), session, work)))
+    Ok(Out::Ask(ask(alloc, app, desk, update_function(place), session, work)?))
 }
 
 /// Whether a signature is as long as those of an operation.

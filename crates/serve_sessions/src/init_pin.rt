@@ -15,6 +15,7 @@ use keep::Keep;
 use mech::Work;
 use pin_record::{TRIES_LIMIT, Verifier};
 use precede::Row;
+use std::alloc::Global;
 use token_store::{Out, Refusal, Store, ask, random_block};
 
 fn is_so(login: Option<UserType>) -> bool
@@ -29,6 +30,7 @@ fn is_so(login: Option<UserType>) -> bool
 /// Asks for the verifier of the user's new PIN, with random bytes as its salt: `CKR_SESSION_HANDLE_INVALID`,
 /// `CKR_USER_NOT_LOGGED_IN` where the SO isn't, `CKR_PIN_LEN_RANGE`.
 pub fn serve(
+    alloc: Global,
     app: u64,
     desk: &mut Desk,
     session: u64,
@@ -49,7 +51,7 @@ pub fn serve(
     }
     let salt = random_block(random);
     let work = Work::MakePin { pin, salt };
-    Ok(Out::Ask(ask(app, desk, Function::InitPin, session, work)))
+    Ok(Out::Ask(ask(alloc, app, desk, Function::InitPin, session, work)?))
 }
 
 /// The PIN is set. Its tries are the checks of the user's PIN that other applications have under way.

@@ -18,12 +18,14 @@ use keep::Keep;
 use mech::Work;
 use pin_record::{Record, Verifier, end_check};
 use precede::Row;
+use std::alloc::Global;
 use token_store::{Out, Refusal, Store, ask, random_block};
 
 /// Begins a check of the SO's PIN, which is charged before it; or, where the token isn't initialised, asks for the
 /// verifier of this PIN, with random bytes as its salt: `CKR_SLOT_ID_INVALID`, `CKR_ARGUMENTS_BAD` for a label that hasn't
 /// 32 bytes, `CKR_SESSION_EXISTS`, `CKR_PIN_LEN_RANGE`, `CKR_PIN_LOCKED`.
 pub fn serve<K: Keep>(
+    alloc: Global,
     app: u64,
     desk: &mut Desk,
     store: &mut Store<K>,
@@ -52,7 +54,7 @@ pub fn serve<K: Keep>(
         }
         let salt = random_block(random);
         let work = Work::InitToken { label, pin, salt };
-        return Ok(Out::Ask(ask(app, desk, Function::InitToken, 0, work)));
+        return Ok(Out::Ask(ask(alloc, app, desk, Function::InitToken, 0, work)?));
     };
     if record.is_locked(UserType::So) {
         return Err(Refusal::Row(Row::PinLocked));
@@ -63,6 +65,7 @@ pub fn serve<K: Keep>(
         pin,
     };
     ask_charged(
+        alloc,
         app,
         desk,
         store,

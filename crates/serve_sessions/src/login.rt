@@ -20,6 +20,7 @@ use keep::Keep;
 use mech::Work;
 use pin_record::{Record, end_check};
 use precede::Row;
+use std::alloc::Global;
 use token_store::{Out, Refusal, Store};
 
 /// The user of a `CK_USER_TYPE`.
@@ -65,6 +66,7 @@ fn has_no_try_left(record: &Record, who: UserType) -> bool
 /// `CKR_USER_ALREADY_LOGGED_IN`, `CKR_USER_ANOTHER_ALREADY_LOGGED_IN`, `CKR_SESSION_READ_ONLY_EXISTS`,
 /// `CKR_USER_PIN_NOT_INITIALIZED`, `CKR_PIN_LOCKED`.
 pub fn serve<K: Keep>(
+    alloc: Global,
     app: u64,
     desk: &mut Desk,
     store: &mut Store<K>,
@@ -95,6 +97,7 @@ pub fn serve<K: Keep>(
     }
     let work = Work::CheckPin { who, verifier, pin };
     ask_charged(
+        alloc,
         app,
         desk,
         store,

@@ -18,7 +18,8 @@ use desk::Desk;
 use keep::Keep;
 use mech::Work;
 use pin_record::{Record, begin_check};
-use token_store::{Out, Refusal, Store, ask};
+use std::alloc::Global;
+use token_store::{Out, Refusal, Store, new_job};
 
 /// Whether a new PIN has 4 to 64 bytes.
 pub(crate) fn is_pin_length(pin: &[u8]) -> bool
@@ -27,8 +28,10 @@ pub(crate) fn is_pin_length(pin: &[u8]) -> bool
     4 <= pin.len() && pin.len() <= 64
 }
 
-/// Asks for a check of a PIN. Its charge is stored first, and only then there is a job.
+/// Asks for a check of a PIN. Its charge is stored before its question is put. The job's memory is taken before both, so that no
+/// try is charged for want of it.
 pub(crate) fn ask_charged<K: Keep>(
+    alloc: Global,
     app: u64,
     desk: &mut Desk,
     store: &mut Store<K>,
@@ -45,8 +48,10 @@ pub(crate) fn ask_charged<K: Keep>(
     ensures done { IsDoneIf (IsShortTask (task_of work)) K.terms said_of 1 (λ c v. asks_charged «record» v function session (task_of work) who) store.old store.new desk.old result desk.new }
     ensures asker { IfOk result (IsFor app) }
 {
+    let job = new_job(alloc, app, desk, function, session, work)?;
     store.set_record(begin_check(record, who))?;
-    Ok(Out::Ask(ask(app, desk, function, session, work)))
+    desk.ask(&job);
+    Ok(Out::Ask(job))
 }
 
 /// Stores another record, and answers a code.

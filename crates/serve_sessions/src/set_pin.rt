@@ -14,6 +14,7 @@ use keep::Keep;
 use mech::Work;
 use pin_record::{Verifier, end_check};
 use precede::Row;
+use std::alloc::Global;
 use token_store::{Out, Refusal, Store, random_block};
 
 /// Whose PIN is changed: that of who is logged in, and the user's where nobody is.
@@ -30,6 +31,7 @@ fn owner(login: Option<UserType>) -> UserType
 /// `CKR_SESSION_HANDLE_INVALID`, `CKR_SESSION_READ_ONLY`, `CKR_USER_PIN_NOT_INITIALIZED`, `CKR_PIN_LEN_RANGE`,
 /// `CKR_PIN_LOCKED`.
 pub fn serve<K: Keep>(
+    alloc: Global,
     app: u64,
     desk: &mut Desk,
     store: &mut Store<K>,
@@ -65,6 +67,7 @@ pub fn serve<K: Keep>(
         salt,
     };
     ask_charged(
+        alloc,
         app,
         desk,
         store,

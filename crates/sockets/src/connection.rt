@@ -11,9 +11,6 @@ use std::io::{ErrorKind, Read, Write};
 use std::os::unix::net::UnixStream;
 use wire::{FrameReader, read_call, write_reply};
 
-/// How many bytes are read at once.
-const READ_LEN: usize = 4096;
-
 /// A connection, the bytes that were read of it and not answered, and its application's random bytes.
 #[derive(Drop)]
 pub(crate) struct Connection {
@@ -43,15 +40,15 @@ impl Connection {
         }
     }
 
-    /// The next call of the application, or none where the connection ends.
-    pub(crate) fn next_call(&mut self, alloc: Global, app: u64) -> Option<AppCall>
+    /// The next call of the application, or none where the connection ends. A piece is what is read at once.
+    pub(crate) fn next_call(&mut self, alloc: Global, app: u64, piece: &mut [u8]) -> Option<AppCall>
         ensures { IfSome result (λ call. call.app ≡ app) }
     {
         if self.has_ended {
             return None;
         }
         for _ in 0..u64::MAX {
-            let payload = self.next_payload(alloc)?;
+            let payload = self.next_payload(alloc, piece)?;
             match self.asked(alloc, app, &payload) {
                 Asked::Call(call) => return Some(call),
                 Asked::Answered => {}
@@ -62,12 +59,12 @@ impl Connection {
     }
 
     /// The payload of the next frame, or none where the connection ends.
-    fn next_payload(&mut self, alloc: Global) -> Option<Vec<u8>> {
+    fn next_payload(&mut self, alloc: Global, piece: &mut [u8]) -> Option<Vec<u8>> {
         for _ in 0..u64::MAX {
             if let Some(payload) = self.frames.next(alloc).ok()? {
                 return Some(payload);
             }
-            if !self.read_piece() {
+            if !self.read_piece(piece) {
                 return None;
             }
         }
@@ -75,9 +72,8 @@ impl Connection {
     }
 
     /// Reads what has come. False at the end, and where that fails.
-    fn read_piece(&mut self) -> bool {
-        let mut piece = [0u8; READ_LEN];
-        match self.stream.read(&mut piece) {
+    fn read_piece(&mut self, piece: &mut [u8]) -> bool {
+        match self.stream.read(piece) {
             Ok(0) => false,
             Ok(len) => match piece.get(..len) {
                 Some(read) => self.frames.feed(read).is_ok(),

@@ -1,6 +1,7 @@
 //! A seat that accepts connections.
 
 ghost use Rattle.std.specs.Prelude.{◌≡◌, ◌+◌, ◌*◌, ◌<◌, ◌%◌, ◌^◌, None, not, true};
+ghost use Rattle.hall.specs.declared.seats.SeatEvent.TheVariants.{Gone};
 
 use crate::connection::Connection;
 use ck_calls::Reply;
@@ -8,6 +9,9 @@ use hall::{Seat, SeatEvent};
 use std::alloc::Global;
 use std::io::ErrorKind;
 use std::os::unix::net::UnixListener;
+
+/// How many bytes are read at once.
+const READ_LEN: usize = 4096;
 
 /// Accepts one connection after the other, each an application of its own.
 #[derive(Drop)]
@@ -21,6 +25,8 @@ pub struct SocketSeat {
     /// How many connections are left, with the one that there is.
     left: u64,
     connection: Option<Connection>,
+    /// Room for what is read at once.
+    piece: [u8; READ_LEN],
     has_ended: bool,
     /// The listener has given each connection that it was asked for.
     is_accepting: bool,
@@ -50,6 +56,7 @@ impl SocketSeat {
             app: number,
             left: connections,
             connection: None,
+            piece: [0; READ_LEN],
             has_ended: false,
             is_accepting: true,
         }
@@ -78,6 +85,20 @@ impl SocketSeat {
             Err(error) => error.kind() == ErrorKind::ConnectionAborted,
         }
     }
+
+    /// The connection ends, and its application goes.
+    fn end_connection(&mut self) -> SeatEvent
+        requires { 0 < self.old.left }
+        ensures gone { result ≡ Gone self.old.app }
+        ensures next { self.new.app ≡ self.old.app + 4 }
+        ensures number { self.new.number ≡ self.old.number }
+    {
+        let app = self.app;
+        drop(self.connection.take());
+        self.left -= 1;
+        self.app += 4;
+        SeatEvent::Gone { app }
+    }
 }
 
 impl Seat for SocketSeat {
@@ -98,25 +119,19 @@ impl Seat for SocketSeat {
             if self.left == 0 {
                 break;
             }
-            match self.connection.take() {
+            match &mut self.connection {
                 None => {
                     if !self.accept() {
                         self.is_accepting = false;
                         break;
                     }
                 }
-                Some(mut connection) => match connection.next_call(self.alloc, self.app) {
-                    Some(call) => {
-                        self.connection = Some(connection);
-                        return Some(SeatEvent::Call(call));
+                Some(connection) => {
+                    match connection.next_call(self.alloc, self.app, &mut self.piece) {
+                        Some(call) => return Some(SeatEvent::Call(call)),
+                        None => return Some(self.end_connection()),
                     }
-                    None => {
-                        let app = self.app;
-                        self.left -= 1;
-                        self.app += 4;
-                        return Some(SeatEvent::Gone { app });
-                    }
-                },
+                }
             }
         }
         self.has_ended = true;

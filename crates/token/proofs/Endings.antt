@@ -152,31 +152,31 @@ module _ {K : Type 0} (terms : Terms K) (job : Job) (others : Others) (old new :
   reveal = reveal_by_job job (under_way_of others) others.in_session
 
   -- of the pending question
-  job-answer : (c : Contents) (j : Job) → before.question ≡ Some j → answer_to_job job (view_of c before) (reveal c) ≡ answer_outcome (view_of c (over before)) (by_job job (question_of j)) (task_of job.work) (value_of (task_of job.work)) (reveal c)
+  job-answer : (c : Contents) (j : Job) → before.question ≡ Some j → answer_to_job job (view_of c before) (reveal c) ≡ answer_outcome (view_of c (over before)) (by_job job (question_of j)) (task_of job.work.value) (value_of (task_of job.work.value)) (reveal c)
   unfolding answer_result
   job-answer c j asked =
       let v = view_of c before in
-      let f : Option Job → Answer = λ q. answer_question (record v { question = option_map (by_job job) (option_map question_of q) }) (option_map (by_job job) (option_map question_of q)) (value_of (task_of job.work)) (reveal c) in
+      let f : Option Job → Answer = λ q. answer_question (record v { question = option_map (by_job job) (option_map question_of q) }) (option_map (by_job job) (option_map question_of q)) (value_of (task_of job.work.value)) (reveal c) in
       ap f asked
 
-  pub finishes-by : (s : ℕ) (j : Job) (x : Outcome) (mid desk : DeskState) (r : Result Reply Refusal) (out : Result Reply Fault) → before.question ≡ Some j → s ≡ j.session → x ≡ outcome_of job.work → mid ≡ over before → out ≡ settled_reply r → HasRoom job.work x → EndsBy terms s x others old new mid r desk → Finishes terms job reveal old new before out desk
+  pub finishes-by : (s : ℕ) (j : Job) (x : Outcome) (mid desk : DeskState) (r : Result Reply Refusal) (out : Result Reply Fault) → before.question ≡ Some j → s ≡ j.session → x ≡ outcome_of job.work.value → mid ≡ over before → out ≡ settled_reply r → HasRoom job.work.value x → EndsBy terms s x others old new mid r desk → Finishes terms job reveal old new before out desk
   finishes-by s j x mid desk r out asked session is mid-is told room ends =
       let q = by_job job (question_of j) in
-      let done = ends job.work q is (sym session) in
-      let value : told_of x ≡ value_of (task_of job.work) = ap told_of is ∙ work-value job.work in
-      let answer : (c : Contents) → answer_to_job job (view_of c before) (reveal c) ≡ answer_outcome (view_of c mid) q (task_of job.work) (told_of x) (reveal_by_outcome (task_of job.work) (told_of x) (objects_of c) (under_way_of others) others.in_session) =
+      let done = ends job.work.value q is (sym session) in
+      let value : told_of x ≡ value_of (task_of job.work.value) = ap told_of is ∙ work-value job.work.value in
+      let answer : (c : Contents) → answer_to_job job (view_of c before) (reveal c) ≡ answer_outcome (view_of c mid) q (task_of job.work.value) (told_of x) (reveal_by_outcome (task_of job.work.value) (told_of x) (objects_of c) (under_way_of others) others.in_session) =
       λ c. job-answer c j asked
-      ∙ ap (λ d. answer_outcome (view_of c d) q (task_of job.work) (value_of (task_of job.work)) (reveal c)) (sym mid-is)
-      ∙ ap (λ y. answer_outcome (view_of c mid) q (task_of job.work) y (reveal_by_outcome (task_of job.work) y (objects_of c) (under_way_of others) others.in_session)) (sym value) in
+      ∙ ap (λ d. answer_outcome (view_of c d) q (task_of job.work.value) (value_of (task_of job.work.value)) (reveal c)) (sym mid-is)
+      ∙ ap (λ y. answer_outcome (view_of c mid) q (task_of job.work.value) y (reveal_by_outcome (task_of job.work.value) y (objects_of c) (under_way_of others) others.in_session)) (sym value) in
       rw told (record {
         serves = λ sure c h fits. subst (λ d. Serves terms Replies (answer_to_job job (view_of c before) (reveal c)) c old new before d (settled_reply r) desk) mid-is
             (served-told terms (answer_to_job job (view_of c before) (reveal c)) c old new before mid desk r mid-is (rw mid-is fits)
-            (does_as-is terms Replies (answer_to_job job (view_of c before) (reveal c)) (answer_outcome (view_of c mid) q (task_of job.work) (told_of x) (reveal_by_outcome (task_of job.work) (told_of x) (objects_of c) (under_way_of others) others.in_session)) c old new mid desk r (answer c) (done.serves sure c h (rw mid-is fits))));
+            (does_as-is terms Replies (answer_to_job job (view_of c before) (reveal c)) (answer_outcome (view_of c mid) q (task_of job.work.value) (told_of x) (reveal_by_outcome (task_of job.work.value) (told_of x) (objects_of c) (under_way_of others) others.in_session)) c old new mid desk r (answer c) (done.serves sure c h (rw mid-is fits))));
         counts = done.counts;
         cause = λ device. done.cause (blamed-told r device);
         plain = plain-told r done.plain;
         stays = subst (λ d. IfErr (settled_reply r) (λ fault. SameDesk d desk)) mid-is (stays-told mid desk r done.stays);
-        short = λ few. short-told r (done.short (outcome-short job.work x is room few));
+        short = λ few. short-told r (done.short (outcome-short job.work.value x is room few));
       })
 
 module _ {K : Type 0} (terms : Terms K) (job : Job) (reveal : Contents → Reveal) (store : StoreState K) (before : DeskState) where
@@ -196,7 +196,7 @@ module _ {K : Type 0} (terms : Terms K) (job : Job) (reveal : Contents → Revea
   unfolding answer_result
   none-answer c none =
       let v = view_of c before in
-      let f : Option Job → Answer = λ q. answer_question (record v { question = option_map (by_job job) (option_map question_of q) }) (option_map (by_job job) (option_map question_of q)) (value_of (task_of job.work)) (reveal c) in
+      let f : Option Job → Answer = λ q. answer_question (record v { question = option_map (by_job job) (option_map question_of q) }) (option_map (by_job job) (option_map question_of q)) (value_of (task_of job.work.value)) (reveal c) in
       ap f none ∙ ap (λ u. refuses u FunctionFailed) (over-view c before none)
 
   pub finishes-none : before.question ≡ None → Finishes terms job reveal store store before (Ok (Code FunctionFailed)) before

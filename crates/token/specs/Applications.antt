@@ -93,7 +93,7 @@ pub record Finishes {K : Type 0} (terms : Terms K) (job : Job) (reveal : Content
   pub cause : IsErrOf result Device → Rises (terms.failures old.keep) (terms.failures new.keep)
   pub plain : IfOk result (λ reply. set_apart reply ≡ None)
   pub stays : IfErr result (λ fault. SameDesk (over before) desk)
-  pub short : IsShortTask (task_of job.work) → IfOk result (λ reply. IsShort reply)
+  pub short : IsShortTask (task_of job.work.value) → IfOk result (λ reply. IsShort reply)
 
 -- the answer to the job's own value, and the world after it; or what a refusal leaves
 abbrev pub answer_by : World → ℕ → Job → Answer

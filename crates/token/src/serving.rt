@@ -73,16 +73,18 @@ fn dispatch<K: Keep>(
             settle(get_mechanism_info::serve(slot, mechanism))
         }
         Call::InitToken { slot, pin, label } => settle_asking(init_token::serve(
-            app, desk, store, slot, pin, label, random, in_use,
+            alloc, app, desk, store, slot, pin, label, random, in_use,
         )),
         Call::InitPin { session, pin } => {
-            settle_asking(init_pin::serve(app, desk, session, pin, random))
+            settle_asking(init_pin::serve(alloc, app, desk, session, pin, random))
         }
         Call::SetPin {
             session,
             old_pin,
             new_pin,
-        } => settle_asking(set_pin::serve(app, desk, store, session, old_pin, new_pin, random)),
+        } => settle_asking(set_pin::serve(
+            alloc, app, desk, store, session, old_pin, new_pin, random,
+        )),
         // Session management (5.6).
         Call::OpenSession { slot, flags } => settle(open_session::serve(desk, slot, flags)),
         Call::CloseSession { session } => settle(close_session::serve(desk, session)),
@@ -92,7 +94,7 @@ fn dispatch<K: Keep>(
             session,
             user_type,
             pin,
-        } => settle_asking(login::serve(app, desk, store, session, user_type, pin)),
+        } => settle_asking(login::serve(alloc, app, desk, store, session, user_type, pin)),
         Call::Logout { session } => settle(logout::serve(desk, session)),
         // Object management (5.7).
         Call::CreateObject { session, template } => settle(create_object::serve(
@@ -144,12 +146,28 @@ fn dispatch<K: Keep>(
             session,
             data,
             room,
-        } => settle_asking(cipher::single(app, desk, Direction::Encipher, session, data, room)),
+        } => settle_asking(cipher::single(
+            alloc,
+            app,
+            desk,
+            Direction::Encipher,
+            session,
+            data,
+            room,
+        )),
         Call::EncryptUpdate {
             session,
             part,
             room,
-        } => settle_asking(cipher::update(app, desk, Direction::Encipher, session, part, room)),
+        } => settle_asking(cipher::update(
+            alloc,
+            app,
+            desk,
+            Direction::Encipher,
+            session,
+            part,
+            room,
+        )),
         Call::EncryptFinal { session, room } => {
             settle_asking(cipher::last(alloc, app, desk, Direction::Encipher, session, room))
         }
@@ -172,6 +190,7 @@ fn dispatch<K: Keep>(
             encrypted_data,
             room,
         } => settle_asking(cipher::single(
+            alloc,
             app,
             desk,
             Direction::Decipher,
@@ -184,6 +203,7 @@ fn dispatch<K: Keep>(
             encrypted_part,
             room,
         } => settle_asking(cipher::update(
+            alloc,
             app,
             desk,
             Direction::Decipher,
@@ -204,9 +224,9 @@ fn dispatch<K: Keep>(
             session,
             data,
             room,
-        } => settle_asking(mac::sign(app, desk, session, data, room)),
+        } => settle_asking(mac::sign(alloc, app, desk, session, data, room)),
         Call::SignUpdate { session, part } => {
-            settle_asking(mac::update(app, desk, MacPlace::Sign, session, part))
+            settle_asking(mac::update(alloc, app, desk, MacPlace::Sign, session, part))
         }
         Call::SignFinal { session, room } => {
             settle_asking(mac::sign_final(alloc, app, desk, session, room))
@@ -229,9 +249,9 @@ fn dispatch<K: Keep>(
             session,
             data,
             signature,
-        } => settle_asking(mac::verify(app, desk, session, data, signature)),
+        } => settle_asking(mac::verify(alloc, app, desk, session, data, signature)),
         Call::VerifyUpdate { session, part } => {
-            settle_asking(mac::update(app, desk, MacPlace::Verify, session, part))
+            settle_asking(mac::update(alloc, app, desk, MacPlace::Verify, session, part))
         }
         Call::VerifyFinal { session, signature } => {
             settle_asking(mac::verify_final(alloc, app, desk, session, signature))

@@ -142,7 +142,7 @@ impl<K: Keep> Token<K> {
         ensures others { (b : ℕ) → b ≢ app → desk_at self.new.desks b ≡ desk_at self.old.desks b }
         ensures stays { IsSome (set_apart result) → SameDesk (over (desk_at self.old.desks app)) (desk_at self.new.desks app) }
         // What is told of a short job is short.
-        ensures short { IsShortTask (task_of done.job.value.work) → IsShort result }
+        ensures short { IsShortTask (task_of done.job.value.work.value) → IsShort result }
     {
         if !is_open(&self.desks, app, &done) {
             return Reply::Code(Rv::FunctionFailed);
@@ -394,7 +394,7 @@ fn pin_checked(out: &Out) -> Option<UserType>
     let Out::Ask(job) = out else {
         return None;
     };
-    match &job.work {
+    match job.work() {
         Work::CheckPin { who, .. } | Work::ChangePin { who, .. } => Some(*who),
         Work::ResetToken { .. } => Some(UserType::So),
         Work::Cipher { .. }

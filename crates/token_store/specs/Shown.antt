@@ -50,7 +50,7 @@ task_of (InitToken label pin salt) = InitsToken label pin salt
 task_of (ResetToken label verifier pin) = ResetsToken label verifier pin
 
 abbrev pub question_of : Job → Question
-question_of j = record { number = j.question; function = j.function; session = j.session; task = task_of j.work }
+question_of j = record { number = j.question; function = j.function; session = j.session; task = task_of j.work.value }
 
 -- the full view that a desk makes with what is kept
 abbrev pub view_of : Contents → DeskState → View

@@ -1,6 +1,6 @@
 //! Questions of a call.
 
-ghost use Rattle.std.specs.Prelude.{◌≡◌, ℕ, ◌<◌, ◌^◌, IsTrue, Some, length};
+ghost use Rattle.std.specs.Prelude.{◌≡◌, ℕ, ◌<◌, ◌^◌, IfErr, IfOk, IsTrue, Some, length};
 ghost use Rattle.desk.specs.Desks.{with_question};
 ghost use Rattle.keep.specs.Contents.{Contents};
 ghost use Rattle.mech.specs.Runnable.{is_runnable};
@@ -13,29 +13,51 @@ use crate::out::Out;
 use ck_calls::{Function, Output, Reply};
 use desk::Desk;
 use mech::{Job, Work};
+use std::alloc::{AllocError, Global};
 
-/// Puts the question of a call, and gives the job that is to answer it.
-pub fn ask(app: u64, desk: &mut Desk, function: Function, session: u64, work: Work) -> Job
-    requires below { desk.old.next_question < 2 ^ 63 }
-    requires runnable { IsTrue (is_runnable work) }
-    ensures asker { result.app ≡ app }
-    ensures question { question_of result ≡ record { number = desk.old.next_question; function = function; session = session; task = task_of work } }
-    ensures asked { desk.new ≡ with_question desk.old result }
-    ensures short { IsShortTask (task_of work) → IsShortSaid (said_of (Ask result)) }
+/// The job of a call, for the next question. It allocates.
+pub fn new_job(
+    alloc: Global,
+    app: u64,
+    desk: &Desk,
+    function: Function,
+    session: u64,
+    work: Work,
+) -> Result<Job, AllocError>
+    requires { IsTrue (is_runnable work) }
+    ensures asker { IfOk result (λ job. job.app ≡ app) }
+    ensures question { IfOk result (λ job. question_of job ≡ record { number = desk.now.next_question; function = function; session = session; task = task_of work }) }
+    ensures short { IsShortTask (task_of work) → IfOk result (λ job. IsShortSaid (said_of (Ask job))) }
 {
-    let job = Job {
-        app,
-        question: desk.next_question(),
-        function,
-        session,
-        work,
-    };
-    desk.ask(&job);
-    job
+    Job::new(alloc, app, desk.next_question(), function, session, work)
 }
 
-/// Asks for work where there is room for what is wanted, in bytes; else its length is told, and the operation stays.
+/// Puts the question of a call, and gives the job that is to answer it. It allocates; where memory is refused nothing is put.
+pub fn ask(
+    alloc: Global,
+    app: u64,
+    desk: &mut Desk,
+    function: Function,
+    session: u64,
+    work: Work,
+) -> Result<Job, AllocError>
+    requires below { desk.old.next_question < 2 ^ 63 }
+    requires runnable { IsTrue (is_runnable work) }
+    ensures asker { IfOk result (λ job. job.app ≡ app) }
+    ensures question { IfOk result (λ job. question_of job ≡ record { number = desk.old.next_question; function = function; session = session; task = task_of work }) }
+    ensures asked { IfOk result (λ job. desk.new ≡ with_question desk.old job) }
+    ensures refused { IfErr result (λ error. desk.new ≡ desk.old) }
+    ensures short { IsShortTask (task_of work) → IfOk result (λ job. IsShortSaid (said_of (Ask job))) }
+{
+    let job = new_job(alloc, app, desk, function, session, work)?;
+    desk.ask(&job);
+    Ok(job)
+}
+
+/// Asks for work where there is room for what is wanted, in bytes; else its length is told, and the operation stays. It
+/// allocates; where memory is refused nothing is asked.
 pub fn ask_within(
+    alloc: Global,
     app: u64,
     desk: &mut Desk,
     function: Function,
@@ -43,20 +65,21 @@ pub fn ask_within(
     work: Work,
     wanted: u64,
     room: Option<u64>,
-) -> Out
+) -> Result<Out, AllocError>
     requires below { desk.old.next_question < 2 ^ 63 }
     requires runnable { IsTrue (is_runnable work) }
-    ensures gives { (c : Contents) → Fits c desk.old.handles.entries → Gives (asks_within function session (task_of work) wanted room (view_of c desk.old)) desk.old.sessions.login c (said_of result) c desk.new }
-    ensures asker { IsFor app result }
-    ensures short { ((n : ℕ) → room ≡ Some n → IsShortTask (task_of work)) → IsShortSaid (said_of result) }
+    ensures gives { (c : Contents) → Fits c desk.old.handles.entries → IfOk result (λ out. Gives (asks_within function session (task_of work) wanted room (view_of c desk.old)) desk.old.sessions.login c (said_of out) c desk.new) }
+    ensures asker { IfOk result (IsFor app) }
+    ensures refused { IfErr result (λ error. desk.new ≡ desk.old) }
+    ensures short { ((n : ℕ) → room ≡ Some n → IsShortTask (task_of work)) → IfOk result (λ out. IsShortSaid (said_of out)) }
 {
     let Some(room) = room else {
-        return Out::Reply(Reply::Output(Output::Length(wanted)));
+        return Ok(Out::Reply(Reply::Output(Output::Length(wanted))));
     };
     if room < wanted {
-        return Out::Reply(Reply::BufferTooSmall(wanted));
+        return Ok(Out::Reply(Reply::BufferTooSmall(wanted)));
     }
-    Out::Ask(ask(app, desk, function, session, work))
+    Ok(Out::Ask(ask(alloc, app, desk, function, session, work)?))
 }
 
 /// The 16 random bytes that a call takes.

@@ -24,7 +24,7 @@ mod refusal;
 mod searching;
 mod store;
 
-pub use asking::{ask, ask_within, random_block};
+pub use asking::{ask, ask_within, new_job, random_block};
 pub use finding::{Found, find};
 pub use keys::{aes_key, is_aes, is_of_type, is_secret_key};
 pub use out::Out;

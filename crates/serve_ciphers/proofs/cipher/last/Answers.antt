@@ -49,8 +49,8 @@ returns-clause-serves c = record {
       let room : c.in-Ok.wanted ≡ wanted Last s 0 = c.in-Ok.ensures.room in
       gives-is _ (asks_within (final_function c.args.direction) c.args.session (Ciphers Last (operation_of s) []) (wanted Last s 0) c.args.room v) k c.args.desk.now _ _
       (final-asks v c.args.session c.args.direction s met.0 c.args.room (rw c.in-Ok.is at met.1))
-      (rw (c.final_function.ensures, c.copied-stream.ensures, c.from_vec.ensures ∙ c.new.ensures.items, room) at (c.ask_within.ensures.gives k fits));
+      (rw (c.final_function.ensures, c.copied-stream.ensures, c.from_vec.ensures ∙ c.new.ensures.items, room) at (c.in_ok-ask_within.ensures.gives k fits));
   cause = search rules;
-  short = λ _. c.ask_within.ensures.short (λ n is.
+  short = λ _. c.in_ok-ask_within.ensures.short (λ n is.
       rw (c.copied-stream.ensures, c.from_vec.ensures ∙ c.new.ensures.items) (last-short c.in_ok-operation.operation.now.mechanism c.in_ok-operation.operation.now.direction (length c.in_ok-operation.operation.now.taken) 0 refl));
 }

@@ -52,9 +52,9 @@ returns-clause-serves c = record {
       let room : c.in-Ok.wanted ≡ wanted Last s (length c.args.input) = rw c.as_slice.ensures at c.in-Ok.ensures.room in
       gives-is _ (asks_within (single_function c.args.direction) c.args.session (Ciphers Last (operation_of s) c.args.input) (wanted Last s (length c.args.input)) c.args.room v) k c.args.desk.now _ _
       (single-asks v c.args.session c.args.direction s met.0 c.args.input c.args.room met.1 (rw c.in-Ok.is at met.2))
-      (rw (c.single_function.ensures, c.copied-stream.ensures, room) at (c.ask_within.ensures.gives k fits));
+      (rw (c.single_function.ensures, c.copied-stream.ensures, room) at (c.in_ok-ask_within.ensures.gives k fits));
   cause = search rules;
-  short = λ few. c.ask_within.ensures.short (λ n is.
+  short = λ few. c.in_ok-ask_within.ensures.short (λ n is.
       let none = eqb-true _ _ (not-false _ (sym c.has_taken.ensures ∙ c.if-has_taken.false)) in
       rw c.copied-stream.ensures (single-short c.in_ok-operation.operation.now.mechanism c.in_ok-operation.operation.now.direction (length c.in_ok-operation.operation.now.taken) (length c.args.input) none (room-short c.args.input c.args.room few n is)));
 }

@@ -23,8 +23,8 @@ returns-clause-serves c = record {
       let room : c.in-Ok.wanted ≡ wanted Update s (length c.args.input) = rw c.as_slice.ensures at c.in-Ok.ensures.room in
       gives-is _ (asks_within (update_function c.args.direction) c.args.session (Ciphers Update (operation_of s) c.args.input) (wanted Update s (length c.args.input)) c.args.room v) k d _ _
       (update-asks v c.args.session c.args.direction s way c.args.input c.args.room (rw c.in-Ok.is at told))
-      (rw (c.update_function.ensures, c.copied-stream.ensures, room) at (c.ask_within.ensures.gives k fits));
+      (rw (c.update_function.ensures, c.copied-stream.ensures, room) at (c.in_ok-ask_within.ensures.gives k fits));
   cause = search rules;
-  short = λ few. c.ask_within.ensures.short (λ n is.
+  short = λ few. c.in_ok-ask_within.ensures.short (λ n is.
       rw c.copied-stream.ensures (update-short c.in_ok-operation.operation.now.mechanism c.in_ok-operation.operation.now.direction (length c.in_ok-operation.operation.now.taken) (length c.args.input) (room-short c.args.input c.args.room few n is)));
 }

@@ -32,7 +32,7 @@ returns-clause-serves c = record {
       ∙ ap (λ o. wraps v c.args.session c.args.mechanism.now (Some w) o c.args.room) c.key_in-key.ensures.found in
       gives-is _ (asks_within functions.WrapKey c.args.session (WrapsKey (Some c.aes_key.result) (Some value)) (length value + 8) c.args.room v) x d _ _
       (found ∙ wraps-asks v c.args.session c.args.mechanism.now c.args.room (ap is_none s.1) c.in_ok-ok_or-2.field-0 (sym c.find_for.ensures ∙ c.in_ok-ok_or-2.ensures.ok_part) (sym c.is_empty.ensures ∙ c.if-not-is_empty.false) w k may c.aes_key.result value c.aes_key.ensures c.value_of-value.ensures.value c.value_of-value.ensures.length (sym c.is_value_length.ensures ∙ c.if-not-is_value_length.false))
-      (rw (c.in_ok-from_slice.ensures, c.wrapped_len-wanted.ensures) at (c.ask_within.ensures.gives x fits));
+      (rw (c.in_ok-from_slice.ensures, c.wrapped_len-wanted.ensures) at (c.in_ok-ask_within.ensures.gives x fits));
   cause = search rules;
-  short = λ _. c.ask_within.ensures.short (λ n is. rw (c.in_ok-from_slice.ensures) c.value_of-value.ensures.within);
+  short = λ _. c.in_ok-ask_within.ensures.short (λ n is. rw (c.in_ok-from_slice.ensures) c.value_of-value.ensures.within);
 }

@@ -23,7 +23,7 @@ returns-clause-serves c = record {
       let fresh : mac_has_taken (mac_of a) ≡ false = sym c.has_taken.ensures ∙ c.if-has_taken.false in
       gives-is _ (asks_within functions.Sign c.args.session (Signs (mac_of a) c.args.input) (code_length a.mechanism) c.args.room v) k d _ _
       (sign-asks v c.args.session a way c.args.room c.args.input fresh)
-      (rw (c.copied-mac.ensures, c.code_len-wanted.ensures, c.mechanism.ensures.value) at (c.ask_within.ensures.gives k fits));
+      (rw (c.copied-mac.ensures, c.code_len-wanted.ensures, c.mechanism.ensures.value) at (c.in_ok-ask_within.ensures.gives k fits));
   cause = search rules;
   short = search rules;
 }

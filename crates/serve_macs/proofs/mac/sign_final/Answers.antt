@@ -21,7 +21,7 @@ returns-clause-serves c = record {
       let way : mac_in (session_at d.sessions.sessions c.args.session) places.Sign ≡ Some (mac_of a) = sym c.mac.ensures ∙ ap (λ r. option_map mac_of (option_copied r)) c.in_ok-mac.ensures.ok_part in
       gives-is _ (asks_within functions.SignFinal c.args.session (Signs (mac_of a) []) (code_length a.mechanism) c.args.room v) k d _ _
       (final-asks v c.args.session a way c.args.room)
-      (rw (c.copied-mac.ensures, c.from_vec.ensures ∙ c.new.ensures.items, c.code_len-wanted.ensures, c.mechanism.ensures.value) at (c.ask_within.ensures.gives k fits));
+      (rw (c.copied-mac.ensures, c.from_vec.ensures ∙ c.new.ensures.items, c.code_len-wanted.ensures, c.mechanism.ensures.value) at (c.in_ok-ask_within.ensures.gives k fits));
   cause = search rules;
   short = search rules;
 }
