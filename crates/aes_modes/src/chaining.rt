@@ -6,7 +6,7 @@ ghost use Rattle.aes_modes.specs.Blocks.{IsWhole};
 ghost use Rattle.aes_modes.specs.Modes.{chained, cbc_blocks, cbc_enciphered};
 ghost use Rattle.aes_modes.specs.Directions.{IsTurned};
 
-use crate::blocks::is_key;
+use crate::blocks::{is_key, push_number, xor_number};
 use crate::{Direction, ModeFault};
 use aes_block::{BLOCK_SIZE, Block, Key, are_bytes, block_at, xor_blocks};
 use std::alloc::{AllocError, Global};
@@ -24,12 +24,13 @@ pub(crate) fn encipher_blocks(
         out.new.items ≡ out.old.items ++ cbc_blocks key.now iv text.now (length text.now / 16)) }
     ensures chained { IfOk result (λ next. next ≡ chained key.now iv text.now (length text.now / 16)) }
 {
-    let mut before = iv;
+    are_bytes(&iv);
+    let mut before = u128::from_be_bytes(iv);
     'turns: for i in 0..text.len() / BLOCK_SIZE {
-        before = key.encipher(xor_blocks(block_at(text, i), before));
-        out.extend_from_slice(&before)?;
+        before = key.encipher_number(xor_number(block_at(text, i), before));
+        push_number(out, before)?;
     }
-    Ok(before)
+    Ok(before.to_be_bytes())
 }
 
 fn enciphered(alloc: Global, key: &Key, iv: Block, text: &[u8]) -> Result<Vec<u8>, AllocError>

@@ -11,7 +11,7 @@ use std::io::ErrorKind;
 use std::os::unix::net::UnixListener;
 
 /// How many bytes are read at once.
-const READ_LEN: usize = 4096;
+const READ_LEN: usize = 32_768;
 
 /// Accepts one connection after the other, each an application of its own.
 #[derive(Drop)]

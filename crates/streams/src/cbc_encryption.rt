@@ -6,8 +6,8 @@ ghost use Rattle.streams.specs.Flows.{begun, further};
 ghost use Rattle.streams.specs.CbcFlows.{IsCbcEnciphered};
 
 use crate::kept::Kept;
-use aes_block::{BLOCK_SIZE, Block, Key, xor_blocks};
-use aes_modes::filled_block;
+use aes_block::{BLOCK_SIZE, Block, Key, are_bytes, xor_blocks};
+use aes_modes::{filled_block, push_number, xor_number};
 use noted::Noted;
 use std::alloc::{AllocError, Global};
 use std::marker::Model;
@@ -51,12 +51,13 @@ fn enciphered_blocks(
     ensures chain { IfOk result (λ r. r.1 ≡ chained key.now start (kept.now ++ piece.now) blocks) }
 {
     let mut out = Vec::with_capacity(alloc, kept.len() + piece.len())?;
-    let mut chain = start;
+    are_bytes(&start);
+    let mut chain = u128::from_be_bytes(start);
     'turns: for i in 0..blocks {
-        chain = key.encipher(xor_blocks(kept.block(piece, i), chain));
-        out.extend_from_slice(&chain)?;
+        chain = key.encipher_number(xor_number(kept.block(piece, i), chain));
+        push_number(&mut out, chain)?;
     }
-    Ok((out, chain))
+    Ok((out, chain.to_be_bytes()))
 }
 
 impl CbcEncryption {

@@ -72,10 +72,11 @@ pub fn read_call(alloc: Global, payload: &[u8]) -> Result<Call, WireFault>
 pub fn write_call(alloc: Global, call: &Call) -> Result<Vec<u8>, WireFault>
     ensures { Writes (call_payload call.now) (Fits-fields call.now) result }
 {
-    if fields_len(call).saturating_add(2) > MAX_PAYLOAD_LEN {
+    let payload_len = fields_len(call).saturating_add(2);
+    if payload_len > MAX_PAYLOAD_LEN {
         return Err(WireFault::TooLong);
     }
-    let mut frame = frame_start(alloc)?;
+    let mut frame = frame_start(alloc, payload_len)?;
     frame.extend_from_slice(&Function::of(call).number().to_be_bytes())?;
     encode_fields(call, &mut frame)?;
     framed(frame)

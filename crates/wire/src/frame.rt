@@ -12,11 +12,13 @@ pub const MAX_PAYLOAD_LEN: usize = 1_048_576;
 /// How many bytes the length of a payload takes.
 const LEN_BYTES: usize = 4;
 
-/// The place of a length, behind which a payload is to be written.
-pub(crate) fn frame_start(alloc: Global) -> Result<Vec<u8>, AllocError>
+/// The place of a length, behind which a payload of so many bytes is to be written. Its memory is taken at once.
+pub(crate) fn frame_start(alloc: Global, payload_len: usize) -> Result<Vec<u8>, AllocError>
     ensures { IfOk result (λ v. v.items ≡ replicate 4 0) }
 {
-    vec![in alloc; 0; LEN_BYTES]
+    let mut frame = Vec::with_capacity(alloc, payload_len.saturating_add(LEN_BYTES))?;
+    frame.extend_from_slice(&[0; LEN_BYTES])?;
+    Ok(frame)
 }
 
 /// The frame of the payload behind the place of its length. Nothing is copied but the length.

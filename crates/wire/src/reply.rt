@@ -240,10 +240,11 @@ pub fn write_reply(alloc: Global, reply: &Reply) -> Result<Vec<u8>, WireFault>
     ensures fits { IsWithinLimits reply.now → Fits-reply reply.now }
 {
     reply_fits(reply);
-    if reply_len(reply) > MAX_PAYLOAD_LEN {
+    let payload_len = reply_len(reply);
+    if payload_len > MAX_PAYLOAD_LEN {
         return Err(WireFault::TooLong);
     }
-    let mut frame = frame_start(alloc)?;
+    let mut frame = frame_start(alloc, payload_len)?;
     encode_reply(reply, &mut frame)?;
     framed(frame)
 }
