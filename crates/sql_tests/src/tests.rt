@@ -1,5 +1,6 @@
 mod crashes;
 mod damage;
+mod disks;
 mod formats;
 mod given;
 mod old;

@@ -1,20 +1,16 @@
 //! What a crash leaves, over files in memory that fail after so many calls.
 
+use super::disks::{MANY, Work, crashed, fused, new_files, work_in};
 use super::given::{Change, are_same, make};
 use Change::{Insert, Remove, Replace, Reset, SetRecord};
 use keep::{Keep, KeepFault, ListKeep};
 use keep_sql::SqlKeep;
 use pin_record::Record;
-use sqlite::{Alter, Connection, FileStore, Files, Options};
-use sqlite_disk::{Crash, Disk, Fuse, Memory};
+use sqlite::{Alter, Connection, Files};
+use sqlite_disk::{Fuse, Memory};
 use std::alloc::Global;
 use std::process::Abort;
 use std::test::Fail;
-
-type Machine = Fuse<Memory>;
-
-/// More calls than a run makes.
-const MANY: u64 = 1 << 40;
 
 const CHANGES: [Change; 8] = [
     SetRecord(1),
@@ -26,27 +22,6 @@ const CHANGES: [Change; 8] = [
     Reset(3),
     Insert(4),
 ];
-
-fn files(alloc: Global, log: u64, db: u64) -> Files<Machine> {
-    Files {
-        log: Fuse::new(Memory::new(alloc), log),
-        db: Fuse::new(Memory::new(alloc), db),
-    }
-}
-
-/// The store in the files, or the files where they couldn't be opened.
-fn open<D: Disk + Drop>(alloc: Global, files: Files<D>) -> Result<SqlKeep<FileStore<D>>, Files<D>> {
-    if !files.may_be_used() {
-        return Err(files);
-    }
-    match Connection::open_files(alloc, files, Options::new(1)) {
-        Ok(conn) => match SqlKeep::from_connection(alloc, conn) {
-            Ok(keep) => Ok(keep),
-            Err((_, conn)) => Err(conn.into_store().close()),
-        },
-        Err((_, left)) => Err(left.into_files()),
-    }
-}
 
 /// Makes the changes up to the first that is refused. Answers how many were made, and whether the
 /// refusal was counted.
@@ -62,26 +37,26 @@ fn make_all<K: Keep>(alloc: Global, keep: &mut K) -> (usize, bool) {
     (CHANGES.len(), true)
 }
 
-/// The files as a crash leaves them.
-fn crashed(mut files: Files<Machine>) -> Files<Machine> {
-    files.log.crash();
-    files.db.crash();
-    files
+/// The changes that were made, up to the first that is refused, and whether the refusal was counted: none where the store isn't
+/// opened.
+#[derive(Clone, Copy)]
+struct Made {
+    changes: usize,
+    is_counted: bool,
 }
 
-/// Makes the changes up to the first that is refused, as `make_all`.
-fn made<S: Alter + Drop>(alloc: Global, mut keep: SqlKeep<S>) -> (S, usize, bool) {
-    let (changes, is_counted) = make_all(alloc, &mut keep);
-    (keep.close().into_store(), changes, is_counted)
-}
-
-/// Opens the store, makes the changes up to the first that is refused, and crashes.
-fn run(alloc: Global, files: Files<Machine>) -> (Files<Machine>, usize, bool) {
-    match open(alloc, files) {
-        Err(files) => (crashed(files), 0, true),
-        Ok(keep) => {
-            let (store, changes, is_counted) = made(alloc, keep);
-            (crashed(store.close()), changes, is_counted)
+impl Work for Made {
+    fn over<S: Alter + Drop>(
+        &mut self,
+        alloc: Global,
+        conn: Connection<S>,
+    ) -> Result<Connection<S>, Fail> {
+        match SqlKeep::from_connection(alloc, conn) {
+            Ok(mut keep) => {
+                (self.changes, self.is_counted) = make_all(alloc, &mut keep);
+                Ok(keep.close())
+            }
+            Err((_, conn)) => Ok(conn),
         }
     }
 }
@@ -95,35 +70,57 @@ fn has_changes<K: Keep>(alloc: Global, keep: &mut K, changes: usize) -> Result<b
     are_same(alloc, keep, &mut model)
 }
 
-/// Whether a store has what so many changes make, or these and the next.
-fn has_changes_or_one<S: Alter + Drop>(
-    alloc: Global,
-    mut keep: SqlKeep<S>,
-    changes: usize,
-) -> Result<bool, Fail> {
-    if has_changes(alloc, &mut keep, changes)? {
+/// Whether a keeper has what so many changes make, or these and the next.
+fn has_changes_or_one<K: Keep>(alloc: Global, keep: &mut K, changes: usize) -> Result<bool, Fail> {
+    if has_changes(alloc, keep, changes)? {
         return Ok(true);
     }
     if changes >= CHANGES.len() {
         return Ok(false);
     }
-    has_changes(alloc, &mut keep, changes + 1)
+    has_changes(alloc, keep, changes + 1)
 }
 
-/// Whether the store in the files has what so many changes make, or these and the next.
-fn is_kept(alloc: Global, files: Files<Machine>, changes: usize) -> Result<bool, Fail> {
-    match open(alloc, files) {
-        Ok(keep) => has_changes_or_one(alloc, keep, changes),
-        Err(_) => Ok(false),
+/// Whether the store has what so many changes make, or these and the next: not so where it isn't opened.
+#[derive(Clone, Copy)]
+struct Kept {
+    changes: usize,
+    is_kept: bool,
+}
+
+impl Work for Kept {
+    fn over<S: Alter + Drop>(
+        &mut self,
+        alloc: Global,
+        conn: Connection<S>,
+    ) -> Result<Connection<S>, Fail> {
+        match SqlKeep::from_connection(alloc, conn) {
+            Ok(mut keep) => {
+                let is_kept = has_changes_or_one(alloc, &mut keep, self.changes);
+                let conn = keep.close();
+                self.is_kept = is_kept?;
+                Ok(conn)
+            }
+            Err((_, conn)) => Ok(conn),
+        }
     }
 }
 
 /// Whether a run made all changes. It leaves what was acknowledged, or that and the next change.
 fn is_whole(rt: &impl Abort, alloc: Global, log: u64, db: u64) -> Result<bool, Fail> {
-    let (left, changes, is_counted) = run(alloc, files(alloc, log, db));
-    assert!(rt; is_counted, "log {log}, db {db}");
-    assert!(rt; is_kept(alloc, left, changes)?, "log {log}, db {db}");
-    Ok(changes == CHANGES.len())
+    let mut made = Made {
+        changes: 0,
+        is_counted: true,
+    };
+    let left = work_in(alloc, fused(new_files(alloc), log, db), &mut made)?;
+    let mut kept = Kept {
+        changes: made.changes,
+        is_kept: false,
+    };
+    work_in(alloc, crashed(left), &mut kept)?;
+    assert!(rt; made.is_counted, "log {log}, db {db}");
+    assert!(rt; kept.is_kept, "log {log}, db {db}");
+    Ok(made.changes == CHANGES.len())
 }
 
 #[test]
