@@ -1,9 +1,9 @@
 -- The cases of the term that the key expansion adds.
 use Rattle.std.proofs.Common.{◌≡◌, ℕ, ◌/◌, ◌%◌, ◌<◌, ◌≤◌, List, ◌==◌, ◌&&◌, nat_lt, cond, eq-eqb, lt-ltb, ◌∙◌}
 use Rattle.std.proofs.lemmas.Bool.{ne_eqb, le-ltb, cond-true, cond-false, and_from, and_left, and_right}
-use Rattle.aes_block.specs.Bytes.{xor_bytes}
-use Rattle.aes_block.specs.Cipher.{substitute_bytes}
-use Rattle.aes_block.specs.KeyExpansion.{rotate_word, round_constant, expansion_term}
+use Rattle.fips_197.specs.Bytes.{xor_bytes}
+use Rattle.fips_197.specs.Cipher.{substitute_bytes}
+use Rattle.fips_197.specs.KeyExpansion.{rotate_word, round_constant, expansion_term}
 
 module _ (nk i : ℕ) (before : List ℕ) where
   -- the term where i isn't a multiple of nk

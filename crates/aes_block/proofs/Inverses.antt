@@ -1,9 +1,9 @@
 -- The equivalent inverse cipher leads back from the cipher, and the cipher from it.
 use Rattle.std.proofs.Common.{◌≡◌, ℕ, zero, suc, ◌-◌, ◌<◌, ◌≤◌, List, ap, sym, ◌∙◌, arith}
-use Rattle.aes_block.specs.Bytes.{IsBlock, xor_bytes}
-use Rattle.aes_block.specs.Cipher.{mix_columns, add_round_key, round, last_round, round_key, state_after, cipher}
-use Rattle.aes_block.specs.InverseCipher.{inverse_mix_columns, inverse_round, inverse_last_round, inverse_state_after, inverse_cipher}
-use Rattle.aes_block.proofs.Blocks.{xor_bytes-twice}
+use Rattle.fips_197.specs.Bytes.{IsBlock, xor_bytes}
+use Rattle.fips_197.specs.Cipher.{mix_columns, add_round_key, round, last_round, round_key, state_after, cipher}
+use Rattle.fips_197.specs.InverseCipher.{inverse_mix_columns, inverse_round, inverse_last_round, inverse_state_after, inverse_cipher}
+use Rattle.fips_197.proofs.Blocks.{xor_bytes-twice}
 use Rattle.aes_block.proofs.Steps.{shifted, unshifted, IsBlock-shifted, IsBlock-unshifted, shifted-unshifted, unshifted-shifted, IsBlock-mix_columns, IsBlock-inverse_mix_columns, mix_columns-xor, inverse_mix_columns-xor, mix_columns-undone, inverse_mix_columns-undone, IsBlock-add_round_key, IsBlock-round, IsBlock-last_round, IsBlock-inverse_round, IsBlock-inverse_last_round}
 
 -- what is added twice is gone

@@ -3,12 +3,12 @@ use Rattle.std.proofs.Common.{◌≡◌, ℕ, zero, suc, ◌+◌, ◌-◌, ◌*�
 use Rattle.std.proofs.lemmas.List.{length-append, take-append-le, take_all, drop-append-le, drop_at, length-take-le, length-drop}
 use Rattle.std.proofs.lemmas.Bool.{cond_both, cases_lt}
 use Rattle.std.proofs.lemmas.List.Elements.{All-take, All-drop}
-use Rattle.aes_block.specs.Bytes.{AreBytes, IsBlock, xor_bytes}
-use Rattle.aes_block.specs.Cipher.{substitute_bytes, round_key}
-use Rattle.aes_block.specs.KeyExpansion.{IsKeyLength, IsKey, word_count, round_count, word, rotate_word, power_of_x, round_constant, expansion_term, expanded_words, key_expansion}
-use Rattle.aes_block.specs.Encipher.{enciphered_block}
-use Rattle.aes_block.proofs.FieldLaws.{product-lt}
-use Rattle.aes_block.proofs.Blocks.{AreBytes-at, AreBytes-four, AreBytes-append, AreBytes-xor_bytes, length-xor_bytes}
+use Rattle.fips_197.specs.Bytes.{AreBytes, IsBlock, xor_bytes}
+use Rattle.fips_197.specs.Cipher.{substitute_bytes, round_key}
+use Rattle.fips_197.specs.KeyExpansion.{IsKeyLength, IsKey, word_count, round_count, word, rotate_word, power_of_x, round_constant, expansion_term, expanded_words, key_expansion}
+use Rattle.fips_197.specs.Encipher.{enciphered_block}
+use Rattle.fips_197.proofs.FieldLaws.{product-lt}
+use Rattle.fips_197.proofs.Blocks.{AreBytes-at, AreBytes-four, AreBytes-append, AreBytes-xor_bytes, length-xor_bytes}
 use Rattle.aes_block.proofs.Steps.{AreBytes-substitute_bytes, length-substitute_bytes}
 use Rattle.aes_block.proofs.Inverses.{IsBlock-cipher}
 

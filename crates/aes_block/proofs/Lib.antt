@@ -1,10 +1,7 @@
-pub mod Checks
-pub mod FieldLaws
 pub mod SBoxEntries
 pub mod WordTests
 pub mod MixEntries
 pub mod RoundConstants
-pub mod Blocks
 pub mod TextBlocks
 pub mod WordProducts
 pub mod Steps
@@ -16,4 +13,3 @@ pub mod ExpansionTerms
 pub mod KeySchedules
 pub mod ScheduleWords
 pub mod StoredKeys
-pub mod StandardFacts

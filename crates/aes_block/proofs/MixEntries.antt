@@ -1,10 +1,10 @@
 -- The entries of the tables of rows.
 use Rattle.std.proofs.Common.{◌≡◌, ℕ, zero, suc, ◌<◌, ◌∙◌, ◌&&◌, Bool, true, List, [], get_or, ap, refl, arith}
 use Rattle.std.proofs.lemmas.Bool.{agree_below, agree_below_at, and_parts}
-use Rattle.aes_block.specs.Field.{bit, terms_product, remainder, product}
-use Rattle.aes_block.specs.SBox.{s_box, inverse_s_box}
-use Rattle.aes_block.specs.Cipher.{mix_polynomial}
-use Rattle.aes_block.specs.InverseCipher.{inverse_mix_polynomial}
+use Rattle.fips_197.specs.Field.{bit, terms_product, remainder, product}
+use Rattle.fips_197.specs.SBox.{s_box, inverse_s_box}
+use Rattle.fips_197.specs.Cipher.{mix_polynomial}
+use Rattle.fips_197.specs.InverseCipher.{inverse_mix_polynomial}
 use Rattle.aes_block.specs.Words.{word_bytes, matrix_column, multiples}
 use Rattle.aes_block.specs.declared.tables.TheConstants.{S_BOX, INVERSE_S_BOX, MIXED_ROWS, INVERSE_MIXED_ROWS}
 use Rattle.aes_block.proofs.WordTests.{same_word, same_word-tells}

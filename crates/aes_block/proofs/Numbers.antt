@@ -2,9 +2,9 @@
 use Rattle.std.proofs.Common.{◌≡◌, ℕ, ◌+◌, ◌/◌, ◌%◌, ◌^◌, ◌<◌, List, [], ◌∷◌, ◌++◌, get_or, bit_xor, refl, sym, ◌∙◌, arith}
 use Rattle.std.specs.Int.{w32, w128, from_be_bytes, to_be_bytes}
 use Rattle.std.proofs.lemmas.Nat.{xor_shr, xor_mod, be_bytes_4}
-use Rattle.aes_block.specs.Bytes.{AreBytes, IsBlock, xor_bytes}
+use Rattle.fips_197.specs.Bytes.{AreBytes, IsBlock, xor_bytes}
 use Rattle.aes_block.specs.Words.{word_bytes}
-use Rattle.aes_block.proofs.Blocks.{AreBytes-at, AreBytes-four, by_bytes}
+use Rattle.fips_197.proofs.Blocks.{AreBytes-at, AreBytes-four, by_bytes}
 
 -- ---- the words of a number
 

@@ -1,8 +1,8 @@
 -- The words of the table of round constants.
 use Rattle.std.proofs.Common.{◌≡◌, ℕ, ◌+◌, ◌-◌, ◌≤◌, ◌∙◌, true, get_or, ap, refl, arith}
 use Rattle.std.proofs.lemmas.Bool.{agree_below, agree_below_at}
-use Rattle.aes_block.specs.Field.{bit, terms_product, remainder, product}
-use Rattle.aes_block.specs.KeyExpansion.{power_of_x, round_constant}
+use Rattle.fips_197.specs.Field.{bit, terms_product, remainder, product}
+use Rattle.fips_197.specs.KeyExpansion.{power_of_x, round_constant}
 use Rattle.aes_block.specs.Words.{word_bytes}
 use Rattle.aes_block.specs.declared.key_expansion.TheConstants.{ROUND_CONSTANTS}
 use Rattle.aes_block.proofs.WordTests.{same_word, same_word-tells}

@@ -1,10 +1,10 @@
 -- The entries of the S-box and of its inverse, and that each undoes the other.
 use Rattle.std.proofs.Common.{◌≡◌, ℕ, ◌<◌, ◌∙◌, ◌==◌, ap, sym, true, get_or, refl}
 use Rattle.std.proofs.lemmas.Bool.{agree_below}
-use Rattle.aes_block.specs.Field.{bit, terms_product, remainder, product, inverse_below, inverse}
-use Rattle.aes_block.specs.SBox.{from_bits, affine, s_box, inverse_affine, inverse_s_box}
+use Rattle.fips_197.specs.Field.{bit, terms_product, remainder, product, inverse_below, inverse}
+use Rattle.fips_197.specs.SBox.{from_bits, affine, s_box, inverse_affine, inverse_s_box}
 use Rattle.aes_block.specs.declared.tables.TheConstants.{S_BOX, INVERSE_S_BOX}
-use Rattle.aes_block.proofs.Checks.{same_below, bounded_below}
+use Rattle.fips_197.proofs.Checks.{same_below, bounded_below}
 
 S_BOX-checked : agree_below (λ k. get_or S_BOX k 0 == s_box k) (λ _. true) 256 ≡ true
 unfolding bit terms_product remainder product inverse_below inverse from_bits affine s_box

@@ -2,13 +2,13 @@
 use Rattle.std.proofs.Common.{◌≡◌, ℕ, ◌+◌, ◌-◌, ◌*◌, ◌%◌, ◌<◌, List, [], ◌∷◌, length, map, ap, refl, sym, subst, ◌∙◌}
 use Rattle.std.proofs.lemmas.List.{length-map}
 use Rattle.std.proofs.lemmas.List.Elements.{All-map, All-head, All-tail}
-use Rattle.aes_block.specs.Bytes.{AreBytes, IsBlock, xor_bytes}
-use Rattle.aes_block.specs.SBox.{s_box, inverse_s_box}
-use Rattle.aes_block.specs.State.{byte_at, state}
-use Rattle.aes_block.specs.Cipher.{substitute_bytes, shift_rows, mix_polynomial, mix_columns, add_round_key, round, last_round}
-use Rattle.aes_block.specs.InverseCipher.{inverse_shift_rows, inverse_substitute_bytes, inverse_mix_polynomial, inverse_mix_columns, inverse_round, inverse_last_round}
+use Rattle.fips_197.specs.Bytes.{AreBytes, IsBlock, xor_bytes}
+use Rattle.fips_197.specs.SBox.{s_box, inverse_s_box}
+use Rattle.fips_197.specs.State.{byte_at, state}
+use Rattle.fips_197.specs.Cipher.{substitute_bytes, shift_rows, mix_polynomial, mix_columns, add_round_key, round, last_round}
+use Rattle.fips_197.specs.InverseCipher.{inverse_shift_rows, inverse_substitute_bytes, inverse_mix_polynomial, inverse_mix_columns, inverse_round, inverse_last_round}
 use Rattle.aes_block.proofs.SBoxEntries.{s_box-lt, inverse_s_box-lt, s_box-inverse_s_box, inverse_s_box-s_box}
-use Rattle.aes_block.proofs.Blocks.{AreBytes-at, IsBlock-state, IsBlock-xor_bytes, by_bytes}
+use Rattle.fips_197.proofs.Blocks.{AreBytes-at, IsBlock-state, IsBlock-xor_bytes, by_bytes}
 use Rattle.aes_block.proofs.WordProducts.{IsBlock-multiply_columns, multiply_columns-xor, multiply_columns-undone, mix-undoes-inverse, inverse-undoes-mix}
 
 -- ---- the S-box at each byte

@@ -2,11 +2,11 @@
 use Rattle.std.proofs.Common.{◌≡◌, ℕ, zero, suc, ◌+◌, ◌-◌, ◌*◌, ◌/◌, ◌<◌, ◌≤◌, List, length, take, drop, ap, refl, sym, subst, ◌∙◌, arith}
 use Rattle.std.proofs.lemmas.List.{take-take, drop-take}
 use Rattle.std.proofs.lemmas.List.Elements.{All-take}
-use Rattle.aes_block.specs.Bytes.{IsBlock}
-use Rattle.aes_block.specs.Cipher.{add_round_key, round, last_round, round_key, state_after, cipher}
-use Rattle.aes_block.specs.KeyExpansion.{IsKeyLength, IsKey, word_count, round_count, key_expansion}
-use Rattle.aes_block.specs.InverseCipher.{inverse_mix_columns}
-use Rattle.aes_block.specs.Encipher.{enciphered_block}
+use Rattle.fips_197.specs.Bytes.{IsBlock}
+use Rattle.fips_197.specs.Cipher.{add_round_key, round, last_round, round_key, state_after, cipher}
+use Rattle.fips_197.specs.KeyExpansion.{IsKeyLength, IsKey, word_count, round_count, key_expansion}
+use Rattle.fips_197.specs.InverseCipher.{inverse_mix_columns}
+use Rattle.fips_197.specs.Encipher.{enciphered_block}
 use Rattle.aes_block.specs.Words.{words_bytes}
 use Rattle.aes_block.specs.StoredKey.{key_bytes, IsExpanded}
 use Rattle.aes_block.specs.declared.Key.TheInside.{Inside}

@@ -2,9 +2,9 @@
 use Rattle.std.proofs.Common.{◌≡◌, ℕ, zero, suc, ◌+◌, ◌-◌, ◌*◌, ◌/◌, ◌^◌, ◌<◌, List, take, drop, ap, arith, mod-lt, lit<}
 use Rattle.std.specs.Int.{byte_at, bytes_high_first}
 use Rattle.std.proofs.lemmas.List.Elements.{All-nil}
-use Rattle.aes_block.specs.Bytes.{AreBytes}
+use Rattle.fips_197.specs.Bytes.{AreBytes}
 use Rattle.aes_block.specs.Texts.{block_of}
-use Rattle.aes_block.proofs.Blocks.{AreBytes-cons}
+use Rattle.fips_197.proofs.Blocks.{AreBytes-cons}
 
 -- what a slice of 16 bytes is
 pub block_of-slice : (text : List ℕ) (i : ℕ) → take (16 * i + 16 - 16 * i) (drop (16 * i) text) ≡ block_of text i

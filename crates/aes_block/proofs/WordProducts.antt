@@ -5,16 +5,16 @@ use Rattle.std.specs.Prelude.{if◌then◌else◌}
 use Rattle.std.specs.Int.Bits.{xor_zero_l, xor_zero_r}
 use Rattle.std.proofs.lemmas.Nat.{xor_lt}
 use Rattle.std.proofs.lemmas.Bool.{agree_below, agree_below_at}
-use Rattle.aes_block.specs.Bytes.{AreBytes, IsBlock, xor_bytes}
-use Rattle.aes_block.specs.Field.{bit, terms_product, remainder, product}
-use Rattle.aes_block.specs.State.{byte_at, column, columns}
-use Rattle.aes_block.specs.WordPolynomial.{coefficient, word_product}
-use Rattle.aes_block.specs.Cipher.{multiply_columns, mix_polynomial}
-use Rattle.aes_block.specs.InverseCipher.{inverse_mix_polynomial}
+use Rattle.fips_197.specs.Bytes.{AreBytes, IsBlock, xor_bytes}
+use Rattle.fips_197.specs.Field.{bit, terms_product, remainder, product}
+use Rattle.fips_197.specs.State.{byte_at, column, columns}
+use Rattle.fips_197.specs.WordPolynomial.{coefficient, word_product}
+use Rattle.fips_197.specs.Cipher.{multiply_columns, mix_polynomial}
+use Rattle.fips_197.specs.InverseCipher.{inverse_mix_polynomial}
 use Rattle.aes_block.specs.Words.{matrix_column, multiples}
-use Rattle.aes_block.proofs.FieldLaws.{swapped_middle, product-xor, product-lt}
+use Rattle.fips_197.proofs.FieldLaws.{swapped_middle, product-xor, product-lt}
 use Rattle.aes_block.proofs.WordTests.{same_word, same_word-tells}
-use Rattle.aes_block.proofs.Blocks.{AreBytes-at, AreBytes-four, IsBlock-columns, get_or-xor_bytes, by_bytes}
+use Rattle.fips_197.proofs.Blocks.{AreBytes-at, AreBytes-four, IsBlock-columns, get_or-xor_bytes, by_bytes}
 
 -- the product by the columns of the matrix of a
 pub word_product-columns : (p : List ℕ) (a b c d : ℕ)

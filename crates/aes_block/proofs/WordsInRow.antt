@@ -2,15 +2,15 @@
 use Rattle.std.proofs.Common.{◌≡◌, ℕ, zero, suc, ◌+◌, ◌*◌, ◌/◌, ◌%◌, ◌^◌, ◌<◌, ◌≤◌, List, [], ◌∷◌, ◌++◌, length, take, drop, get_or, ap, refl, sym, subst, ◌∙◌, arith}
 use Rattle.std.proofs.lemmas.List.{drop_more}
 use Rattle.std.proofs.lemmas.List.Elements.{All-nil}
-use Rattle.aes_block.specs.Bytes.{AreBytes}
-use Rattle.aes_block.specs.State.{byte_at, column, columns}
-use Rattle.aes_block.specs.WordPolynomial.{word_product}
-use Rattle.aes_block.specs.Cipher.{multiply_columns, round_key}
-use Rattle.aes_block.specs.KeyExpansion.{word}
-use Rattle.aes_block.specs.InverseCipher.{inverse_mix_polynomial, inverse_mix_columns}
+use Rattle.fips_197.specs.Bytes.{AreBytes}
+use Rattle.fips_197.specs.State.{byte_at, column, columns}
+use Rattle.fips_197.specs.WordPolynomial.{word_product}
+use Rattle.fips_197.specs.Cipher.{multiply_columns, round_key}
+use Rattle.fips_197.specs.KeyExpansion.{word}
+use Rattle.fips_197.specs.InverseCipher.{inverse_mix_polynomial, inverse_mix_columns}
 use Rattle.aes_block.specs.Words.{word_bytes, words_bytes, state_bytes}
 use Rattle.aes_block.specs.declared.state.State.{State}
-use Rattle.aes_block.proofs.Blocks.{AreBytes-append, four_more}
+use Rattle.fips_197.proofs.Blocks.{AreBytes-append, four_more}
 use Rattle.aes_block.proofs.RoundWords.{AreBytes-word_bytes}
 
 drop-nil : (n : ℕ) → drop {A = ℕ} n [] ≡ []

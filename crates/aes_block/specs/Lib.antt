@@ -1,12 +1,3 @@
-pub mod Bytes
 pub mod Texts
-pub mod Field
-pub mod SBox
-pub mod State
-pub mod WordPolynomial
-pub mod Cipher
-pub mod KeyExpansion
-pub mod InverseCipher
-pub mod Encipher
 pub mod Words
 pub mod StoredKey

@@ -2,9 +2,9 @@
 use Rattle.std.specs.Prelude.{◌≡◌, ℕ, ◌+◌, ◌-◌, ◌*◌, ◌<◌, ◌≤◌, List, take, length}
 use Rattle.aes_block.specs.declared.Key.TheInside.{Inside}
 use Rattle.aes_block.specs.Words.{words_bytes}
-use Rattle.aes_block.specs.Cipher.{round_key}
-use Rattle.aes_block.specs.KeyExpansion.{IsKeyLength, key_expansion, round_count}
-use Rattle.aes_block.specs.InverseCipher.{inverse_mix_columns}
+use Rattle.fips_197.specs.Cipher.{round_key}
+use Rattle.fips_197.specs.KeyExpansion.{IsKeyLength, key_expansion, round_count}
+use Rattle.fips_197.specs.InverseCipher.{inverse_mix_columns}
 
 -- the key: the first words of its schedule
 unfoldable pub key_bytes : Inside → List ℕ

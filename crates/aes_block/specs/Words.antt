@@ -1,6 +1,6 @@
 -- Bytes in words of 32 bits, as the code keeps them: the first byte highest.
 use Rattle.std.specs.Prelude.{ℕ, ◌-◌, ◌/◌, ◌%◌, ◌^◌, List, [], ◌∷◌, ◌++◌, map, slice_index}
-use Rattle.aes_block.specs.Field.{product}
+use Rattle.fips_197.specs.Field.{product}
 use Rattle.aes_block.specs.declared.state.State.{State}
 
 -- the four bytes of a word

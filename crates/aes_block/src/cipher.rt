@@ -1,9 +1,9 @@
 // A block under a key schedule.
 
 ghost use Rattle.std.specs.Prelude.{◌≡◌, ℕ, ◌<◌, ◌≤◌};
-ghost use Rattle.aes_block.specs.Bytes.{IsBlock};
-ghost use Rattle.aes_block.specs.Cipher.{round_key, cipher};
-ghost use Rattle.aes_block.specs.InverseCipher.{inverse_mix_columns, inverse_cipher};
+ghost use Rattle.fips_197.specs.Bytes.{IsBlock};
+ghost use Rattle.fips_197.specs.Cipher.{round_key, cipher};
+ghost use Rattle.fips_197.specs.InverseCipher.{inverse_mix_columns, inverse_cipher};
 ghost use Rattle.aes_block.specs.Words.{words_bytes, state_bytes};
 
 use crate::Block;

@@ -2,9 +2,9 @@
 // diagonal that falls the other way.
 
 ghost use Rattle.std.specs.Prelude.{◌≡◌, ◌<◌};
-ghost use Rattle.aes_block.specs.SBox.{inverse_s_box};
-ghost use Rattle.aes_block.specs.WordPolynomial.{word_product};
-ghost use Rattle.aes_block.specs.InverseCipher.{inverse_substitute_bytes, inverse_mix_polynomial, inverse_round, inverse_last_round};
+ghost use Rattle.fips_197.specs.SBox.{inverse_s_box};
+ghost use Rattle.fips_197.specs.WordPolynomial.{word_product};
+ghost use Rattle.fips_197.specs.InverseCipher.{inverse_substitute_bytes, inverse_mix_polynomial, inverse_round, inverse_last_round};
 ghost use Rattle.aes_block.specs.Words.{word_bytes, state_bytes, diagonal, matrix_column, multiples};
 
 use crate::round::s_box;

@@ -1,10 +1,10 @@
 // The key expansion (FIPS 197, 5.2).
 
 ghost use Rattle.std.specs.Prelude.{◌≡◌, ℕ, ◌+◌, ◌-◌, ◌*◌, ◌/◌, ◌<◌, ◌≤◌, length, take};
-ghost use Rattle.aes_block.specs.Bytes.{xor_bytes};
-ghost use Rattle.aes_block.specs.Cipher.{substitute_bytes, round_key};
-ghost use Rattle.aes_block.specs.KeyExpansion.{IsKeyLength, rotate_word, round_constant, expansion_term, round_count, key_expansion};
-ghost use Rattle.aes_block.specs.InverseCipher.{inverse_mix_columns};
+ghost use Rattle.fips_197.specs.Bytes.{xor_bytes};
+ghost use Rattle.fips_197.specs.Cipher.{substitute_bytes, round_key};
+ghost use Rattle.fips_197.specs.KeyExpansion.{IsKeyLength, rotate_word, round_constant, expansion_term, round_count, key_expansion};
+ghost use Rattle.fips_197.specs.InverseCipher.{inverse_mix_columns};
 ghost use Rattle.aes_block.specs.Words.{word_bytes, words_bytes};
 
 use crate::inverse_round::inverse_mixed_word;

@@ -15,22 +15,14 @@
 //!
 //! - `Key::new` gives a key exactly where it is given 16, 24 or 32 bytes, and the key is those
 //!   bytes.
-//! - `encipher` is the cipher as `specs/` writes it down from FIPS 197: the field of 256
-//!   elements, the S-box by inverse and affine transformation, the rows, the columns as
-//!   polynomials, the key expansion and the rounds. Each entry of each table is the definition's.
-//!   `encipher_number` is the same cipher on the bytes of a number, the highest first.
+//! - `encipher` is the cipher as `fips_197` writes it down from the standard. Each entry of each table is the
+//!   definition's. `encipher_number` is the same cipher on the bytes of a number, the highest first.
 //! - `decipher` gives the block that is enciphered to the one given, and no other block is.
 //! - `xor_blocks` is the exclusive or, byte by byte, and `block_at` a whole block of a text.
 //! - No call takes memory, and none can fail but `Key::new`, for the length.
 //!
-//! Of the definitions themselves, `proofs/` shows that each byte but 0 has an inverse and
-//! `inverse` is it (`FieldLaws`), that each word of the key schedule is the standard's sum of
-//! earlier ones (`KeySchedules`), and that they give the standard's examples, C.1 to C.3 among
-//! them (`StandardFacts`). A proof above may cite `IsBlock-enciphered_block` (`KeySchedules`) and
-//! what is known of `xor_bytes` and `IsBlock` (`Blocks`).
-//!
-//! Section numbers are those of FIPS 197 of November 2001; its update of May 2023 keeps the
-//! algorithm.
+//! `proofs/` shows besides that each word of the key schedule is the standard's sum of earlier ones (`KeySchedules`). A
+//! proof above may cite `IsBlock-enciphered_block` (`KeySchedules`) and what is known of a text's blocks (`TextBlocks`).
 //!
 //! The time that a call takes depends on secrets: the cipher reads tables at places that depend
 //! on the key and the block, and so whoever shares the processor's cache may learn of both. A key
@@ -48,9 +40,9 @@ mod word;
 
 ghost use Rattle.std.specs.Prelude.{◌≡◌, ℕ, ◌+◌, ◌/◌, ◌↔◌, List, length, IsSome, IfSome};
 ghost use Rattle.std.specs.Int.{w128, to_be_bytes};
-ghost use Rattle.aes_block.specs.Bytes.{IsBlock, xor_bytes};
-ghost use Rattle.aes_block.specs.KeyExpansion.{IsKey, IsKeyLength};
-ghost use Rattle.aes_block.specs.Encipher.{enciphered_block};
+ghost use Rattle.fips_197.specs.Bytes.{IsBlock, xor_bytes};
+ghost use Rattle.fips_197.specs.KeyExpansion.{IsKey, IsKeyLength};
+ghost use Rattle.fips_197.specs.Encipher.{enciphered_block};
 
 use key_expansion::Schedule;
 use state::State;

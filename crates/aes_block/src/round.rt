@@ -2,9 +2,9 @@
 // before it: byte 0 of one column, byte 1 of the next, and so on round the state.
 
 ghost use Rattle.std.specs.Prelude.{◌≡◌, ◌<◌};
-ghost use Rattle.aes_block.specs.SBox.{s_box};
-ghost use Rattle.aes_block.specs.WordPolynomial.{word_product};
-ghost use Rattle.aes_block.specs.Cipher.{substitute_bytes, mix_polynomial, round, last_round};
+ghost use Rattle.fips_197.specs.SBox.{s_box};
+ghost use Rattle.fips_197.specs.WordPolynomial.{word_product};
+ghost use Rattle.fips_197.specs.Cipher.{substitute_bytes, mix_polynomial, round, last_round};
 ghost use Rattle.aes_block.specs.Words.{word_bytes, state_bytes, diagonal, matrix_column, multiples};
 
 use crate::state::State;

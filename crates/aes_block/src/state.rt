@@ -2,7 +2,7 @@
 
 ghost use Rattle.std.specs.Prelude.{◌≡◌};
 ghost use Rattle.std.specs.Int.{w128, to_be_bytes};
-ghost use Rattle.aes_block.specs.Cipher.{add_round_key};
+ghost use Rattle.fips_197.specs.Cipher.{add_round_key};
 ghost use Rattle.aes_block.specs.Words.{state_bytes};
 
 use crate::Block;

@@ -1,7 +1,7 @@
 //! Texts by their blocks.
 
 ghost use Rattle.std.specs.Prelude.{◌≡◌, ◌+◌, ◌*◌, ◌≤◌, length};
-ghost use Rattle.aes_block.specs.Bytes.{AreBytes};
+ghost use Rattle.fips_197.specs.Bytes.{AreBytes};
 ghost use Rattle.aes_block.specs.Texts.{block_of};
 
 use crate::{BLOCK_SIZE, Block};

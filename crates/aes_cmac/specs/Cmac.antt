@@ -2,9 +2,9 @@
 -- counted from 0, and the standard's from 1.
 use Rattle.std.specs.Prelude.{ℕ, zero, suc, ◌+◌, ◌-◌, ◌*◌, ◌/◌, ◌%◌, ◌^◌, List, ◌∷◌, ◌++◌, length, drop, replicate, bit_xor, nat_lt, ◌==◌, if◌then◌else◌}
 use Rattle.std.specs.Int.{w128, from_be_bytes, to_be_bytes}
-use Rattle.aes_block.specs.Bytes.{xor_bytes}
+use Rattle.fips_197.specs.Bytes.{xor_bytes}
 use Rattle.aes_block.specs.Texts.{block_of}
-use Rattle.aes_block.specs.Encipher.{enciphered_block}
+use Rattle.fips_197.specs.Encipher.{enciphered_block}
 
 -- ---- the subkeys (6.1)
 

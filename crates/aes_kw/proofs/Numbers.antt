@@ -2,8 +2,8 @@
 use Rattle.std.proofs.Common.{◌≡◌, ℕ, ◌/◌, ◌%◌, ◌^◌, List, [], ◌∷◌, length, bit_xor, ap, ◌∙◌}
 use Rattle.std.specs.Int.{w64, from_be_bytes, to_be_bytes}
 use Rattle.std.proofs.lemmas.Nat.{xor_shr, xor_mod, be_bytes_8}
-use Rattle.aes_block.specs.Bytes.{AreBytes, xor_bytes}
-use Rattle.aes_block.proofs.Blocks.{AreBytes-at}
+use Rattle.fips_197.specs.Bytes.{AreBytes, xor_bytes}
+use Rattle.fips_197.proofs.Blocks.{AreBytes-at}
 use Rattle.aes_block.proofs.TextBlocks.{AreBytes-bytes_high_first}
 
 pub AreBytes-to_be_bytes : (n : ℕ) → AreBytes (to_be_bytes w64 n)

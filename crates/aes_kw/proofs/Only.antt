@@ -2,8 +2,8 @@
 use Rattle.std.proofs.Common.{◌≡◌, ℕ, zero, suc, ◌+◌, ◌*◌, ◌/◌, ◌<◌, ◌≤◌, List, ◌++◌, length, drop, ap, refl, sym, ◌∙◌, arith, lit<}
 use Rattle.std.proofs.lemmas.List.{length-append, length-drop, get_or-replicate, take-append-drop}
 use Rattle.std.proofs.lemmas.List.Elements.{All-append, All-from_get_or}
-use Rattle.aes_block.specs.Bytes.{AreBytes}
-use Rattle.aes_block.specs.KeyExpansion.{IsKey}
+use Rattle.fips_197.specs.Bytes.{AreBytes}
+use Rattle.fips_197.specs.KeyExpansion.{IsKey}
 use Rattle.aes_kw.specs.KeyWrap.{half, step, after_steps, initial_value, IsValue, wrapped}
 use Rattle.aes_kw.proofs.Rows.{half-first}
 use Rattle.aes_kw.proofs.Steps.{length-step, AreBytes-step}

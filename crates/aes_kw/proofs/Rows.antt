@@ -3,7 +3,7 @@ use Rattle.std.proofs.Common.{◌≡◌, ◌≢◌, ℕ, zero, suc, ◌+◌, ◌
 use Rattle.std.proofs.lemmas.Bool.{cases_lt}
 use Rattle.std.proofs.lemmas.List.{append-nil, append_assoc, length-append, length-drop, length-take-le, drop_at, take_at, take_all, take-append-le, drop-append-le, drop-take, take-take, drop-drop, take-append-drop}
 use Rattle.std.proofs.lemmas.List.Elements.{All-append, All-take, All-drop}
-use Rattle.aes_block.specs.Bytes.{AreBytes, IsBlock}
+use Rattle.fips_197.specs.Bytes.{AreBytes, IsBlock}
 use Rattle.aes_kw.specs.KeyWrap.{half, with_half}
 
 -- what a slice of 8 bytes is

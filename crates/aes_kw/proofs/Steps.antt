@@ -2,10 +2,10 @@
 use Rattle.std.proofs.Common.{◌≡◌, ◌≢◌, ℕ, ◌+◌, ◌-◌, ◌*◌, ◌%◌, ◌<◌, ◌≤◌, List, ◌++◌, length, ap, refl, sym, ◌∙◌, arith, inl, inr, mod-lt}
 use Rattle.std.specs.Int.{w64, to_be_bytes}
 use Rattle.std.proofs.lemmas.Bool.{cases_eq}
-use Rattle.aes_block.specs.Bytes.{AreBytes, IsBlock, xor_bytes}
-use Rattle.aes_block.specs.Encipher.{enciphered_block}
-use Rattle.aes_block.specs.KeyExpansion.{IsKey}
-use Rattle.aes_block.proofs.Blocks.{length-xor_bytes, xor_bytes-twice, AreBytes-xor_bytes}
+use Rattle.fips_197.specs.Bytes.{AreBytes, IsBlock, xor_bytes}
+use Rattle.fips_197.specs.Encipher.{enciphered_block}
+use Rattle.fips_197.specs.KeyExpansion.{IsKey}
+use Rattle.fips_197.proofs.Blocks.{length-xor_bytes, xor_bytes-twice, AreBytes-xor_bytes}
 use Rattle.aes_block.proofs.KeySchedules.{IsBlock-enciphered_block}
 use Rattle.aes_kw.specs.KeyWrap.{half, with_half, step}
 use Rattle.aes_kw.proofs.Rows.{length-half, AreBytes-half, half-first, half-second, halves-block, IsBlock-halves, length-with_half, AreBytes-with_half, half-with_same, half-with_other, same_rows}

@@ -2,8 +2,8 @@
 -- ..., R[n] stand in a row, as halves of a block: A is half 0, and R[i] is half i.
 use Rattle.std.specs.Prelude.{◌≡◌, ℕ, zero, suc, ◌+◌, ◌-◌, ◌*◌, ◌/◌, ◌%◌, ◌≤◌, List, ◌++◌, length, take, drop, replicate}
 use Rattle.std.specs.Int.{w64, to_be_bytes}
-use Rattle.aes_block.specs.Bytes.{AreBytes, xor_bytes}
-use Rattle.aes_block.specs.Encipher.{enciphered_block}
+use Rattle.fips_197.specs.Bytes.{AreBytes, xor_bytes}
+use Rattle.fips_197.specs.Encipher.{enciphered_block}
 
 -- half i of a row of halves, which have 8 bytes. Of a block, half 0 is MSB(64, B) and half 1 LSB(64, B)
 unfoldable pub half : List ℕ → ℕ → List ℕ

@@ -2,8 +2,8 @@
 
 ghost use Rattle.std.specs.Prelude.{◌≡◌, ℕ, ◌+◌, ◌*◌, ◌≤◌, ◌++◌, List, length};
 ghost use Rattle.std.specs.Int.{w64, to_be_bytes};
-ghost use Rattle.aes_block.specs.Bytes.{AreBytes, xor_bytes};
-ghost use Rattle.aes_block.specs.KeyExpansion.{IsKey};
+ghost use Rattle.fips_197.specs.Bytes.{AreBytes, xor_bytes};
+ghost use Rattle.fips_197.specs.KeyExpansion.{IsKey};
 ghost use Rattle.aes_kw.specs.KeyWrap.{half, with_half, step};
 
 use aes_block::{Block, Key, are_bytes};

@@ -1,7 +1,7 @@
 //! Wrapping and unwrapping (RFC 3394, 2.2.1 and 2.2.2).
 
 ghost use Rattle.std.specs.Prelude.{◌≡◌, ◌≢◌, ◌⊎◌, ℕ, ◌+◌, ◌%◌, ◌<◌, ◌↔◌, List, length, IfOk, IfErr, IsErrOf};
-ghost use Rattle.aes_block.specs.Bytes.{AreBytes};
+ghost use Rattle.fips_197.specs.Bytes.{AreBytes};
 ghost use Rattle.aes_kw.specs.KeyWrap.{IsValue, wrapped};
 
 use crate::KwFault;

@@ -1,9 +1,9 @@
 -- ECB and CBC, a block further.
 use Rattle.std.proofs.Common.{◌≡◌, ℕ, zero, suc, ◌+◌, ◌*◌, ◌/◌, ◌≤◌, List, ◌++◌, length, take, drop, ap, refl, sym, ◌∙◌, arith, add-one}
 use Rattle.std.proofs.lemmas.List.{take_all}
-use Rattle.aes_block.specs.Bytes.{xor_bytes}
-use Rattle.aes_block.specs.Encipher.{enciphered_block}
-use Rattle.aes_block.proofs.Blocks.{xor_bytes-twice}
+use Rattle.fips_197.specs.Bytes.{xor_bytes}
+use Rattle.fips_197.specs.Encipher.{enciphered_block}
+use Rattle.fips_197.proofs.Blocks.{xor_bytes-twice}
 use Rattle.aes_block.specs.Texts.{block_of}
 use Rattle.aes_modes.specs.Blocks.{IsWhole}
 use Rattle.aes_modes.specs.Modes.{ecb_block, ecb_blocks, ecb_enciphered, chained, cbc_block, cbc_blocks, cbc_enciphered}

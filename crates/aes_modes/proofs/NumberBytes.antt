@@ -3,8 +3,8 @@ use Rattle.std.proofs.Common.{◌≡◌, ℕ, zero, suc, ◌/◌, ◌%◌, ◌^�
 use Rattle.std.specs.Int.{w64, w128, byte_at, bytes_low_first, to_be_bytes, to_le_bytes, swap_bytes}
 use Rattle.std.proofs.lemmas.Nat.{be_bytes_8}
 use Rattle.std.proofs.lemmas.List.Elements.{All-nil}
-use Rattle.aes_block.specs.Bytes.{AreBytes}
-use Rattle.aes_block.proofs.Blocks.{AreBytes-at, AreBytes-cons}
+use Rattle.fips_197.specs.Bytes.{AreBytes}
+use Rattle.fips_197.proofs.Blocks.{AreBytes-at, AreBytes-cons}
 
 pub to_be_bytes-halves : (n : ℕ) → to_be_bytes w64 (n / 2 ^ 64) ++ to_be_bytes w64 (n % 2 ^ 64) ≡ to_be_bytes w128 n
 to_be_bytes-halves n =

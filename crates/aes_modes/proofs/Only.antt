@@ -2,12 +2,12 @@
 use Rattle.std.proofs.Common.{◌≡◌, ℕ, zero, suc, ◌+◌, ◌*◌, ◌/◌, ◌<◌, ◌≤◌, List, length, drop, ap, refl, sym, ◌∙◌, arith}
 use Rattle.std.proofs.lemmas.List.{take_all}
 use Rattle.std.proofs.lemmas.List.Elements.{All-take, All-drop}
-use Rattle.aes_block.specs.Bytes.{AreBytes, IsBlock, xor_bytes}
-use Rattle.aes_block.specs.Cipher.{round_key}
-use Rattle.aes_block.specs.InverseCipher.{inverse_cipher}
-use Rattle.aes_block.specs.KeyExpansion.{IsKey, key_expansion, round_count}
-use Rattle.aes_block.specs.Encipher.{enciphered_block}
-use Rattle.aes_block.proofs.Blocks.{xor_bytes-twice, IsBlock-xor_bytes}
+use Rattle.fips_197.specs.Bytes.{AreBytes, IsBlock, xor_bytes}
+use Rattle.fips_197.specs.Cipher.{round_key}
+use Rattle.fips_197.specs.InverseCipher.{inverse_cipher}
+use Rattle.fips_197.specs.KeyExpansion.{IsKey, key_expansion, round_count}
+use Rattle.fips_197.specs.Encipher.{enciphered_block}
+use Rattle.fips_197.proofs.Blocks.{xor_bytes-twice, IsBlock-xor_bytes}
 use Rattle.aes_block.proofs.KeySchedules.{round_count-bounds, IsBlock-round_key, IsBlock-enciphered_block}
 use Rattle.aes_block.proofs.Inverses.{inverse_cipher-cipher}
 use Rattle.aes_block.specs.Texts.{block_of}

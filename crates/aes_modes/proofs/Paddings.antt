@@ -2,8 +2,8 @@
 use Rattle.std.proofs.Common.{◌≡◌, ℕ, ◌+◌, ◌-◌, ◌*◌, ◌/◌, ◌%◌, ◌<◌, ◌≤◌, List, ◌++◌, length, take, drop, get_or, replicate, ap, refl, sym, subst, ◌∙◌, arith, length-append}
 use Rattle.std.proofs.lemmas.List.{take_at, get_or-append_right, get_or-replicate, take-append-drop, same_lists, get_or-drop, get_or_default, length-drop, length-take-le, length-replicate}
 use Rattle.std.proofs.lemmas.List.Elements.{All-append, All-from_get_or}
-use Rattle.aes_block.specs.Bytes.{AreBytes, xor_bytes}
-use Rattle.aes_block.specs.Encipher.{enciphered_block}
+use Rattle.fips_197.specs.Bytes.{AreBytes, xor_bytes}
+use Rattle.fips_197.specs.Encipher.{enciphered_block}
 use Rattle.aes_block.specs.Texts.{block_of}
 use Rattle.aes_modes.specs.Blocks.{IsWhole}
 use Rattle.aes_modes.specs.Modes.{chained, cbc_block, cbc_blocks, cbc_pad_enciphered}

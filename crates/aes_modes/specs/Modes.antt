@@ -1,7 +1,7 @@
 -- The modes of SP 800-38A, by block number. Blocks are counted from 0, and those of the standard from 1.
 use Rattle.std.specs.Prelude.{ℕ, zero, suc, ◌/◌, List, length}
-use Rattle.aes_block.specs.Bytes.{xor_bytes}
-use Rattle.aes_block.specs.Encipher.{enciphered_block}
+use Rattle.fips_197.specs.Bytes.{xor_bytes}
+use Rattle.fips_197.specs.Encipher.{enciphered_block}
 use Rattle.aes_block.specs.Texts.{block_of}
 use Rattle.aes_modes.specs.Blocks.{first_blocks, blocks_begun}
 use Rattle.aes_modes.specs.Counter.{counter_block}

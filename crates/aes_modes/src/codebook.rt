@@ -1,7 +1,7 @@
 //! The electronic codebook mode (SP 800-38A, 6.1).
 
 ghost use Rattle.std.specs.Prelude.{◌≡◌, ◌≢◌, ℕ, ◌⊎◌, ◌%◌, ◌↔◌, List, length, IfOk, IfErr, IsErrOf};
-ghost use Rattle.aes_block.specs.Bytes.{AreBytes};
+ghost use Rattle.fips_197.specs.Bytes.{AreBytes};
 ghost use Rattle.aes_modes.specs.Blocks.{IsWhole};
 ghost use Rattle.aes_modes.specs.Modes.{ecb_enciphered};
 ghost use Rattle.aes_modes.specs.Directions.{IsTurned};

@@ -1,7 +1,7 @@
 //! CBC with the padding of PKCS #7 (SP 800-38A, 6.2; RFC 5652, 6.3).
 
 ghost use Rattle.std.specs.Prelude.{◌≡◌, ◌≢◌, ℕ, ◌⊎◌, ◌%◌, ◌<◌, ◌↔◌, List, length, take, IfOk, IfErr, IfSome, IsNone, IsErrOf};
-ghost use Rattle.aes_block.specs.Bytes.{AreBytes};
+ghost use Rattle.fips_197.specs.Bytes.{AreBytes};
 ghost use Rattle.aes_modes.specs.Blocks.{IsWhole};
 ghost use Rattle.aes_modes.specs.Modes.{cbc_pad_enciphered};
 ghost use Rattle.aes_modes.specs.Padding.{padded};

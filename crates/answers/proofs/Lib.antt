@@ -1,5 +1,4 @@
 pub mod Templates
 pub mod Sizes
 pub mod Telling
-pub mod Over
 pub mod Proper

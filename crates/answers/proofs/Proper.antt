@@ -1,16 +1,4 @@
 -- Every answer is proper: one line for each call.
-mod GetTokenInfo
-mod Mechanisms
-mod GenerateRandom
-mod Pins
-mod InitToken
-mod InitPin
-mod SetPin
-mod OpenSession
-mod CloseSession
-mod GetSessionInfo
-mod Login
-mod Logout
 mod CreateObject
 mod CopyObject
 mod DestroyObject
@@ -53,26 +41,26 @@ use Rattle.answers.specs.Cipher.{ciphered}
 use Rattle.answers.specs.CipherInit.{place_for}
 use Rattle.answers.specs.Mac.{taken, signed, verified}
 use Rattle.answers.specs.WrapKey.{wrapped_result}
-use Rattle.answers.specs.Login.{login_result}
-use Rattle.answers.specs.InitPin.{init_pin_result}
-use Rattle.answers.specs.SetPin.{set_pin_result}
-use Rattle.answers.specs.InitToken.{init_token_result, reset_token_result}
+use Rattle.session_answers.specs.Login.{login_result}
+use Rattle.session_answers.specs.InitPin.{init_pin_result}
+use Rattle.session_answers.specs.SetPin.{set_pin_result}
+use Rattle.session_answers.specs.InitToken.{init_token_result, reset_token_result}
 use Rattle.answers.specs.Answers.{answer, answer_to, answer_outcome, answer_question, answer_result, is_pin_task, is_key_task, is_still_function}
 use Rattle.views.specs.Refusals.{apart}
 use Rattle.views.proofs.Blind.{IsProper, IsFair, Leaves, blind-row, blind-refusal, fair, fair-row, fair-refusal}
-use Rattle.answers.proofs.Proper.GetTokenInfo.{proper-get_token_info}
-use Rattle.answers.proofs.Proper.Mechanisms.{proper-get_mechanism_list, proper-get_mechanism_info}
+use Rattle.session_answers.proofs.GetTokenInfo.{proper-get_token_info}
+use Rattle.session_answers.proofs.Mechanisms.{proper-get_mechanism_list, proper-get_mechanism_info}
 use Rattle.answers.proofs.Proper.GenerateKey.{proper-generate_key}
-use Rattle.answers.proofs.Proper.GenerateRandom.{proper-generate_random}
-use Rattle.answers.proofs.Over.{IsOver, over-refused}
-use Rattle.answers.proofs.Proper.InitToken.{proper-init_token, blind-init_token, blind-reset_token, over-init_token, over-reset_token}
-use Rattle.answers.proofs.Proper.InitPin.{proper-init_pin, blind-init_pin, over-init_pin}
-use Rattle.answers.proofs.Proper.SetPin.{proper-set_pin, blind-set_pin, over-set_pin}
-use Rattle.answers.proofs.Proper.Login.{proper-login, blind-login, over-login}
-use Rattle.answers.proofs.Proper.OpenSession.{proper-open_session}
-use Rattle.answers.proofs.Proper.CloseSession.{proper-close_session, proper-close_all_sessions}
-use Rattle.answers.proofs.Proper.GetSessionInfo.{proper-get_session_info}
-use Rattle.answers.proofs.Proper.Logout.{proper-logout}
+use Rattle.session_answers.proofs.GenerateRandom.{proper-generate_random}
+use Rattle.session_answers.proofs.Over.{IsOver, over-refused}
+use Rattle.session_answers.proofs.InitToken.{proper-init_token, blind-init_token, blind-reset_token, over-init_token, over-reset_token}
+use Rattle.session_answers.proofs.InitPin.{proper-init_pin, blind-init_pin, over-init_pin}
+use Rattle.session_answers.proofs.SetPin.{proper-set_pin, blind-set_pin, over-set_pin}
+use Rattle.session_answers.proofs.Login.{proper-login, blind-login, over-login}
+use Rattle.session_answers.proofs.OpenSession.{proper-open_session}
+use Rattle.session_answers.proofs.CloseSession.{proper-close_session, proper-close_all_sessions}
+use Rattle.session_answers.proofs.GetSessionInfo.{proper-get_session_info}
+use Rattle.session_answers.proofs.Logout.{proper-logout}
 use Rattle.answers.proofs.Proper.CreateObject.{proper-create_object}
 use Rattle.answers.proofs.Proper.CopyObject.{proper-copy_object}
 use Rattle.answers.proofs.Proper.DestroyObject.{proper-destroy_object}

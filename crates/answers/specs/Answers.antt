@@ -16,18 +16,18 @@ use Rattle.ops.specs.Operations.{Operation, MacOperation}
 use Rattle.streams.specs.declared.part.Part.{Part}
 use Rattle.views.specs.Views.{View, Question, Task, Ciphers, Takes, Signs, Verifies, WrapsKey, UnwrapsKey, ChecksPin, MakesPin, ChangesPin, InitsToken, ResetsToken}
 use Rattle.views.specs.Answering.{Answer, Reveal, refuses, refuses_by, answered, is_closed}
-use Rattle.answers.specs.GetTokenInfo.{get_token_info}
-use Rattle.answers.specs.Mechanisms.{get_mechanism_list, get_mechanism_info}
+use Rattle.session_answers.specs.GetTokenInfo.{get_token_info}
+use Rattle.session_answers.specs.Mechanisms.{get_mechanism_list, get_mechanism_info}
 use Rattle.answers.specs.GenerateKey.{generate_key}
-use Rattle.answers.specs.GenerateRandom.{generate_random}
-use Rattle.answers.specs.OpenSession.{open_session}
-use Rattle.answers.specs.CloseSession.{close_session, close_all_sessions}
-use Rattle.answers.specs.GetSessionInfo.{get_session_info}
-use Rattle.answers.specs.InitToken.{init_token, init_token_result, reset_token_result}
-use Rattle.answers.specs.InitPin.{init_pin, init_pin_result}
-use Rattle.answers.specs.SetPin.{set_pin, set_pin_result}
-use Rattle.answers.specs.Login.{login, login_result}
-use Rattle.answers.specs.Logout.{logout}
+use Rattle.session_answers.specs.GenerateRandom.{generate_random}
+use Rattle.session_answers.specs.OpenSession.{open_session}
+use Rattle.session_answers.specs.CloseSession.{close_session, close_all_sessions}
+use Rattle.session_answers.specs.GetSessionInfo.{get_session_info}
+use Rattle.session_answers.specs.InitToken.{init_token, init_token_result, reset_token_result}
+use Rattle.session_answers.specs.InitPin.{init_pin, init_pin_result}
+use Rattle.session_answers.specs.SetPin.{set_pin, set_pin_result}
+use Rattle.session_answers.specs.Login.{login, login_result}
+use Rattle.session_answers.specs.Logout.{logout}
 use Rattle.answers.specs.CreateObject.{create_object}
 use Rattle.answers.specs.CopyObject.{copy_object}
 use Rattle.answers.specs.DestroyObject.{destroy_object}

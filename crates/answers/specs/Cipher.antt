@@ -18,7 +18,7 @@ use Rattle.ops.specs.declared.place.Place.{Place}
 use Rattle.ops.specs.Operations.{started, further, text_of, operation_in}
 use Rattle.views.specs.Outcomes.{Outcome, Output, BadPadding}
 use Rattle.views.specs.Views.{Ciphers}
-use Rattle.answers.specs.Calls.{Reply, Row, Operation, View, Answer, replies, refuses_by, becomes, asks, answered, session_of, with_operation, checked_by}
+use Rattle.views.specs.Calls.{Reply, Row, Operation, View, Answer, replies, refuses_by, becomes, asks, answered, session_of, with_operation, checked_by}
 use Rattle.answers.specs.CipherInit.{place_for, ends}
 
 -- ---- the calls of each direction

@@ -21,7 +21,7 @@ use Rattle.precede.specs.Row.{code_of}
 use Rattle.ops.specs.declared.place.Place.{Place}
 use Rattle.ops.specs.declared.place.Place.TheVariants.{Encrypt, Decrypt}
 use Rattle.ops.specs.Operations.{started, operation_in}
-use Rattle.answers.specs.Calls.{Entry, Ok, Code, attribute_of, class_of, key_type_of, Row, View, Answer, refuses_by, becomes, session_of, with_operation, object_at, checked_by, flag_at, is_aes}
+use Rattle.views.specs.Calls.{Entry, Ok, Code, attribute_of, class_of, key_type_of, Row, View, Answer, refuses_by, becomes, session_of, with_operation, object_at, checked_by, flag_at, is_aes}
 
 -- ---- the two directions
 

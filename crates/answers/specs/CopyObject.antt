@@ -7,7 +7,7 @@ use Rattle.templates.specs.declared.call.Call.TheVariants.{Copy}
 use Rattle.templates.specs.Faults.{template_fault}
 use Rattle.templates.specs.Made.{object_made}
 use Rattle.precede.specs.declared.row.Row.TheVariants.{NoSession, NoObject, NotCopyable}
-use Rattle.answers.specs.Calls.{Rv, Entry, Row, View, Answer, session_of, object_at, checked_by, state_in, flag_at, made_by}
+use Rattle.views.specs.Calls.{Rv, Entry, Row, View, Answer, session_of, object_at, checked_by, state_in, flag_at, made_by}
 use Rattle.answers.specs.CreateObject.{makes_row, makes_says, adds}
 
 abbrev pub copy_row : View → ℕ → Option (List Entry) → Option Rv → List Entry → Row → Bool

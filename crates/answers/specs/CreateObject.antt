@@ -10,7 +10,7 @@ use Rattle.templates.specs.Faults.{template_fault}
 use Rattle.templates.specs.Made.{object_made, given_value}
 use Rattle.precede.specs.declared.row.Row.TheVariants.{NoSession, TemplateRefused, TokenObjectReadOnly, PrivateObject, ObjectLimit}
 use Rattle.views.specs.Checked.{by_rows}
-use Rattle.answers.specs.Calls.{Rv, Entry, SessionState, flag, Row, View, Stays, Insert, Answer, Replies, refuses_by, session_of, checked_by, state_in, made_by, refuses_template}
+use Rattle.views.specs.Calls.{Rv, Entry, SessionState, flag, Row, View, Stays, Insert, Answer, Replies, refuses_by, session_of, checked_by, state_in, made_by, refuses_template}
 
 -- A new object has the next handle. A token object is the last, and others see it without a handle; a session
 -- object belongs to the session that made it.

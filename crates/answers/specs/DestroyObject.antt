@@ -4,7 +4,7 @@ use Rattle.std.specs.List.{remove}
 use Rattle.ck_types.specs.declared.attr_type.AttrType.TheVariants as attr
 use Rattle.ck_calls.specs.declared.function.Function.TheVariants.{DestroyObject}
 use Rattle.precede.specs.declared.row.Row.TheVariants.{NoSession, NoObject, TokenObjectReadOnly, NotDestroyable}
-use Rattle.answers.specs.Calls.{Ok, Code, Row, View, Remove, Answer, Replies, becomes, session_of, place_of, object_at, checked, writes, flag_at}
+use Rattle.views.specs.Calls.{Ok, Code, Row, View, Remove, Answer, Replies, becomes, session_of, place_of, object_at, checked, writes, flag_at}
 
 abbrev pub destroy_row : View → ℕ → ℕ → Row → Bool
 destroy_row v s handle NoSession = is_none (session_of v s)

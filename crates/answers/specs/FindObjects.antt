@@ -6,7 +6,7 @@ use Rattle.ck_calls.specs.declared.function.Function.TheVariants.{FindObjects, F
 use Rattle.ck_calls.specs.declared.reply.Reply.TheVariants.{Objects}
 use Rattle.precede.specs.declared.row.Row.TheVariants.{NoSession, NoOperation}
 use Rattle.ops.specs.Operations.{search_in, with_search}
-use Rattle.answers.specs.Calls.{Ok, Code, Row, View, Answer, becomes, session_of, checked}
+use Rattle.views.specs.Calls.{Ok, Code, Row, View, Answer, becomes, session_of, checked}
 
 abbrev pub search_row : View → ℕ → Row → Bool
 search_row v s NoSession = is_none (session_of v s)

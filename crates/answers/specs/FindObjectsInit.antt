@@ -5,7 +5,7 @@ use Rattle.ck_calls.specs.declared.function.Function.TheVariants.{FindObjectsIni
 use Rattle.find.specs.Matching.{template_matches}
 use Rattle.precede.specs.declared.row.Row.TheVariants.{NoSession, OperationActive}
 use Rattle.ops.specs.Operations.{search_in, with_search}
-use Rattle.answers.specs.Calls.{Ok, Code, Entry, Row, View, TokenObject, SessionObject, Answer, becomes, session_of, checked}
+use Rattle.views.specs.Calls.{Ok, Code, Entry, Row, View, TokenObject, SessionObject, Answer, becomes, session_of, checked}
 
 abbrev pub find_init_row : View → ℕ → Row → Bool
 find_init_row v s NoSession = is_none (session_of v s)

@@ -11,7 +11,7 @@ use Rattle.templates.specs.declared.call.Call.TheVariants.{Generate}
 use Rattle.templates.specs.Faults.{template_fault}
 use Rattle.templates.specs.Made.{object_made, generated_value}
 use Rattle.precede.specs.declared.row.Row.TheVariants.{NoSession, WrongMechanism, WrongParameter}
-use Rattle.answers.specs.Calls.{Rv, Entry, Row, View, Answer, session_of, checked_by, state_in, made_by}
+use Rattle.views.specs.Calls.{Rv, Entry, Row, View, Answer, session_of, checked_by, state_in, made_by}
 use Rattle.answers.specs.CreateObject.{makes_row, makes_says, adds}
 
 abbrev pub generation_at : ℕ → Option MechType

@@ -9,7 +9,7 @@ use Rattle.ck_calls.specs.declared.function.Function.TheVariants.{GetAttributeVa
 use Rattle.ck_calls.specs.declared.reply.AttributeValue.{AttributeValue}
 use Rattle.ck_calls.specs.declared.reply.Reply.TheVariants.{AttributeValues}
 use Rattle.attrs.specs.Masking.{reveals}
-use Rattle.answers.specs.Calls.{Entry, Rv, Ok, Reply, attribute, View, Answer, reads}
+use Rattle.views.specs.Calls.{Entry, Rv, Ok, Reply, attribute, View, Answer, reads}
 
 -- What is told of an attribute, with its code. Where it is unavailable, its length is
 -- CK_UNAVAILABLE_INFORMATION.

@@ -7,7 +7,7 @@ use Rattle.ck_types.specs.declared.attr_type.AttrType.TheVariants as attr
 use Rattle.ck_calls.specs.declared.function.Function.TheVariants.{GetObjectSize}
 use Rattle.ck_calls.specs.declared.reply.Reply.TheVariants.{ObjectSize}
 use Rattle.attrs.specs.Masking.{is_secret_key, without}
-use Rattle.answers.specs.Calls.{Entry, attribute_of, class_of, number_of, View, Answer, reads}
+use Rattle.views.specs.Calls.{Entry, attribute_of, class_of, number_of, View, Answer, reads}
 
 -- the length of an object's value: of a key's, by its CKA_VALUE_LEN
 abbrev pub value_len : List Entry → ℕ

@@ -1,8 +1,3 @@
-pub mod Calls
-pub mod Pins
-pub mod OpenSession
-pub mod CloseSession
-pub mod GetSessionInfo
 pub mod CreateObject
 pub mod CopyObject
 pub mod DestroyObject
@@ -15,15 +10,7 @@ pub mod CipherInit
 pub mod Cipher
 pub mod MacInit
 pub mod Mac
-pub mod GetTokenInfo
-pub mod Mechanisms
-pub mod GenerateRandom
 pub mod GenerateKey
 pub mod WrapKey
 pub mod UnwrapKey
-pub mod Login
-pub mod Logout
-pub mod InitToken
-pub mod InitPin
-pub mod SetPin
 pub mod Answers

@@ -16,7 +16,7 @@ use Rattle.ops.specs.Operations.{MacOperation, mac_started, mac_further, mac_in}
 use Rattle.views.specs.Answering.{with_mac}
 use Rattle.views.specs.Outcomes.{Outcome, Output, Taken, Right, Wrong}
 use Rattle.views.specs.Views.{Takes, Signs, Verifies}
-use Rattle.answers.specs.Calls.{Reply, Ok, Row, View, Answer, replies, refuses_by, becomes, asks, answered, session_of, checked, checked_by}
+use Rattle.views.specs.Calls.{Reply, Ok, Row, View, Answer, replies, refuses_by, becomes, asks, answered, session_of, checked, checked_by}
 use Rattle.answers.specs.MacInit.{mac_ends}
 
 abbrev pub mac_update_function : MacPlace → Function

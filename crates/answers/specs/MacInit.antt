@@ -19,7 +19,7 @@ use Rattle.ops.specs.declared.place.MacPlace.{MacPlace}
 use Rattle.ops.specs.declared.place.MacPlace.TheVariants.{Sign, Verify}
 use Rattle.ops.specs.Operations.{mac_started, mac_in}
 use Rattle.views.specs.Answering.{with_mac}
-use Rattle.answers.specs.Calls.{Entry, Ok, Code, attribute_of, class_of, key_type_of, Row, View, Answer, refuses_by, becomes, session_of, object_at, checked_by, flag_at, is_of_type}
+use Rattle.views.specs.Calls.{Entry, Ok, Code, attribute_of, class_of, key_type_of, Row, View, Answer, refuses_by, becomes, session_of, object_at, checked_by, flag_at, is_of_type}
 use Rattle.answers.specs.CipherInit.{number_in, parameter_in}
 
 abbrev pub mac_init_function : MacPlace → Function

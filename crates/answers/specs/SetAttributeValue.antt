@@ -9,7 +9,7 @@ use Rattle.templates.specs.declared.call.Call.TheVariants.{Set}
 use Rattle.templates.specs.Faults.{template_fault}
 use Rattle.templates.specs.Made.{object_made}
 use Rattle.precede.specs.declared.row.Row.TheVariants.{NoSession, NoObject, TokenObjectReadOnly, NotModifiable, TemplateRefused}
-use Rattle.answers.specs.Calls.{Entry, Rv, Ok, Code, Row, SessionObject, View, Replace, rewritten, Answer, Replies, becomes, session_of, place_of, object_at, checked_by, state_in, flag_at, made_by}
+use Rattle.views.specs.Calls.{Entry, Rv, Ok, Code, Row, SessionObject, View, Replace, rewritten, Answer, Replies, becomes, session_of, place_of, object_at, checked_by, state_in, flag_at, made_by}
 use Rattle.answers.specs.CreateObject.{makes_says}
 
 -- another session object stands under a handle

@@ -11,7 +11,7 @@ use Rattle.templates.specs.Faults.{template_fault}
 use Rattle.precede.specs.declared.row.Row.TheVariants.{NoSession, WrongMechanism, WrongParameter, NoUnwrappingKey, WrongUnwrappingKeyType, KeyNotPermitted, WrappedLength, TemplateRefused, WrappedLengthOfType}
 use Rattle.views.specs.Outcomes.{Outcome, Unwrapped, BadWrapping}
 use Rattle.views.specs.Views.{UnwrapsKey}
-use Rattle.answers.specs.Calls.{Rv, Entry, SessionState, attribute_of, key_type_of, Row, View, Answer, refuses, refuses_by, asks, answered, session_of, object_at, checked_by, state_in, flag_at, is_aes, refuses_template}
+use Rattle.views.specs.Calls.{Rv, Entry, SessionState, attribute_of, key_type_of, Row, View, Answer, refuses, refuses_by, asks, answered, session_of, object_at, checked_by, state_in, flag_at, is_aes, refuses_template}
 use Rattle.answers.specs.CreateObject.{makes_row, adds_where}
 use Rattle.answers.specs.WrapKey.{wrapping_at, is_no_key}
 

@@ -15,7 +15,7 @@ use Rattle.mech.specs.Wrappings.{is_value_length}
 use Rattle.precede.specs.declared.row.Row.TheVariants.{NoSession, WrongMechanism, WrongParameter, NoWrappingKey, NoKey, WrongWrappingKeyType, KeyNotPermitted, KeyUnextractable, KeyNotWrappable, KeyLength, NoBuffer, SmallBuffer}
 use Rattle.views.specs.Outcomes.{Outcome, Output}
 use Rattle.views.specs.Views.{WrapsKey}
-use Rattle.answers.specs.Calls.{Entry, attribute_of, class_of, key_type_of, Row, View, Answer, replies, refuses, refuses_by, asks, answered, session_of, object_at, checked_by, flag_at, is_aes}
+use Rattle.views.specs.Calls.{Entry, attribute_of, class_of, key_type_of, Row, View, Answer, replies, refuses, refuses_by, asks, answered, session_of, object_at, checked_by, flag_at, is_aes}
 use Rattle.answers.specs.GetObjectSize.{value_len}
 
 -- the mechanism that wraps and unwraps, which has no parameter

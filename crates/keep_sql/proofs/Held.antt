@@ -10,7 +10,7 @@ use Rattle.pin_record.specs.Records.{TokenRecord}
 use Rattle.pin_record.specs.Stored.{IsRecord, record_stored}
 use Rattle.pin_record.proofs.StoredLaws.{record_stored-complete}
 use Rattle.keep.specs.Contents.{Contents}
-use Rattle.sql_tables.specs.Store.{counter_rows, OnlyReads, Sees, SeesTables, ShowsNow, Unwritten}
+use Rattle.table_statements.specs.Store.{counter_rows, OnlyReads, Sees, SeesTables, ShowsNow, Unwritten}
 use Rattle.keep_sql.specs.Store.{AreObjects, Body, Holds, IsAt, ReadsAs, Stayed, Stores, encoded, encoded_record, object_row, record_row}
 
 object_of : (a b : Body) → IsObject a → IsObject b → encoded a ≡ encoded b → a ≡ b

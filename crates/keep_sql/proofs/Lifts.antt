@@ -10,9 +10,9 @@ use Rattle.pin_record.specs.Records.{TokenRecord, new_record}
 use Rattle.pin_record.specs.Stored.{IsRecord}
 use Rattle.keep.specs.Contents.{Contents, IdsRise, IsSound, IsTokenObject, after_reset, ids_of, new_contents, replaced_at, with_object, with_record, with_replacement, without_object}
 use Rattle.keep.specs.ContentsLaws.{IsSound-after_reset, IsSound-with_object, IsSound-with_record, IsSound-with_replacement, IsSound-without_object}
-use Rattle.sql_tables.specs.Bodies as tables
-use Rattle.sql_tables.specs.Bodies.{Bodies, put_at}
-use Rattle.sql_tables.specs.Store.{HasRows, HoldsRows, IsAtRows, RowsChanged, RowsFailed, RowsStayed, ShowsBody, body_row}
+use Rattle.table_statements.specs.Bodies as tables
+use Rattle.table_statements.specs.Bodies.{Bodies, put_at}
+use Rattle.table_statements.specs.Store.{HasRows, HoldsRows, IsAtRows, RowsChanged, RowsFailed, RowsStayed, ShowsBody, body_row}
 use Rattle.keep_sql.specs.Store.{AreObjects, Body, Changed, Failed, Holds, IsAt, Shows, Stayed, Stores, encoded, encoded_record, object_row}
 use Rattle.keep_sql.proofs.Held.{reads_one}
 

@@ -8,9 +8,9 @@ use Rattle.sqlite.specs.Effect.{Database}
 use Rattle.sqlite.specs.State.{State, HasCleanDisk}
 use Rattle.sqlite.proofs.Callers.{one_permutation}
 use Rattle.pin_record.specs.Records.{TokenRecord}
-use Rattle.sql_tables.specs.Tables.{no_schema, token_schema}
-use Rattle.sql_tables.specs.Store.{OnlyReads}
-use Rattle.sql_tables.specs.Rows.{bodies, ids_and_bodies}
+use Rattle.table_statements.specs.Tables.{no_schema, token_schema}
+use Rattle.table_statements.specs.Store.{OnlyReads}
+use Rattle.table_statements.specs.Rows.{bodies, ids_and_bodies}
 use Rattle.sql_tables.specs.declared.renewals.Renewal.{Renewal}
 use Rattle.keep_sql.specs.Rows.{ShowRecordEither, ShowsEither}
 use Rattle.keep_sql.specs.Renewals.{FindsRecord, IsCovered, IsOfRow}

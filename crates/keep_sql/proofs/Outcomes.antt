@@ -10,8 +10,8 @@ use Rattle.pin_record.specs.Records.{TokenRecord, new_record}
 use Rattle.keep.specs.Contents.{Contents, new_contents}
 use Rattle.keep.specs.declared.keep.KeepFault.{KeepFault}
 use Rattle.keep.specs.declared.keep.KeepFault.TheVariants.{Damaged}
-use Rattle.sql_tables.specs.Tables.{no_schema, token_schema}
-use Rattle.sql_tables.specs.Store.{IsReady, OnlyReads, Sees, SeesTables, ShowsNow, Unwritten}
+use Rattle.table_statements.specs.Tables.{no_schema, token_schema}
+use Rattle.table_statements.specs.Store.{IsReady, OnlyReads, Sees, SeesTables, ShowsNow, Unwritten}
 use Rattle.keep_sql.specs.Store.{Stores, IsAt, Holds, ReadsAs}
 use Rattle.keep_sql.specs.SqlState.{SqlState, sql_terms}
 use Rattle.keep_sql.specs.declared.taking.Found.{Found}

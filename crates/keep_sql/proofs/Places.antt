@@ -16,7 +16,7 @@ use Rattle.pin_record.specs.Records.{new_record}
 use Rattle.keep.specs.Contents.{Contents, new_contents}
 use Rattle.keep.specs.Keeping.{Begins}
 use Rattle.keep.specs.declared.keep.KeepFault.{KeepFault}
-use Rattle.sql_tables.specs.Tables.{no_schema}
+use Rattle.table_statements.specs.Tables.{no_schema}
 use Rattle.keep_sql.specs.Store.{Stores}
 use Rattle.keep_sql.specs.Formats.{HoldsEither}
 use Rattle.keep_sql.specs.Opening.{Adopts, Opened}

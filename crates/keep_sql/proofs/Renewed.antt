@@ -11,13 +11,13 @@ use Rattle.attrs.specs.Objects.{IsObject}
 use Rattle.attrs.specs.OldStored.{has_new_flags, object_old_stored}
 use Rattle.attrs.specs.OldStoredLaws.{object_old_stored-complete}
 use Rattle.sql_tables.specs.declared.renewals.Renewal.{Renewal}
-use Rattle.sql_tables.specs.Store.{body_row}
+use Rattle.table_statements.specs.Store.{body_row}
 use Rattle.keep_sql.specs.Store.{AreObjects, Body, encoded, object_row}
 use Rattle.keep_sql.specs.Formats.{AreBodies, IsBody, old_encoded}
-use Rattle.sql_tables.specs.Rows.{ids_and_bodies, natural}
+use Rattle.table_statements.specs.Rows.{ids_and_bodies, natural}
 use Rattle.keep_sql.specs.Renewals.{IsCovered, IsOfRow}
-use Rattle.sql_tables.proofs.Ids.{RiseFrom}
-use Rattle.sql_tables.specs.Bodies.{put_at}
+use Rattle.table_statements.proofs.Ids.{RiseFrom}
+use Rattle.table_statements.specs.Bodies.{put_at}
 use Rattle.sql_tables.specs.Renewed.{put_each}
 
 -- ---- the two formats

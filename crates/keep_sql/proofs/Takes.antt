@@ -4,10 +4,10 @@ use Rattle.sqlite.specs.Tree.{Trees}
 use Rattle.sqlite.specs.State.{State}
 use Rattle.pin_record.specs.Stored.{IsRecord}
 use Rattle.keep.specs.Contents.{Contents}
-use Rattle.sql_tables.specs.Bodies.{Bodies}
+use Rattle.table_statements.specs.Bodies.{Bodies}
 use Rattle.sql_tables.specs.Renewed.{AreNatural, renewed}
-use Rattle.sql_tables.specs.Rows.{ids_and_bodies}
-use Rattle.sql_tables.specs.Store.{HasRows, IsAtRows}
+use Rattle.table_statements.specs.Rows.{ids_and_bodies}
+use Rattle.table_statements.specs.Store.{HasRows, IsAtRows}
 use Rattle.keep_sql.specs.declared.taking.Found.{Found}
 use Rattle.keep_sql.specs.Store.{IsAt, Stores, encoded_record}
 use Rattle.keep_sql.specs.Formats.{IsAtEither}

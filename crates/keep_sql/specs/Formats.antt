@@ -8,8 +8,8 @@ use Rattle.pin_record.specs.Records.{TokenRecord}
 use Rattle.pin_record.specs.Stored as token
 use Rattle.pin_record.specs.Stored.{IsOldRecord, IsRecord}
 use Rattle.keep.specs.Contents.{Contents, IsSound}
-use Rattle.sql_tables.specs.Tables.{token_schema}
-use Rattle.sql_tables.specs.Store.{body_row, counter_rows}
+use Rattle.table_statements.specs.Tables.{token_schema}
+use Rattle.table_statements.specs.Store.{body_row, counter_rows}
 use Rattle.keep_sql.specs.Store.{AreObjects, Body, encoded, encoded_record}
 
 -- one spelling in format 1

@@ -4,7 +4,7 @@ use Rattle.sqlite.specs.Tree.{Trees}
 use Rattle.sql_tables.specs.declared.renewals.Renewal.{Renewal}
 use Rattle.keep_sql.specs.declared.taking.Found.{Found}
 use Rattle.keep_sql.specs.Renewals.{FindsRecord, IsCovered, IsOfRow}
-use Rattle.sql_tables.specs.Rows.{bodies, ids_and_bodies}
+use Rattle.table_statements.specs.Rows.{bodies, ids_and_bodies}
 
 pub record Finds (trees : Trees) (f : Found) : Type 0 where
   pub record_is : FindsRecord (bodies (trees 0)) f.token_record f.is_old

@@ -9,7 +9,7 @@ use Rattle.sqlite.specs.Recovery.{Image}
 use Rattle.sqlite.specs.Start.{FindsIn}
 use Rattle.pin_record.specs.Records.{new_record}
 use Rattle.keep.specs.Contents.{Contents, new_contents}
-use Rattle.sql_tables.specs.Tables.{no_schema}
+use Rattle.table_statements.specs.Tables.{no_schema}
 use Rattle.keep_sql.specs.Formats.{HoldsEither}
 use Rattle.keep_sql.specs.Opening.{Adopts, Opened}
 use Rattle.keep_sql.specs.SqlState.{SqlState, sql_terms}

@@ -13,9 +13,9 @@ use Rattle.keep.specs.declared.keep.KeepFault.{KeepFault}
 use Rattle.keep.specs.declared.keep.KeepFault.TheVariants.{Damaged}
 use Rattle.keep.specs.Contents.{Contents, new_contents}
 use Rattle.keep.specs.Keeping.{Terms}
-use Rattle.sql_tables.specs.Tables.{no_schema, token_schema}
+use Rattle.table_statements.specs.Tables.{no_schema, token_schema}
 use Rattle.keep_sql.specs.Store.{Holds, IsAt, Stores}
-use Rattle.sql_tables.specs.Rows.{bodies, ids_and_bodies}
+use Rattle.table_statements.specs.Rows.{bodies, ids_and_bodies}
 use Rattle.keep_sql.specs.Formats.{HoldsEither, is_old}
 use Rattle.keep_sql.specs.Rows.{ShowRecordEither, ShowsEither}
 

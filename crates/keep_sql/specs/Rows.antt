@@ -7,7 +7,7 @@ use Rattle.attrs.specs.Objects.{IsObject}
 use Rattle.pin_record.specs.Records.{TokenRecord}
 use Rattle.keep.specs.Contents.{IsTokenObject}
 use Rattle.keep_sql.specs.Store.{Body, encoded}
-use Rattle.sql_tables.specs.Rows.{natural}
+use Rattle.table_statements.specs.Rows.{natural}
 use Rattle.keep_sql.specs.Formats.{IsBody, IsRecordBody}
 
 -- the number in the first column

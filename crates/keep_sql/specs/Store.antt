@@ -11,8 +11,8 @@ use Rattle.attrs.specs.Stored as object
 use Rattle.pin_record.specs.Records.{TokenRecord}
 use Rattle.pin_record.specs.Stored as token
 use Rattle.keep.specs.Contents.{Contents, IsSound, object_at}
-use Rattle.sql_tables.specs.Tables.{token_schema}
-use Rattle.sql_tables.specs.Store.{body_row, counter_rows}
+use Rattle.table_statements.specs.Tables.{token_schema}
+use Rattle.table_statements.specs.Store.{body_row, counter_rows}
 
 abbrev pub Body : Type 0
 Body = List Entry

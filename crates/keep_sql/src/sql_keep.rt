@@ -6,7 +6,7 @@ ghost use Rattle.pin_record.specs.Records.{new_record};
 ghost use Rattle.keep.specs.Contents.{Contents, new_contents};
 ghost use Rattle.keep.specs.declared.keep.KeepFault.TheVariants.{Device};
 ghost use Rattle.keep.specs.Keeping.{Rises};
-ghost use Rattle.sql_tables.specs.Tables.{no_schema};
+ghost use Rattle.table_statements.specs.Tables.{no_schema};
 ghost use Rattle.keep_sql.specs.Formats.{HoldsEither};
 ghost use Rattle.keep_sql.specs.Opening.{Adopts, NotOpened, Opened};
 

@@ -9,13 +9,13 @@ ghost use Rattle.sqlite.specs.Held.{state};
 ghost use Rattle.pin_record.specs.Records.{TokenRecord};
 ghost use Rattle.keep.specs.declared.keep.KeepFault.TheVariants.{Damaged};
 ghost use Rattle.keep.specs.Contents.{Contents};
-ghost use Rattle.sql_tables.specs.Store.{IsReady, OnlyReads, Sees, SeesTables, ShowsNow};
+ghost use Rattle.table_statements.specs.Store.{IsReady, OnlyReads, Sees, SeesTables, ShowsNow};
 ghost use Rattle.keep_sql.specs.Store.{IsAt, Stores};
 ghost use Rattle.keep_sql.specs.Formats.{IsAtEither};
 ghost use Rattle.keep_sql.specs.Rows.{ShowRecordEither, ShowsEither};
 ghost use Rattle.keep_sql.specs.Renewals.{FindsRecord, IsCovered, IsOfRow};
 ghost use Rattle.keep_sql.specs.Found.{Finds, is_current as is_current_in};
-ghost use Rattle.sql_tables.specs.Rows.{bodies, ids_and_bodies};
+ghost use Rattle.table_statements.specs.Rows.{bodies, ids_and_bodies};
 ghost use Rattle.keep_sql.specs.Opening.{AllDecode, NotOpened, Opened, has_tables};
 
 use crate::rows::{check_rows, only_record};

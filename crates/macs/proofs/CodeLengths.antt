@@ -2,11 +2,11 @@
 use Rattle.std.proofs.Common.{◌≡◌, ℕ, ◌-◌, ◌≤◌, List, length, refl, sym, ◌∙◌, arith}
 use Rattle.sha2.proofs.Facts256.{length-sha224, length-sha256}
 use Rattle.sha2.proofs.Facts512.{length-sha384, length-sha512}
-use Rattle.aes_block.specs.State.{state}
-use Rattle.aes_block.specs.Cipher.{shift_rows, add_round_key, round_key, substitute_bytes, state_after, last_round, cipher}
-use Rattle.aes_block.specs.KeyExpansion.{IsKey, key_expansion, round_count}
-use Rattle.aes_block.specs.Encipher.{enciphered_block}
-use Rattle.aes_block.proofs.Blocks.{length-xor_bytes}
+use Rattle.fips_197.specs.State.{state}
+use Rattle.fips_197.specs.Cipher.{shift_rows, add_round_key, round_key, substitute_bytes, state_after, last_round, cipher}
+use Rattle.fips_197.specs.KeyExpansion.{IsKey, key_expansion, round_count}
+use Rattle.fips_197.specs.Encipher.{enciphered_block}
+use Rattle.fips_197.proofs.Blocks.{length-xor_bytes}
 use Rattle.aes_block.proofs.KeySchedules.{IsBlock-round_key}
 use Rattle.aes_cmac.specs.Cmac.{cmac}
 use Rattle.hmac_sha2.specs.Hmac.{hmac}

@@ -1,7 +1,7 @@
 -- Codes of messages by the five mechanisms: CMAC with AES (SP 800-38B), and HMAC (FIPS 198-1) with four hash
 -- functions.
 use Rattle.std.specs.Prelude.{ℕ, List}
-use Rattle.aes_block.specs.KeyExpansion.{IsKeyLength}
+use Rattle.fips_197.specs.KeyExpansion.{IsKeyLength}
 use Rattle.aes_cmac.specs.Cmac.{cmac}
 use Rattle.hmac_sha2.specs.Hmac.{hmac224, hmac256, hmac384, hmac512}
 use Rattle.macs.specs.declared.mechanism.Mechanism.{Mechanism}

@@ -1,7 +1,7 @@
 //! CMAC with AES of a message in pieces (SP 800-38B).
 
 ghost use Rattle.std.specs.Prelude.{◌≡◌, ◌+◌, ◌*◌, ◌%◌, ◌≤◌, length};
-ghost use Rattle.aes_block.specs.KeyExpansion.{IsKey};
+ghost use Rattle.fips_197.specs.KeyExpansion.{IsKey};
 ghost use Rattle.aes_cmac.specs.Cmac.{count_before_last, cmac};
 ghost use Rattle.macs.specs.KeyedMessage.{empty_message, longer_message};
 

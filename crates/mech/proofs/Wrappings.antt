@@ -3,7 +3,7 @@ use Rattle.std.proofs.Common.{◌≡◌, ℕ, ◌+◌, ◌%◌, ◌≤◌, Bool,
 use Rattle.std.specs.Prelude.{nat_le}
 use Rattle.std.proofs.lemmas.Bool.{and_from, and_parts, leb-true, le-leb}
 use Rattle.std.proofs.lemmas.Slice.Eq.{bytes_eq-Decides}
-use Rattle.aes_block.specs.Bytes.{AreBytes}
+use Rattle.fips_197.specs.Bytes.{AreBytes}
 use Rattle.aes_kw.specs.KeyWrap.{IsValue, wrapped}
 use Rattle.streams.proofs.FirstTexts.{first_text-only, first_text-none}
 use Rattle.mech.specs.Wrappings.{is_value_length, value_wrapped_in}

@@ -2,7 +2,7 @@
 
 ghost use Rattle.std.specs.Prelude.{◌≤◌, length};
 ghost use Rattle.views.specs.Answering.{Replies};
-ghost use Rattle.answers.specs.GenerateRandom.{generate_random};
+ghost use Rattle.session_answers.specs.GenerateRandom.{generate_random};
 ghost use Rattle.token_store.specs.Refusing.{AtDeskIf};
 
 use ck_calls::Reply;

@@ -14,7 +14,7 @@ use Rattle.desk.specs.Desks.{DeskState, with_question}
 use Rattle.views.specs.Views.{View, Question, Task, sees}
 use Rattle.views.specs.Changes.{Change, Records, Resets, in_list}
 use Rattle.views.specs.Answering.{Answer, Replies, Asks}
-use Rattle.answers.specs.Pins.{resets}
+use Rattle.session_answers.specs.Pins.{resets}
 use Rattle.token_store.specs.Shown.{view_of, objects_of, question_of, Changes, Fits, Gives}
 use Rattle.token_store.specs.Stores.{StoreState, Has, LeavesOr, Refused}
 use Rattle.serve_sessions.specs.Recording.{asks_charged, codes_with}

@@ -22,9 +22,9 @@ use Rattle.desk.specs.Desks.{DeskState, closed as desk_closed, all_closed as des
 use Rattle.ops.specs.Operations.{Operations}
 use Rattle.views.specs.Views.{TokenObject, SessionObject, sees, seen_by}
 use Rattle.views.specs.Answering.{Replies, session_of}
-use Rattle.answers.specs.CloseSession.{close_session, close_all_sessions}
-use Rattle.answers.specs.Logout.{logout}
-use Rattle.answers.specs.OpenSession.{is_slot}
+use Rattle.session_answers.specs.CloseSession.{close_session, close_all_sessions}
+use Rattle.session_answers.specs.Logout.{logout}
+use Rattle.session_answers.specs.OpenSession.{is_slot}
 use Rattle.token_store.specs.Shown.{sees_kept, token_object, session_object, view_of, IsNoted, Fits, Gives}
 use Rattle.token_store.proofs.Seeing.{IsLess, less-none}
 use Rattle.lists.proofs.ListLemmas.{filter-map, filter-less}

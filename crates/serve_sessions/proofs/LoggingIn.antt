@@ -16,8 +16,8 @@ use Rattle.pin_record.specs.Records.{with_tries}
 use Rattle.desk.specs.Desks.{DeskState, IsDiscreet}
 use Rattle.views.specs.Views.{TokenObject, View, sees, without_handle}
 use Rattle.views.specs.Answering.{Replies}
-use Rattle.answers.specs.Login.{merged, tokens_for, may_log_in, right_pin}
-use Rattle.answers.specs.Pins.{is_charged}
+use Rattle.session_answers.specs.Login.{merged, tokens_for, may_log_in, right_pin}
+use Rattle.session_answers.specs.Pins.{is_charged}
 use Rattle.token_store.specs.Shown.{sees_kept, token_object, view_of, IsNoted, Fits, Gives}
 use Rattle.serve_sessions.specs.Recording.{codes_with, objects_for, right_reveal}
 use Rattle.serve_sessions.proofs.Charging.{fits-recorded}

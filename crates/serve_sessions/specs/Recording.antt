@@ -10,7 +10,7 @@ use Rattle.pin_record.specs.Records.{TokenRecord}
 use Rattle.keep.specs.Contents.{Contents}
 use Rattle.views.specs.Views.{View, Task}
 use Rattle.views.specs.Answering.{Answer, Reveal, asks_checked}
-use Rattle.answers.specs.Pins.{stores}
+use Rattle.session_answers.specs.Pins.{stores}
 use Rattle.token_store.specs.Shown.{objects_of}
 
 -- a check of a PIN begins with its charge in this record

@@ -1,7 +1,7 @@
 //! C_CloseSession and C_CloseAllSessions (PKCS #11 v3.1, 5.6).
 
 ghost use Rattle.views.specs.Answering.{Replies};
-ghost use Rattle.answers.specs.CloseSession.{close_all_sessions, close_session};
+ghost use Rattle.session_answers.specs.CloseSession.{close_all_sessions, close_session};
 ghost use Rattle.token_store.specs.Refusing.{AtDesk};
 
 use crate::SLOT;

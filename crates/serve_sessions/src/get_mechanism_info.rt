@@ -2,7 +2,7 @@
 
 ghost use Rattle.desk.specs.Desks.{DeskState};
 ghost use Rattle.views.specs.Answering.{Replies};
-ghost use Rattle.answers.specs.Mechanisms.{get_mechanism_info};
+ghost use Rattle.session_answers.specs.Mechanisms.{get_mechanism_info};
 ghost use Rattle.token_store.specs.Refusing.{AtDesk};
 
 use crate::SLOT;

@@ -4,7 +4,7 @@ ghost use Rattle.std.specs.Prelude.{◌≡◌, IfOk};
 ghost use Rattle.mechanisms.specs.Table.{listed_numbers};
 ghost use Rattle.desk.specs.Desks.{DeskState};
 ghost use Rattle.views.specs.Answering.{Replies};
-ghost use Rattle.answers.specs.Mechanisms.{get_mechanism_list};
+ghost use Rattle.session_answers.specs.Mechanisms.{get_mechanism_list};
 ghost use Rattle.token_store.specs.Refusing.{AtDesk};
 
 use crate::SLOT;

@@ -1,7 +1,7 @@
 //! C_GetSessionInfo (PKCS #11 v3.1, 5.6).
 
 ghost use Rattle.views.specs.Answering.{Replies};
-ghost use Rattle.answers.specs.GetSessionInfo.{get_session_info};
+ghost use Rattle.session_answers.specs.GetSessionInfo.{get_session_info};
 ghost use Rattle.token_store.specs.Refusing.{AtDesk};
 
 use crate::SLOT;

@@ -1,6 +1,6 @@
 //! C_GetTokenInfo (PKCS #11 v3.1, 5.5).
 
-ghost use Rattle.answers.specs.GetTokenInfo.{get_token_info};
+ghost use Rattle.session_answers.specs.GetTokenInfo.{get_token_info};
 ghost use Rattle.token_store.specs.Refusing.{IsDone};
 
 use crate::SLOT;

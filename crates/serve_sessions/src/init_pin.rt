@@ -2,8 +2,8 @@
 
 ghost use Rattle.std.specs.Prelude.{◌≡◌, ◌<◌, ◌^◌, IfOk, Some, None, length};
 ghost use Rattle.views.specs.Answering.{Replies};
-ghost use Rattle.answers.specs.InitPin.{init_pin, pin_made};
-ghost use Rattle.answers.specs.Pins.{is_so};
+ghost use Rattle.session_answers.specs.InitPin.{init_pin, pin_made};
+ghost use Rattle.session_answers.specs.Pins.{is_so};
 ghost use Rattle.token_store.specs.Refusing.{AtDesk, IsDone};
 ghost use Rattle.token_store.specs.Shown.{IsFor, said_of};
 

@@ -5,7 +5,7 @@ ghost use Rattle.std.specs.Option.{option_map};
 ghost use Rattle.ck_types.specs.declared.user_type.UserType.TheVariants.{So};
 ghost use Rattle.pin_record.specs.Records.{initialized_record, tries_limit, verifier_of};
 ghost use Rattle.views.specs.Answering.{Replies};
-ghost use Rattle.answers.specs.InitToken.{init_token, inited, reset};
+ghost use Rattle.session_answers.specs.InitToken.{init_token, inited, reset};
 ghost use Rattle.token_store.specs.Refusing.{IsDone, IsDoneAs};
 ghost use Rattle.token_store.specs.Shown.{IsFor, said_of};
 

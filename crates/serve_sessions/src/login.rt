@@ -7,7 +7,7 @@ ghost use Rattle.keep.specs.Contents.{Contents};
 ghost use Rattle.pin_record.specs.Records.{is_locked};
 ghost use Rattle.sessions.specs.Sessions.{has_read_only};
 ghost use Rattle.views.specs.Answering.{Replies};
-ghost use Rattle.answers.specs.Login.{is_in, keeps_out, login, may_log_in, right_pin, user_of};
+ghost use Rattle.session_answers.specs.Login.{is_in, keeps_out, login, may_log_in, right_pin, user_of};
 ghost use Rattle.serve_sessions.specs.Recording.{right_reveal};
 ghost use Rattle.token_store.specs.Refusing.{IsDoneAs};
 ghost use Rattle.token_store.specs.Shown.{IsFor, said_of, view_of};

@@ -1,7 +1,7 @@
 //! C_Logout (PKCS #11 v3.1, 5.6).
 
 ghost use Rattle.views.specs.Answering.{Replies};
-ghost use Rattle.answers.specs.Logout.{logout};
+ghost use Rattle.session_answers.specs.Logout.{logout};
 ghost use Rattle.token_store.specs.Refusing.{AtDesk};
 
 use ck_calls::Reply;

@@ -2,7 +2,7 @@
 
 ghost use Rattle.std.specs.Prelude.{◌≡◌, ◌<◌, ◌^◌};
 ghost use Rattle.views.specs.Answering.{Replies};
-ghost use Rattle.answers.specs.OpenSession.{has_other_flags, is_read_write, is_serial, open_session};
+ghost use Rattle.session_answers.specs.OpenSession.{has_other_flags, is_read_write, is_serial, open_session};
 ghost use Rattle.token_store.specs.Refusing.{AtDesk};
 
 use crate::SLOT;

@@ -6,7 +6,7 @@ ghost use Rattle.mech.specs.Runnable.{is_runnable};
 ghost use Rattle.pin_record.specs.Records.{tries_limit, tries_of, verifier_of};
 ghost use Rattle.views.specs.Answering.{Replies};
 ghost use Rattle.views.specs.Refusals.{set_apart};
-ghost use Rattle.answers.specs.Pins.{is_pin_length, resets};
+ghost use Rattle.session_answers.specs.Pins.{is_pin_length, resets};
 ghost use Rattle.token_store.specs.Refusing.{IsDone, IsDoneIf};
 ghost use Rattle.token_store.specs.Short.{IsShortTask};
 ghost use Rattle.token_store.specs.Shown.{IsFor, said_of, task_of};

@@ -2,7 +2,7 @@
 
 ghost use Rattle.std.specs.Prelude.{◌≡◌, ◌<◌, ◌^◌, IfOk, Some, None, length};
 ghost use Rattle.views.specs.Answering.{Replies};
-ghost use Rattle.answers.specs.SetPin.{owner, pin_changed, set_pin};
+ghost use Rattle.session_answers.specs.SetPin.{owner, pin_changed, set_pin};
 ghost use Rattle.token_store.specs.Refusing.{IsDone, IsDoneAs};
 ghost use Rattle.token_store.specs.Shown.{IsFor, said_of};
 

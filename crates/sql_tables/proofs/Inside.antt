@@ -7,7 +7,7 @@ use Rattle.sqlite.specs.State.{State, HasCleanDisk, ExecutesInside, KeepsCommit,
 use Rattle.sqlite.specs.Held.{Held, state}
 use Rattle.sqlite.specs.declared.error.Error.{Error}
 use Rattle.sqlite.proofs.InsideLemmas.{inside_keeps, keeps_then}
-use Rattle.sql_tables.specs.Ran.{RanPair, RanThree}
+use Rattle.table_statements.specs.Ran.{RanPair, RanThree}
 
 -- what a call in a transaction says
 abbrev pub Inside : List ℕ → Row → State → State → Result ℕ Error → Type 0

@@ -1,7 +1,2 @@
-pub mod Tables
-pub mod Bodies
-pub mod Store
-pub mod Rows
-pub mod Ran
 pub mod RanEach
 pub mod Renewed

@@ -7,8 +7,8 @@ ghost use Rattle.std.specs.Prelude.{codes, [], ◌∷◌};
 ghost use Rattle.sqlite.specs.declared.types.Value.TheVariants.{Blob, Int};
 ghost use Rattle.sqlite.specs.State.{HasCleanDisk, Executes, QueriesRow, Survives, CommitsBy, CommitsShowing};
 ghost use Rattle.sqlite.specs.Held.{state};
-ghost use Rattle.sql_tables.specs.Bodies.{Bodies, after_reset, greatest_id, with_body, with_body_at, with_record, without_body};
-ghost use Rattle.sql_tables.specs.Store.{Committed, HoldsRows, IsReady, RowsChanged, RowsFailed, RowsStayed, ShowsBody, Uncommitted, Unwritten};
+ghost use Rattle.table_statements.specs.Bodies.{Bodies, after_reset, greatest_id, with_body, with_body_at, with_record, without_body};
+ghost use Rattle.table_statements.specs.Store.{Committed, HoldsRows, IsReady, RowsChanged, RowsFailed, RowsStayed, ShowsBody, Uncommitted, Unwritten};
 
 use crate::transactions::run_pair;
 use sqlite::{Alter, Connection, Error, Row, params};

@@ -3,7 +3,7 @@
 ghost use Rattle.std.specs.Prelude.{◌≡◌, [], false, true, IsOk, IsTrue, IfOk, OnOk, OnErr};
 ghost use Rattle.sqlite.specs.State.{HasCleanDisk, KeepsCommit, Shows, Survives};
 ghost use Rattle.sqlite.specs.Held.{state};
-ghost use Rattle.sql_tables.specs.Ran.{RanPair, RanThree};
+ghost use Rattle.table_statements.specs.Ran.{RanPair, RanThree};
 
 use sqlite::{Alter, Connection, Error, Transaction, params};
 

@@ -4,9 +4,9 @@ use Rattle.std.specs.Int.{w128, from_be_bytes, to_be_bytes}
 use Rattle.std.proofs.lemmas.Bool.{cases_eq}
 use Rattle.std.proofs.lemmas.List.{append_assoc, take-append-drop, take-append-le, take_all, take_at, length-append, length-drop, length-take}
 use Rattle.std.proofs.lemmas.List.Elements.{All-nil}
-use Rattle.aes_block.specs.Bytes.{AreBytes, xor_bytes}
-use Rattle.aes_block.specs.Encipher.{enciphered_block}
-use Rattle.aes_block.specs.KeyExpansion.{IsKey}
+use Rattle.fips_197.specs.Bytes.{AreBytes, xor_bytes}
+use Rattle.fips_197.specs.Encipher.{enciphered_block}
+use Rattle.fips_197.specs.KeyExpansion.{IsKey}
 use Rattle.aes_block.specs.Texts.{block_of}
 use Rattle.aes_modes.specs.Blocks.{first_blocks, blocks_begun}
 use Rattle.aes_modes.specs.Counter.{counter_start}

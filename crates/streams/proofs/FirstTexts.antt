@@ -2,7 +2,7 @@
 use Rattle.std.proofs.Common.{◌≡◌, ℕ, zero, suc, ◌<◌, ◌≤◌, Bool, true, List, [], ◌∷◌, length, Option, Some, None, is_some, IfSome, option_map, ap, refl, sym, ◌∙◌, subst, arith, ⊎_elim, true≢false}
 use Rattle.std.proofs.lemmas.Bool.{cond_both, cases_lt}
 use Rattle.std.proofs.lemmas.List.Elements.{All-nil, All-cons, All-head, All-tail}
-use Rattle.aes_block.specs.Bytes.{AreBytes}
+use Rattle.fips_197.specs.Bytes.{AreBytes}
 use Rattle.streams.specs.Outputs.{or_else, first_below, first_text}
 
 abbrev pub Passes : (List ℕ → Bool) → List ℕ → Type 0

@@ -3,8 +3,8 @@ use Rattle.std.proofs.Common.{◌≡◌, ◌≢◌, ℕ, ◌≤◌, ◌-◌, ◌
 use Rattle.std.proofs.lemmas.Bool.{and_from, and_parts, not_from_false, not_from_true, not-true}
 use Rattle.std.proofs.lemmas.List.{length-take-le, append_assoc, drop_at, take_all, length-append}
 use Rattle.std.proofs.lemmas.Slice.Eq.{bytes_eq-Decides}
-use Rattle.aes_block.specs.Bytes.{AreBytes}
-use Rattle.aes_block.specs.KeyExpansion.{IsKey}
+use Rattle.fips_197.specs.Bytes.{AreBytes}
+use Rattle.fips_197.specs.KeyExpansion.{IsKey}
 use Rattle.aes_modes.specs.Modes.{cbc_pad_enciphered}
 use Rattle.aes_modes.specs.declared.direction.Direction.{Direction}
 use Rattle.aes_modes.specs.declared.direction.Direction.TheVariants.{Encipher, Decipher}

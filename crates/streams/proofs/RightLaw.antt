@@ -2,8 +2,8 @@
 use Rattle.std.proofs.Common.{◌≡◌, ℕ, ◌==◌, not, false, ◌+◌, ◌%◌, ◌-◌, ◌*◌, ◌/◌, ◌≤◌, List, [], ◌++◌, length, take, drop, ap, sym, ◌∙◌, arith}
 use Rattle.std.proofs.lemmas.Bool.{eqb-true, not-false}
 use Rattle.std.proofs.lemmas.List.{append-nil, take_all, take-append-drop, length-take-le}
-use Rattle.aes_block.specs.Bytes.{AreBytes, IsBlock}
-use Rattle.aes_block.specs.KeyExpansion.{IsKey}
+use Rattle.fips_197.specs.Bytes.{AreBytes, IsBlock}
+use Rattle.fips_197.specs.KeyExpansion.{IsKey}
 use Rattle.aes_modes.specs.Blocks.{first_blocks}
 use Rattle.aes_modes.specs.Modes.{ecb_block, cbc_block, cbc_enciphered, output_block, ctr_enciphered}
 use Rattle.aes_modes.specs.declared.direction.Direction.TheVariants.{Encipher, Decipher}

@@ -1,7 +1,7 @@
 -- CBC in pieces (SP 800-38A, 6.2).
 use Rattle.std.specs.Prelude.{◌≡◌, ◌*◌, ◌/◌, length, take}
-use Rattle.aes_block.specs.Bytes.{AreBytes, IsBlock}
-use Rattle.aes_block.specs.KeyExpansion.{IsKey}
+use Rattle.fips_197.specs.Bytes.{AreBytes, IsBlock}
+use Rattle.fips_197.specs.KeyExpansion.{IsKey}
 use Rattle.aes_modes.specs.Modes.{cbc_blocks}
 use Rattle.streams.specs.Flows.{Flow, blocks_done}
 

@@ -1,8 +1,8 @@
 -- The fields of CTR in pieces.
 use Rattle.std.specs.Prelude.{◌≡◌, ◌+◌, ◌*◌, ◌^◌, ◌≤◌, drop}
 use Rattle.std.specs.Int.{w128, from_be_bytes}
-use Rattle.aes_block.specs.Bytes.{AreBytes}
-use Rattle.aes_block.specs.KeyExpansion.{IsKey}
+use Rattle.fips_197.specs.Bytes.{AreBytes}
+use Rattle.fips_197.specs.KeyExpansion.{IsKey}
 use Rattle.aes_modes.specs.Counter.{counter_start}
 use Rattle.streams.specs.Countings.{Counting, ctr_output}
 use Rattle.streams.specs.Flows.{blocks_done}

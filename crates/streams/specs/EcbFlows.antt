@@ -1,7 +1,7 @@
 -- ECB in pieces (SP 800-38A, 6.1).
 use Rattle.std.specs.Prelude.{◌≡◌, ◌*◌, ◌/◌, length, take}
-use Rattle.aes_block.specs.Bytes.{AreBytes}
-use Rattle.aes_block.specs.KeyExpansion.{IsKey}
+use Rattle.fips_197.specs.Bytes.{AreBytes}
+use Rattle.fips_197.specs.KeyExpansion.{IsKey}
 use Rattle.aes_modes.specs.Modes.{ecb_blocks}
 use Rattle.streams.specs.Flows.{Flow}
 

@@ -1,6 +1,6 @@
 -- Pieces equal the whole: what the bytes given are, by the modes over whole texts (SP 800-38A, 6).
 use Rattle.std.specs.Prelude.{◌≡◌, ℕ, false, List, ◌++◌, length, take}
-use Rattle.aes_block.specs.Bytes.{AreBytes}
+use Rattle.fips_197.specs.Bytes.{AreBytes}
 use Rattle.aes_modes.specs.Modes.{ecb_enciphered, cbc_enciphered, cbc_pad_enciphered, ctr_enciphered}
 use Rattle.aes_modes.specs.Directions.{IsTurned}
 use Rattle.aes_modes.specs.declared.direction.Direction.{Direction}

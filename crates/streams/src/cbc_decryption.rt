@@ -1,7 +1,7 @@
 //! CBC decryption in pieces (SP 800-38A, 6.2), with or without padding at the end (RFC 5652, 6.3).
 
 ghost use Rattle.std.specs.Prelude.{◌≡◌, ◌≢◌, ◌⊎◌, ℕ, List, ◌+◌, ◌-◌, ◌*◌, ◌%◌, ◌≤◌, ◌++◌, ◌↔◌, length, take, IfOk, IfErr, OnErr, IsErrOf};
-ghost use Rattle.aes_block.specs.Bytes.{AreBytes};
+ghost use Rattle.fips_197.specs.Bytes.{AreBytes};
 ghost use Rattle.aes_modes.specs.Modes.{chained, cbc_blocks, cbc_pad_enciphered};
 ghost use Rattle.streams.specs.Flows.{begun, further};
 ghost use Rattle.streams.specs.CbcFlows.{IsCbcDeciphered};

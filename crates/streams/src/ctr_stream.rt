@@ -1,8 +1,8 @@
 //! CTR in pieces (SP 800-38A, 6.5), which is the same in both directions.
 
 ghost use Rattle.std.specs.Prelude.{◌≡◌, ◌⊎◌, ◌+◌, ◌-◌, ◌/◌, ◌^◌, ◌<◌, ◌++◌, ◌↔◌, length, IfOk, IfErr, OnOk, OnErr, IsErrOf, IsTrue};
-ghost use Rattle.aes_block.specs.Bytes.{AreBytes};
-ghost use Rattle.aes_block.specs.KeyExpansion.{IsKey};
+ghost use Rattle.fips_197.specs.Bytes.{AreBytes};
+ghost use Rattle.fips_197.specs.KeyExpansion.{IsKey};
 ghost use Rattle.aes_modes.specs.Blocks.{blocks_begun};
 ghost use Rattle.aes_modes.specs.Counter.{counter_start};
 ghost use Rattle.streams.specs.Countings.{begun_counting, counted_further, ctr_output, numbered};

@@ -1,7 +1,7 @@
 //! ECB decryption in pieces (SP 800-38A, 6.1).
 
 ghost use Rattle.std.specs.Prelude.{◌≡◌, [], ◌+◌, ◌-◌, ◌*◌, ◌≤◌, ◌++◌, length, take, IfOk, OnErr};
-ghost use Rattle.aes_block.specs.Bytes.{AreBytes};
+ghost use Rattle.fips_197.specs.Bytes.{AreBytes};
 ghost use Rattle.aes_modes.specs.Modes.{ecb_blocks};
 ghost use Rattle.streams.specs.Flows.{begun, further};
 ghost use Rattle.streams.specs.EcbFlows.{IsEcbDeciphered};

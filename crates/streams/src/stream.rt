@@ -1,7 +1,7 @@
 //! A text enciphered or deciphered in pieces.
 
 ghost use Rattle.std.specs.Prelude.{◌≡◌, ◌≢◌, ◌≤◌, ◌⊎◌, ℕ, List, ◌↔◌, ◌==◌, true, false, not, Some, None, ◌++◌, length, IfOk, IfErr, OnErr, IsErrOf};
-ghost use Rattle.aes_block.specs.Bytes.{AreBytes};
+ghost use Rattle.fips_197.specs.Bytes.{AreBytes};
 ghost use Rattle.streams.specs.Streamed.{started, after_piece};
 ghost use Rattle.streams.specs.Lengths.{wanted, is_of_no_text, refuses_length, ends_counters};
 ghost use Rattle.streams.specs.Outputs.{output_so_far, whole_output, with_data, update_output, last_output};

@@ -22,7 +22,7 @@ use Rattle.views.specs.Views.{View, MakesPin}
 use Rattle.views.specs.Changes.{Stays}
 use Rattle.views.specs.Answering.{Said, Replies, Answer, Reveal, asks, refuses, refuses_by, is_closed}
 use Rattle.answers.specs.Answers.{answer, answer_to, is_still_function}
-use Rattle.answers.specs.InitPin.{init_pin_row, init_pin}
+use Rattle.session_answers.specs.InitPin.{init_pin_row, init_pin}
 use Rattle.token_model.specs.Worlds.{reveal_by_call}
 use Rattle.views.specs.Refusals.{set_apart}
 use Rattle.answers.proofs.Proper.{proper-answer_to}

@@ -27,10 +27,10 @@ use Rattle.views.specs.Answering.{Answer, answered, becomes, refuses, replies, w
 use Rattle.answers.specs.Answers.{answer_outcome}
 use Rattle.answers.specs.CipherInit.{place_for}
 use Rattle.answers.specs.UnwrapKey.{unwrapped_result}
-use Rattle.answers.specs.Login.{right_pin}
-use Rattle.answers.specs.InitPin.{pin_made}
-use Rattle.answers.specs.SetPin.{pin_changed}
-use Rattle.answers.specs.InitToken.{inited, reset}
+use Rattle.session_answers.specs.Login.{right_pin}
+use Rattle.session_answers.specs.InitPin.{pin_made}
+use Rattle.session_answers.specs.SetPin.{pin_changed}
+use Rattle.session_answers.specs.InitToken.{inited, reset}
 use Rattle.token_model.specs.Worlds.{value_of, reveal_by_outcome, reveals_checks, reveals_login, reveals_sessions, reveals_reset}
 use Rattle.token_store.specs.Shown.{task_of}
 

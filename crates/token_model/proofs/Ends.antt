@@ -15,11 +15,11 @@ use Rattle.views.specs.Outcomes.{Outcome, Right, Wrong, Made}
 use Rattle.views.specs.Views.{Task, Ciphers, Takes, Signs, Verifies, WrapsKey, UnwrapsKey, ChecksPin, MakesPin, ChangesPin, InitsToken, ResetsToken, Question, View}
 use Rattle.views.specs.Changes.{Change, Records, recorded}
 use Rattle.views.specs.Answering.{Reveal, answered, pin_checked_by, has_session, refuses}
-use Rattle.answers.specs.Pins.{verifier_or, others, is_charged, stores, resets}
-use Rattle.answers.specs.Login.{may_log_in, logged_in, right_pin, login_result}
-use Rattle.answers.specs.InitPin.{may_set_pin, init_pin_result}
-use Rattle.answers.specs.SetPin.{set_pin_result}
-use Rattle.answers.specs.InitToken.{is_in_use, may_init, init_token_result, reset_token_result}
+use Rattle.session_answers.specs.Pins.{verifier_or, others, is_charged, stores, resets}
+use Rattle.session_answers.specs.Login.{may_log_in, logged_in, right_pin, login_result}
+use Rattle.session_answers.specs.InitPin.{may_set_pin, init_pin_result}
+use Rattle.session_answers.specs.SetPin.{set_pin_result}
+use Rattle.session_answers.specs.InitToken.{is_in_use, may_init, init_token_result, reset_token_result}
 use Rattle.answers.specs.Answers.{answer_outcome, is_pin_task}
 use Rattle.answers.proofs.Proper.{record-outcome}
 use Rattle.token_model.specs.Worlds.{World, is_in_session, others_in_session, checking, others_checking, checks_of, without_checks, reveal_to_outcome, reveals_login}

@@ -10,9 +10,9 @@ use Rattle.token_model.specs.declared.event.Event.TheVariants.{Call, Finish, Gon
 use Rattle.views.specs.Outcomes.{Outcome, Right, Made}
 use Rattle.views.specs.Views.{View, Task, Ciphers, Takes, Signs, Verifies, WrapsKey, UnwrapsKey, ChecksPin, MakesPin, ChangesPin, InitsToken, ResetsToken, Question}
 use Rattle.views.specs.Answering.{Reveal, pin_checked_by, pin_checked_in, has_session}
-use Rattle.answers.specs.Pins.{verifier_or}
-use Rattle.answers.specs.InitPin.{may_set_pin}
-use Rattle.answers.specs.InitToken.{is_in_use, may_init}
+use Rattle.session_answers.specs.Pins.{verifier_or}
+use Rattle.session_answers.specs.InitPin.{may_set_pin}
+use Rattle.session_answers.specs.InitToken.{is_in_use, may_init}
 use Rattle.token_model.specs.Worlds.{World, is_in_session, checking, checks_of, value_of, reveal_to_outcome, answer_at, Move, Goes, Refuses, happens}
 
 -- ---- what is stored, and under way

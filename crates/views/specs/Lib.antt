@@ -4,3 +4,4 @@ pub mod Changes
 pub mod Answering
 pub mod Refusals
 pub mod Checked
+pub mod Calls

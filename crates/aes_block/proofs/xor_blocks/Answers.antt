@@ -1,6 +1,6 @@
 use Rattle.std.proofs.Common.{◌≡◌, ◌∙◌, ◌+◌, suc, ap, arith, bit_xor, get_or, set, subst, sym}
-use Rattle.aes_block.specs.Bytes.{IsBlock}
-use Rattle.aes_block.proofs.Blocks.{xored, xored-none, xored-more, xored-all, get_or-xored, IsBlock-xor_bytes}
+use Rattle.fips_197.specs.Bytes.{IsBlock}
+use Rattle.fips_197.proofs.Blocks.{xored, xored-none, xored-more, xored-all, get_or-xored, IsBlock-xor_bytes}
 use Rattle.aes_block.proofs.xor_blocks.Goals as goal
 
 pub loop-i-init : goal.loop-i-init

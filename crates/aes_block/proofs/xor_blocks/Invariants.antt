@@ -1,5 +1,5 @@
 use Rattle.std.proofs.Common.{◌≡◌}
-use Rattle.aes_block.proofs.Blocks.{xored}
+use Rattle.fips_197.proofs.Blocks.{xored}
 use Rattle.aes_block.proofs.xor_blocks.Given as goal
 
 abbrev pub invariant-loop-i : goal.invariant-loop-i

@@ -1,6 +1,6 @@
 use Rattle.std.proofs.Common.{◌≡◌, ◌∙◌, ◌+◌, ap, arith}
-use Rattle.aes_block.specs.Bytes.{xor_bytes}
-use Rattle.aes_block.specs.Encipher.{enciphered_block}
+use Rattle.fips_197.specs.Bytes.{xor_bytes}
+use Rattle.fips_197.specs.Encipher.{enciphered_block}
 use Rattle.aes_cmac.specs.Cmac.{chained}
 use Rattle.aes_cmac.proofs.Messages.{chained-next}
 use Rattle.aes_cmac.proofs.chained_on.Goals as goal

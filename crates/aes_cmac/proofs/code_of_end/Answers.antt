@@ -1,6 +1,6 @@
 use Rattle.std.proofs.Common.{◌∙◌, ap}
-use Rattle.aes_block.specs.Bytes.{xor_bytes}
-use Rattle.aes_block.specs.Encipher.{enciphered_block}
+use Rattle.fips_197.specs.Bytes.{xor_bytes}
+use Rattle.fips_197.specs.Encipher.{enciphered_block}
 use Rattle.aes_cmac.specs.Cmac.{last_block, cmac}
 use Rattle.aes_cmac.proofs.code_of_end.Goals as goal
 

@@ -18,7 +18,7 @@ use Rattle.views.specs.Answering.{asks, answered, refuses_by, with_mac}
 use Rattle.views.proofs.Blind.{blind-asks}
 use Rattle.answers.specs.MacInit.{mac_ends}
 use Rattle.answers.specs.Mac.{mac_update_function, mac_or, signature_length, mac_row, sign_row, verify_row, sign_says, verify_says, signs, verifies, takes, sign, sign_final, verify, verify_final, mac_update, taken, signed_reply, signed, verified_reply, verified}
-use Rattle.answers.proofs.Over.{IsOver}
+use Rattle.session_answers.proofs.Over.{IsOver}
 use Rattle.answers.proofs.Proper.MacInit.{with_mac-mask, mac-mask, blind-mac_ends}
 use Rattle.views.proofs.Checks.{Row, View, mask, shown, replies, session_of, IsProper, IsFair, blind-reply, blind-becomes, fair, blind-row, fair-row, blind-checked_by, fair-checked_by, row-session}
 

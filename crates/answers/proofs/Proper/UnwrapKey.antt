@@ -26,7 +26,7 @@ use Rattle.views.specs.Checked.{by_rows, state_in}
 use Rattle.views.proofs.Blind.{blind-asks, IsPlainFault}
 use Rattle.answers.specs.CreateObject.{makes_row, adds, adds_token_object, adds_session_object, adds_where}
 use Rattle.answers.specs.UnwrapKey.{key_ahead, template_row, unwrap_row, unwrap_says, unwraps, unwrap_key, may_add, unwrapped_result}
-use Rattle.answers.proofs.Over.{IsOver, over-if, over-refused}
+use Rattle.session_answers.proofs.Over.{IsOver, over-if, over-refused}
 use Rattle.answers.proofs.Templates.{fault-plain}
 use Rattle.answers.proofs.Proper.CipherInit.{type-masked}
 use Rattle.answers.proofs.Proper.CreateObject.{blind-adds, makes-mask, makes-told, makes-fair}

@@ -18,7 +18,7 @@ use Rattle.views.specs.Answering.{asks, answered}
 use Rattle.views.specs.Checked.{checked_by}
 use Rattle.views.proofs.Blind.{blind-asks}
 use Rattle.answers.specs.WrapKey.{is_no_key, key_len, wrapped_len, wrap_row, wrap_says, wraps, wrap_key, wrapped_result}
-use Rattle.answers.proofs.Over.{IsOver, over-refused}
+use Rattle.session_answers.proofs.Over.{IsOver, over-refused}
 use Rattle.answers.proofs.Sizes.{value_len-mask}
 use Rattle.answers.proofs.Proper.CipherInit.{class-masked, type-masked}
 use Rattle.views.proofs.Checks.{Entry, mask_object, Row, View, mask, shown, replies, object_at, object-mask, IsProper, IsFair, blind-reply, blind-refusal, fair, blind-row, fair-row, blind-checked_by, fair-checked_by, row-session, none-masked, flag-masked}

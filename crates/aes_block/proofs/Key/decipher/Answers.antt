@@ -1,7 +1,7 @@
 use Rattle.std.proofs.Common.{arith, ◌∙◌, ap, sym}
-use Rattle.aes_block.specs.Encipher.{enciphered_block}
-use Rattle.aes_block.specs.Cipher.{cipher}
-use Rattle.aes_block.specs.InverseCipher.{inverse_cipher}
+use Rattle.fips_197.specs.Encipher.{enciphered_block}
+use Rattle.fips_197.specs.Cipher.{cipher}
+use Rattle.fips_197.specs.InverseCipher.{inverse_cipher}
 use Rattle.aes_block.specs.Words.{words_bytes}
 use Rattle.aes_block.proofs.Inverses.{cipher-inverse_cipher, inverse_cipher-cipher}
 use Rattle.aes_block.proofs.StoredKeys.{rounds-bounds, IsBlock-stored, enciphered-stored}

@@ -1,7 +1,7 @@
 use Rattle.std.proofs.Common.{arith, ◌∙◌, ap, sym, subst}
-use Rattle.aes_block.specs.Bytes.{IsBlock}
-use Rattle.aes_block.specs.Cipher.{cipher}
-use Rattle.aes_block.specs.Encipher.{enciphered_block}
+use Rattle.fips_197.specs.Bytes.{IsBlock}
+use Rattle.fips_197.specs.Cipher.{cipher}
+use Rattle.fips_197.specs.Encipher.{enciphered_block}
 use Rattle.aes_block.specs.Words.{words_bytes}
 use Rattle.aes_block.proofs.RoundWords.{IsBlock-state_bytes}
 use Rattle.aes_block.proofs.StoredKeys.{rounds-bounds, enciphered-stored}

@@ -1,5 +1,5 @@
 use Rattle.std.proofs.Common.{arith, ap, length, ◌∙◌, subst}
-use Rattle.aes_block.specs.KeyExpansion.{IsKey}
+use Rattle.fips_197.specs.KeyExpansion.{IsKey}
 use Rattle.aes_block.proofs.StoredKeys.{IsKey-stored, rounds-bounds, size-stored}
 use Rattle.aes_block.proofs.Key.size.Goals as goal
 

@@ -1,7 +1,7 @@
 use Rattle.std.proofs.Common.{ap, ◌∙◌, ◌≡◌, ◌+◌, ◌-◌, suc, arith, sym, subst}
-use Rattle.aes_block.specs.Bytes.{IsBlock}
-use Rattle.aes_block.specs.Cipher.{add_round_key, round_key}
-use Rattle.aes_block.specs.InverseCipher.{inverse_mix_columns, inverse_round, inverse_last_round, inverse_state_after, inverse_cipher}
+use Rattle.fips_197.specs.Bytes.{IsBlock}
+use Rattle.fips_197.specs.Cipher.{add_round_key, round_key}
+use Rattle.fips_197.specs.InverseCipher.{inverse_mix_columns, inverse_round, inverse_last_round, inverse_state_after, inverse_cipher}
 use Rattle.aes_block.specs.Words.{words_bytes}
 use Rattle.aes_block.proofs.RoundWords.{IsBlock-state_bytes}
 use Rattle.aes_block.proofs.cipher.decipher.Goals as goal

@@ -1,5 +1,5 @@
 use Rattle.std.proofs.Common.{◌≡◌, ◌-◌}
-use Rattle.aes_block.specs.InverseCipher.{inverse_state_after}
+use Rattle.fips_197.specs.InverseCipher.{inverse_state_after}
 use Rattle.aes_block.specs.Words.{words_bytes, state_bytes}
 use Rattle.aes_block.proofs.cipher.decipher.Given as goal
 

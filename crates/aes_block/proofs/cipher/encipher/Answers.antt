@@ -1,5 +1,5 @@
 use Rattle.std.proofs.Common.{ap, ◌∙◌, ◌≡◌, ◌+◌, ◌-◌, suc, arith, sym}
-use Rattle.aes_block.specs.Cipher.{add_round_key, state_after, round, round_key, last_round, cipher}
+use Rattle.fips_197.specs.Cipher.{add_round_key, state_after, round, round_key, last_round, cipher}
 use Rattle.aes_block.specs.Words.{words_bytes, state_bytes}
 use Rattle.aes_block.proofs.cipher.encipher.Goals as goal
 

@@ -1,6 +1,6 @@
 use Rattle.std.proofs.Common.{◌∙◌, ap}
-use Rattle.aes_block.specs.WordPolynomial.{word_product}
-use Rattle.aes_block.specs.InverseCipher.{inverse_mix_polynomial}
+use Rattle.fips_197.specs.WordPolynomial.{word_product}
+use Rattle.fips_197.specs.InverseCipher.{inverse_mix_polynomial}
 use Rattle.aes_block.proofs.RoundWords.{mixed_column-of, inverse_substituted_diagonal}
 use Rattle.aes_block.proofs.inverse_round.inverse_mixed_column.Goals as goal
 

@@ -1,6 +1,6 @@
 use Rattle.std.proofs.Common.{◌∙◌, arith, ◌∷◌, []}
-use Rattle.aes_block.specs.WordPolynomial.{word_product}
-use Rattle.aes_block.specs.InverseCipher.{inverse_mix_polynomial}
+use Rattle.fips_197.specs.WordPolynomial.{word_product}
+use Rattle.fips_197.specs.InverseCipher.{inverse_mix_polynomial}
 use Rattle.aes_block.specs.Words.{word_bytes}
 use Rattle.aes_block.proofs.RoundWords.{mixed_column-of, through_s_box}
 use Rattle.aes_block.proofs.inverse_round.inverse_mixed_word.Goals as goal

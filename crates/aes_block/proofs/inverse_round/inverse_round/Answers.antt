@@ -1,6 +1,6 @@
 use Rattle.std.proofs.Common.{◌∙◌, ap}
-use Rattle.aes_block.specs.Cipher.{add_round_key}
-use Rattle.aes_block.specs.InverseCipher.{inverse_round}
+use Rattle.fips_197.specs.Cipher.{add_round_key}
+use Rattle.fips_197.specs.InverseCipher.{inverse_round}
 use Rattle.aes_block.specs.Words.{state_bytes}
 use Rattle.aes_block.proofs.RoundWords.{inverse_mixed_state}
 use Rattle.aes_block.proofs.inverse_round.inverse_round.Goals as goal

@@ -1,6 +1,6 @@
 use Rattle.std.proofs.Common.{arith, ◌/◌, ◌-◌, ◌≡◌, length, ◌∙◌, ap, take}
 use Rattle.std.proofs.lemmas.List.{length-set}
-use Rattle.aes_block.specs.KeyExpansion.{expanded_words}
+use Rattle.fips_197.specs.KeyExpansion.{expanded_words}
 use Rattle.aes_block.specs.Words.{words_bytes}
 use Rattle.aes_block.proofs.ScheduleWords.{expanded_word-step, key_expansion-end}
 use Rattle.aes_block.proofs.key_expansion.expanded_by.Goals as goal

@@ -1,5 +1,5 @@
 use Rattle.std.proofs.Common.{◌≡◌, ◌-◌, length, take}
-use Rattle.aes_block.specs.KeyExpansion.{expanded_words}
+use Rattle.fips_197.specs.KeyExpansion.{expanded_words}
 use Rattle.aes_block.specs.Words.{words_bytes}
 use Rattle.aes_block.specs.declared.key_expansion.TheConstants.{SCHEDULE_WORDS}
 use Rattle.aes_block.proofs.key_expansion.expanded_by.Given as goal

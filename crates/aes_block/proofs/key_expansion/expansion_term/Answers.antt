@@ -1,5 +1,5 @@
 use Rattle.std.proofs.Common.{◌∙◌, sym}
-use Rattle.aes_block.specs.Bytes.{xor_bytes}
+use Rattle.fips_197.specs.Bytes.{xor_bytes}
 use Rattle.aes_block.specs.Words.{word_bytes}
 use Rattle.aes_block.proofs.ExpansionTerms.{at_multiple, at_fourth, at_other, at_short_key}
 use Rattle.aes_block.proofs.key_expansion.expansion_term.Goals as goal

@@ -1,7 +1,7 @@
 use Rattle.std.proofs.Common.{◌≡◌, ◌≢◌, ◌<◌, ◌≤◌, length, get_or, set, arith, ◌∙◌, ap, below_more}
 use Rattle.std.proofs.lemmas.List.{get_or-set_same, get_or-set_other, length-set}
-use Rattle.aes_block.specs.WordPolynomial.{word_product}
-use Rattle.aes_block.specs.InverseCipher.{inverse_mix_polynomial}
+use Rattle.fips_197.specs.WordPolynomial.{word_product}
+use Rattle.fips_197.specs.InverseCipher.{inverse_mix_polynomial}
 use Rattle.aes_block.specs.Words.{word_bytes}
 use Rattle.aes_block.proofs.WordsInRow.{inverse_mixed-round_key}
 use Rattle.aes_block.proofs.key_expansion.inverse_mixed.Goals as goal

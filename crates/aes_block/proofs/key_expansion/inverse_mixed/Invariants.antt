@@ -1,6 +1,6 @@
 use Rattle.std.proofs.Common.{◌≡◌, ℕ, ◌<◌, ◌≤◌, length, get_or}
-use Rattle.aes_block.specs.WordPolynomial.{word_product}
-use Rattle.aes_block.specs.InverseCipher.{inverse_mix_polynomial}
+use Rattle.fips_197.specs.WordPolynomial.{word_product}
+use Rattle.fips_197.specs.InverseCipher.{inverse_mix_polynomial}
 use Rattle.aes_block.specs.Words.{word_bytes}
 use Rattle.aes_block.specs.declared.key_expansion.TheConstants.{SCHEDULE_WORDS}
 use Rattle.aes_block.proofs.key_expansion.inverse_mixed.Given as goal

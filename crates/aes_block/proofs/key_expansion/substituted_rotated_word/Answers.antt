@@ -1,7 +1,7 @@
 use Rattle.std.proofs.Common.{◌∷◌, [], ◌∙◌}
-use Rattle.aes_block.specs.SBox.{s_box}
-use Rattle.aes_block.specs.Cipher.{substitute_bytes}
-use Rattle.aes_block.specs.KeyExpansion.{rotate_word}
+use Rattle.fips_197.specs.SBox.{s_box}
+use Rattle.fips_197.specs.Cipher.{substitute_bytes}
+use Rattle.fips_197.specs.KeyExpansion.{rotate_word}
 use Rattle.aes_block.specs.Words.{word_bytes}
 use Rattle.aes_block.proofs.key_expansion.substituted_rotated_word.Goals as goal
 

@@ -1,6 +1,6 @@
 use Rattle.std.proofs.Common.{◌∙◌, ap}
-use Rattle.aes_block.specs.WordPolynomial.{word_product}
-use Rattle.aes_block.specs.Cipher.{mix_polynomial}
+use Rattle.fips_197.specs.WordPolynomial.{word_product}
+use Rattle.fips_197.specs.Cipher.{mix_polynomial}
 use Rattle.aes_block.proofs.RoundWords.{mixed_column-of, substituted_diagonal}
 use Rattle.aes_block.proofs.round.mixed_column.Goals as goal
 

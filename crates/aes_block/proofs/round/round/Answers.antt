@@ -1,6 +1,6 @@
 use Rattle.std.proofs.Common.{◌∙◌, ap}
-use Rattle.aes_block.specs.Cipher.{add_round_key}
-use Rattle.aes_block.specs.Cipher.{round}
+use Rattle.fips_197.specs.Cipher.{add_round_key}
+use Rattle.fips_197.specs.Cipher.{round}
 use Rattle.aes_block.specs.Words.{state_bytes}
 use Rattle.aes_block.proofs.RoundWords.{mixed_state}
 use Rattle.aes_block.proofs.round.round.Goals as goal

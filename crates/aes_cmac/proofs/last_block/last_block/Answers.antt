@@ -1,5 +1,5 @@
 use Rattle.std.proofs.Common.{◌∙◌}
-use Rattle.aes_block.specs.Bytes.{xor_bytes}
+use Rattle.fips_197.specs.Bytes.{xor_bytes}
 use Rattle.aes_cmac.proofs.Messages.{block_of-whole, last_block-whole, last_block-padded}
 use Rattle.aes_cmac.proofs.last_block.last_block.Goals as goal
 

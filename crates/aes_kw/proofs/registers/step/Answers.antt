@@ -1,7 +1,7 @@
 use Rattle.std.proofs.Common.{◌+◌, ◌-◌, ◌%◌, ◌++◌, ◌∙◌, ap, ℕ, List}
 use Rattle.std.specs.Int.{w64, to_be_bytes}
-use Rattle.aes_block.specs.Bytes.{xor_bytes}
-use Rattle.aes_block.specs.Encipher.{enciphered_block}
+use Rattle.fips_197.specs.Bytes.{xor_bytes}
+use Rattle.fips_197.specs.Encipher.{enciphered_block}
 use Rattle.aes_kw.specs.KeyWrap.{half, with_half, step}
 use Rattle.aes_kw.proofs.registers.step.Goals as goal
 

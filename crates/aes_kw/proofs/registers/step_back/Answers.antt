@@ -1,6 +1,6 @@
 use Rattle.std.proofs.Common.{◌+◌, ◌-◌, ◌%◌, ◌++◌, ◌∙◌, ap, sym}
 use Rattle.std.specs.Int.{w64, to_be_bytes}
-use Rattle.aes_block.specs.Bytes.{xor_bytes}
+use Rattle.fips_197.specs.Bytes.{xor_bytes}
 use Rattle.aes_kw.specs.KeyWrap.{half, with_half, step}
 use Rattle.aes_kw.proofs.Steps.{step-back, IsBlock-step, step-block, step-only}
 use Rattle.aes_kw.proofs.registers.step_back.Goals as goal

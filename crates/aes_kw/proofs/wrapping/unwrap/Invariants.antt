@@ -1,5 +1,5 @@
 use Rattle.std.proofs.Common.{◌≡◌, ◌+◌, ◌-◌, ◌*◌, ℕ, List, length}
-use Rattle.aes_block.specs.Bytes.{AreBytes}
+use Rattle.fips_197.specs.Bytes.{AreBytes}
 use Rattle.aes_kw.specs.KeyWrap.{after_steps}
 use Rattle.aes_kw.proofs.wrapping.unwrap.Given as goal
 

@@ -1,6 +1,6 @@
 use Rattle.std.proofs.Common.{◌∙◌, ap, sym, arith, refl, ◌+◌, ◌%◌, ◌≡◌, ◌++◌, length, subst}
 use Rattle.std.proofs.lemmas.List.{length-append}
-use Rattle.aes_block.specs.Bytes.{AreBytes, IsBlock, xor_bytes}
+use Rattle.fips_197.specs.Bytes.{AreBytes, IsBlock, xor_bytes}
 use Rattle.aes_modes.specs.Blocks.{first_blocks}
 use Rattle.aes_modes.specs.Modes.{cbc_blocks, chained}
 use Rattle.aes_modes.proofs.Chains.{chained-back, cbc_blocks-back, cbc_enciphered-all}

@@ -1,6 +1,6 @@
 use Rattle.std.proofs.Common.{◌∙◌, ◌-◌, ◌/◌, ◌++◌, length, replicate, ap}
-use Rattle.aes_block.specs.Bytes.{xor_bytes}
-use Rattle.aes_block.specs.Encipher.{enciphered_block}
+use Rattle.fips_197.specs.Bytes.{xor_bytes}
+use Rattle.fips_197.specs.Encipher.{enciphered_block}
 use Rattle.aes_modes.specs.Modes.{cbc_blocks}
 use Rattle.aes_modes.proofs.Paddings.{cbc_pad-blocks, padded-last}
 use Rattle.aes_modes.proofs.padded_chaining.enciphered.Goals as goal

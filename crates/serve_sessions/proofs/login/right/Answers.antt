@@ -1,8 +1,8 @@
 use Rattle.std.proofs.Common.{◌≡◌, true, false, rules, refl, sym, ◌∙◌}
 use Rattle.keep.specs.Contents.{with_record}
 use Rattle.pin_record.specs.Records.{with_tries}
-use Rattle.answers.specs.Login.{may_log_in}
-use Rattle.answers.specs.Pins.{is_charged}
+use Rattle.session_answers.specs.Login.{may_log_in}
+use Rattle.session_answers.specs.Pins.{is_charged}
 use Rattle.token_store.specs.Shown.{view_of}
 use Rattle.token_store.proofs.Gaves.{gave-change}
 use Rattle.token_store.proofs.Refusals.{does-is}

@@ -4,7 +4,7 @@ use Rattle.token_store.specs.Shown.{view_of}
 use Rattle.token_store.proofs.Gaves.{gave-change}
 use Rattle.token_store.proofs.Plain.{plain-fault}
 use Rattle.token_store.proofs.Refusals.{does-refused, fault-of}
-use Rattle.answers.specs.Pins.{resets}
+use Rattle.session_answers.specs.Pins.{resets}
 use Rattle.serve_sessions.proofs.Charging.{gives-reset, refused-reset}
 use Rattle.serve_sessions.proofs.recording.reset_to.Goals as goal
 

@@ -1,5 +1,5 @@
 use Rattle.sqlite.specs.Held.{state}
-use Rattle.sql_tables.proofs.Lift.{kept, prepared}
+use Rattle.table_statements.proofs.Lift.{kept, prepared}
 use Rattle.sql_tables.proofs.statements.ensure_open.Goals as goal
 
 pub returns-in_err-prepare-clause-kept : goal.returns-in_err-prepare-clause-kept

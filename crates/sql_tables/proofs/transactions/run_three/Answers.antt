@@ -1,5 +1,5 @@
 use Rattle.std.proofs.Common.{rules}
-use Rattle.sql_tables.specs.Ran.{RanThree}
+use Rattle.table_statements.specs.Ran.{RanThree}
 use Rattle.sql_tables.proofs.Commits.{all_or_none, none_left, is_made, is_up, on_err}
 use Rattle.sql_tables.proofs.transactions.run_three.Goals as goal
 

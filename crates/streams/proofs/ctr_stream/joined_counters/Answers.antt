@@ -1,8 +1,8 @@
 use Rattle.std.proofs.Common.{◌≡◌, ◌+◌, ◌*◌, ◌/◌, ◌<◌, ◌++◌, ◌∙◌, ap, sym, refl, arith, length, take, drop, replicate, ◌-◌}
 use Rattle.std.specs.Int.{w128, to_be_bytes}
 use Rattle.std.proofs.lemmas.List.{length-append}
-use Rattle.aes_block.specs.Bytes.{xor_bytes}
-use Rattle.aes_block.specs.Encipher.{enciphered_block}
+use Rattle.fips_197.specs.Bytes.{xor_bytes}
+use Rattle.fips_197.specs.Encipher.{enciphered_block}
 use Rattle.aes_modes.specs.Blocks.{first_blocks}
 use Rattle.streams.specs.Countings.{number_block}
 use Rattle.streams.proofs.CtrLaw.{numbered-more, numbered-last}

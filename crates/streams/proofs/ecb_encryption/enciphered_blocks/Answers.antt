@@ -1,6 +1,6 @@
 use Rattle.std.proofs.Common.{◌∙◌, ◌++◌, ap, arith, length}
 use Rattle.std.proofs.lemmas.List.{length-append}
-use Rattle.aes_block.specs.Encipher.{enciphered_block}
+use Rattle.fips_197.specs.Encipher.{enciphered_block}
 use Rattle.aes_modes.specs.Blocks.{first_blocks}
 use Rattle.aes_modes.proofs.Chains.{ecb_blocks-more}
 use Rattle.streams.proofs.ecb_encryption.enciphered_blocks.Goals as goal

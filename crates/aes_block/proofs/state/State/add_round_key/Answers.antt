@@ -1,5 +1,5 @@
 use Rattle.std.proofs.Common.{refl}
-use Rattle.aes_block.specs.Cipher.{add_round_key}
+use Rattle.fips_197.specs.Cipher.{add_round_key}
 use Rattle.aes_block.proofs.RoundWords.{state_bytes-xor}
 use Rattle.aes_block.proofs.state.State.add_round_key.Goals as goal
 

@@ -1,6 +1,6 @@
 use Rattle.std.proofs.Common.{◌++◌, ◌∙◌, sym, arith}
 use Rattle.aes_block.specs.Words.{state_bytes}
-use Rattle.aes_block.proofs.Blocks.{by_bytes}
+use Rattle.fips_197.proofs.Blocks.{by_bytes}
 use Rattle.aes_block.proofs.state.State.from_block.Goals as goal
 
 pub returns : goal.returns

@@ -1,5 +1,5 @@
 use Rattle.std.proofs.Common.{◌<◌, ◌-◌, ◌≡◌, ◌*◌, ◌++◌, refl, ap, sym, subst, arith, ◌∙◌, length, take, drop}
-use Rattle.aes_block.specs.Bytes.{AreBytes}
+use Rattle.fips_197.specs.Bytes.{AreBytes}
 use Rattle.aes_modes.specs.Modes.{cbc_pad_enciphered}
 use Rattle.streams.specs.Flows.{blocks_done}
 use Rattle.std.proofs.lemmas.List.{length-take}

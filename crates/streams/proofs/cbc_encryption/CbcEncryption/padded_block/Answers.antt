@@ -1,5 +1,5 @@
 use Rattle.std.proofs.Common.{◌-◌, ◌++◌, ◌∙◌, ap, sym, length, replicate}
-use Rattle.aes_block.specs.Encipher.{enciphered_block}
+use Rattle.fips_197.specs.Encipher.{enciphered_block}
 use Rattle.aes_modes.specs.Modes.{cbc_pad_enciphered}
 use Rattle.streams.proofs.CbcPadLaw.{padded_end}
 use Rattle.streams.proofs.cbc_encryption.CbcEncryption.padded_block.Goals as goal

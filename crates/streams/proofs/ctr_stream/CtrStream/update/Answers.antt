@@ -1,6 +1,6 @@
 use Rattle.std.proofs.Common.{◌≤◌, ◌+◌, ◌-◌, ◌/◌, ◌++◌, ◌∙◌, ap, sym, subst, refl, arith, length, ◌<◌}
 use Rattle.std.proofs.lemmas.List.Elements.{All-append}
-use Rattle.aes_block.specs.Bytes.{AreBytes}
+use Rattle.fips_197.specs.Bytes.{AreBytes}
 use Rattle.streams.specs.Flows.{blocks_done}
 use Rattle.streams.specs.Countings.{ctr_output}
 use Rattle.streams.proofs.CtrLaw.{fits_further, number_further, left_further, output_further}

@@ -1,0 +1,4 @@
+pub mod Checks
+pub mod FieldLaws
+pub mod Blocks
+pub mod StandardFacts

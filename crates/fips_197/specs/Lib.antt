@@ -1,0 +1,9 @@
+pub mod Bytes
+pub mod Field
+pub mod SBox
+pub mod State
+pub mod WordPolynomial
+pub mod Cipher
+pub mod KeyExpansion
+pub mod InverseCipher
+pub mod Encipher

@@ -1,0 +1,13 @@
+pub mod Over
+pub mod Pins
+pub mod GetTokenInfo
+pub mod Mechanisms
+pub mod GenerateRandom
+pub mod OpenSession
+pub mod CloseSession
+pub mod GetSessionInfo
+pub mod InitToken
+pub mod InitPin
+pub mod SetPin
+pub mod Login
+pub mod Logout
