@@ -6,7 +6,6 @@ use cache::Cached;
 use ck_types::{AttrType, Bytes, Entry, Items, ObjectClass};
 use keep::Keep;
 use keep_sql::SqlKeep;
-use sqlite::{FileFrom, FileStore};
 use sqlite_disk::Unknown;
 use std::alloc::Global;
 use std::io;
@@ -107,16 +106,63 @@ fn print_over<K: Keep>(
     insert_keys(&mut cached, key, OBJECTS.saturating_sub(INSERTS))
 }
 
-fn open(rt: &HostRuntime, path: &str) -> io::Result<SqlKeep<FileStore<FileFrom<Unknown>>>> {
-    SqlKeep::open(rt, path, Unknown).map_err(|_| failed())
+/// What is done over the store of a file, which is let go then.
+trait Work {
+    fn over<K: Keep>(
+        &self,
+        rt: &(impl Clock + Print),
+        alloc: Global,
+        keep: K,
+    ) -> io::Result<()>;
+}
+
+/// Inserts of a key, and reads.
+#[derive(Drop)]
+struct Measured<'a> {
+    key: &'a Object,
+}
+
+impl Work for Measured<'_> {
+    fn over<K: Keep>(
+        &self,
+        rt: &(impl Clock + Print),
+        alloc: Global,
+        keep: K,
+    ) -> io::Result<()> {
+        print_over(rt, alloc, self.key, keep)
+    }
+}
+
+/// Nothing: the store is opened alone.
+#[derive(Drop)]
+struct LetGo;
+
+impl Work for LetGo {
+    fn over<K: Keep>(
+        &self,
+        _rt: &(impl Clock + Print),
+        _alloc: Global,
+        keep: K,
+    ) -> io::Result<()> {
+        drop(keep);
+        Ok(())
+    }
+}
+
+/// Opens the store of a file, and does the work over it. The one function that names the store of files, whose proof is long.
+fn work_in<W: Work>(rt: &HostRuntime, path: &str, work: &W) -> io::Result<()> {
+    match SqlKeep::open(rt, path, Unknown) {
+        Ok(keep) => work.over(rt, rt.alloc(), keep),
+        Err(_) => Err(failed()),
+    }
 }
 
 /// Over a store in a new file: durable inserts, reads by id with and without a cache, and the opening of a store of many
 /// objects, by the clock on the wall.
 pub(crate) fn print_stores(rt: &HostRuntime, path: &str) -> io::Result<()> {
     let key = token_key(rt.alloc())?;
-    print_over(rt, rt.alloc(), &key, open(rt, path)?)?;
+    work_in(rt, path, &Measured { key: &key })?;
     let since = Instant::now(rt)?;
-    drop(open(rt, path)?);
+    work_in(rt, path, &LetGo)?;
     print_rate(rt, "objects of a store that is opened", OBJECTS, since)
 }

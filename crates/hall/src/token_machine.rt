@@ -1,8 +1,8 @@
 //! The token takes one event after the other.
 
 ghost use Rattle.keep.specs.Keeping.{Terms};
-ghost use Rattle.token.specs.Applications.{Shows};
-ghost use Rattle.token.specs.Runs.{MayLeave};
+ghost use Rattle.token_states.specs.Applications.{Shows};
+ghost use Rattle.token_states.specs.Runs.{MayLeave};
 
 use crate::machine::Machine;
 use channels::messages::AppCall;

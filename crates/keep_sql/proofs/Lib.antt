@@ -1,11 +1,3 @@
-pub mod Held
-pub mod Lifts
-pub mod Calls
-pub mod Opens
 pub mod Outcomes
-pub mod Places
-pub mod Bytes
-pub mod Renewed
-pub mod Covers
 pub mod Taken
 pub mod Takes

@@ -12,14 +12,14 @@ use Rattle.keep.specs.declared.keep.KeepFault.{KeepFault}
 use Rattle.keep.specs.declared.keep.KeepFault.TheVariants.{Damaged}
 use Rattle.table_statements.specs.Tables.{no_schema, token_schema}
 use Rattle.table_statements.specs.Store.{IsReady, OnlyReads, Sees, SeesTables, ShowsNow, Unwritten}
-use Rattle.keep_sql.specs.Store.{Stores, IsAt, Holds, ReadsAs}
-use Rattle.keep_sql.specs.SqlState.{SqlState, sql_terms}
+use Rattle.stored_contents.specs.Store.{Stores, IsAt, Holds, ReadsAs}
+use Rattle.stored_contents.specs.SqlState.{SqlState, sql_terms}
 use Rattle.keep_sql.specs.declared.taking.Found.{Found}
-use Rattle.keep_sql.specs.Formats.{HoldsEither, IsAtEither, StoresEither}
+use Rattle.stored_contents.specs.Formats.{HoldsEither, IsAtEither, StoresEither}
 use Rattle.keep_sql.specs.Found.{Finds, is_current}
-use Rattle.keep_sql.specs.Opening.{Adopts, AllDecode, HasOld, IsOurs, NotOpened, Opened, has_tables}
-use Rattle.keep_sql.proofs.Held.{at_again, held_on, one_contents, reads_one, reads_stay, sees_held}
-use Rattle.keep_sql.proofs.Opens.{not_both, not_none}
+use Rattle.stored_contents.specs.Opening.{Adopts, AllDecode, HasOld, IsOurs, NotOpened, Opened, has_tables}
+use Rattle.stored_contents.proofs.Held.{at_again, held_on, one_contents, reads_one, reads_stay, sees_held}
+use Rattle.stored_contents.proofs.Opens.{not_both, not_none}
 use Rattle.keep_sql.proofs.Taken.{either_decodes, found_decodes, has_old, none_old, same_record, stored_either}
 
 -- ---- in either format

@@ -9,8 +9,8 @@ use Rattle.sql_tables.specs.Renewed.{AreNatural, renewed}
 use Rattle.table_statements.specs.Rows.{ids_and_bodies}
 use Rattle.table_statements.specs.Store.{HasRows, IsAtRows}
 use Rattle.keep_sql.specs.declared.taking.Found.{Found}
-use Rattle.keep_sql.specs.Store.{IsAt, Stores, encoded_record}
-use Rattle.keep_sql.specs.Formats.{IsAtEither}
+use Rattle.stored_contents.specs.Store.{IsAt, Stores, encoded_record}
+use Rattle.stored_contents.specs.Formats.{IsAtEither}
 use Rattle.keep_sql.specs.Found.{Finds, is_current}
 use Rattle.keep_sql.proofs.Taken.{are_natural, current, has_rows, rows, written}
 

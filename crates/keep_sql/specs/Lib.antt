@@ -1,9 +1,1 @@
-pub mod Store
-pub mod Formats
-pub mod Rows
-pub mod Renewals
-pub mod Opening
 pub mod Found
-pub mod Laws
-pub mod SqlState
-pub mod OpenedFile

@@ -9,10 +9,10 @@ ghost use Rattle.keep.specs.Contents.{Contents, new_contents};
 ghost use Rattle.keep.specs.Keeping.{Begins};
 ghost use Rattle.keep.specs.declared.keep.KeepFault.TheVariants.{Damaged, Device};
 ghost use Rattle.table_statements.specs.Tables.{no_schema};
-ghost use Rattle.keep_sql.specs.Formats.{HoldsEither};
-ghost use Rattle.keep_sql.specs.Opening.{Adopts, Opened};
-ghost use Rattle.keep_sql.specs.OpenedFile.{OpenedFile};
-ghost use Rattle.keep_sql.specs.SqlState.{sql_terms};
+ghost use Rattle.stored_contents.specs.Formats.{HoldsEither};
+ghost use Rattle.stored_contents.specs.Opening.{Adopts, Opened};
+ghost use Rattle.stored_contents.specs.OpenedFile.{OpenedFile};
+ghost use Rattle.stored_contents.specs.SqlState.{sql_terms};
 
 use crate::sql_keep::SqlKeep;
 use keep::{Keep, KeepFault};

@@ -11,8 +11,8 @@ ghost use Rattle.keep.specs.declared.keep.KeepFault.TheVariants.{Damaged};
 ghost use Rattle.keep.specs.Contents.{new_contents};
 ghost use Rattle.table_statements.specs.Tables.{no_schema};
 ghost use Rattle.table_statements.specs.Store.{IsReady, Sees, ShowsNow};
-ghost use Rattle.keep_sql.specs.Store.{IsAt, Stores};
-ghost use Rattle.keep_sql.specs.Opening.{NotOpened, Opened, has_tables as has_tables_in, is_token_table as is_one_of_two};
+ghost use Rattle.stored_contents.specs.Store.{IsAt, Stores};
+ghost use Rattle.stored_contents.specs.Opening.{NotOpened, Opened, has_tables as has_tables_in, is_token_table as is_one_of_two};
 
 use crate::taking::take_over;
 use keep::KeepFault;

@@ -7,8 +7,8 @@ ghost use Rattle.keep.specs.Contents.{Contents, new_contents};
 ghost use Rattle.keep.specs.declared.keep.KeepFault.TheVariants.{Device};
 ghost use Rattle.keep.specs.Keeping.{Rises};
 ghost use Rattle.table_statements.specs.Tables.{no_schema};
-ghost use Rattle.keep_sql.specs.Formats.{HoldsEither};
-ghost use Rattle.keep_sql.specs.Opening.{Adopts, NotOpened, Opened};
+ghost use Rattle.stored_contents.specs.Formats.{HoldsEither};
+ghost use Rattle.stored_contents.specs.Opening.{Adopts, NotOpened, Opened};
 
 use crate::changes;
 use crate::opening::open_store;
@@ -30,7 +30,7 @@ pub struct SqlKeep<S: Alter + Drop> {
 }
 
 impl<S: Alter + Drop> Model for SqlKeep<S> {
-    ghost use Rattle.keep_sql.specs.SqlState.{SqlState, sql_code};
+    ghost use Rattle.stored_contents.specs.SqlState.{SqlState, sql_code};
 
     ghost Value = { SqlState S };
 
@@ -104,8 +104,8 @@ impl<S: Alter + Drop> SqlKeep<S> {
 }
 
 impl<S: Alter + Drop> Keep for SqlKeep<S> {
-    ghost use Rattle.keep_sql.specs.Laws.{some_left};
-    ghost use Rattle.keep_sql.specs.SqlState.{sql_terms};
+    ghost use Rattle.stored_contents.specs.Laws.{some_left};
+    ghost use Rattle.stored_contents.specs.SqlState.{sql_terms};
 
     ghost terms = { sql_terms S.Store };
 

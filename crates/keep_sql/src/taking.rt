@@ -10,13 +10,13 @@ ghost use Rattle.pin_record.specs.Records.{TokenRecord};
 ghost use Rattle.keep.specs.declared.keep.KeepFault.TheVariants.{Damaged};
 ghost use Rattle.keep.specs.Contents.{Contents};
 ghost use Rattle.table_statements.specs.Store.{IsReady, OnlyReads, Sees, SeesTables, ShowsNow};
-ghost use Rattle.keep_sql.specs.Store.{IsAt, Stores};
-ghost use Rattle.keep_sql.specs.Formats.{IsAtEither};
-ghost use Rattle.keep_sql.specs.Rows.{ShowRecordEither, ShowsEither};
-ghost use Rattle.keep_sql.specs.Renewals.{FindsRecord, IsCovered, IsOfRow};
+ghost use Rattle.stored_contents.specs.Store.{IsAt, Stores};
+ghost use Rattle.stored_contents.specs.Formats.{IsAtEither};
+ghost use Rattle.stored_contents.specs.Rows.{ShowRecordEither, ShowsEither};
+ghost use Rattle.stored_contents.specs.Renewals.{FindsRecord, IsCovered, IsOfRow};
 ghost use Rattle.keep_sql.specs.Found.{Finds, is_current as is_current_in};
 ghost use Rattle.table_statements.specs.Rows.{bodies, ids_and_bodies};
-ghost use Rattle.keep_sql.specs.Opening.{AllDecode, NotOpened, Opened, has_tables};
+ghost use Rattle.stored_contents.specs.Opening.{AllDecode, NotOpened, Opened, has_tables};
 
 use crate::rows::{check_rows, only_record};
 use keep::KeepFault;

@@ -2,7 +2,7 @@
 
 ghost use Rattle.std.specs.Prelude.{[], IfOk};
 ghost use Rattle.token_model.specs.Worlds.{World};
-ghost use Rattle.token.specs.Applications.{HasJobs, Shows};
+ghost use Rattle.token_states.specs.Applications.{HasJobs, Shows};
 
 use crate::random::random_for;
 use ck_calls::{Call, Reply};

@@ -1,9 +1,3 @@
-pub mod Pieces
-pub mod EcbLaw
-pub mod CbcLaw
-pub mod CbcBackLaw
-pub mod CbcPadLaw
-pub mod CtrLaw
 pub mod RightLaw
 pub mod FirstTexts
 pub mod OutputLaw

@@ -14,10 +14,10 @@ use Rattle.streams.specs.Streamed.{Streamed, after_piece}
 use Rattle.streams.specs.Lengths.{length_so_far, is_of_no_text}
 use Rattle.streams.specs.Right.{enciphered, whole_enciphered, IsRight, IsRest, IsOnlyRest, IsText}
 use Rattle.streams.specs.Outputs.{output_so_far, whole_output, update_output, last_output}
-use Rattle.streams.specs.Flows.{Flow}
-use Rattle.streams.specs.EcbFlows.{IsEcbDeciphered}
-use Rattle.streams.specs.CbcFlows.{IsCbcDeciphered}
-use Rattle.streams.specs.Countings.{Counting, ctr_output}
+use Rattle.mode_flows.specs.Flows.{Flow}
+use Rattle.mode_flows.specs.EcbFlows.{IsEcbDeciphered}
+use Rattle.mode_flows.specs.CbcFlows.{IsCbcDeciphered}
+use Rattle.mode_flows.specs.Countings.{Counting, ctr_output}
 use Rattle.streams.specs.States.{of_flow, of_counting}
 use Rattle.streams.proofs.RightLaw.{ecb_right_back, cbc_right_back, ctr_right_back, with_nothing, ecb_only_rest, cbc_only_rest, ctr_only_rest}
 use Rattle.streams.proofs.FirstTexts.{first_text-only, first_text-none}

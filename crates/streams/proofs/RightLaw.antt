@@ -12,10 +12,10 @@ use Rattle.aes_modes.proofs.Chains.{ecb_block-append, cbc_block-append}
 use Rattle.aes_modes.proofs.Only.{ecb_enciphered-only, cbc_enciphered-only}
 use Rattle.aes_modes.proofs.CounterTexts.{IsBlock-output_block, length-ctr_enciphered, ctr_enciphered-twice}
 use Rattle.streams.specs.declared.mechanism.Mechanism.TheVariants.{Ecb, Cbc, CbcPad}
-use Rattle.streams.specs.Flows.{Flow, blocks_done}
-use Rattle.streams.specs.EcbFlows.{IsEcbEnciphered, IsEcbDeciphered}
-use Rattle.streams.specs.CbcFlows.{IsCbcEnciphered, IsCbcDeciphered}
-use Rattle.streams.specs.Countings.{Counting, ctr_output}
+use Rattle.mode_flows.specs.Flows.{Flow, blocks_done}
+use Rattle.mode_flows.specs.EcbFlows.{IsEcbEnciphered, IsEcbDeciphered}
+use Rattle.mode_flows.specs.CbcFlows.{IsCbcEnciphered, IsCbcDeciphered}
+use Rattle.mode_flows.specs.Countings.{Counting, ctr_output}
 use Rattle.streams.specs.States.{of_flow, of_counting}
 use Rattle.streams.specs.Right.{IsRight, IsOnlyRest}
 

@@ -1,8 +1,8 @@
 -- The fields of a CBC decryption.
 use Rattle.std.specs.Prelude.{◌≡◌, ◌*◌, ◌≤◌, drop}
 use Rattle.aes_modes.specs.Modes.{chained}
-use Rattle.streams.specs.Flows.{Flow, blocks_done}
-use Rattle.streams.specs.CbcFlows.{IsCbcDeciphered}
+use Rattle.mode_flows.specs.Flows.{Flow, blocks_done}
+use Rattle.mode_flows.specs.CbcFlows.{IsCbcDeciphered}
 use Rattle.streams.specs.declared.cbc_decryption.CbcDecryption.TheInside.{Inside}
 
 abbrev pub flow_of : Inside → Flow

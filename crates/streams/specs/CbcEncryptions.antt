@@ -1,8 +1,8 @@
 -- The fields of a CBC encryption.
 use Rattle.std.specs.Prelude.{◌≡◌, ◌*◌, ◌/◌, length, drop}
 use Rattle.aes_modes.specs.Modes.{chained}
-use Rattle.streams.specs.Flows.{Flow}
-use Rattle.streams.specs.CbcFlows.{IsCbcEnciphered}
+use Rattle.mode_flows.specs.Flows.{Flow}
+use Rattle.mode_flows.specs.CbcFlows.{IsCbcEnciphered}
 use Rattle.streams.specs.declared.cbc_encryption.CbcEncryption.TheInside.{Inside}
 
 abbrev pub flow_of : Inside → Flow

@@ -4,8 +4,8 @@ use Rattle.std.specs.Int.{w128, from_be_bytes}
 use Rattle.fips_197.specs.Bytes.{AreBytes}
 use Rattle.fips_197.specs.KeyExpansion.{IsKey}
 use Rattle.aes_modes.specs.Counter.{counter_start}
-use Rattle.streams.specs.Countings.{Counting, ctr_output}
-use Rattle.streams.specs.Flows.{blocks_done}
+use Rattle.mode_flows.specs.Countings.{Counting, ctr_output}
+use Rattle.mode_flows.specs.Flows.{blocks_done}
 use Rattle.streams.specs.declared.ctr_stream.CtrStream.TheInside.{Inside}
 
 abbrev pub counting_of : Inside → Counting

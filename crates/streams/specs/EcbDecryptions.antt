@@ -1,7 +1,7 @@
 -- The fields of an ECB decryption.
 use Rattle.std.specs.Prelude.{◌≡◌, ◌*◌, ◌/◌, [], length, drop}
-use Rattle.streams.specs.Flows.{Flow}
-use Rattle.streams.specs.EcbFlows.{IsEcbDeciphered}
+use Rattle.mode_flows.specs.Flows.{Flow}
+use Rattle.mode_flows.specs.EcbFlows.{IsEcbDeciphered}
 use Rattle.streams.specs.declared.ecb_decryption.EcbDecryption.TheInside.{Inside}
 
 abbrev pub flow_of : Inside → Flow

@@ -1,7 +1,7 @@
 -- The fields of an ECB encryption.
 use Rattle.std.specs.Prelude.{◌≡◌, ◌*◌, ◌/◌, [], length, drop}
-use Rattle.streams.specs.Flows.{Flow}
-use Rattle.streams.specs.EcbFlows.{IsEcbEnciphered}
+use Rattle.mode_flows.specs.Flows.{Flow}
+use Rattle.mode_flows.specs.EcbFlows.{IsEcbEnciphered}
 use Rattle.streams.specs.declared.ecb_encryption.EcbEncryption.TheInside.{Inside}
 
 abbrev pub flow_of : Inside → Flow

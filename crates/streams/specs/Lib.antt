@@ -3,14 +3,10 @@ pub mod Streamed
 pub mod Lengths
 pub mod Right
 pub mod Outputs
-pub mod Flows
-pub mod EcbFlows
 pub mod EcbEncryptions
 pub mod EcbDecryptions
-pub mod CbcFlows
 pub mod CbcEncryptions
 pub mod CbcDecryptions
-pub mod Countings
 pub mod CtrFields
 pub mod States
 pub mod StreamFields

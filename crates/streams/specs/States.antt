@@ -2,8 +2,8 @@
 use Rattle.std.specs.Prelude.{◌≡◌}
 use Rattle.aes_modes.specs.declared.direction.Direction.{Direction}
 use Rattle.aes_modes.specs.declared.direction.Direction.TheVariants.{Encipher, Decipher}
-use Rattle.streams.specs.Countings.{Counting, ctr_output}
-use Rattle.streams.specs.Flows.{Flow}
+use Rattle.mode_flows.specs.Countings.{Counting, ctr_output}
+use Rattle.mode_flows.specs.Flows.{Flow}
 use Rattle.streams.specs.Streamed.{Streamed}
 use Rattle.streams.specs.declared.mechanism.Mechanism.{Mechanism}
 use Rattle.streams.specs.declared.mechanism.Mechanism.TheVariants.{Ecb, Cbc, CbcPad, Ctr}

@@ -3,8 +3,8 @@
 ghost use Rattle.std.specs.Prelude.{◌≡◌, ◌≢◌, ◌⊎◌, ℕ, List, ◌+◌, ◌-◌, ◌*◌, ◌%◌, ◌≤◌, ◌++◌, ◌↔◌, length, take, IfOk, IfErr, OnErr, IsErrOf};
 ghost use Rattle.fips_197.specs.Bytes.{AreBytes};
 ghost use Rattle.aes_modes.specs.Modes.{chained, cbc_blocks, cbc_pad_enciphered};
-ghost use Rattle.streams.specs.Flows.{begun, further};
-ghost use Rattle.streams.specs.CbcFlows.{IsCbcDeciphered};
+ghost use Rattle.mode_flows.specs.Flows.{begun, further};
+ghost use Rattle.mode_flows.specs.CbcFlows.{IsCbcDeciphered};
 
 use crate::kept::Kept;
 use aes_block::{BLOCK_SIZE, Block, Key, are_bytes, xor_blocks};
@@ -28,7 +28,7 @@ pub(crate) struct CbcDecryption {
 }
 
 impl Model for CbcDecryption {
-    ghost use Rattle.streams.specs.Flows.{Flow};
+    ghost use Rattle.mode_flows.specs.Flows.{Flow};
 
     ghost Value = { Flow };
 

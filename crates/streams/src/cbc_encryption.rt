@@ -2,8 +2,8 @@
 
 ghost use Rattle.std.specs.Prelude.{◌≡◌, ◌+◌, ◌-◌, ◌*◌, ◌≤◌, ◌++◌, length, IfOk, OnErr};
 ghost use Rattle.aes_modes.specs.Modes.{chained, cbc_blocks, cbc_pad_enciphered};
-ghost use Rattle.streams.specs.Flows.{begun, further};
-ghost use Rattle.streams.specs.CbcFlows.{IsCbcEnciphered};
+ghost use Rattle.mode_flows.specs.Flows.{begun, further};
+ghost use Rattle.mode_flows.specs.CbcFlows.{IsCbcEnciphered};
 
 use crate::kept::Kept;
 use aes_block::{BLOCK_SIZE, Block, Key, are_bytes, xor_blocks};
@@ -25,7 +25,7 @@ pub(crate) struct CbcEncryption {
 }
 
 impl Model for CbcEncryption {
-    ghost use Rattle.streams.specs.Flows.{Flow};
+    ghost use Rattle.mode_flows.specs.Flows.{Flow};
 
     ghost Value = { Flow };
 

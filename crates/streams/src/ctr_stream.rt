@@ -5,7 +5,7 @@ ghost use Rattle.fips_197.specs.Bytes.{AreBytes};
 ghost use Rattle.fips_197.specs.KeyExpansion.{IsKey};
 ghost use Rattle.aes_modes.specs.Blocks.{blocks_begun};
 ghost use Rattle.aes_modes.specs.Counter.{counter_start};
-ghost use Rattle.streams.specs.Countings.{begun_counting, counted_further, ctr_output, numbered};
+ghost use Rattle.mode_flows.specs.Countings.{begun_counting, counted_further, ctr_output, numbered};
 
 use crate::kept::Kept;
 use aes_block::{BLOCK_SIZE, Block, Key, are_bytes};
@@ -28,7 +28,7 @@ pub(crate) struct CtrStream {
 }
 
 impl Model for CtrStream {
-    ghost use Rattle.streams.specs.Countings.{Counting};
+    ghost use Rattle.mode_flows.specs.Countings.{Counting};
 
     ghost Value = { Counting };
 

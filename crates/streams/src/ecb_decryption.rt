@@ -3,8 +3,8 @@
 ghost use Rattle.std.specs.Prelude.{◌≡◌, [], ◌+◌, ◌-◌, ◌*◌, ◌≤◌, ◌++◌, length, take, IfOk, OnErr};
 ghost use Rattle.fips_197.specs.Bytes.{AreBytes};
 ghost use Rattle.aes_modes.specs.Modes.{ecb_blocks};
-ghost use Rattle.streams.specs.Flows.{begun, further};
-ghost use Rattle.streams.specs.EcbFlows.{IsEcbDeciphered};
+ghost use Rattle.mode_flows.specs.Flows.{begun, further};
+ghost use Rattle.mode_flows.specs.EcbFlows.{IsEcbDeciphered};
 
 use crate::kept::Kept;
 use aes_block::{BLOCK_SIZE, Key, are_bytes};
@@ -22,7 +22,7 @@ pub(crate) struct EcbDecryption {
 }
 
 impl Model for EcbDecryption {
-    ghost use Rattle.streams.specs.Flows.{Flow};
+    ghost use Rattle.mode_flows.specs.Flows.{Flow};
 
     ghost Value = { Flow };
 

@@ -2,8 +2,8 @@
 
 ghost use Rattle.std.specs.Prelude.{◌≡◌, [], ◌+◌, ◌-◌, ◌*◌, ◌≤◌, ◌++◌, length, IfOk, OnErr};
 ghost use Rattle.aes_modes.specs.Modes.{ecb_blocks};
-ghost use Rattle.streams.specs.Flows.{begun, further};
-ghost use Rattle.streams.specs.EcbFlows.{IsEcbEnciphered};
+ghost use Rattle.mode_flows.specs.Flows.{begun, further};
+ghost use Rattle.mode_flows.specs.EcbFlows.{IsEcbEnciphered};
 
 use crate::kept::Kept;
 use aes_block::{BLOCK_SIZE, Key};
@@ -21,7 +21,7 @@ pub(crate) struct EcbEncryption {
 }
 
 impl Model for EcbEncryption {
-    ghost use Rattle.streams.specs.Flows.{Flow};
+    ghost use Rattle.mode_flows.specs.Flows.{Flow};
 
     ghost Value = { Flow };
 

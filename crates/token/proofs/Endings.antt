@@ -33,7 +33,7 @@ use Rattle.token_store.specs.Stores.{StoreState, Has, Gave, Serves}
 use Rattle.token_store.proofs.Gaves.{gave-quiet, gave-reply}
 use Rattle.token_store.proofs.Refusals.{does_as-is}
 use Rattle.token.specs.declared.ending.Others.{Others}
-use Rattle.token.specs.Applications.{Finishes, answer_to_job, by_job, reveal_by_job, told_result}
+use Rattle.token_states.specs.Applications.{Finishes, answer_to_job, by_job, reveal_by_job, told_result}
 use Rattle.token.specs.Endings.{EndsBy, IsShortOutcome, settled_reply, under_way_of}
 use Rattle.token.proofs.Outcomes.{answer_by, answer-ends, ends_by, work-value}
 use Rattle.token.proofs.Shortness.{outcome-short}

@@ -1,3 +1,1 @@
-pub mod Applications
 pub mod Endings
-pub mod Runs

@@ -1,7 +1,7 @@
 //! The result of a pending question, at its desk: the one place where an outcome finds the function that takes it.
 
 ghost use Rattle.std.specs.Prelude.{◌≡◌, None};
-ghost use Rattle.token.specs.Applications.{Finishes, reveal_by_job};
+ghost use Rattle.token_states.specs.Applications.{Finishes, reveal_by_job};
 ghost use Rattle.token.specs.Endings.{EndsBy, settled_reply, under_way_of};
 
 use ck_calls::{Output, Reply};

@@ -24,9 +24,9 @@ ghost use Rattle.token_model.specs.Worlds.{World, called, checks_of, goes, happe
 ghost use Rattle.token_model.specs.Tries.{IsSound};
 ghost use Rattle.token_store.specs.Shown.{IsFor, over, said_of, task_of};
 ghost use Rattle.token_store.specs.Short.{IsShort, IsShortCall, IsShortSaid, IsShortTask};
-ghost use Rattle.token.specs.Applications.{Finishes, HasJobs, reveal_by_job, checks_after, has_session_at, others_seated, HasNumbers, IsOpen, IsOther, TakesJob, desk_at, is_answer, move_of, opening, told_as, told_result, Shows};
+ghost use Rattle.token_states.specs.Applications.{Finishes, HasJobs, reveal_by_job, checks_after, has_session_at, others_seated, HasNumbers, IsOpen, IsOther, TakesJob, desk_at, is_answer, move_of, opening, told_as, told_result, Shows};
 ghost use Rattle.token_store.specs.Stores.{Served};
-ghost use Rattle.token.specs.Runs.{AccountsFor, Advances, IsRun, IsStep, IsTakenBy, Lasting, LeavesBy, LeftBy, MayLeave, call_change};
+ghost use Rattle.token_states.specs.Runs.{AccountsFor, Advances, IsRun, IsStep, IsTakenBy, Lasting, LeavesBy, LeftBy, MayLeave, call_change};
 
 use crate::ending::{Others, finish_at};
 use crate::ran::Ran;
@@ -52,7 +52,7 @@ pub struct Token<K: Keep> {
 }
 
 impl<K: Keep> Model for Token<K> {
-    ghost use Rattle.token.specs.Applications.{TokenState};
+    ghost use Rattle.token_states.specs.Applications.{TokenState};
 
     ghost Value = { TokenState K };
 

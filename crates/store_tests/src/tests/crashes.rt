@@ -2,56 +2,60 @@ mod disks;
 mod lasting;
 mod script;
 
-use disks::{Disks, ENDLESS, disks, opened};
-use keep_sql::SqlKeep;
+use disks::{Disks, ENDLESS, Work, crashed, disks, work_in};
+use keep::Keep;
 use lasting::{Lasting, lasting_of, states};
 use script::told_as_wanted;
 use scripts::BenchOver;
-use sqlite::Alter;
-use sqlite_disk::Crash;
 use std::alloc::Global;
 use std::process::Abort;
 use std::test::*;
 
-/// How many rows of the script are told as they say, and the store after them.
-fn told_over<S: Alter + Drop>(alloc: Global, keep: SqlKeep<S>) -> Result<(usize, S), Fail> {
-    let mut bench = BenchOver::over(alloc, keep)?;
-    match told_as_wanted(alloc, &mut bench) {
-        Ok(told) => Ok((told, bench.into_keep().close().into_store())),
-        Err(fault) => {
-            drop(bench);
-            Err(fault)
+/// How many rows of the script were told as they say.
+#[derive(Clone, Copy)]
+struct Told(usize);
+
+impl Work for Told {
+    fn over<K: Keep>(&mut self, alloc: Global, keep: K) -> Result<K, Fail> {
+        let mut bench = BenchOver::over(alloc, keep)?;
+        match told_as_wanted(alloc, &mut bench) {
+            Ok(told) => {
+                self.0 = told;
+                Ok(bench.into_keep())
+            }
+            Err(fault) => {
+                drop(bench);
+                Err(fault)
+            }
         }
+    }
+}
+
+/// What lasts of a store that was opened.
+#[derive(Drop)]
+struct Opened(Option<Lasting>);
+
+impl Work for Opened {
+    fn over<K: Keep>(&mut self, alloc: Global, mut keep: K) -> Result<K, Fail> {
+        self.0 = Some(lasting_of(alloc, &mut keep)?);
+        Ok(keep)
     }
 }
 
 /// How many rows of the script were told as they say before the machine stopped, and its files.
 fn stopped(alloc: Global, files: Disks) -> Result<(usize, Disks), Fail> {
-    match opened(alloc, files) {
-        Err(files) => Ok((0, files)),
-        Ok(keep) => {
-            let (told, store) = told_over(alloc, keep)?;
-            Ok((told, store.close()))
-        }
-    }
+    let mut told = Told(0);
+    let files = work_in(alloc, files, &mut told)?;
+    Ok((told.0, files))
 }
 
-/// The files as the machine finds them when it comes back.
-fn crashed(mut files: Disks) -> Disks {
-    files.log.crash();
-    files.db.crash();
-    files
-}
-
-fn lasting_over<S: Alter + Drop>(alloc: Global, mut keep: SqlKeep<S>) -> Result<Lasting, Fail> {
-    lasting_of(alloc, &mut keep)
-}
-
-/// What is found in the files once the machine has come back.
-fn found(alloc: Global, files: Disks) -> Result<Lasting, Fail> {
-    match opened(alloc, crashed(files)) {
-        Ok(keep) => lasting_over(alloc, keep),
-        Err(_) => Err("the store does not open again".into()),
+/// What lasts in the files once the machine has come back.
+fn what_lasts(alloc: Global, files: Disks) -> Result<Lasting, Fail> {
+    let mut opened = Opened(None);
+    work_in(alloc, crashed(files), &mut opened)?;
+    match opened.0 {
+        Some(lasting) => Ok(lasting),
+        None => Err("the store does not open again".into()),
     }
 }
 
@@ -64,7 +68,7 @@ fn expect_whole(
     stop: (&str, u64),
 ) -> Result<usize, Fail> {
     let (told, files) = stopped(alloc, files)?;
-    let found = found(alloc, files)?;
+    let found = what_lasts(alloc, files)?;
     let next = told.saturating_add(1);
     if states.get(told) == Some(&found) || states.get(next) == Some(&found) {
         return Ok(told);

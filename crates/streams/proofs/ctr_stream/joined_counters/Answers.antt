@@ -4,8 +4,8 @@ use Rattle.std.proofs.lemmas.List.{length-append}
 use Rattle.fips_197.specs.Bytes.{xor_bytes}
 use Rattle.fips_197.specs.Encipher.{enciphered_block}
 use Rattle.aes_modes.specs.Blocks.{first_blocks}
-use Rattle.streams.specs.Countings.{number_block}
-use Rattle.streams.proofs.CtrLaw.{numbered-more, numbered-last}
+use Rattle.mode_flows.specs.Countings.{number_block}
+use Rattle.mode_flows.proofs.CtrLaw.{numbered-more, numbered-last}
 use Rattle.streams.proofs.ctr_stream.joined_counters.Goals as goal
 
 pub turns-init : goal.turns-init

@@ -1,5 +1,5 @@
 use Rattle.std.proofs.Common.{refl, sym, ◌∙◌}
-use Rattle.token.specs.Applications.{reveal_by_job}
+use Rattle.token_states.specs.Applications.{reveal_by_job}
 use Rattle.token.specs.Endings.{under_way_of}
 use Rattle.token.proofs.Endings.{finishes-by, finishes-none}
 use Rattle.token.proofs.ending.finish_at.Goals as goal

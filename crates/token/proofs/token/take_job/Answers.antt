@@ -1,7 +1,7 @@
 use Rattle.std.proofs.Common.{sym, ◌∙◌, ap}
 use Rattle.std.specs.Prelude.{◌==◌}
 use Rattle.std.specs.List.{position}
-use Rattle.token.proofs.Jobs.{takes_some, takes_none}
+use Rattle.token_states.proofs.Jobs.{takes_some, takes_none}
 use Rattle.token.proofs.token.take_job.Goals as goal
 
 pub returns-in_err-place : goal.returns-in_err-place

@@ -1,4 +1,4 @@
-use Rattle.keep_sql.proofs.Places.{file_opened}
+use Rattle.stored_contents.proofs.Places.{file_opened}
 use Rattle.keep_sql.proofs.files.SqlKeep+FileStore+FileFrom+S.open.Goals as goal
 
 pub returns-in-Ok-clause-opened : goal.returns-in-Ok-clause-opened

@@ -1,11 +1,11 @@
 use Rattle.std.proofs.Common.{◌<◌, ◌-◌, ◌≡◌, ◌*◌, ◌++◌, refl, ap, sym, subst, arith, ◌∙◌, length, take, drop}
 use Rattle.fips_197.specs.Bytes.{AreBytes}
 use Rattle.aes_modes.specs.Modes.{cbc_pad_enciphered}
-use Rattle.streams.specs.Flows.{blocks_done}
+use Rattle.mode_flows.specs.Flows.{blocks_done}
 use Rattle.std.proofs.lemmas.List.{length-take}
 use Rattle.std.proofs.lemmas.List.Elements.{All-append, All-take}
-use Rattle.streams.proofs.CbcPadLaw.{ended_value, ended_only, ended_none}
-use Rattle.streams.proofs.Pieces.{waiting-held}
+use Rattle.mode_flows.proofs.CbcPadLaw.{ended_value, ended_only, ended_none}
+use Rattle.mode_flows.proofs.Pieces.{waiting-held}
 use Rattle.streams.proofs.cbc_decryption.CbcDecryption.unpadded_block.Goals as goal
 
 pub returns-in_default-clause-bad_pad : goal.returns-in_default-clause-bad_pad

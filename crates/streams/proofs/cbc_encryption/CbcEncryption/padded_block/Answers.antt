@@ -1,7 +1,7 @@
 use Rattle.std.proofs.Common.{◌-◌, ◌++◌, ◌∙◌, ap, sym, length, replicate}
 use Rattle.fips_197.specs.Encipher.{enciphered_block}
 use Rattle.aes_modes.specs.Modes.{cbc_pad_enciphered}
-use Rattle.streams.proofs.CbcPadLaw.{padded_end}
+use Rattle.mode_flows.proofs.CbcPadLaw.{padded_end}
 use Rattle.streams.proofs.cbc_encryption.CbcEncryption.padded_block.Goals as goal
 
 pub returns-clause-value : goal.returns-clause-value

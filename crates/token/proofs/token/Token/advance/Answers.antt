@@ -3,7 +3,7 @@ use Rattle.std.specs.Prelude.{map}
 use Rattle.std.proofs.lemmas.List.{reverse-append}
 use Rattle.lists.proofs.PlaceLemmas.{append_nil}
 use Rattle.lists.proofs.ListLemmas.{map-push}
-use Rattle.token.proofs.Accounts.{accounts-more}
+use Rattle.token_states.proofs.Accounts.{accounts-more}
 use Rattle.token.proofs.token.Token.advance.Goals as goal
 
 pub returns-in-Some-event-clause-ok : goal.returns-in-Some-event-clause-ok

@@ -1,9 +1,9 @@
 use Rattle.std.proofs.Common.{refl, sym, ◌∙◌}
 use Rattle.std.proofs.lemmas.Bool.{true≢false}
-use Rattle.token.specs.Applications.{desk_at}
+use Rattle.token_states.specs.Applications.{desk_at}
 use Rattle.token.proofs.Endings.{blames-device, short-result, stays-finished}
-use Rattle.token.proofs.Jobs.{asked-of, told-has, told-other}
-use Rattle.token.proofs.Resulted.{taken, open-numbers, shows-open, tells-open, leaves-open}
+use Rattle.token_states.proofs.Jobs.{asked-of, told-has, told-other}
+use Rattle.token_states.proofs.Resulted.{taken, open-numbers, shows-open, tells-open, leaves-open}
 use Rattle.token.proofs.token.Token.finish.Goals as goal
 
 pub returns-clause-taken : goal.returns-clause-taken

@@ -2,8 +2,8 @@ use Rattle.std.proofs.Common.{◌≡◌, ◌≤◌, All, length}
 use Rattle.std.specs.Prelude.{map, reverse}
 use Rattle.token_model.specs.Events.{HasRandom}
 use Rattle.token_model.specs.Worlds.{World}
-use Rattle.token.specs.Applications.{Shows}
-use Rattle.token.specs.Runs.{MayLeave, IsRun, AccountsFor}
+use Rattle.token_states.specs.Applications.{Shows}
+use Rattle.token_states.specs.Runs.{MayLeave, IsRun, AccountsFor}
 use Rattle.token.proofs.token.Token.run.Given as goal
 
 abbrev pub invariant-events : goal.invariant-events

@@ -1,0 +1,4 @@
+pub mod Flows
+pub mod EcbFlows
+pub mod CbcFlows
+pub mod Countings

@@ -1,0 +1,49 @@
+-- A keeper over a file, and one in memory.
+use Rattle.std.proofs.Common.{◌≡◌, Ok, Err, Result, IfOk, refl, sym, ap, subst}
+use Rattle.sqlite_disk.specs.declared.Disk.{Ghosts}
+use Rattle.sqlite.specs.declared.FileStore.{FileStore}
+use Rattle.sqlite_trees.specs.declared.memory.MemStore.{MemStore}
+use Rattle.sqlite.specs.Tree.{Trees}
+use Rattle.sqlite.specs.Effect.{Database}
+use Rattle.sqlite.specs.State.{HasCleanDisk}
+use Rattle.sqlite.specs.Held.{Held, state}
+use Rattle.sqlite.specs.Files.{file_state, over_files, IsOpened}
+use Rattle.sqlite.specs.Steps.{over_memory, IsEmpty}
+use Rattle.sqlite.specs.Recovery.{Image}
+use Rattle.sqlite.specs.Start.{FindsIn}
+use Rattle.sqlite.proofs.Callers.{memory_is_clean}
+use Rattle.pin_record.specs.Records.{new_record}
+use Rattle.keep.specs.Contents.{Contents, new_contents}
+use Rattle.keep.specs.Keeping.{Begins}
+use Rattle.keep.specs.declared.keep.KeepFault.{KeepFault}
+use Rattle.table_statements.specs.Tables.{no_schema}
+use Rattle.stored_contents.specs.Store.{Stores}
+use Rattle.stored_contents.specs.Formats.{HoldsEither}
+use Rattle.stored_contents.specs.Opening.{Adopts, Opened}
+use Rattle.stored_contents.specs.OpenedFile.{OpenedFile}
+use Rattle.stored_contents.specs.SqlState.{SqlState, sql_terms}
+
+pub file_opened : {D : Type 0} {g : Ghosts D} (start : Image) (was : Held (FileStore D g)) (r : Result (SqlState (FileStore D g)) KeepFault) → (HasCleanDisk (file_state was) → IsOpened was) → (HasCleanDisk (file_state was) → FindsIn start (file_state was))
+    → IfOk r (λ k. Opened (file_state was) (file_state k.conn) k.token_record) → ((c : Contents) → HoldsEither (file_state was) c → IfOk r (λ k. HasCleanDisk (file_state k.conn) → Adopts (sql_terms over_files) k c))
+    → ((file_state was).now.schema ≡ no_schema → IfOk r (λ k. HasCleanDisk (file_state k.conn) → Adopts (sql_terms over_files) k (new_contents new_record))) → IfOk r (λ k. (k.failures ≡ 0) × (k.tried ≡ 0)) → IfOk r (OpenedFile start)
+file_opened start was (Ok k) is_open finds opened found fresh counts = record { was = was; is_open = is_open; finds = finds; opened = opened; found = found; fresh = fresh; failures = counts.0; tried = counts.1 }
+file_opened start was (Err fault) is_open finds opened found fresh counts = tt
+
+pub memory_opened : (was : Held MemStore) (r : Result (SqlState MemStore) KeepFault) → IsEmpty (state over_memory was) → IfOk r (λ k. Opened (state over_memory was) (state over_memory k.conn) k.token_record)
+    → ((state over_memory was).now.schema ≡ no_schema → IfOk r (λ k. HasCleanDisk (state over_memory k.conn) → Adopts (sql_terms over_memory) k (new_contents new_record))) → IfOk r (λ k. (k.failures ≡ 0) × (k.tried ≡ 0))
+    → IfOk r (λ k. Begins (sql_terms over_memory) k (new_contents new_record))
+memory_opened was (Ok k) empty opened fresh counts =
+    let clean = memory_is_clean k.conn in
+    let it = fresh empty.2 clean in
+    let made = opened.fresh empty.2 clean in
+    let settled : (state over_memory k.conn).now.trees ≡ (state over_memory k.conn).committed.trees = ap (λ (d : Database). d.trees) (sym made.1.settled) in
+    record {
+      held = it.held;
+      only = it.only;
+      left = (clean, ((state over_memory k.conn).committed.trees, refl, subst (λ (t : Trees). Stores t (new_contents new_record)) settled made.1.stores));
+      alone = it.alone;
+      sure = clean;
+      failures = counts.0;
+      tried = counts.1;
+    }
+memory_opened was (Err fault) empty opened fresh counts = tt
