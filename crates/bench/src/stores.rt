@@ -108,12 +108,7 @@ fn print_over<K: Keep>(
 
 /// What is done over the store of a file, which is let go then.
 trait Work {
-    fn over<K: Keep>(
-        &self,
-        rt: &(impl Clock + Print),
-        alloc: Global,
-        keep: K,
-    ) -> io::Result<()>;
+    fn over<K: Keep>(&self, rt: &(impl Clock + Print), alloc: Global, keep: K) -> io::Result<()>;
 }
 
 /// Inserts of a key, and reads.
@@ -123,12 +118,7 @@ struct Measured<'a> {
 }
 
 impl Work for Measured<'_> {
-    fn over<K: Keep>(
-        &self,
-        rt: &(impl Clock + Print),
-        alloc: Global,
-        keep: K,
-    ) -> io::Result<()> {
+    fn over<K: Keep>(&self, rt: &(impl Clock + Print), alloc: Global, keep: K) -> io::Result<()> {
         print_over(rt, alloc, self.key, keep)
     }
 }
@@ -138,12 +128,7 @@ impl Work for Measured<'_> {
 struct LetGo;
 
 impl Work for LetGo {
-    fn over<K: Keep>(
-        &self,
-        _rt: &(impl Clock + Print),
-        _alloc: Global,
-        keep: K,
-    ) -> io::Result<()> {
+    fn over<K: Keep>(&self, _rt: &(impl Clock + Print), _alloc: Global, keep: K) -> io::Result<()> {
         drop(keep);
         Ok(())
     }
