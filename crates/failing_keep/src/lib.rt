@@ -39,7 +39,7 @@ impl<K: Keep> Model for FailingKeep<K> {
 
     ghost Value = { FailingState K };
 
-    ghost view = { λ f. record { keep = f.keep; left = f.left; failure = f.failure; failures = f.failures; tried = f.tried.count } };
+    ghost view = { λ f. record { keep = f.keep; left = f.left; failure = f.failure; failures = f.failures; tried = f.tried } };
 }
 
 impl<K: Keep> FailingKeep<K> {

@@ -121,9 +121,6 @@ four_seats P a b c d others (suc (suc zero)) = c
 four_seats P a b c d others (suc (suc (suc zero))) = d
 four_seats P a b c d others (suc (suc (suc (suc s)))) = others (suc (suc (suc (suc s)))) (omega arith)
 
-pub chain : (k0 k1 k2 k3 k4 : List (List Event)) (a b c d : List Event) → k0 ≡ [] → k1 ≡ k0 ++ a ∷ [] → k2 ≡ k1 ++ b ∷ [] → k3 ≡ k2 ++ c ∷ [] → k4 ≡ k3 ++ d ∷ [] → k4 ≡ a ∷ b ∷ c ∷ d ∷ []
-chain k0 k1 k2 k3 k4 a b c d e0 e1 e2 e3 e4 = e4 ∙ ap (λ l. l ++ d ∷ []) (e3 ∙ ap (λ l. l ++ c ∷ []) (e2 ∙ ap (λ l. l ++ b ∷ []) (e1 ∙ ap (λ l. l ++ a ∷ []) e0)))
-
 -- what was taken of each of four seats, once all have ended
 pub record FourSent (taken : List (ℕ × Event)) (a b c d : List Event) : Type 0 where
   pub first : of 0 taken ≡ a
@@ -132,10 +129,19 @@ pub record FourSent (taken : List (ℕ × Event)) (a b c d : List Event) : Type 
   pub fourth : of 3 taken ≡ d
   pub none : (s : ℕ) → 4 ≤ s → of s taken ≡ []
 
-pub four_sent : (v : InwardView) (taken : List (ℕ × Event)) (a b c d : List Event) → IsTaking v → SentInAll v [] → taken_of v ≡ taken → seats_of v ≡ 4 → ended_of v ≡ a ∷ b ∷ c ∷ d ∷ [] → FourSent taken a b c d
-four_sent v taken a b c d is t same seats ended =
-    let l = learned v is t in
-    let at : (s : ℕ) (xs : List Event) → slice_get (a ∷ b ∷ c ∷ d ∷ []) s ≡ Some xs → of s taken ≡ xs = λ s xs e. ap (of s) (sym same) ∙ l.0 s xs (ap (λ k. slice_get k s) ended ∙ e) in
+-- one seat was closed: what it did is known, and nothing else changed
+abbrev Closes : InwardView → InwardView → List Event → Type 0
+Closes v v' xs = (seats_of v' ≡ seats_of v) × (taken_of v' ≡ taken_of v) × (ended_of v' ≡ ended_of v ++ xs ∷ [])
+
+-- four seats were closed, one after the other, and nothing is on its way
+pub four_sent : (v0 v1 v2 v3 v4 : InwardView) (a b c d : List Event) → seats_of v0 ≡ 4 → ended_of v0 ≡ [] → Closes v0 v1 a → Closes v1 v2 b → Closes v2 v3 c → Closes v3 v4 d → IsTaking v4 → SentInAll v4 []
+    → FourSent (taken_of v0) a b c d
+four_sent v0 v1 v2 v3 v4 a b c d four none c1 c2 c3 c4 is t =
+    let l = learned v4 is t in
+    let same : taken_of v4 ≡ taken_of v0 = c4.1 ∙ c3.1 ∙ c2.1 ∙ c1.1 in
+    let seats : seats_of v4 ≡ 4 = c4.0 ∙ c3.0 ∙ c2.0 ∙ c1.0 ∙ four in
+    let ended : ended_of v4 ≡ a ∷ b ∷ c ∷ d ∷ [] = c4.2 ∙ ap (λ l. l ++ d ∷ []) (c3.2 ∙ ap (λ l. l ++ c ∷ []) (c2.2 ∙ ap (λ l. l ++ b ∷ []) (c1.2 ∙ ap (λ l. l ++ a ∷ []) none))) in
+    let at : (s : ℕ) (xs : List Event) → slice_get (a ∷ b ∷ c ∷ d ∷ []) s ≡ Some xs → of s (taken_of v0) ≡ xs = λ s xs e. ap (of s) (sym same) ∙ l.0 s xs (ap (λ k. slice_get k s) ended ∙ e) in
     record {
       first = at 0 a refl;
       second = at 1 b refl;

@@ -16,6 +16,7 @@ use Rattle.token_store.specs.declared.out.Out.{Out}
 use Rattle.token_states.specs.Applications.{HasJobs, asked_by, jobs_of}
 use Rattle.token_states.specs.Runs.{AccountsFor, IsRun, Lasting, LeftAfter, LeftBy}
 use Rattle.token_states.proofs.Accounts.{accounts-more, accounts-none}
+use Rattle.token_states.proofs.Runs.{after-append, left-append, left-more}
 use Rattle.channels.specs.Lists.{of, last}
 use Rattle.channels.specs.Outward.{given_of}
 use Rattle.channels.specs.declared.messages.Event.{Event}
@@ -58,23 +59,6 @@ proper_before ts t proper s = proper_front s (of s ts) (of s (t ∷ [])) (subst 
 -- the last event follows what its seat did before
 proper_last : (ts : History) (s : ℕ) (d : Exchange) → AllProper (ts ++ (s, d) ∷ []) → Follows (last (of s ts)) d.0 × (app_of d.0 % 4 ≡ s)
 proper_last ts s d proper = let p = proper s (of s ts) d [] (of_here ts s d) in (p.0, p.1)
-
--- ---- moves
-
-after-append : (w : World) (ms : List Move) (m : Move) → after w (ms ++ m ∷ []) ≡ happens (after w ms) m
-after-append w [] m = refl
-after-append w (x ∷ ms) m = after-append (happens w x) ms m
-
-left-append : (prior : Option Lasting → Type 0) (w : World) (ms : List Move) (m : Move) (x : Option Lasting) → LeftBy (LeftAfter prior w ms) (after w ms) m x → LeftAfter prior w (ms ++ m ∷ []) x
-left-append prior w [] m x l = l
-left-append prior w (y ∷ ms) m x l = left-append (LeftBy prior w y) (happens w y) ms m x l
-
--- what could be left before may be known to be less
-left-more : (p q : Option Lasting → Type 0) (w : World) (m : Move) (x : Option Lasting) → (p x → q x) → LeftBy p w m x → LeftBy q w m x
-left-more p q w (Goes event) x f (inl l) = inl (f l.0, l.1)
-left-more p q w (Goes event) x f (inr l) = inr l
-left-more p q w (Refuses event fault) x f (inl l) = inl (f l)
-left-more p q w (Refuses event fault) x f (inr l) = inr l
 
 -- ---- the run goes on
 

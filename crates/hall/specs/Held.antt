@@ -1,6 +1,9 @@
 -- What is known when all seats have ended.
 use Rattle.std.specs.Prelude.{◌≡◌, ℕ, ◌<◌, ◌≤◌, List, [], ◌∷◌, ◌++◌, length, Option, None}
 use Rattle.ck_calls.specs.declared.reply.Reply.{Reply}
+use Rattle.token_model.specs.Worlds.{World}
+use Rattle.token_states.specs.Applications.{HasJobs}
+use Rattle.token_states.specs.Runs.{Lasting}
 use Rattle.crossbeam_channel.specs.Claims.{view}
 use Rattle.crossbeam_channel.specs.Ends.{sends_on, receives_on}
 use Rattle.token_store.specs.declared.out.Out.{Out}
@@ -15,7 +18,7 @@ use Rattle.channels.specs.declared.outbox.Outbox.{Outbox}
 use Rattle.channels.specs.declared.port.Port.{Port}
 use Rattle.hall.specs.SeatEvents.{asked_in, heard_in}
 use Rattle.hall.specs.Exchanges.{Exchange, IsProper, AllSuit, events, answers, pending}
-use Rattle.hall.specs.Histories.{History, AllProper, taken_in}
+use Rattle.hall.specs.Histories.{History, AllProper, Counts, IsHistory, replies_in, taken_in, told_in}
 use Rattle.hall.specs.Tells.{Grows}
 use Rattle.hall.specs.declared.seats.SeatEvent.{SeatEvent}
 
@@ -78,3 +81,19 @@ pub record Interleaves (history : History) (pass : InwardView) : Type 0 where
   pub only : (s : ℕ) → 4 ≤ s → of s history ≡ []
   pub proper : AllProper history
   pub settled : (s : ℕ) → pending (last (of s history)) ≡ None
+
+-- ---- four seats before a machine
+
+-- What four seats put was one history, which the machine took: each seat got what the history has of it. Seats and the
+-- machine are told as they were and as they are now. Where the machine's store is honest and no question was pending, the
+-- history is a run from the world that the machine showed.
+pub record WereHeld {S T : Type 0} (asked : S → Option (List SeatEvent)) (heard : S → Option (List (ℕ × Reply))) (doubt failures : T → ℕ) (shows : T → World → Type 0) (leaves : T → Option Lasting → Type 0)
+    (inward : InwardView) (outward0 outward1 outward2 outward3 : OutwardView) (old new : S × S × S × S) (before after : T) : Type 0 where
+  pub history : History
+  pub interleaves : Interleaves history inward
+  pub part0 : IsPartOf history 0 outward0 (asked old.0) (asked new.0) (heard old.0) (heard new.0)
+  pub part1 : IsPartOf history 1 outward1 (asked old.1) (asked new.1) (heard old.1) (heard new.1)
+  pub part2 : IsPartOf history 2 outward2 (asked old.2) (asked new.2) (heard old.2) (heard new.2)
+  pub part3 : IsPartOf history 3 outward3 (asked old.3) (asked new.3) (heard old.3) (heard new.3)
+  pub counts : Counts (doubt before) (doubt after) (failures before) (failures after) (replies_in (told_in history))
+  pub runs : doubt after ≡ 0 → (w : World) → shows before w → HasJobs w [] → IsHistory (shows after) (leaves before) (leaves after) w history

@@ -3,13 +3,11 @@
 ghost use Rattle.std.specs.Prelude.{◌≡◌, ◌∷◌, [], IfOk, IfErr};
 ghost use Rattle.crossbeam_channel.specs.Claims.{view};
 ghost use Rattle.crossbeam_channel.specs.Ends.{sends_on, receives_on};
-ghost use Rattle.token_model.specs.Worlds.{World};
-ghost use Rattle.token_states.specs.Applications.{HasJobs, Shows};
+ghost use Rattle.token_states.specs.Applications.{Shows};
 ghost use Rattle.token_states.specs.Runs.{MayLeave};
 ghost use Rattle.channels.specs.Inward.{seats_of, taken_of, ended_of};
 ghost use Rattle.channels.specs.Outward.{given_of};
-ghost use Rattle.hall.specs.Held.{Interleaves, IsPartOf, Ready};
-ghost use Rattle.hall.specs.Histories.{Counts, History, IsHistory, replies_in, told_in};
+ghost use Rattle.hall.specs.Held.{Ready, WereHeld};
 
 use crate::closing::{Closed, Passes, close_all, wait_for_ever};
 use crate::fault::HallFault;
@@ -18,7 +16,7 @@ use crate::opening::open;
 use crate::seat_thread::SeatThread;
 use crate::seats::{Gate, Seat};
 use crate::serving::serve_seats;
-use crate::starting::{Started, start_all};
+use crate::starting::start_all;
 use channels::inbox::Inbox;
 use channels::outbox::Outbox;
 use keep::Keep;
@@ -66,10 +64,8 @@ fn serve_all<M: Machine, S: Seat + Drop + Send + 'static, R: Threads + Wait>(
     requires ready2 { Ready 2 thread2.promise.ends.value.seat (sends_on thread2.promise.ends.value.inward) (sends_on inbox.sender) (receives_on thread2.promise.ends.value.outward) (sends_on outbox2.outward) (view thread2.promise.ends.value.inward_pass) (view thread2.promise.ends.value.outward_pass) }
     requires ready3 { Ready 3 thread3.promise.ends.value.seat (sends_on thread3.promise.ends.value.inward) (sends_on inbox.sender) (receives_on thread3.promise.ends.value.outward) (sends_on outbox3.outward) (view thread3.promise.ends.value.inward_pass) (view thread3.promise.ends.value.outward_pass) }
     ensures over { S.over result.seats.0 × S.over result.seats.1 × S.over result.seats.2 × S.over result.seats.3 }
-    ensures held { (history : History) × Interleaves history (view result.passes.inward)
-        × IsPartOf history 0 (view result.passes.outward0) (S.asked thread0.promise.seat.value) (S.asked result.seats.0) (S.heard thread0.promise.seat.value) (S.heard result.seats.0) × IsPartOf history 1 (view result.passes.outward1) (S.asked thread1.promise.seat.value) (S.asked result.seats.1) (S.heard thread1.promise.seat.value) (S.heard result.seats.1) × IsPartOf history 2 (view result.passes.outward2) (S.asked thread2.promise.seat.value) (S.asked result.seats.2) (S.heard thread2.promise.seat.value) (S.heard result.seats.2) × IsPartOf history 3 (view result.passes.outward3) (S.asked thread3.promise.seat.value) (S.asked result.seats.3) (S.heard thread3.promise.seat.value) (S.heard result.seats.3)
-        × Counts (M.doubt machine) (M.doubt result.token) (M.failures machine) (M.failures result.token) (replies_in (told_in history))
-        × (M.doubt result.token ≡ 0 → (w : World) → M.shows machine w → HasJobs w [] → IsHistory (M.shows result.token) (M.leaves machine) (M.leaves result.token) w history) }
+    ensures held { WereHeld S.asked S.heard M.doubt M.failures M.shows M.leaves (view result.passes.inward) (view result.passes.outward0) (view result.passes.outward1) (view result.passes.outward2) (view result.passes.outward3)
+        (thread0.promise.seat.value, thread1.promise.seat.value, thread2.promise.seat.value, thread3.promise.seat.value) result.seats machine result.token }
 {
     outbox0.begin(rt);
     outbox1.begin(rt);
@@ -108,33 +104,27 @@ pub(crate) fn hold_machine<
 ) -> Result<Held<M, S>, (HallFault, M)>
     requires numbers { (S.number seats.0 ≡ 0) × (S.number seats.1 ≡ 1) × (S.number seats.2 ≡ 2) × (S.number seats.3 ≡ 3) }
     ensures over { IfOk result (λ h. S.over h.seats.0 × S.over h.seats.1 × S.over h.seats.2 × S.over h.seats.3) }
-    ensures held { IfOk result (λ h. (history : History) × Interleaves history (view h.passes.inward)
-        × IsPartOf history 0 (view h.passes.outward0) (S.asked seats.0) (S.asked h.seats.0) (S.heard seats.0) (S.heard h.seats.0) × IsPartOf history 1 (view h.passes.outward1) (S.asked seats.1) (S.asked h.seats.1) (S.heard seats.1) (S.heard h.seats.1) × IsPartOf history 2 (view h.passes.outward2) (S.asked seats.2) (S.asked h.seats.2) (S.heard seats.2) (S.heard h.seats.2) × IsPartOf history 3 (view h.passes.outward3) (S.asked seats.3) (S.asked h.seats.3) (S.heard seats.3) (S.heard h.seats.3)
-        × Counts (M.doubt machine) (M.doubt h.token) (M.failures machine) (M.failures h.token) (replies_in (told_in history))
-        × (M.doubt h.token ≡ 0 → (w : World) → M.shows machine w → HasJobs w [] → IsHistory (M.shows h.token) (M.leaves machine) (M.leaves h.token) w history)) }
+    ensures held { IfOk result (λ h. WereHeld S.asked S.heard M.doubt M.failures M.shows M.leaves (view h.passes.inward) (view h.passes.outward0) (view h.passes.outward1) (view h.passes.outward2) (view h.passes.outward3) seats h.seats machine h.token) }
     ensures fault { IfErr result (λ e. e.1 ≡ machine) }
 {
     let Ok(opened) = open(alloc) else {
         return Err((HallFault::Memory, machine));
     };
     match start_all(rt, alloc, stacks, gate, seats, opened) {
-        Ok(started) => {
-            let Started {
-                inbox,
-                outbox0,
-                outbox1,
-                outbox2,
-                outbox3,
-                thread0,
-                thread1,
-                thread2,
-                thread3,
-            } = started;
-            Ok(serve_all(
-                &rt, alloc, machine, inbox, outbox0, outbox1, outbox2, outbox3, thread0, thread1,
-                thread2, thread3,
-            ))
-        }
+        Ok(started) => Ok(serve_all(
+            &rt,
+            alloc,
+            machine,
+            started.inbox,
+            started.outbox0,
+            started.outbox1,
+            started.outbox2,
+            started.outbox3,
+            started.thread0,
+            started.thread1,
+            started.thread2,
+            started.thread3,
+        )),
         Err(fault) => Err((fault, machine)),
     }
 }
@@ -161,10 +151,7 @@ pub fn hold<
     // Each seat has answered that there is no more.
     ensures over { IfOk result (λ h. S.over h.seats.0 × S.over h.seats.1 × S.over h.seats.2 × S.over h.seats.3) }
     // What the four seats put is one history, which is a run of the token's: each seat got what the model gives it there.
-    ensures held { IfOk result (λ h. (history : History) × Interleaves history (view h.passes.inward)
-        × IsPartOf history 0 (view h.passes.outward0) (S.asked seats.0) (S.asked h.seats.0) (S.heard seats.0) (S.heard h.seats.0) × IsPartOf history 1 (view h.passes.outward1) (S.asked seats.1) (S.asked h.seats.1) (S.heard seats.1) (S.heard h.seats.1) × IsPartOf history 2 (view h.passes.outward2) (S.asked seats.2) (S.asked h.seats.2) (S.heard seats.2) (S.heard h.seats.2) × IsPartOf history 3 (view h.passes.outward3) (S.asked seats.3) (S.asked h.seats.3) (S.heard seats.3) (S.heard h.seats.3)
-        × Counts (K.terms.doubt token.store.keep) (K.terms.doubt h.token.store.keep) (K.terms.failures token.store.keep) (K.terms.failures h.token.store.keep) (replies_in (told_in history))
-        × (K.terms.doubt h.token.store.keep ≡ 0 → (w : World) → Shows K.terms token w → HasJobs w [] → IsHistory (Shows K.terms h.token) (MayLeave K.terms token) (MayLeave K.terms h.token) w history)) }
+    ensures held { IfOk result (λ h. WereHeld S.asked S.heard (λ t. K.terms.doubt t.store.keep) (λ t. K.terms.failures t.store.keep) (Shows K.terms) (MayLeave K.terms) (view h.passes.inward) (view h.passes.outward0) (view h.passes.outward1) (view h.passes.outward2) (view h.passes.outward3) seats h.seats token h.token) }
     // Where the seats were not held, the token is as it was.
     ensures fault { IfErr result (λ e. e.1 ≡ token) }
 {
@@ -190,10 +177,7 @@ pub fn hold_with<
     // Each seat has answered that there is no more.
     ensures over { IfOk result (λ h. S.over h.seats.0 × S.over h.seats.1 × S.over h.seats.2 × S.over h.seats.3) }
     // What the four seats put is one history, which is a run of the token's: each seat got what the model gives it there.
-    ensures held { IfOk result (λ h. (history : History) × Interleaves history (view h.passes.inward)
-        × IsPartOf history 0 (view h.passes.outward0) (S.asked seats.0) (S.asked h.seats.0) (S.heard seats.0) (S.heard h.seats.0) × IsPartOf history 1 (view h.passes.outward1) (S.asked seats.1) (S.asked h.seats.1) (S.heard seats.1) (S.heard h.seats.1) × IsPartOf history 2 (view h.passes.outward2) (S.asked seats.2) (S.asked h.seats.2) (S.heard seats.2) (S.heard h.seats.2) × IsPartOf history 3 (view h.passes.outward3) (S.asked seats.3) (S.asked h.seats.3) (S.heard seats.3) (S.heard h.seats.3)
-        × Counts (K.terms.doubt token.store.keep) (K.terms.doubt h.token.store.keep) (K.terms.failures token.store.keep) (K.terms.failures h.token.store.keep) (replies_in (told_in history))
-        × (K.terms.doubt h.token.store.keep ≡ 0 → (w : World) → Shows K.terms token w → HasJobs w [] → IsHistory (Shows K.terms h.token) (MayLeave K.terms token) (MayLeave K.terms h.token) w history)) }
+    ensures held { IfOk result (λ h. WereHeld S.asked S.heard (λ t. K.terms.doubt t.store.keep) (λ t. K.terms.failures t.store.keep) (Shows K.terms) (MayLeave K.terms) (view h.passes.inward) (view h.passes.outward0) (view h.passes.outward1) (view h.passes.outward2) (view h.passes.outward3) seats h.seats token h.token) }
     // Where the seats were not held, the token is as it was.
     ensures fault { IfErr result (λ e. e.1 ≡ token) }
 {

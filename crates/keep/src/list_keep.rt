@@ -27,7 +27,7 @@ impl Model for ListKeep {
 
     ghost Value = { ListState };
 
-    ghost view = { λ k. record { contents = k.contents; failures = k.failures; tried = k.tried.count } };
+    ghost view = { λ k. record { contents = k.contents; failures = k.failures; tried = k.tried } };
 }
 
 impl ListKeep {

@@ -36,7 +36,7 @@ impl<S: Alter + Drop> Model for SqlKeep<S> {
 
     ghost coded = { sql_code S.code };
 
-    ghost view = { λ k. record { conn = k.conn; token_record = k.token_record; failures = k.failures; tried = k.tried.count } };
+    ghost view = { λ k. record { conn = k.conn; token_record = k.token_record; failures = k.failures; tried = k.tried } };
 }
 
 /// A failure of the device, which is counted.

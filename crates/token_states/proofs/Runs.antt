@@ -10,7 +10,7 @@ use Rattle.lists.proofs.PlaceLemmas.{append_nil}
 use Rattle.token_model.proofs.Told.{is_told}
 use Rattle.token_model.proofs.Tries.{sound-run}
 
-after-append : (w : World) (ms : List Move) (m : Move) → after w (ms ++ m ∷ []) ≡ happens (after w ms) m
+pub after-append : (w : World) (ms : List Move) (m : Move) → after w (ms ++ m ∷ []) ≡ happens (after w ms) m
 after-append w [] m = refl
 after-append w (x ∷ ms) m = after-append (happens w x) ms m
 
@@ -22,12 +22,12 @@ replies-append : (w : World) (ms : List Move) (m : Move) → replies w (ms ++ m 
 replies-append w [] m = append_nil (reply_to w m)
 replies-append w (x ∷ ms) m = ap (λ rs. reply_to w x ++ rs) (replies-append (happens w x) ms m) ∙ sym (append_assoc (reply_to w x) (replies (happens w x) ms) (reply_to (after (happens w x) ms) m))
 
-left-append : (prior : Option Lasting → Type 0) (w : World) (ms : List Move) (m : Move) (x : Option Lasting) → LeftBy (LeftAfter prior w ms) (after w ms) m x → LeftAfter prior w (ms ++ m ∷ []) x
+pub left-append : (prior : Option Lasting → Type 0) (w : World) (ms : List Move) (m : Move) (x : Option Lasting) → LeftBy (LeftAfter prior w ms) (after w ms) m x → LeftAfter prior w (ms ++ m ∷ []) x
 left-append prior w [] m x l = l
 left-append prior w (y ∷ ms) m x l = left-append (LeftBy prior w y) (happens w y) ms m x l
 
 -- what could be left before may be known to be less
-left-more : (p q : Option Lasting → Type 0) (w : World) (m : Move) (x : Option Lasting) → (p x → q x) → LeftBy p w m x → LeftBy q w m x
+pub left-more : (p q : Option Lasting → Type 0) (w : World) (m : Move) (x : Option Lasting) → (p x → q x) → LeftBy p w m x → LeftBy q w m x
 left-more p q w (Goes event) x f (inl l) = inl (f l.0, l.1)
 left-more p q w (Goes event) x f (inr l) = inr l
 left-more p q w (Refuses event fault) x f (inl l) = inl (f l)
