@@ -43,6 +43,32 @@ pub const CBC: Option<GivenMechanism> = Some((CBC_NUMBER, IV));
 
 pub const CBC_PAD: Option<GivenMechanism> = Some((CBC_PAD_NUMBER, IV));
 
+/// What CKM_AES_CBC_PAD makes of no byte under the key of SP 800-38A, appendix F.
+pub const PADDED_NOTHING: &[u8] =
+    b"\xc8\x4a\xf0\xb6\x13\x43\x5d\x5d\x91\x82\x80\x1a\x9b\xd9\x32\x0b";
+
+/// CKM_AES_CBC_PAD with initialization vectors that turn a byte of the padding of no text: its last byte to 0, to 17 and
+/// to 1, and its first one.
+pub const PAD_OF_0: Option<GivenMechanism> = Some((
+    CBC_PAD_NUMBER,
+    b"\x00\x01\x02\x03\x04\x05\x06\x07\x08\x09\x0a\x0b\x0c\x0d\x0e\x1f",
+));
+
+pub const PAD_OF_17: Option<GivenMechanism> = Some((
+    CBC_PAD_NUMBER,
+    b"\x00\x01\x02\x03\x04\x05\x06\x07\x08\x09\x0a\x0b\x0c\x0d\x0e\x0e",
+));
+
+pub const PAD_OF_1: Option<GivenMechanism> = Some((
+    CBC_PAD_NUMBER,
+    b"\x00\x01\x02\x03\x04\x05\x06\x07\x08\x09\x0a\x0b\x0c\x0d\x0e\x1e",
+));
+
+pub const UNEQUAL_PAD: Option<GivenMechanism> = Some((
+    CBC_PAD_NUMBER,
+    b"\x01\x01\x02\x03\x04\x05\x06\x07\x08\x09\x0a\x0b\x0c\x0d\x0e\x0f",
+));
+
 /// CKM_AES_CTR with two bits that count from one on.
 pub const TWO_BITS: Option<GivenMechanism> = Some((
     CTR_NUMBER,
@@ -157,6 +183,9 @@ pub const NEW_LABEL: Given = &[(AttrType::Label, b"k1")];
 
 pub const ON_TOKEN: Given = &[(AttrType::Token, YES)];
 
+/// Data of no byte.
+pub const NO_BYTES: Told = Told::Data(b"");
+
 pub const OK: Told = Told::Code(Rv::Ok);
 
 pub const FAILED: Told = Told::Code(Rv::FunctionFailed);
@@ -180,5 +209,7 @@ pub const PROHIBITED: Told = Told::Code(Rv::ActionProhibited);
 pub const NO_OPERATION: Told = Told::Code(Rv::OperationNotInitialized);
 
 pub const OPERATION_ACTIVE: Told = Told::Code(Rv::OperationActive);
+
+pub const WRONG_PADDING: Told = Told::Code(Rv::EncryptedDataInvalid);
 
 pub const NO_KEY: Told = Told::Code(Rv::KeyHandleInvalid);

@@ -3,7 +3,7 @@
 //! and the step.
 //!
 //! - `given` names what many scripts speak of: applications, keys, texts, templates and codes.
-//! - `EVERY_CALL` has rows of all calls, each answered with CKR_OK.
+//! - `EVERY_CALL` has rows of all calls, each answered with CKR_OK; `FIRST_RUN` and `FIRST_REPLIES` are a first run in frames.
 //! - `Row`, `Step` and `Told` are the vocabulary; `call_of` and `reply_of` make a call and a reply of them, and `random_for`
 //!   gives a call its random bytes.
 //! - `Bench` is a token that takes steps one after the other. `play` plays rows on a new one, `play_over` on one over a keeper
@@ -27,6 +27,7 @@
 mod bench;
 mod calls;
 mod every_call;
+mod first_run;
 pub mod given;
 mod keepers;
 mod order;
@@ -41,6 +42,7 @@ mod tokens;
 pub use bench::{Bench, BenchOver, expect_row, expect_told, play, play_over};
 pub use calls::call_of;
 pub use every_call::EVERY_CALL;
+pub use first_run::{FIRST_REPLIES, FIRST_RUN};
 pub use keepers::{cached, cached_list};
 pub use order::{LeftOut, Pair, expect_neighbours};
 pub use random::random_for;

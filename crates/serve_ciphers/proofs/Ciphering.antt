@@ -1,8 +1,10 @@
 -- The operations of a session that encipher and decipher.
-use Rattle.std.proofs.Common.{◌≡◌, ℕ, Bool, true, false, List, [], length, Option, Some, None, Bor, Result, Ok, Err, inl, inr, ◌⊎◌, refl, sym, ◌∙◌, ap, subst}
+use Rattle.std.proofs.Common.{◌≡◌, rules, ℕ, Bool, true, false, List, [], length, Option, Some, None, Bor, Result, Ok, Err, inl, inr, ◌⊎◌, refl, sym, ◌∙◌, ap, subst}
 use Rattle.std.specs.Prelude.{is_none, option_map, IsErrOf, IfErr, ◌↔◌}
 use Rattle.std.specs.Option.{option_copied}
+use Rattle.ck_types.specs.declared.rv.Rv.TheVariants as rv
 use Rattle.ck_calls.specs.declared.reply.Reply.{Reply}
+use Rattle.ck_calls.specs.declared.reply.Reply.TheVariants.{Code}
 use Rattle.aes_modes.specs.declared.direction.Direction.{Direction}
 use Rattle.aes_modes.specs.declared.direction.Direction.TheVariants.{Encipher, Decipher}
 use Rattle.aes_modes.specs.declared.fault.ModeFault.{ModeFault}
@@ -11,6 +13,8 @@ use Rattle.streams.specs.declared.part.Part.{Part}
 use Rattle.streams.specs.declared.part.Part.TheVariants.{Update, Last}
 use Rattle.streams.specs.Lengths.{wanted, refuses_length, ends_counters}
 use Rattle.streams.specs.Streamed.{Streamed}
+use Rattle.precede.specs.Row.{code_of}
+use Rattle.precede.specs.declared.row.Row.{Row}
 use Rattle.precede.specs.declared.row.Row.TheVariants.{DataLength}
 use Rattle.keep.specs.Contents.{Contents}
 use Rattle.sessions.specs.declared.Session.{Session}
@@ -22,7 +26,9 @@ use Rattle.views.specs.Views.{View, Ciphers}
 use Rattle.views.specs.Answering.{Said, Replies, Answer, becomes, session_of, with_operation}
 use Rattle.answers.specs.CipherInit.{place_for, ends}
 use Rattle.answers.specs.Cipher.{single_function, update_function, final_function, has_taken, cipher_single, cipher_update, cipher_final}
-use Rattle.token_store.specs.Shown.{view_of, Fits, Gives}
+use Rattle.token_store.specs.declared.out.Out.TheVariants.{Reply as OutReply}
+use Rattle.token_store.specs.Refusing.{AtDeskIf}
+use Rattle.token_store.specs.Shown.{said_of, view_of, Fits, Gives}
 use Rattle.token_store.specs.Asking.{asks_within}
 use Rattle.serve_ciphers.specs.Steps.{refused_row}
 
@@ -124,3 +130,12 @@ module _ (v : View) (session : ℕ) (d : Direction) (s : Streamed) (under_way : 
 -- an answer at the desk, written otherwise
 pub gives-is : (a b : Answer) (c : Contents) (d d' : DeskState) (said : Said) → a ≡ b → Gives b d.sessions.login c said c d' → Gives a d.sessions.login c said c d'
 gives-is a b c d d' said is gives = subst (λ x. Gives x d.sessions.login c said c d') (sym is) gives
+
+-- a call that ends its operation for a row of its table
+pub ended-for : (given : Type 0) (f : View → Answer) (d : DeskState) (session : ℕ) (place : Place) (row : Row) → ((c : Contents) → f (view_of c d) ≡ ends (view_of c d) session place row)
+    → AtDeskIf given said_of f d (Ok (OutReply (Code (code_of rv.Ok row)))) (record d { sessions = in_sessions d.sessions session place None })
+ended-for given f d session place row is = record {
+  serves = λ c fits. gives-is _ (ends (view_of c d) session place row) c d _ _ (is c) (gives-with c d session place None (Code (code_of rv.Ok row)) fits);
+  cause = search rules;
+  short = search rules;
+}

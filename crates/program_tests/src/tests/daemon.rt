@@ -1,6 +1,7 @@
 //! The daemon: its socket, its store and what it refuses.
 
-use super::{Ended, FIRST_REPLIES, FIRST_RUN, run};
+use super::{Ended, run};
+use scripts::{FIRST_REPLIES, FIRST_RUN};
 use std::alloc::AllocError;
 use std::io::{Read, Write};
 use std::os::unix::fs::PermissionsExt;

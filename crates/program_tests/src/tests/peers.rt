@@ -1,8 +1,9 @@
 //! Peers of the daemon that cut their streams, send lengths above the limit, or are gone before their reply.
 
 use super::daemon::{clear, connect, expect, expect_end, start_for};
-use super::{FIRST_REPLIES, FIRST_RUN, OPEN_SESSION, SESSION_ONE};
+use super::{OPEN_SESSION, SESSION_ONE};
 use hall::{Seat, SeatEvent};
+use scripts::{FIRST_REPLIES, FIRST_RUN};
 use sockets::SocketSeat;
 use std::io::{Read, Write};
 use std::net::Shutdown;

@@ -106,32 +106,6 @@ fn a_text_in_pieces_is_as_the_whole(rt: HostRuntime) -> Result<(), Fail> {
     run_over_each(rt, rt.alloc(), ROWS)
 }
 
-/// CKM_AES_CBC_PAD with the initialization vector of the standard, whose padding of no text is right, and with another one.
-const PADDED_NOTHING: &[u8] = b"\xc8\x4a\xf0\xb6\x13\x43\x5d\x5d\x91\x82\x80\x1a\x9b\xd9\x32\x0b";
-
-const UNEQUAL_PAD: Option<GivenMechanism> = Some((
-    CBC_PAD_NUMBER,
-    b"\x01\x01\x02\x03\x04\x05\x06\x07\x08\x09\x0a\x0b\x0c\x0d\x0e\x0f",
-));
-
-/// The initialization vectors whose last byte makes paddings of 0, of 17 and of one byte.
-const PAD_OF_0: Option<GivenMechanism> = Some((
-    CBC_PAD_NUMBER,
-    b"\x00\x01\x02\x03\x04\x05\x06\x07\x08\x09\x0a\x0b\x0c\x0d\x0e\x1f",
-));
-
-const PAD_OF_17: Option<GivenMechanism> = Some((
-    CBC_PAD_NUMBER,
-    b"\x00\x01\x02\x03\x04\x05\x06\x07\x08\x09\x0a\x0b\x0c\x0d\x0e\x0e",
-));
-
-const PAD_OF_1: Option<GivenMechanism> = Some((
-    CBC_PAD_NUMBER,
-    b"\x00\x01\x02\x03\x04\x05\x06\x07\x08\x09\x0a\x0b\x0c\x0d\x0e\x1e",
-));
-
-const WRONG_PAD: Told = Told::Code(Rv::EncryptedDataInvalid);
-
 #[test]
 fn a_padding_is_right_or_refused(rt: HostRuntime) -> Result<(), Fail> {
     const ROWS: &[Row] = &[
@@ -142,11 +116,11 @@ fn a_padding_is_right_or_refused(rt: HostRuntime) -> Result<(), Fail> {
         (A, DecryptInit(1, CBC_PAD, 1), OK),
         (A, Decrypt(1, PADDED_NOTHING, Some(16)), NO_BYTES),
         (A, DecryptInit(1, UNEQUAL_PAD, 1), OK),
-        (A, Decrypt(1, PADDED_NOTHING, Some(16)), WRONG_PAD),
+        (A, Decrypt(1, PADDED_NOTHING, Some(16)), WRONG_PADDING),
         (A, DecryptInit(1, PAD_OF_0, 1), OK),
-        (A, Decrypt(1, PADDED_NOTHING, Some(16)), WRONG_PAD),
+        (A, Decrypt(1, PADDED_NOTHING, Some(16)), WRONG_PADDING),
         (A, DecryptInit(1, PAD_OF_17, 1), OK),
-        (A, Decrypt(1, PADDED_NOTHING, Some(16)), WRONG_PAD),
+        (A, Decrypt(1, PADDED_NOTHING, Some(16)), WRONG_PADDING),
         (A, DecryptInit(1, PAD_OF_1, 1), OK),
         (
             A,

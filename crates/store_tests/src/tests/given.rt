@@ -77,6 +77,4 @@ pub(super) const UNWRAPPED: Given = &[
     (AttrType::Token, YES),
 ];
 
-pub(super) const NO_BYTES: Told = Told::Data(b"");
-
 pub(super) const WRONG_LENGTH: Told = Told::Code(Rv::DataLenRange);

@@ -91,10 +91,7 @@ pub(super) const CHAINED: &[u8] =
 pub(super) const COUNTED: &[u8] =
     b"\x87\x4d\x61\x91\xb6\x20\xe3\x26\x1b\xef\x68\x64\x99\x0d\xb6\xce";
 
-/// No byte and that block, by CBC with padding.
-pub(super) const PADDED_NOTHING: &[u8] =
-    b"\xc8\x4a\xf0\xb6\x13\x43\x5d\x5d\x91\x82\x80\x1a\x9b\xd9\x32\x0b";
-
+/// That block, by CBC with padding.
 pub(super) const PADDED_BLOCK: &[u8] =
     b"\x76\x49\xab\xac\x81\x19\xb2\x46\xce\xe9\x8e\x9b\x12\xe9\x19\x7d\
 \x89\x64\xe0\xb1\x49\xc1\x0b\x7b\x68\x2e\x6e\x39\xaa\xeb\x73\x1c";
@@ -105,14 +102,9 @@ pub(super) const CTR: Option<GivenMechanism> = Some((
     b"\x00\x00\x00\x00\x00\x00\x00\x80\xf0\xf1\xf2\xf3\xf4\xf5\xf6\xf7\xf8\xf9\xfa\xfb\xfc\xfd\xfe\xff",
 ));
 
-/// Data of no byte.
-pub(super) const NO_BYTES: Told = Told::Data(b"");
-
 pub(super) const WRONG_LENGTH: Told = Told::Code(Rv::DataLenRange);
 
 pub(super) const WRONG_ENCRYPTED_LENGTH: Told = Told::Code(Rv::EncryptedDataLenRange);
-
-pub(super) const WRONG_PADDING: Told = Told::Code(Rv::EncryptedDataInvalid);
 
 /// Sees that a token with the keys goes as the rows say, which leave no question pending: by calls one after the other, and
 /// in one list of events.

@@ -35,28 +35,6 @@ fn each_mechanism_gives_its_known_answer_both_ways(rt: HostRuntime) -> Result<()
     play_and_run(rt.alloc(), ROWS)
 }
 
-/// CKM_AES_CBC_PAD with initialization vectors that turn a byte of the padding of no text: its last byte to 0, to 17 and
-/// to 1, and its first one.
-const PAD_OF_0: Option<GivenMechanism> = Some((
-    CBC_PAD_NUMBER,
-    b"\x00\x01\x02\x03\x04\x05\x06\x07\x08\x09\x0a\x0b\x0c\x0d\x0e\x1f",
-));
-
-const PAD_OF_17: Option<GivenMechanism> = Some((
-    CBC_PAD_NUMBER,
-    b"\x00\x01\x02\x03\x04\x05\x06\x07\x08\x09\x0a\x0b\x0c\x0d\x0e\x0e",
-));
-
-const PAD_OF_1: Option<GivenMechanism> = Some((
-    CBC_PAD_NUMBER,
-    b"\x00\x01\x02\x03\x04\x05\x06\x07\x08\x09\x0a\x0b\x0c\x0d\x0e\x1e",
-));
-
-const UNEQUAL_PAD: Option<GivenMechanism> = Some((
-    CBC_PAD_NUMBER,
-    b"\x01\x01\x02\x03\x04\x05\x06\x07\x08\x09\x0a\x0b\x0c\x0d\x0e\x0f",
-));
-
 #[test]
 fn what_is_no_padding_ends_a_decryption(rt: HostRuntime) -> Result<(), Fail> {
     const ROWS: &[Row] = &[

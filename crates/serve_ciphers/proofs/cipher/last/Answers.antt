@@ -1,19 +1,16 @@
 use Rattle.std.proofs.Common.{refl, length, ◌≡◌, rules, Some, None, [], ◌∙◌}
-use Rattle.ck_types.specs.declared.rv.Rv.TheVariants as rv
-use Rattle.ck_calls.specs.declared.reply.Reply.TheVariants.{Code}
-use Rattle.precede.specs.Row.{code_of}
 use Rattle.streams.specs.declared.part.Part.TheVariants.{Last}
 use Rattle.streams.specs.Lengths.{wanted}
 use Rattle.sessions.specs.Sessions.{session_at}
 use Rattle.ops.specs.Operations.{operation_in, operation_of}
 use Rattle.views.specs.Views.{Ciphers}
-use Rattle.answers.specs.CipherInit.{place_for, ends}
+use Rattle.answers.specs.CipherInit.{place_for}
 use Rattle.answers.specs.Cipher.{final_function}
 use Rattle.token_store.specs.Shown.{view_of}
 use Rattle.token_store.specs.Asking.{asks_within}
 use Rattle.serve_ciphers.specs.Steps.{refused_row}
 use Rattle.serve_ciphers.proofs.Bounds.{last-short}
-use Rattle.serve_ciphers.proofs.Ciphering.{under-way, IsTested, fault_in, tested, final-refused, final-asks, gives-is, gives-with}
+use Rattle.serve_ciphers.proofs.Ciphering.{under-way, IsTested, fault_in, tested, final-refused, final-asks, ended-for, gives-is}
 use Rattle.serve_ciphers.proofs.cipher.last.Goals as goal
 use Rattle.serve_ciphers.proofs.cipher.last.Goals.{After-room_of}
 
@@ -27,18 +24,11 @@ asked c = (
 )
 
 pub returns-in-Err-clause-serves : goal.returns-in-Err-clause-serves
-returns-in-Err-clause-serves c = record {
-  serves = λ k fits.
-      let met = asked (goal.at.returns-in-Err-clause-serves c).After-room_of in
-      let d = c.args.desk.now in
-      let v = view_of k d in
-      let refused = final-refused v c.args.session c.args.direction c.in_ok-operation.operation.now met.0 c.args.room c.in-Err.fault (rw c.in-Err.is at met.1) in
-      rw (c.end.ensures.out, c.end.ensures.ended, c.refused_row.ensures, c.place_for-place.ensures)
-      (gives-is _ (ends v c.args.session (place_for c.args.direction) (refused_row c.args.direction c.in-Err.fault)) k d _ _ refused
-      (gives-with k d c.args.session (place_for c.args.direction) None (Code (code_of rv.Ok (refused_row c.args.direction c.in-Err.fault))) fits));
-  cause = search rules;
-  short = search rules;
-}
+returns-in-Err-clause-serves c =
+    let met = asked (goal.at.returns-in-Err-clause-serves c).After-room_of in
+    rw (c.end.ensures.out, c.end.ensures.ended, c.refused_row.ensures, c.place_for-place.ensures)
+    (ended-for _ _ c.args.desk.now c.args.session (place_for c.args.direction) (refused_row c.args.direction c.in-Err.fault)
+    (λ k. final-refused (view_of k c.args.desk.now) c.args.session c.args.direction c.in_ok-operation.operation.now met.0 c.args.room c.in-Err.fault (rw c.in-Err.is at met.1)))
 
 pub returns-clause-serves : goal.returns-clause-serves
 returns-clause-serves c = record {
