@@ -31,11 +31,6 @@ returns g c = record {
 }
 
 pub returns-in_err-object : goal.returns-in_err-object
-returns-in_err-object g c = record {
-  serves = search rules;
-  counts = search rules;
-  cause = search rules;
-  plain = plain-made c.from_residual-in_err-object.result c.in_err-object.field-0.0 _ _ c.from_residual-in_err-object.ensures.1 c.in_err-object.ensures (fault-plain _ _ _ _);
-  stays = search rules;
-  short = search rules;
-}
+returns-in_err-object g c =
+    let plain = plain-made c.from_residual-in_err-object.result c.in_err-object.field-0.0 _ _ c.from_residual-in_err-object.ensures.1 c.in_err-object.ensures (fault-plain _ _ _ _) in
+    search (rules, plain)
