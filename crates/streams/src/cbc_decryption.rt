@@ -7,6 +7,7 @@ ghost use Rattle.mode_flows.specs.Flows.{begun, further};
 ghost use Rattle.mode_flows.specs.CbcFlows.{IsCbcDeciphered};
 
 use crate::kept::Kept;
+use crate::passed::Passed;
 use aes_block::{BLOCK_SIZE, Block, Key, are_bytes, xor_blocks};
 use aes_modes::{ModeFault, unpadded_len};
 use noted::Noted;
@@ -20,11 +21,9 @@ use std::marker::Model;
 pub(crate) struct CbcDecryption {
     key: Key,
     chain: Block,
-    kept: Kept,
+    passed: Passed,
     held: usize,
     iv: Noted,
-    taken: Noted,
-    given: Noted,
 }
 
 impl Model for CbcDecryption {
@@ -79,11 +78,9 @@ impl CbcDecryption {
         CbcDecryption {
             key,
             chain: iv,
-            kept: Kept::new(),
+            passed: Passed::new(),
             held,
             iv: start,
-            taken: Noted::new(),
-            given: Noted::new(),
         }
     }
 
@@ -94,11 +91,9 @@ impl CbcDecryption {
         CbcDecryption {
             key: self.key.copied(),
             chain: self.chain,
-            kept: self.kept.copied(),
+            passed: self.passed.copied(),
             held: self.held,
             iv: self.iv.copied(),
-            taken: self.taken.copied(),
-            given: self.given.copied(),
         }
     }
 
@@ -107,14 +102,11 @@ impl CbcDecryption {
         ensures state { IfOk result (λ out. self.new ≡ further self.old piece.now out.items) }
         ensures err { OnErr result (self.new ≡ self.old) }
     {
-        let blocks = (self.kept.len() + piece.len()).saturating_sub(self.held) / BLOCK_SIZE;
-        let (out, chain) = deciphered_blocks(
-            alloc, &self.key, self.chain, &self.kept, piece, blocks,
-        )?;
+        let kept = &self.passed.kept;
+        let blocks = (kept.len() + piece.len()).saturating_sub(self.held) / BLOCK_SIZE;
+        let (out, chain) = deciphered_blocks(alloc, &self.key, self.chain, kept, piece, blocks)?;
         self.chain = chain;
-        self.kept = self.kept.behind(piece, blocks);
-        self.taken.push(piece);
-        self.given.push(&out);
+        self.passed.advance(piece, blocks, &out);
         Ok(out)
     }
 
@@ -122,7 +114,7 @@ impl CbcDecryption {
     pub(crate) fn gives(&self)
         ensures { IsCbcDeciphered self.now }
     {
-        let _kept = &self.kept;
+        let _passed = &self.passed;
     }
 
     /// How many bytes were taken for which none were given: at most 16.
@@ -130,7 +122,7 @@ impl CbcDecryption {
         ensures value { result ≡ length self.now.taken - length self.now.given }
         ensures within { result ≤ 16 }
     {
-        self.kept.len()
+        self.passed.kept.len()
     }
 
     /// The rest of the output, without the padding.
@@ -148,10 +140,13 @@ impl CbcDecryption {
             → cbc_pad_enciphered self.now.key self.now.iv x ≢ self.now.taken }
         ensures faults { IfErr result (λ fault. fault ≢ ModeFault.CounterEnd) }
     {
-        if self.kept.len() != BLOCK_SIZE {
+        if self.passed.kept.len() != BLOCK_SIZE {
             return Err(ModeFault::LenRange);
         }
-        let last = xor_blocks(self.key.decipher(self.kept.block(b"", 0)), self.chain);
+        let last = xor_blocks(
+            self.key.decipher(self.passed.kept.block(b"", 0)),
+            self.chain,
+        );
         let Some(len) = unpadded_len(&last) else {
             return Err(ModeFault::BadPad);
         };

@@ -6,6 +6,7 @@ ghost use Rattle.mode_flows.specs.Flows.{begun, further};
 ghost use Rattle.mode_flows.specs.CbcFlows.{IsCbcEnciphered};
 
 use crate::kept::Kept;
+use crate::passed::Passed;
 use aes_block::{BLOCK_SIZE, Block, Key, are_bytes, xor_blocks};
 use aes_modes::{filled_block, push_number, xor_number};
 use noted::Noted;
@@ -18,10 +19,8 @@ use std::marker::Model;
 pub(crate) struct CbcEncryption {
     key: Key,
     chain: Block,
-    kept: Kept,
+    passed: Passed,
     iv: Noted,
-    taken: Noted,
-    given: Noted,
 }
 
 impl Model for CbcEncryption {
@@ -70,10 +69,8 @@ impl CbcEncryption {
         CbcEncryption {
             key,
             chain: iv,
-            kept: Kept::new(),
+            passed: Passed::new(),
             iv: start,
-            taken: Noted::new(),
-            given: Noted::new(),
         }
     }
 
@@ -84,10 +81,8 @@ impl CbcEncryption {
         CbcEncryption {
             key: self.key.copied(),
             chain: self.chain,
-            kept: self.kept.copied(),
+            passed: self.passed.copied(),
             iv: self.iv.copied(),
-            taken: self.taken.copied(),
-            given: self.given.copied(),
         }
     }
 
@@ -96,14 +91,11 @@ impl CbcEncryption {
         ensures state { IfOk result (λ out. self.new ≡ further self.old piece.now out.items) }
         ensures err { OnErr result (self.new ≡ self.old) }
     {
-        let blocks = (self.kept.len() + piece.len()) / BLOCK_SIZE;
-        let (out, chain) = enciphered_blocks(
-            alloc, &self.key, self.chain, &self.kept, piece, blocks,
-        )?;
+        let kept = &self.passed.kept;
+        let blocks = (kept.len() + piece.len()) / BLOCK_SIZE;
+        let (out, chain) = enciphered_blocks(alloc, &self.key, self.chain, kept, piece, blocks)?;
         self.chain = chain;
-        self.kept = self.kept.behind(piece, blocks);
-        self.taken.push(piece);
-        self.given.push(&out);
+        self.passed.advance(piece, blocks, &out);
         Ok(out)
     }
 
@@ -111,7 +103,7 @@ impl CbcEncryption {
     pub(crate) fn gives(&self)
         ensures { IsCbcEnciphered self.now }
     {
-        let _kept = &self.kept;
+        let _passed = &self.passed;
     }
 
     /// How many bytes were taken for which none were given: at most 16.
@@ -119,7 +111,7 @@ impl CbcEncryption {
         ensures value { result ≡ length self.now.taken - length self.now.given }
         ensures within { result ≤ 16 }
     {
-        self.kept.len()
+        self.passed.kept.len()
     }
 
     /// The last block of the padded text: the rest of the output.
@@ -129,8 +121,8 @@ impl CbcEncryption {
         ensures size { IfOk result (λ out. length out.items ≡ 16) }
     {
         let mut out = Vec::with_capacity(alloc, BLOCK_SIZE)?;
-        let count = BLOCK_SIZE - self.kept.len();
-        let last = filled_block(self.kept.as_slice(), count as u8);
+        let count = BLOCK_SIZE - self.passed.kept.len();
+        let last = filled_block(self.passed.kept.as_slice(), count as u8);
         out.extend_from_slice(&self.key.encipher(xor_blocks(last, self.chain)))?;
         Ok(out)
     }

@@ -7,8 +7,8 @@ ghost use Rattle.mode_flows.specs.Flows.{begun, further};
 ghost use Rattle.mode_flows.specs.EcbFlows.{IsEcbDeciphered};
 
 use crate::kept::Kept;
+use crate::passed::Passed;
 use aes_block::{BLOCK_SIZE, Key, are_bytes};
-use noted::Noted;
 use std::alloc::{AllocError, Global};
 use std::marker::Model;
 
@@ -16,9 +16,7 @@ use std::marker::Model;
 #[derive(Drop)]
 pub(crate) struct EcbDecryption {
     key: Key,
-    kept: Kept,
-    taken: Noted,
-    given: Noted,
+    passed: Passed,
 }
 
 impl Model for EcbDecryption {
@@ -63,9 +61,7 @@ impl EcbDecryption {
         let _size = key.size();
         EcbDecryption {
             key,
-            kept: Kept::new(),
-            taken: Noted::new(),
-            given: Noted::new(),
+            passed: Passed::new(),
         }
     }
 
@@ -75,9 +71,7 @@ impl EcbDecryption {
     {
         EcbDecryption {
             key: self.key.copied(),
-            kept: self.kept.copied(),
-            taken: self.taken.copied(),
-            given: self.given.copied(),
+            passed: self.passed.copied(),
         }
     }
 
@@ -86,11 +80,9 @@ impl EcbDecryption {
         ensures state { IfOk result (λ out. self.new ≡ further self.old piece.now out.items) }
         ensures err { OnErr result (self.new ≡ self.old) }
     {
-        let blocks = (self.kept.len() + piece.len()) / BLOCK_SIZE;
-        let out = deciphered_blocks(alloc, &self.key, &self.kept, piece, blocks)?;
-        self.kept = self.kept.behind(piece, blocks);
-        self.taken.push(piece);
-        self.given.push(&out);
+        let blocks = (self.passed.kept.len() + piece.len()) / BLOCK_SIZE;
+        let out = deciphered_blocks(alloc, &self.key, &self.passed.kept, piece, blocks)?;
+        self.passed.advance(piece, blocks, &out);
         Ok(out)
     }
 
@@ -98,7 +90,7 @@ impl EcbDecryption {
     pub(crate) fn gives(&self)
         ensures { IsEcbDeciphered self.now }
     {
-        let _kept = &self.kept;
+        let _passed = &self.passed;
     }
 
     /// How many bytes were taken for which none were given: at most 16.
@@ -106,6 +98,6 @@ impl EcbDecryption {
         ensures value { result ≡ length self.now.taken - length self.now.given }
         ensures within { result ≤ 16 }
     {
-        self.kept.len()
+        self.passed.kept.len()
     }
 }

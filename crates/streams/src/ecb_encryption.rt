@@ -6,8 +6,8 @@ ghost use Rattle.mode_flows.specs.Flows.{begun, further};
 ghost use Rattle.mode_flows.specs.EcbFlows.{IsEcbEnciphered};
 
 use crate::kept::Kept;
+use crate::passed::Passed;
 use aes_block::{BLOCK_SIZE, Key};
-use noted::Noted;
 use std::alloc::{AllocError, Global};
 use std::marker::Model;
 
@@ -15,9 +15,7 @@ use std::marker::Model;
 #[derive(Drop)]
 pub(crate) struct EcbEncryption {
     key: Key,
-    kept: Kept,
-    taken: Noted,
-    given: Noted,
+    passed: Passed,
 }
 
 impl Model for EcbEncryption {
@@ -58,9 +56,7 @@ impl EcbEncryption {
     {
         EcbEncryption {
             key,
-            kept: Kept::new(),
-            taken: Noted::new(),
-            given: Noted::new(),
+            passed: Passed::new(),
         }
     }
 
@@ -70,9 +66,7 @@ impl EcbEncryption {
     {
         EcbEncryption {
             key: self.key.copied(),
-            kept: self.kept.copied(),
-            taken: self.taken.copied(),
-            given: self.given.copied(),
+            passed: self.passed.copied(),
         }
     }
 
@@ -81,11 +75,9 @@ impl EcbEncryption {
         ensures state { IfOk result (λ out. self.new ≡ further self.old piece.now out.items) }
         ensures err { OnErr result (self.new ≡ self.old) }
     {
-        let blocks = (self.kept.len() + piece.len()) / BLOCK_SIZE;
-        let out = enciphered_blocks(alloc, &self.key, &self.kept, piece, blocks)?;
-        self.kept = self.kept.behind(piece, blocks);
-        self.taken.push(piece);
-        self.given.push(&out);
+        let blocks = (self.passed.kept.len() + piece.len()) / BLOCK_SIZE;
+        let out = enciphered_blocks(alloc, &self.key, &self.passed.kept, piece, blocks)?;
+        self.passed.advance(piece, blocks, &out);
         Ok(out)
     }
 
@@ -93,7 +85,7 @@ impl EcbEncryption {
     pub(crate) fn gives(&self)
         ensures { IsEcbEnciphered self.now }
     {
-        let _kept = &self.kept;
+        let _passed = &self.passed;
     }
 
     /// How many bytes were taken for which none were given: at most 16.
@@ -101,6 +93,6 @@ impl EcbEncryption {
         ensures value { result ≡ length self.now.taken - length self.now.given }
         ensures within { result ≤ 16 }
     {
-        self.kept.len()
+        self.passed.kept.len()
     }
 }

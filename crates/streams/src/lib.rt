@@ -49,6 +49,7 @@ mod ecb_encryption;
 mod kept;
 mod mechanism;
 mod part;
+mod passed;
 mod rooms;
 mod state;
 mod stream;

@@ -12,13 +12,12 @@ turns-init c = record { size = ap length c.in_ok-out.ensures.items; out = c.in_o
 pub turns-preserved : goal.turns-preserved
 turns-preserved c =
     let key = c.args.key.now in
-    let text = c.args.kept.now ++ c.args.piece.now in
     let out = c.turns.out.items in
     let is = c.in_ok-extend_from_slice.ensures.items in
     record {
       size = ap length is ∙ length-append out c.encipher.result
           ∙ omega (arith, c.turns.invariant.size, c.encipher.ensures.blocks.1.size);
       out = is
-          ∙ ecb_blocks-more key text out c.encipher.result c.turns.i c.turns.invariant.out
+          ∙ ecb_blocks-more key (c.args.kept.now ++ c.args.piece.now) out c.encipher.result c.turns.i c.turns.invariant.out
           (c.encipher.ensures.value ∙ ap (enciphered_block key) c.block.ensures);
     }

@@ -7,7 +7,7 @@ pub invariant_of-result : goal.invariant_of-result
 invariant_of-result c =
     let start = sym (c.push.ensures ∙ ap (λ b. b ++ c.args.iv) c.new-start.ensures) in
     record {
-      given = cbc_begun c.args.key c.args.iv _ _ _ start c.new-2.ensures c.new-3.ensures;
-      chain = begun_chain c.args.key c.args.iv _ _ _ start c.new-2.ensures c.new-3.ensures;
-      kept = begun_kept _ _ c.new.ensures c.new-2.ensures;
+      given = cbc_begun c.args.key c.args.iv _ _ _ start c.new.ensures.taken c.new.ensures.given;
+      chain = begun_chain c.args.key c.args.iv _ _ _ start c.new.ensures.taken c.new.ensures.given;
+      kept = begun_kept _ _ c.new.ensures.kept c.new.ensures.taken;
     }

@@ -8,9 +8,9 @@ invariant_of-self c =
     let s = c.self.inside in
     let h = c.self.invariant in
     let r = c.in_ok-out.ensures in
-    let all = c.push-2.ensures ∙ ap (λ x. s.given.bytes ++ x) c.deref.ensures.value in
+    let all = c.advance.ensures.given ∙ ap (λ x. s.passed.given.bytes ++ x) c.deref.ensures.value in
     record {
-      given = ecb_further_back s.key s.given.bytes s.taken.bytes c.args.piece.now s.kept c.in_ok-out.out.items _ _ _ c.len.result h.kept c.len.ensures.value refl
-          c.push.ensures all r.size h.given r.back r.bytes;
-      kept = kept_after s.taken.bytes c.args.piece.now s.kept _ _ c.len.result h.kept c.len.ensures.value refl c.push.ensures _ c.behind-self-inside.ensures;
+      given = ecb_further_back s.key s.passed.given.bytes s.passed.taken.bytes c.args.piece.now s.passed.kept c.in_ok-out.out.items _ _ _ c.len.result h.kept c.len.ensures.value refl
+          c.advance.ensures.taken all r.size h.given r.back r.bytes;
+      kept = kept_after s.passed.taken.bytes c.args.piece.now s.passed.kept _ _ c.len.result h.kept c.len.ensures.value refl c.advance.ensures.taken _ c.advance.ensures.kept;
     }

@@ -4,6 +4,6 @@ use Rattle.streams.proofs.ecb_encryption.EcbEncryption.new.Goals as goal
 
 pub invariant_of-result : goal.invariant_of-result
 invariant_of-result c = record {
-  given = ecb_begun c.args.key _ _ c.new-2.ensures c.new-3.ensures;
-  kept = begun_kept _ _ c.new.ensures c.new-2.ensures;
+  given = ecb_begun c.args.key _ _ c.new.ensures.taken c.new.ensures.given;
+  kept = begun_kept _ _ c.new.ensures.kept c.new.ensures.taken;
 }

@@ -6,5 +6,5 @@ pub returns-clause-value : goal.returns-clause-value
 returns-clause-value c =
     let s = c.self.inside in
     let h = c.self.invariant in
-    c.len.ensures.value ∙ waiting-whole s.taken.bytes s.given.bytes s.kept h.given.size h.kept
+    c.len.ensures.value ∙ waiting-whole s.passed.taken.bytes s.passed.given.bytes s.passed.kept h.given.size h.kept
     ∙ ap (λ f. length f.taken - length f.given) c.self.view_is

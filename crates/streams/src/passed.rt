@@ -1,0 +1,57 @@
+//! What passed through a stream.
+
+ghost use Rattle.std.specs.Prelude.{◌≡◌, ◌+◌, ◌*◌, ◌≤◌, ◌++◌, [], length, drop};
+
+use crate::kept::Kept;
+use noted::Noted;
+
+/// All data that a stream took and all bytes that it gave, of which contracts alone speak, and the
+/// data that it has yet to work on.
+#[derive(Drop)]
+pub(crate) struct Passed {
+    pub(crate) kept: Kept,
+    pub(crate) taken: Noted,
+    pub(crate) given: Noted,
+}
+
+impl Passed {
+    /// Nothing yet.
+    pub(crate) fn new() -> Passed
+        ensures kept { result.kept ≡ [] }
+        ensures taken { result.taken.bytes ≡ [] }
+        ensures given { result.given.bytes ≡ [] }
+    {
+        Passed {
+            kept: Kept::new(),
+            taken: Noted::new(),
+            given: Noted::new(),
+        }
+    }
+
+    /// The same once more.
+    pub(crate) fn copied(&self) -> Passed
+        ensures kept { result.kept ≡ self.now.kept }
+        ensures taken { result.taken.bytes ≡ self.now.taken.bytes }
+        ensures given { result.given.bytes ≡ self.now.given.bytes }
+    {
+        Passed {
+            kept: self.kept.copied(),
+            taken: self.taken.copied(),
+            given: self.given.copied(),
+        }
+    }
+
+    /// Notes a piece and what was given for it, and keeps what the kept bytes and the piece have
+    /// behind their first `blocks` blocks.
+    pub(crate) fn advance(&mut self, piece: &[u8], blocks: usize, given: &[u8])
+        requires within { 16 * blocks ≤ length self.old.kept + length piece.now }
+        requires rest { length self.old.kept + length piece.now ≤ 16 * blocks + 16 }
+        ensures kept { self.new.kept ≡ drop (16 * blocks) (self.old.kept ++ piece.now) }
+        ensures taken { self.new.taken.bytes ≡ self.old.taken.bytes ++ piece.now }
+        ensures given { self.new.given.bytes ≡ self.old.given.bytes ++ given.now }
+    {
+        self.kept = self.kept.behind(piece, blocks);
+        self.taken.push(piece);
+        self.given.push(given);
+    }
+}
