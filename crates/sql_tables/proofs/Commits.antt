@@ -1,5 +1,5 @@
 -- What is left of statements in a transaction, once its commit was tried.
-use Rattle.std.proofs.Common.{◌≡◌, ◌∙◌, ◌≤◌, ℕ, true, false, Ok, Err, Result, IsOk, IsTrue, OnErr, OnOk, arith, sym, subst}
+use Rattle.std.proofs.Common.{◌≡◌, ◌∙◌, ◌≤◌, ℕ, Bool, true, false, Ok, Err, Result, IsOk, IsErr, IsTrue, OnOk, arith, sym, subst}
 use Rattle.sqlite.specs.Tree.{Trees}
 use Rattle.sqlite.specs.Effect.{Database}
 use Rattle.sqlite.specs.Store.{Ghosts}
@@ -9,19 +9,16 @@ use Rattle.sqlite.specs.declared.error.Error.{Error}
 use Rattle.sqlite_trees.specs.View.{doubt}
 use Rattle.sqlite.proofs.StateLemmas.{survives_then}
 use Rattle.sqlite.proofs.Callers.{survives_begin}
+use Rattle.sql_tables.specs.OneTransaction.{IsOneTransaction}
 
 on_ok : {P : Type 0} (done : Result ℕ Error) → IsOk done → OnOk done P → P
 on_ok (Ok n) is it = it
 on_ok (Err e) is it = cc
 
-pub on_err : {A P : Type 0} (r : Result A Error) → P → OnErr r P
-on_err (Ok a) it = tt
-on_err (Err e) it = it
-
 -- `old` is the connection before the transaction, `begun` and `last` before and after its statements, and `tried` and `end` after it
 module _ {S : Type 0} (g : Ghosts S) (old begun last tried end : Held S) (done : Result ℕ Error) (is : begun ≡ record old { in_transaction = true }) (same : tried ≡ end) where
   -- a crash leaves what it could leave before, or all that they did
-  pub all_or_none : (Ran : Database → Type 0) → (HasCleanDisk (state g last) → OnOk done (Ran (state g last).now)) → Survives (state g begun) (state g last) (λ _. ⊥)
+  all_or_none : (Ran : Database → Type 0) → (HasCleanDisk (state g last) → OnOk done (Ran (state g last).now)) → Survives (state g begun) (state g last) (λ _. ⊥)
       → Survives (state g last) (state g tried) (λ trees. IsOk done × (trees ≡ (state g last).now.trees)) → Survives (state g old) (state g end) (λ trees. (db : Database) × Ran db × (trees ≡ db.trees))
   all_or_none Ran all inside finish =
       let P : Trees → Type 0 = λ trees. (db : Database) × Ran db × (trees ≡ db.trees) in
@@ -30,7 +27,7 @@ module _ {S : Type 0} (g : Ghosts S) (old begun last tried end : Held S) (done :
       subst (λ h. Survives (state g old) (state g h) P) same whole
 
   -- where it was undone, the connection is as it was
-  pub none_left : (IsTrue (state g old).is_open → (state g old).now ≡ (state g old).committed) → (HasCleanDisk (state g last) → IsTrue begun.in_transaction → OnOk done (IsTrue (state g last).in_transaction))
+  none_left : (IsTrue (state g old).is_open → (state g old).now ≡ (state g old).committed) → (HasCleanDisk (state g last) → IsTrue begun.in_transaction → OnOk done (IsTrue (state g last).in_transaction))
       → (HasCleanDisk (state g last) → IsTrue begun.in_transaction → KeepsCommit (state g begun) (state g last)) → doubt (state g last).is_clean ≤ doubt (state g tried).is_clean
       → (HasCleanDisk (state g tried) → IsTrue (state g tried).is_open → OnOk done (IsTrue (state g last).in_transaction)
       → IsTrue (state g last).is_open × ((state g tried).now ≡ (state g last).committed) × ((state g tried).committed ≡ (state g last).committed))
@@ -49,9 +46,48 @@ module _ {S : Type 0} (g : Ghosts S) (old begun last tried end : Held S) (done :
     late : HasCleanDisk (state g tried)
     late = rw same clean
 
-    pub is_made : (Ran : Database → Type 0) → (HasCleanDisk (state g last) → OnOk done (Ran (state g last).now)) → IsOk done → doubt (state g last).is_clean ≤ doubt (state g tried).is_clean
+    is_made : (Ran : Database → Type 0) → (HasCleanDisk (state g last) → OnOk done (Ran (state g last).now)) → IsOk done → doubt (state g last).is_clean ≤ doubt (state g tried).is_clean
         → Ran (state g end).committed
     is_made Ran all whole kept = subst (λ h. Ran (state g h).committed) same (subst Ran (sym (shows late).committed_is) (on_ok done whole (all (omega (arith, kept, late)))))
 
-    pub is_up : IsTrue (state g end).is_open
+    is_up : IsTrue (state g end).is_open
     is_up = subst (λ h. IsTrue (state g h).is_open) same (shows late).is_open
+
+  -- what is said of the whole, by what is said of the statements and of their commit
+  module _ (Ran : Held S → Database → Type 0) (ran : HasCleanDisk (state g last) → (before : Held S) → begun ≡ record before { in_transaction = true } → OnOk done (Ran before (state g last).now)) (stays : Survives (state g begun) (state g last) (λ _. ⊥))
+      (ended : tried.in_transaction ≡ false) (finish : Survives (state g last) (state g tried) (λ trees. IsOk done × (trees ≡ (state g last).now.trees))) where
+    crash : Survives (state g old) (state g end) (λ trees. (db : Database) × Ran old db × (trees ≡ db.trees))
+    crash = all_or_none (Ran old) (λ clean. ran clean old is) stays finish
+
+    -- the whole of it, once it is committed
+    pub one_made : (IsTrue (state g end).is_open → (state g end).now ≡ (state g end).committed) → (HasCleanDisk (state g tried) → Shows (state g last) (state g tried) (state g last).now (state g last).now false) → IsOk done → IsOneTransaction g Ran old end (Ok true)
+    one_made settled shows whole = record {
+      all = λ clean _. is_made shows clean (Ran old) (λ late. ran late old is) whole finish.clean;
+      settled = λ _. settled;
+      up = λ clean _. is_up shows clean;
+      ended = λ _. subst (λ (h : Held _). h.in_transaction ≡ false) same ended;
+      refused = λ bad. absurd (cc);
+      busy = λ bad. absurd (cc);
+      stopped = tt;
+      none = λ clean up. tt;
+      crash = crash;
+    }
+
+    -- and where it is not
+    pub one_undone : (IsTrue (state g old).is_open → (state g old).now ≡ (state g old).committed) → (HasCleanDisk (state g last) → IsTrue begun.in_transaction → OnOk done (IsTrue (state g last).in_transaction))
+        → (HasCleanDisk (state g last) → IsTrue begun.in_transaction → KeepsCommit (state g begun) (state g last))
+        → (HasCleanDisk (state g tried) → IsTrue (state g tried).is_open → OnOk done (IsTrue (state g last).in_transaction)
+        → IsTrue (state g last).is_open × ((state g tried).now ≡ (state g last).committed) × ((state g tried).committed ≡ (state g last).committed))
+        → (r : Result Bool Error) → IsErr r → IsOneTransaction g Ran old end r
+    one_undone settled inside kept undone (Ok b) bad = cc
+    one_undone settled inside kept undone (Err e) _ = record {
+      all = λ clean. tt;
+      settled = tt;
+      up = λ clean. tt;
+      ended = tt;
+      refused = tt;
+      busy = tt;
+      stopped = subst (λ (h : Held _). h.in_transaction ≡ false) same ended;
+      none = none_left settled inside kept finish.clean undone;
+      crash = crash;
+    }

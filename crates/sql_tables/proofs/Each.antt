@@ -11,7 +11,7 @@ use Rattle.sqlite.proofs.InsideLemmas.{inside_keeps, keeps_then}
 use Rattle.sqlite.proofs.StateLemmas.{survives_then}
 use Rattle.sql_tables.specs.declared.renewals.Renewal.{Renewal}
 use Rattle.sql_tables.specs.RanEach.{RanEach, RanRenewals}
-use Rattle.sql_tables.proofs.Inside.{Inside, one_keeps, still_inside}
+use Rattle.sql_tables.proofs.Inside.{Inside}
 
 abbrev pub again_text : List ℕ
 again_text = codes "UPDATE objects SET body = ?2 WHERE id = ?1"
@@ -64,16 +64,10 @@ stopped_keeps g es begun old new params r wrote lasts ran clean mode =
 
 -- and then the record
 module _ {S : Type 0} (g : Ghosts S) (all : List Renewal) (bytes : List ℕ) (begun mid last : Held S) (r : Result ℕ Error) (each : HasCleanDisk (state g mid) → IsTrue begun.in_transaction → IsTrue mid.in_transaction × RanEach g all begun mid)
-    (kept : HasCleanDisk (state g mid) → IsTrue begun.in_transaction → KeepsCommit (state g begun) (state g mid)) (one : Inside (codes "UPDATE record SET body = ?1") (Blob bytes ∷ []) (state g mid) (state g last) r)
+    (one : Inside (codes "UPDATE record SET body = ?1") (Blob bytes ∷ []) (state g mid) (state g last) r)
     (stays : Survives (state g mid) (state g last) (λ _. ⊥)) (clean : HasCleanDisk (state g last)) where
   mid_clean : HasCleanDisk (state g mid)
   mid_clean = omega (arith, stays.clean)
-
-  pub all_inside : IsTrue begun.in_transaction → OnOk r (IsTrue (state g last).in_transaction)
-  all_inside mode = still_inside _ (Blob bytes ∷ []) (state g mid) (state g last) r (one clean (each mid_clean mode).0)
-
-  pub all_keep : IsTrue begun.in_transaction → KeepsCommit (state g begun) (state g last)
-  all_keep mode = keeps_then (state g begun) (state g mid) (state g last) (kept mid_clean mode) (one_keeps _ (Blob bytes ∷ []) (state g mid) (state g last) r one clean (each mid_clean mode).0)
 
   pub all_ran : (before : Held S) → begun ≡ record before { in_transaction = true } → OnOk r (RanRenewals g all bytes before (state g last).now)
   all_ran before is = made r one

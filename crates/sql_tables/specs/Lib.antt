@@ -1,2 +1,3 @@
+pub mod OneTransaction
 pub mod RanEach
 pub mod Renewed

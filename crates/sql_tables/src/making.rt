@@ -10,7 +10,7 @@ ghost use Rattle.table_statements.specs.Bodies.{new_bodies};
 ghost use Rattle.table_statements.specs.Tables.{no_schema};
 ghost use Rattle.table_statements.specs.Store.{HasRows, IsAtRows, IsReady, Sees, ShowsNow};
 
-use crate::transactions::run_three;
+use crate::transactions::{Three, run_all};
 use sqlite::{Alter, Connection, Error};
 
 /// Makes both tables, with a body in the row of the record, in one transaction. `false` says that a transaction was
@@ -27,11 +27,13 @@ pub fn make_tables<S: Alter>(conn: &mut Connection<S>, bytes: &[u8]) -> Result<b
     ensures crash { (state S.Store conn.old).now.schema ≡ no_schema → HasCleanDisk (state S.Store conn.new)
         → (left : Trees) → (state S.Store conn.new).may_leave left → (state S.Store conn.old).may_leave left ⊎ HasRows left (new_bodies bytes.now) }
 {
-    run_three(
+    run_all(
         conn,
-        "CREATE TABLE record(id INTEGER PRIMARY KEY CHECK (id = 1), body BLOB NOT NULL) STRICT",
-        "CREATE TABLE objects(id INTEGER PRIMARY KEY AUTOINCREMENT, body BLOB NOT NULL) STRICT",
-        "INSERT INTO record VALUES (1, ?1)",
-        bytes,
+        &Three {
+            first: "CREATE TABLE record(id INTEGER PRIMARY KEY CHECK (id = 1), body BLOB NOT NULL) STRICT",
+            second: "CREATE TABLE objects(id INTEGER PRIMARY KEY AUTOINCREMENT, body BLOB NOT NULL) STRICT",
+            third: "INSERT INTO record VALUES (1, ?1)",
+            bytes,
+        },
     )
 }

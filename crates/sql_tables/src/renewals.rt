@@ -12,7 +12,7 @@ ghost use Rattle.table_statements.specs.Store.{HasRows, IsAtRows, IsReady, Sees,
 ghost use Rattle.sql_tables.specs.RanEach.{RanEach, RanRenewals};
 ghost use Rattle.sql_tables.specs.Renewed.{AreNatural, renewed};
 
-use crate::transactions::finish;
+use crate::transactions::{Statements, run_all};
 use sqlite::{Alter, Connection, Error, Transaction, params};
 
 /// A body that is written again, and the row that it goes into.
@@ -51,48 +51,20 @@ fn write_each<S: Alter>(tx: &mut Transaction<'_, S>, renewals: &[Renewal]) -> Re
     Ok(())
 }
 
-/// Writes each body, and then that of the record, up to the first that sqlite refuses.
-fn write_all<S: Alter>(
-    tx: &mut Transaction<'_, S>,
-    renewals: &[Renewal],
-    bytes: &[u8],
-) -> Result<usize, Error>
-    ensures same_reference { tx.new.conn.ghost_name ≡ tx.old.conn.ghost_name }
-    ensures ran { HasCleanDisk (state S.Store tx.new.conn.now) → (before : _) → tx.old.conn.now ≡ record before { in_transaction = true }
-        → OnOk result (RanRenewals S.Store renewals.now bytes.now before (state S.Store tx.new.conn.now).now) }
-    ensures inside { HasCleanDisk (state S.Store tx.new.conn.now) → IsTrue (state S.Store tx.old.conn.now).in_transaction → OnOk result (IsTrue (state S.Store tx.new.conn.now).in_transaction) }
-    ensures kept { HasCleanDisk (state S.Store tx.new.conn.now) → IsTrue (state S.Store tx.old.conn.now).in_transaction → KeepsCommit (state S.Store tx.old.conn.now) (state S.Store tx.new.conn.now) }
-    ensures survives { Survives (state S.Store tx.old.conn.now) (state S.Store tx.new.conn.now) (λ _. ⊥) }
-{
-    write_each(tx, renewals)?;
-    tx.execute("UPDATE record SET body = ?1", params![bytes])
+/// Bodies that are written again, and then that of the record.
+#[derive(Drop)]
+struct Renewals<'a> {
+    each: &'a [Renewal],
+    bytes: &'a [u8],
 }
 
-/// Writes each body and that of the record, or none. `false` says that a transaction was open.
-fn run_renewals<S: Alter>(
-    conn: &mut Connection<S>,
-    renewals: &[Renewal],
-    bytes: &[u8],
-) -> Result<bool, Error>
-    ensures all { HasCleanDisk (state S.Store conn.new) → IfOk result (λ done. IsTrue done → RanRenewals S.Store renewals.now bytes.now conn.old (state S.Store conn.new).committed) }
-    ensures settled { IfOk result (λ done. IsTrue done → IsTrue (state S.Store conn.new).is_open → (state S.Store conn.new).now ≡ (state S.Store conn.new).committed) }
-    ensures up { HasCleanDisk (state S.Store conn.new) → IfOk result (λ done. IsTrue done → IsTrue (state S.Store conn.new).is_open) }
-    ensures ended { IfOk result (λ done. IsTrue done → conn.new.in_transaction ≡ false) }
-    ensures refused { IfOk result (λ done. done ≡ false → conn.new ≡ conn.old) }
-    ensures busy { IfOk result (λ done. done ≡ false → conn.old.in_transaction ≡ true) }
-    ensures stopped { OnErr result (conn.new.in_transaction ≡ false) }
-    ensures none { HasCleanDisk (state S.Store conn.new) → IsTrue (state S.Store conn.new).is_open
-        → OnErr result (((state S.Store conn.new).now ≡ (state S.Store conn.old).now) × ((state S.Store conn.new).committed ≡ (state S.Store conn.old).committed)) }
-    ensures crash { Survives (state S.Store conn.old) (state S.Store conn.new) (λ trees. (db : _) × RanRenewals S.Store renewals.now bytes.now conn.old db × (trees ≡ db.trees)) }
-{
-    if !conn.is_autocommit() {
-        return Ok(false);
+impl<S: Alter> Statements<S> for Renewals<'_> {
+    ghost ran = { λ all. RanRenewals S.Store all.each.now all.bytes.now };
+
+    fn run(&self, tx: &mut Transaction<'_, S>) -> Result<usize, Error> {
+        write_each(tx, self.each)?;
+        tx.execute("UPDATE record SET body = ?1", params![self.bytes])
     }
-    let mut tx = conn.transaction();
-    let done = write_all(&mut tx, renewals, bytes);
-    finish(tx, done)?;
-    let _ended = conn.is_autocommit();
-    Ok(true)
 }
 
 /// Writes each body into the row of its id, and `bytes` into that of the record, all in one transaction, or
@@ -115,5 +87,11 @@ pub fn renew_bodies<S: Alter>(
     ensures crash { (b : Bodies) → IsAtRows (state S.Store conn.old) b → AreNatural renewals.now → HasCleanDisk (state S.Store conn.new) → (left : Trees) → (state S.Store conn.new).may_leave left
         → (state S.Store conn.old).may_leave left ⊎ HasRows left (renewed renewals.now bytes.now b) }
 {
-    run_renewals(conn, renewals, bytes)
+    run_all(
+        conn,
+        &Renewals {
+            each: renewals,
+            bytes,
+        },
+    )
 }

@@ -10,7 +10,7 @@ ghost use Rattle.sqlite.specs.Held.{state};
 ghost use Rattle.table_statements.specs.Bodies.{Bodies, after_reset, greatest_id, with_body, with_body_at, with_record, without_body};
 ghost use Rattle.table_statements.specs.Store.{Committed, HoldsRows, IsReady, RowsChanged, RowsFailed, RowsStayed, ShowsBody, Uncommitted, Unwritten};
 
-use crate::transactions::run_pair;
+use crate::transactions::{Pair, run_all};
 use sqlite::{Alter, Connection, Error, Row, params};
 
 fn insert_row<S: Alter>(conn: &mut Connection<S>, bytes: &[u8]) -> Result<usize, Error>
@@ -118,11 +118,13 @@ pub fn reset_rows<S: Alter>(conn: &mut Connection<S>, bytes: &[u8]) -> Result<bo
     ensures err { OnErr result (RowsFailed (state S.Store conn.old) (state S.Store conn.new) (after_reset bytes.now)) }
 {
     ensure_open(conn, "DELETE FROM objects")?;
-    run_pair(
+    run_all(
         conn,
-        "DELETE FROM objects",
-        "UPDATE record SET body = ?1",
-        bytes,
+        &Pair {
+            first: "DELETE FROM objects",
+            second: "UPDATE record SET body = ?1",
+            bytes,
+        },
     )
 }
 

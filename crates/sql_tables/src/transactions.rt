@@ -1,17 +1,16 @@
 //! Statements that are committed together.
 
-ghost use Rattle.std.specs.Prelude.{◌≡◌, [], false, true, IsOk, IsTrue, IfOk, OnOk, OnErr};
+ghost use Rattle.std.specs.Prelude.{◌≡◌, false, true, IsOk, IsTrue, OnOk, OnErr};
 ghost use Rattle.sqlite.specs.State.{HasCleanDisk, KeepsCommit, Shows, Survives};
-ghost use Rattle.sqlite.specs.Held.{state};
+ghost use Rattle.sqlite.specs.Effect.{Database};
+ghost use Rattle.sqlite.specs.Held.{Held, state};
 ghost use Rattle.table_statements.specs.Ran.{RanPair, RanThree};
+ghost use Rattle.sql_tables.specs.OneTransaction.{IsOneTransaction};
 
 use sqlite::{Alter, Connection, Error, Transaction, params};
 
 /// Commits what was done, and undoes it where a statement was refused.
-pub(crate) fn finish<S: Alter>(
-    tx: Transaction<'_, S>,
-    done: Result<usize, Error>,
-) -> Result<(), Error>
+fn finish<S: Alter>(tx: Transaction<'_, S>, done: Result<usize, Error>) -> Result<(), Error>
     ensures ended { tx.exit.0.now.in_transaction ≡ false }
     ensures whole { OnOk result (IsOk done) }
     ensures shows { HasCleanDisk (state S.Store tx.exit.0.now) → OnOk result (Shows (state S.Store tx.entry.conn.now) (state S.Store tx.exit.0.now) (state S.Store tx.entry.conn.now).now (state S.Store tx.entry.conn.now).now false) }
@@ -23,97 +22,69 @@ pub(crate) fn finish<S: Alter>(
     tx.commit()
 }
 
-/// Runs both statements, up to the first that sqlite refuses.
-fn execute_pair<S: Alter>(
-    tx: &mut Transaction<'_, S>,
-    first: &str,
-    second: &str,
-    bytes: &[u8],
-) -> Result<usize, Error>
-    ensures same_reference { tx.new.conn.ghost_name ≡ tx.old.conn.ghost_name }
-    ensures ran { HasCleanDisk (state S.Store tx.new.conn.now) → (before : _) → tx.old.conn.now ≡ record before { in_transaction = true }
-        → OnOk result (RanPair S.Store first.now second.now bytes.now before (state S.Store tx.new.conn.now).now) }
-    ensures inside { HasCleanDisk (state S.Store tx.new.conn.now) → IsTrue (state S.Store tx.old.conn.now).in_transaction → OnOk result (IsTrue (state S.Store tx.new.conn.now).in_transaction) }
-    ensures kept { HasCleanDisk (state S.Store tx.new.conn.now) → IsTrue (state S.Store tx.old.conn.now).in_transaction → KeepsCommit (state S.Store tx.old.conn.now) (state S.Store tx.new.conn.now) }
-    ensures survives { Survives (state S.Store tx.old.conn.now) (state S.Store tx.new.conn.now) (λ _. ⊥) }
-{
-    tx.execute(first, &[])?;
-    tx.execute(second, params![bytes])
+/// Statements that are run in a transaction, one after the other, up to the first that sqlite refuses.
+pub(crate) trait Statements<S: Alter> {
+    /// All of them ran: from the connection before the transaction, what they made of its database.
+    ghost ran: { Self → Held S → Database → Type 0 };
+
+    fn run(&self, tx: &mut Transaction<'_, S>) -> Result<usize, Error>
+        ensures same_reference { tx.new.conn.ghost_name ≡ tx.old.conn.ghost_name }
+        ensures ran { HasCleanDisk (state S.Store tx.new.conn.now) → (before : _) → tx.old.conn.now ≡ record before { in_transaction = true }
+            → OnOk result (ran self.now before (state S.Store tx.new.conn.now).now) }
+        ensures inside { HasCleanDisk (state S.Store tx.new.conn.now) → IsTrue (state S.Store tx.old.conn.now).in_transaction → OnOk result (IsTrue (state S.Store tx.new.conn.now).in_transaction) }
+        ensures kept { HasCleanDisk (state S.Store tx.new.conn.now) → IsTrue (state S.Store tx.old.conn.now).in_transaction → KeepsCommit (state S.Store tx.old.conn.now) (state S.Store tx.new.conn.now) }
+        ensures survives { Survives (state S.Store tx.old.conn.now) (state S.Store tx.new.conn.now) (λ _. ⊥) };
 }
 
-/// Runs all three statements, up to the first that sqlite refuses.
-fn execute_three<S: Alter>(
-    tx: &mut Transaction<'_, S>,
-    first: &str,
-    second: &str,
-    third: &str,
-    bytes: &[u8],
-) -> Result<usize, Error>
-    ensures same_reference { tx.new.conn.ghost_name ≡ tx.old.conn.ghost_name }
-    ensures ran { HasCleanDisk (state S.Store tx.new.conn.now) → (before : _) → tx.old.conn.now ≡ record before { in_transaction = true }
-        → OnOk result (RanThree S.Store first.now second.now third.now bytes.now before (state S.Store tx.new.conn.now).now) }
-    ensures inside { HasCleanDisk (state S.Store tx.new.conn.now) → IsTrue (state S.Store tx.old.conn.now).in_transaction → OnOk result (IsTrue (state S.Store tx.new.conn.now).in_transaction) }
-    ensures kept { HasCleanDisk (state S.Store tx.new.conn.now) → IsTrue (state S.Store tx.old.conn.now).in_transaction → KeepsCommit (state S.Store tx.old.conn.now) (state S.Store tx.new.conn.now) }
-    ensures survives { Survives (state S.Store tx.old.conn.now) (state S.Store tx.new.conn.now) (λ _. ⊥) }
-{
-    tx.execute(first, &[])?;
-    tx.execute(second, &[])?;
-    tx.execute(third, params![bytes])
-}
-
-/// Both statements or neither. `false` says that a transaction was open.
-pub(crate) fn run_pair<S: Alter>(
+/// Runs all the statements or none. `false` says that a transaction was open.
+pub(crate) fn run_all<S: Alter, T: Statements<S>>(
     conn: &mut Connection<S>,
-    first: &str,
-    second: &str,
-    bytes: &[u8],
+    statements: &T,
 ) -> Result<bool, Error>
-    ensures both { HasCleanDisk (state S.Store conn.new) → IfOk result (λ done. IsTrue done → RanPair S.Store first.now second.now bytes.now conn.old (state S.Store conn.new).committed) }
-    ensures settled { IfOk result (λ done. IsTrue done → IsTrue (state S.Store conn.new).is_open → (state S.Store conn.new).now ≡ (state S.Store conn.new).committed) }
-    ensures up { HasCleanDisk (state S.Store conn.new) → IfOk result (λ done. IsTrue done → IsTrue (state S.Store conn.new).is_open) }
-    ensures ended { IfOk result (λ done. IsTrue done → conn.new.in_transaction ≡ false) }
-    ensures refused { IfOk result (λ done. done ≡ false → conn.new ≡ conn.old) }
-    ensures busy { IfOk result (λ done. done ≡ false → conn.old.in_transaction ≡ true) }
-    ensures stopped { OnErr result (conn.new.in_transaction ≡ false) }
-    ensures neither { HasCleanDisk (state S.Store conn.new) → IsTrue (state S.Store conn.new).is_open
-        → OnErr result (((state S.Store conn.new).now ≡ (state S.Store conn.old).now) × ((state S.Store conn.new).committed ≡ (state S.Store conn.old).committed)) }
-    ensures crash { Survives (state S.Store conn.old) (state S.Store conn.new) (λ trees. (db : _) × RanPair S.Store first.now second.now bytes.now conn.old db × (trees ≡ db.trees)) }
+    ensures { IsOneTransaction S.Store (T.ran statements.now) conn.old conn.new result }
 {
     if !conn.is_autocommit() {
         return Ok(false);
     }
     let mut tx = conn.transaction();
-    let done = execute_pair(&mut tx, first, second, bytes);
+    let done = statements.run(&mut tx);
     finish(tx, done)?;
     let _ended = conn.is_autocommit();
     Ok(true)
 }
 
-/// All three statements or none. `false` says that a transaction was open.
-pub(crate) fn run_three<S: Alter>(
-    conn: &mut Connection<S>,
-    first: &str,
-    second: &str,
-    third: &str,
-    bytes: &[u8],
-) -> Result<bool, Error>
-    ensures all { HasCleanDisk (state S.Store conn.new) → IfOk result (λ done. IsTrue done → RanThree S.Store first.now second.now third.now bytes.now conn.old (state S.Store conn.new).committed) }
-    ensures settled { IfOk result (λ done. IsTrue done → IsTrue (state S.Store conn.new).is_open → (state S.Store conn.new).now ≡ (state S.Store conn.new).committed) }
-    ensures up { HasCleanDisk (state S.Store conn.new) → IfOk result (λ done. IsTrue done → IsTrue (state S.Store conn.new).is_open) }
-    ensures ended { IfOk result (λ done. IsTrue done → conn.new.in_transaction ≡ false) }
-    ensures refused { IfOk result (λ done. done ≡ false → conn.new ≡ conn.old) }
-    ensures busy { IfOk result (λ done. done ≡ false → conn.old.in_transaction ≡ true) }
-    ensures stopped { OnErr result (conn.new.in_transaction ≡ false) }
-    ensures none { HasCleanDisk (state S.Store conn.new) → IsTrue (state S.Store conn.new).is_open
-        → OnErr result (((state S.Store conn.new).now ≡ (state S.Store conn.old).now) × ((state S.Store conn.new).committed ≡ (state S.Store conn.old).committed)) }
-    ensures crash { Survives (state S.Store conn.old) (state S.Store conn.new) (λ trees. (db : _) × RanThree S.Store first.now second.now third.now bytes.now conn.old db × (trees ≡ db.trees)) }
-{
-    if !conn.is_autocommit() {
-        return Ok(false);
+/// Two statements, of which the last has a parameter.
+#[derive(Drop)]
+pub(crate) struct Pair<'a> {
+    pub(crate) first: &'a str,
+    pub(crate) second: &'a str,
+    pub(crate) bytes: &'a [u8],
+}
+
+impl<S: Alter> Statements<S> for Pair<'_> {
+    ghost ran = { λ both. RanPair S.Store both.first.now both.second.now both.bytes.now };
+
+    fn run(&self, tx: &mut Transaction<'_, S>) -> Result<usize, Error> {
+        tx.execute(self.first, &[])?;
+        tx.execute(self.second, params![self.bytes])
     }
-    let mut tx = conn.transaction();
-    let done = execute_three(&mut tx, first, second, third, bytes);
-    finish(tx, done)?;
-    let _ended = conn.is_autocommit();
-    Ok(true)
+}
+
+/// Three statements, of which the last has a parameter.
+#[derive(Drop)]
+pub(crate) struct Three<'a> {
+    pub(crate) first: &'a str,
+    pub(crate) second: &'a str,
+    pub(crate) third: &'a str,
+    pub(crate) bytes: &'a [u8],
+}
+
+impl<S: Alter> Statements<S> for Three<'_> {
+    ghost ran = { λ all. RanThree S.Store all.first.now all.second.now all.third.now all.bytes.now };
+
+    fn run(&self, tx: &mut Transaction<'_, S>) -> Result<usize, Error> {
+        tx.execute(self.first, &[])?;
+        tx.execute(self.second, &[])?;
+        tx.execute(self.third, params![self.bytes])
+    }
 }

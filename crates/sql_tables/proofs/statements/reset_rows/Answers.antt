@@ -6,13 +6,13 @@ use Rattle.table_statements.proofs.Pairs.{pair_ends}
 use Rattle.table_statements.proofs.Lift.{not_sent_if}
 use Rattle.sql_tables.proofs.statements.reset_rows.Goals as goal
 
-all : (g : _) (c : goal.After-run_pair g)
-    → IfOk c.run_pair.result (λ done. IsTrue done → RowsChanged (state g.S.Store c.args.conn.now) (state g.S.Store c.run_pair.new.conn) (after_reset c.args.bytes.now))
-    × IfOk c.run_pair.result (λ done. done ≡ false → RowsFailed (state g.S.Store c.args.conn.now) (state g.S.Store c.run_pair.new.conn) (after_reset c.args.bytes.now))
-    × OnErr c.run_pair.result (RowsFailed (state g.S.Store c.args.conn.now) (state g.S.Store c.run_pair.new.conn) (after_reset c.args.bytes.now))
+all : (g : _) (c : goal.After-run_all g)
+    → IfOk c.run_all.result (λ done. IsTrue done → RowsChanged (state g.S.Store c.args.conn.now) (state g.S.Store c.run_all.new.conn) (after_reset c.args.bytes.now))
+    × IfOk c.run_all.result (λ done. done ≡ false → RowsFailed (state g.S.Store c.args.conn.now) (state g.S.Store c.run_all.new.conn) (after_reset c.args.bytes.now))
+    × OnErr c.run_all.result (RowsFailed (state g.S.Store c.args.conn.now) (state g.S.Store c.run_all.new.conn) (after_reset c.args.bytes.now))
 all g c =
-    pair_ends g.S.Store (state g.S.Store c.args.conn.now) c.ensure_open.new.conn c.run_pair.new.conn c.args.bytes.now c.ensure_open.ensures.kept c.in_ok-ensure_open.ensures.open c.run_pair.ensures.crash
-    c.run_pair.result c.run_pair.ensures.both c.run_pair.ensures.settled c.run_pair.ensures.up c.run_pair.ensures.ended c.run_pair.ensures.refused c.run_pair.ensures.stopped c.run_pair.ensures.neither
+    pair_ends g.S.Store (state g.S.Store c.args.conn.now) c.ensure_open.new.conn c.run_all.new.conn c.args.bytes.now c.ensure_open.ensures.kept c.in_ok-ensure_open.ensures.open c.run_all.ensures.crash
+    c.run_all.result c.run_all.ensures.all c.run_all.ensures.settled c.run_all.ensures.up c.run_all.ensures.ended c.run_all.ensures.refused c.run_all.ensures.stopped c.run_all.ensures.none
     (λ db up may. g.met.S.Store.settled _ db up may)
 
 pub returns-in_err-ensure_open-clause-err : goal.returns-in_err-ensure_open-clause-err
