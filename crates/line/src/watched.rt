@@ -25,7 +25,7 @@ impl<T> Model for Watched<T> {
 
     ghost Value = { Noting T };
 
-    ghost view = { λ n. record { inner = n.inner; failures = n.failures; calls = n.calls.count } };
+    ghost view = { λ n. record { inner = n.inner; failures = n.failures; calls = n.calls } };
 }
 
 /// Whether a read, a write or a flush may be tried again.

@@ -3,9 +3,8 @@
 ghost use Rattle.std.specs.Prelude.{◌≡◌};
 ghost use Rattle.programs.specs.Statuses.{status_of, IsStatus};
 
-use hall::HallFault;
 use keep::KeepFault;
-use line::LineFault;
+use sockets::{HallFault, LineFault};
 use thiserror::Error;
 use wire::WireFault;
 

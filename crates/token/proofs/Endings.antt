@@ -17,7 +17,7 @@ use Rattle.mech.specs.Works.{outcome_of}
 use Rattle.desk.specs.Desks.{DeskState, SameDesk}
 use Rattle.views.specs.declared.fault.Fault.{Fault}
 use Rattle.views.specs.declared.fault.Fault.TheVariants.{Memory, Device}
-use Rattle.views.specs.Outcomes.{told_of}
+use Rattle.token_model.specs.WorkResults.{told_of}
 use Rattle.views.specs.Views.{View}
 use Rattle.views.specs.Answering.{Replies, Answer, Reveal, answered, refuses}
 use Rattle.views.specs.Refusals.{set_apart}

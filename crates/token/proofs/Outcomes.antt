@@ -21,7 +21,8 @@ use Rattle.streams.specs.declared.part.Part.TheVariants.{Update, Last}
 use Rattle.streams.specs.Outputs.{last_output}
 use Rattle.ops.specs.declared.place.MacPlace.TheVariants as place
 use Rattle.ops.specs.Operations.{operation_of, mac_of}
-use Rattle.views.specs.Outcomes.{Unwrapped, told_of}
+use Rattle.views.specs.Outcomes.{Unwrapped}
+use Rattle.token_model.specs.WorkResults.{told_of}
 use Rattle.views.specs.Views.{View, Question}
 use Rattle.views.specs.Answering.{Answer, answered, becomes, refuses, replies, with_operation, with_mac}
 use Rattle.answers.specs.Answers.{answer_outcome}

@@ -14,7 +14,7 @@ use Rattle.mech.specs.Works.{outcome_of}
 use Rattle.desk.specs.Desks.{DeskState}
 use Rattle.views.specs.declared.fault.Fault.{Fault}
 use Rattle.views.specs.declared.fault.Fault.TheVariants as faults
-use Rattle.views.specs.Outcomes.{told_of}
+use Rattle.token_model.specs.WorkResults.{told_of}
 use Rattle.views.specs.Views.{Question}
 use Rattle.views.specs.Answering.{Replies}
 use Rattle.answers.specs.Answers.{answer_outcome}

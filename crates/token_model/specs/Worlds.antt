@@ -14,7 +14,8 @@ use Rattle.mech.specs.declared.work.Work.TheVariants.{Cipher, Take, Sign, Verify
 use Rattle.mech.specs.Works.{outcome_of}
 use Rattle.ops.specs.Operations.{text_of, message_of}
 use Rattle.std.specs.Option.{unwrap_or}
-use Rattle.views.specs.Outcomes.{Outcome, Right, told_of}
+use Rattle.views.specs.Outcomes.{Outcome, Right}
+use Rattle.token_model.specs.WorkResults.{told_of}
 use Rattle.token_model.specs.declared.check.Check.{Check}
 use Rattle.token_model.specs.declared.event.Event.{Event}
 use Rattle.token_model.specs.declared.event.Event.TheVariants.{Call, Finish, Gone}

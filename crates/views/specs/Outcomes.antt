@@ -2,8 +2,6 @@
 use Rattle.std.specs.Prelude.{ℕ, List}
 use Rattle.ck_types.specs.declared.entry.Entry.{Entry}
 use Rattle.attrs.specs.Masking.{mask as mask_object}
-use Rattle.mech.specs.declared.outcome.Outcome.TheVariants as work
-use Rattle.mech.specs.declared.outcome.Outcome.{Outcome as WorkOutcome}
 
 pub data Outcome : Type 0 where
   -- the output of a cipher, a signature, or a wrapped key
@@ -21,25 +19,6 @@ pub data Outcome : Type 0 where
   Wrong : Outcome
   -- a verifier was made, of which nothing is told
   Made : Outcome
-
--- what is told of what work gives: of a piece its output alone
-abbrev pub told_of : WorkOutcome → Outcome
-told_of (work.Piece output stream) = Output output
-told_of (work.Rest direction output) = Output output
-told_of (work.BadPadding direction) = BadPadding
-told_of (work.Taken place mac) = Taken
-told_of (work.Signature signature) = Output signature
-told_of work.RightSignature = Right
-told_of work.WrongSignature = Wrong
-told_of (work.Wrapped bytes) = Output bytes
-told_of (work.Unwrapped object) = Unwrapped object
-told_of work.BadWrapping = BadWrapping
-told_of work.WrongPin = Wrong
-told_of (work.RightPin who) = Right
-told_of (work.PinMade verifier) = Made
-told_of (work.PinChanged who verifier) = Right
-told_of (work.TokenMade label verifier) = Made
-told_of (work.TokenReset label) = Right
 
 -- a result as it is shown: of a masked key the value is kept back
 abbrev pub mask_outcome : Outcome → Outcome
