@@ -129,3 +129,16 @@ still-init_pin v s pin random = still-rows (init_pin_row v s pin NoSession) (ini
   still-rows false true d = refl
   still-rows false false true = refl
   still-rows false false false = refl
+
+-- a call that is taken is answered so
+pub taken : {K : Type 0} (terms : Terms K) (app : ℕ) (in_use : Bool) (x : Call) (random : List ℕ) (old new : StoreState K) (before desk : DeskState) (r : Result Out Fault) → is_busy before ≡ false
+    → IsServedIf (IsShortCall x) terms (IsFor app) (λ v. answer_to v x random (reveal_by_call x in_use)) old new before r desk → IsServedIf (IsShortCall x) terms (IsFor app) (λ v. answer v x random (reveal_by_call x in_use)) old new before r desk
+taken terms app in_use x random old new before desk r free served = record {
+  serves = λ sure k h fits. serves-is terms _ _ k old new before desk r (answer-is k before x random (reveal_by_call x in_use) free) (served.serves sure k h fits);
+  says = served.says;
+  counts = served.counts;
+  cause = served.cause;
+  plain = served.plain;
+  stays = served.stays;
+  short = served.short;
+}

@@ -5,6 +5,7 @@ ghost use Rattle.ck_calls.specs.Need.{random_bytes};
 ghost use Rattle.desk.specs.Desks.{is_busy};
 ghost use Rattle.token_model.specs.Worlds.{reveal_by_call};
 ghost use Rattle.answers.specs.Answers.{answer, answer_to};
+ghost use Rattle.token.specs.Dispatching.{is_on_sessions};
 ghost use Rattle.token_store.specs.Refusing.{IsServedIf};
 ghost use Rattle.token_store.specs.Short.{IsShortCall};
 ghost use Rattle.token_store.specs.Shown.{IsFor};
@@ -48,10 +49,18 @@ pub(crate) fn serve<K: Keep>(
     if desk.is_busy() {
         return Ok(Out::Reply(Reply::Code(Row::Busy.code(Rv::Ok))));
     }
-    dispatch(alloc, app, desk, store, call, random, in_use)
+    match call {
+        // Session management (PKCS #11 v3.1, 5.6).
+        Call::OpenSession { slot, flags } => settle(open_session::serve(desk, slot, flags)),
+        Call::CloseSession { session } => settle(close_session::serve(desk, session)),
+        Call::CloseAllSessions { slot } => settle(close_session::serve_all(desk, slot)),
+        Call::GetSessionInfo { session } => settle(get_session_info::serve(desk, session)),
+        call => dispatch(alloc, app, desk, store, call, random, in_use),
+    }
 }
 
-/// A call that is taken: an arm for each.
+/// A call that is taken and is none of those on sessions: an arm for each. It clears a local for each arm where it is entered,
+/// so that the calls on sessions, which do the least, are answered before.
 fn dispatch<K: Keep>(
     alloc: Global,
     app: u64,
@@ -63,6 +72,7 @@ fn dispatch<K: Keep>(
 ) -> Result<Out, Fault>
     requires random { length random.now ≡ random_bytes call }
     requires free { is_busy desk.old ≡ false }
+    requires other { is_on_sessions call ≡ false }
     ensures { IsServedIf (IsShortCall call) K.terms (IsFor app) (λ v. answer_to v call random.now (reveal_by_call call in_use)) store.old store.new desk.old result desk.new }
 {
     match call {
@@ -85,11 +95,11 @@ fn dispatch<K: Keep>(
         } => settle_asking(set_pin::serve(
             alloc, app, desk, store, session, old_pin, new_pin, random,
         )),
-        // Session management (5.6).
-        Call::OpenSession { slot, flags } => settle(open_session::serve(desk, slot, flags)),
-        Call::CloseSession { session } => settle(close_session::serve(desk, session)),
-        Call::CloseAllSessions { slot } => settle(close_session::serve_all(desk, slot)),
-        Call::GetSessionInfo { session } => settle(get_session_info::serve(desk, session)),
+        // Session management (5.6), where `serve` has not answered already.
+        Call::OpenSession { .. }
+        | Call::CloseSession { .. }
+        | Call::CloseAllSessions { .. }
+        | Call::GetSessionInfo { .. } => unreachable!(),
         Call::Login {
             session,
             user_type,

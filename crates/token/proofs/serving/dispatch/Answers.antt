@@ -5,22 +5,6 @@ use Rattle.answers.specs.Answers.{answer_to}
 use Rattle.token.proofs.Dispatching.{call-done, call-asked, call-at-desk, call-asking, call-unchecked, random-few, still-init_pin}
 use Rattle.token.proofs.serving.dispatch.Goals as goal
 
-pub returns-in-OpenSession : goal.returns-in-OpenSession
-unfolding answer_to
-returns-in-OpenSession g c = call-at-desk g.K.Keep.terms c.args.app c.args.in_use c.args.call (call.OpenSession c.in-OpenSession.slot c.in-OpenSession.flags) c.args.random.now c.in-OpenSession.is c.args.store.now c.args.desk.now _ c.serve-in-OpenSession.result c.settle-in-OpenSession.result refl c.settle-in-OpenSession.ensures c.serve-in-OpenSession.ensures
-
-pub returns-in-CloseSession : goal.returns-in-CloseSession
-unfolding answer_to
-returns-in-CloseSession g c = call-at-desk g.K.Keep.terms c.args.app c.args.in_use c.args.call (call.CloseSession c.in-CloseSession.session) c.args.random.now c.in-CloseSession.is c.args.store.now c.args.desk.now _ c.serve-in-CloseSession.result c.settle-in-CloseSession.result refl c.settle-in-CloseSession.ensures c.serve-in-CloseSession.ensures
-
-pub returns-in-CloseAllSessions : goal.returns-in-CloseAllSessions
-unfolding answer_to
-returns-in-CloseAllSessions g c = call-at-desk g.K.Keep.terms c.args.app c.args.in_use c.args.call (call.CloseAllSessions c.in-CloseAllSessions.slot) c.args.random.now c.in-CloseAllSessions.is c.args.store.now c.args.desk.now _ c.serve_all.result c.settle-in-CloseAllSessions.result refl c.settle-in-CloseAllSessions.ensures c.serve_all.ensures
-
-pub returns-in-GetSessionInfo : goal.returns-in-GetSessionInfo
-unfolding answer_to
-returns-in-GetSessionInfo g c = call-at-desk g.K.Keep.terms c.args.app c.args.in_use c.args.call (call.GetSessionInfo c.in-GetSessionInfo.session) c.args.random.now c.in-GetSessionInfo.is c.args.store.now c.args.desk.now _ c.serve-in-GetSessionInfo.result c.settle-in-GetSessionInfo.result refl c.settle-in-GetSessionInfo.ensures c.serve-in-GetSessionInfo.ensures
-
 pub returns-in-CreateObject : goal.returns-in-CreateObject
 unfolding answer_to
 returns-in-CreateObject g c = call-done g.K.Keep.terms c.args.app c.args.in_use c.args.call (call.CreateObject c.in-CreateObject.session c.in-CreateObject.template) c.args.random.now c.in-CreateObject.is 1 c.args.store.now _ c.args.desk.now _ c.serve-in-CreateObject.result c.settle-in-CreateObject.result (omega arith) c.settle-in-CreateObject.ensures c.serve-in-CreateObject.ensures
