@@ -14,6 +14,10 @@ use std::alloc::{AllocError, Global};
 use std::sync::Wait;
 use std::thread;
 
+/// How many turns the token gives up to the other threads before it sleeps. They are more than a client takes from a reply to its
+/// next call, since to sleep and to be woken costs more than all of them.
+const TURNS: u32 = 200;
+
 /// The token's end of the one inward channel, on which it takes what the seats put. Its pass knows how many seats were made,
 /// what was taken, and what the seats that have ended sent in all. It keeps a sender, so the channel lasts as long as it.
 #[derive(Drop)]
@@ -82,6 +86,7 @@ impl Inbox {
     }
 
     /// Takes the next message, and sleeps until it comes.
+    #[inline(never)]
     fn wait<R: Wait>(&mut self, rt: &R) -> Option<Inward>
         ensures same { sends_on self.new.sender ≡ sends_on self.old.sender }
         ensures taken { IfSome result (λ x. taken_of (view self.new.inward_pass) ≡ taken_of (view self.old.inward_pass) ++ happened x) }
@@ -93,14 +98,14 @@ impl Inbox {
             .ok()
     }
 
-    /// Takes the next message, where it comes within 40 turns of this thread.
+    /// Takes the next message, where it comes within `TURNS` turns of this thread.
     fn take_patiently<R: Wait>(&mut self, rt: &R) -> Option<Inward>
         ensures same { sends_on self.new.sender ≡ sends_on self.old.sender }
         ensures taken { IfSome result (λ x. taken_of (view self.new.inward_pass) ≡ taken_of (view self.old.inward_pass) ++ happened x) }
         ensures none { IfNone result (view self.new.inward_pass ≡ view self.old.inward_pass) }
         ensures kept { (seats_of (view self.new.inward_pass) ≡ seats_of (view self.old.inward_pass)) × (ended_of (view self.new.inward_pass) ≡ ended_of (view self.old.inward_pass)) }
     {
-        'turns: for _ in 0..40 {
+        'turns: for _ in 0..TURNS {
             if let Some(x) = self.try_take(rt) {
                 return Some(x);
             }

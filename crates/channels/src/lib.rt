@@ -11,7 +11,8 @@
 //! - `Inbox` is the token's end of the inward channel, `Outbox` its end of one outward channel, and `Port` a seat's two ends.
 //!
 //! Where a call answers that a channel has ended, nothing was put or taken. No clause says that a message comes, or that a
-//! call returns. A receive first takes 40 turns with the other threads and then sleeps.
+//! call returns. A receive first gives up some turns to the other threads, the token 200 and a seat
+//! 40, and then sleeps.
 //!
 //! ```text
 //! let mut inbox = Inbox::open(alloc)?;

@@ -17,6 +17,9 @@ use crate::port::{Ends, Port, SeatEnds};
 use std::sync::Wait;
 use std::{mem, thread};
 
+/// How many turns a seat gives up to the other threads before it sleeps: the token answers meanwhile, or is at work for others.
+const TURNS: u32 = 40;
+
 impl Port {
     /// A seat's ends, as they came to its thread, without its letter. Both passes are of the channels of their ends, and the inward one is of the
     /// seat's number.
@@ -167,6 +170,7 @@ impl Port {
     }
 
     /// Gets the next message, and sleeps until it comes.
+    #[inline(never)]
     fn wait<R: Wait>(&mut self, rt: &R) -> Option<Outward>
         ensures same { SamePort self.old self.new }
         ensures sent { sent_of (view self.new.inward_pass) ≡ sent_of (view self.old.inward_pass) }
@@ -178,14 +182,14 @@ impl Port {
             .ok()
     }
 
-    /// Gets the next message, where it comes within 40 turns of this thread.
+    /// Gets the next message, where it comes within `TURNS` turns of this thread.
     fn get_patiently<R: Wait>(&mut self, rt: &R) -> Option<Outward>
         ensures same { SamePort self.old self.new }
         ensures sent { sent_of (view self.new.inward_pass) ≡ sent_of (view self.old.inward_pass) }
         ensures none { IfNone result (view self.new.outward_pass ≡ view self.old.outward_pass) }
         ensures got { IfSome result (λ x. got_of (view self.new.outward_pass) ≡ got_of (view self.old.outward_pass) ++ answer_in x) }
     {
-        'turns: for _ in 0..40 {
+        'turns: for _ in 0..TURNS {
             if let Some(x) = self.try_get(rt) {
                 return Some(x);
             }

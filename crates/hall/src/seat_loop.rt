@@ -23,6 +23,7 @@ use std::sync::Wait;
 use token::{Job, Out};
 
 /// Tells that an application goes, which isn't answered. False where a channel has ended.
+#[inline(never)]
 fn tell_gone<R: Wait>(rt: &R, port: &mut Port, app: u64) -> bool
     ensures same { SamePort port.old port.new }
     ensures sent { IsTrue result → sent_of (view port.new.inward_pass) ≡ sent_of (view port.old.inward_pass) ++ Gone app ∷ [] }
@@ -48,6 +49,7 @@ fn answer<R: Wait>(rt: &R, port: &mut Port) -> Option<Out>
 }
 
 /// Runs a job that was asked for, puts its result, and gets the reply.
+#[inline(never)]
 fn work<G: Gate, R: Wait>(
     rt: &R,
     alloc: Global,
@@ -123,6 +125,7 @@ fn turn<S: Seat, G: Gate, R: Wait>(
 }
 
 /// Asks the seat, and does what it asks, until it has no more. False where a channel has ended.
+#[inline(never)]
 pub(crate) fn run_seat<S: Seat, G: Gate, R: Wait>(
     rt: &R,
     alloc: Global,

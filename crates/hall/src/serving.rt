@@ -66,6 +66,7 @@ fn serve<M: Machine, R: Wait>(
 }
 
 /// Takes events until four seats have ended. False where a channel has ended before.
+#[inline(never)]
 pub(crate) fn serve_seats<M: Machine, R: Wait>(
     rt: &R,
     alloc: Global,

@@ -25,10 +25,12 @@ impl<K: Keep> Machine for Token<K> {
         Token::call(self, alloc, app, call, &words)
     }
 
+    #[inline(never)]
     fn finish(&mut self, alloc: Global, app: u64, done: Done) -> Reply {
         Token::finish(self, alloc, app, done)
     }
 
+    #[inline(never)]
     fn gone(&mut self, app: u64) {
         Token::gone(self, app);
     }

@@ -9,7 +9,7 @@ use line::{Words, reply_to_fault};
 use std::alloc::Global;
 use std::io::{ErrorKind, Read, Write};
 use std::os::unix::net::UnixStream;
-use wire::{FrameReader, read_call, write_reply};
+use wire::{FrameReader, WireFault, read_call, write_reply};
 
 /// A connection, the bytes that were read of it and not answered, and its application's random bytes.
 #[derive(Drop)]
@@ -88,14 +88,26 @@ impl Connection {
         ensures { IsOf app result }
     {
         match read_call(alloc, payload) {
-            Err(fault) => match reply_to_fault(fault) {
-                Ok(reply) if self.send(alloc, &reply) => Asked::Answered,
-                _ => Asked::Ended,
-            },
+            Err(fault) => {
+                if self.answer_fault(alloc, fault) {
+                    Asked::Answered
+                } else {
+                    Asked::Ended
+                }
+            }
             Ok(call) => match self.words.take(alloc, need(&call)) {
                 Ok(words) => Asked::Call(AppCall { app, call, words }),
                 Err(_) => Asked::Ended,
             },
+        }
+    }
+
+    /// Answers a payload that is no call. False where the connection ends.
+    #[inline(never)]
+    fn answer_fault(&mut self, alloc: Global, fault: WireFault) -> bool {
+        match reply_to_fault(fault) {
+            Ok(reply) => self.send(alloc, &reply),
+            Err(_) => false,
         }
     }
 

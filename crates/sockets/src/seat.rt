@@ -70,6 +70,7 @@ impl SocketSeat {
     }
 
     /// Accepts a connection. False where none comes any more.
+    #[inline(never)]
     fn accept(&mut self) -> bool
         ensures app { self.new.app ≡ self.old.app }
         ensures left { self.new.left ≡ self.old.left }
@@ -87,6 +88,7 @@ impl SocketSeat {
     }
 
     /// The connection ends, and its application goes.
+    #[inline(never)]
     fn end_connection(&mut self) -> SeatEvent
         requires { 0 < self.old.left }
         ensures gone { result ≡ Gone self.old.app }
