@@ -14,8 +14,8 @@ use std::alloc::{AllocError, Global};
 use std::sync::Wait;
 use std::thread;
 
-/// How many turns the token gives up to the other threads before it sleeps. They are more than a client takes from a reply to its
-/// next call, since to sleep and to be woken costs more than all of them.
+/// How many turns the token gives up to the other threads before it sleeps: for longer than a client takes from a reply to its
+/// next call, since a thread that sleeps is dear to wake.
 const TURNS: u32 = 200;
 
 /// The token's end of the one inward channel, on which it takes what the seats put. Its pass knows how many seats were made,

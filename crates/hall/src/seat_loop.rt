@@ -1,4 +1,4 @@
-//! One seat, in a thread of its own.
+//! One seat, in a thread of its own. What a call seldom comes to isn't inlined, so that the loop's own locals are few and lie together.
 
 ghost use Rattle.std.specs.Prelude.{◌≡◌, ◌∷◌, [], ◌++◌, ℕ, List, IsTrue, IfSome, Some};
 ghost use Rattle.crossbeam_channel.specs.Claims.{view};

@@ -1,4 +1,4 @@
-//! The token takes one event after the other.
+//! The token takes one event after the other. What isn't done at each call isn't inlined into its loop.
 
 ghost use Rattle.keep.specs.Keeping.{Terms};
 ghost use Rattle.token_states.specs.Applications.{Shows};

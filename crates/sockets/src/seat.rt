@@ -1,4 +1,4 @@
-//! A seat that accepts connections.
+//! A seat that accepts connections. What is done once for each isn't inlined into what is done for each call.
 
 ghost use Rattle.std.specs.Prelude.{◌≡◌, ◌+◌, ◌*◌, ◌<◌, ◌%◌, ◌^◌, None, not, true};
 ghost use Rattle.hall.specs.declared.seats.SeatEvent.TheVariants.{Gone};
