@@ -8,9 +8,8 @@ use std::thread::{JoinHandle, Threads};
 use std::time::{Clock, Instant};
 use std::{fs, io, thread};
 
-/// How many round trips are measured, how many of a long text, and how many come before. In the first fifth of a second the kernel
-/// still finds an order of the threads, so they take more than that.
-const ROUND_TRIPS: u64 = 100_000;
+/// How many round trips are measured, how many of a long text, and how many come before.
+const ROUND_TRIPS: u64 = 20_000;
 
 const LONG_ROUND_TRIPS: u64 = 5_000;
 
