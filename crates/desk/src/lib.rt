@@ -23,6 +23,7 @@ mod question;
 
 pub use desk::{Desk, SESSION_OBJECT_LIMIT};
 pub use lists::NUMBER_LIMIT;
+pub use mech::{Job, Work};
 pub use ops::{Place, Places};
 pub use own_object::OwnObject;
 pub use question::Question;

@@ -13,10 +13,8 @@ use Rattle.token_model.proofs.Told.{is_told}
 use Rattle.token_model.proofs.Tries.{sound-run}
 use Rattle.token_model.specs.Traces.{NotSetApart}
 use Rattle.token_store.specs.declared.out.Out.{Out}
-use Rattle.token_states.specs.Applications.{HasJobs, asked_by, jobs_of}
-use Rattle.token_states.specs.Runs.{AccountsFor, IsRun, Lasting, LeftAfter, LeftBy}
-use Rattle.token_states.proofs.Accounts.{accounts-more, accounts-none}
-use Rattle.token_states.proofs.Runs.{after-append, left-append, left-more}
+use Rattle.token.specs.States.{HasJobs, asked_by, jobs_of, AccountsFor, IsRun, Lasting, LeftAfter, LeftBy}
+use Rattle.token.proofs.States.{accounts-more, accounts-none, after-append, left-append, left-more}
 use Rattle.channels.specs.Lists.{of, last}
 use Rattle.channels.specs.Outward.{given_of}
 use Rattle.channels.specs.declared.messages.Event.{Event}

@@ -16,9 +16,8 @@ use Rattle.token_model.specs.Worlds.{World, Move, Goes, Refuses, event_of, calle
 use Rattle.token_store.specs.declared.out.Out.{Out}
 use Rattle.token_store.specs.declared.out.Out.TheVariants.{Reply, Ask}
 use Rattle.token_store.specs.Shown.{question_of, said_of}
-use Rattle.token_states.specs.Applications.{HasJobs, IsOpen, TakesJob, jobs_of, moved}
-use Rattle.token_states.specs.Runs.{IsStep, Lasting, LeavesBy, LeftBy, call_change}
-use Rattle.token_states.proofs.Jobs.{open_is, step_reply, step_ask, step_finish, step_gone}
+use Rattle.token.specs.States.{HasJobs, IsOpen, TakesJob, jobs_of, moved, IsStep, Lasting, LeavesBy, LeftBy, call_change}
+use Rattle.token.proofs.States.{open_is, step_reply, step_ask, step_finish, step_gone}
 use Rattle.channels.specs.declared.messages.AppCall.{AppCall}
 use Rattle.channels.specs.declared.messages.Event.{Event}
 use Rattle.channels.specs.declared.messages.Event.TheVariants.{Call, Finish, Gone}

@@ -2,8 +2,7 @@
 use Rattle.std.specs.Prelude.{◌≡◌, ℕ, ◌<◌, ◌≤◌, List, [], ◌∷◌, ◌++◌, length, Option, None}
 use Rattle.ck_calls.specs.declared.reply.Reply.{Reply}
 use Rattle.token_model.specs.Worlds.{World}
-use Rattle.token_states.specs.Applications.{HasJobs}
-use Rattle.token_states.specs.Runs.{Lasting}
+use Rattle.token.specs.States.{HasJobs, Lasting}
 use Rattle.crossbeam_channel.specs.Claims.{view}
 use Rattle.crossbeam_channel.specs.Ends.{sends_on, receives_on}
 use Rattle.token_store.specs.declared.out.Out.{Out}

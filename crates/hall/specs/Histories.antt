@@ -10,8 +10,7 @@ use Rattle.token_model.specs.Worlds.{World, Move, Goes, says_called, reply_to, h
 use Rattle.token_store.specs.declared.out.Out.{Out}
 use Rattle.token_store.specs.declared.out.Out.TheVariants.{Reply, Ask}
 use Rattle.token_store.specs.Shown.{IsFor, said_of}
-use Rattle.token_states.specs.Applications.{HasJobs, IsOpen, jobs_of, moved}
-use Rattle.token_states.specs.Runs.{AccountsFor, IsRun, Lasting, LeftAfter, LeftBy}
+use Rattle.token.specs.States.{HasJobs, IsOpen, jobs_of, moved, AccountsFor, IsRun, Lasting, LeftAfter, LeftBy}
 use Rattle.channels.specs.Lists.{of, last}
 use Rattle.channels.specs.declared.messages.Event.{Event}
 use Rattle.channels.specs.declared.messages.Event.TheVariants.{Call, Finish, Gone}

@@ -3,8 +3,7 @@
 ghost use Rattle.std.specs.Prelude.{◌≡◌, ◌∷◌, [], IfOk, IfErr};
 ghost use Rattle.crossbeam_channel.specs.Claims.{view};
 ghost use Rattle.crossbeam_channel.specs.Ends.{sends_on, receives_on};
-ghost use Rattle.token_states.specs.Applications.{Shows};
-ghost use Rattle.token_states.specs.Runs.{MayLeave};
+ghost use Rattle.token.specs.States.{Shows, MayLeave};
 ghost use Rattle.channels.specs.Inward.{seats_of, taken_of, ended_of};
 ghost use Rattle.channels.specs.Outward.{given_of};
 ghost use Rattle.hall.specs.Held.{Ready, WereHeld};

@@ -4,8 +4,7 @@ ghost use Rattle.std.specs.Prelude.{◌≡◌, ℕ, [], Some, None, Option};
 ghost use Rattle.channels.specs.declared.messages.Event.TheVariants.{Call as CallEvent, Finish as FinishEvent, Gone as GoneEvent};
 ghost use Rattle.token_store.specs.declared.out.Out.TheVariants.{Reply as OutReply};
 ghost use Rattle.token_model.specs.Worlds.{World};
-ghost use Rattle.token_states.specs.Applications.{IsOpen};
-ghost use Rattle.token_states.specs.Runs.{Lasting};
+ghost use Rattle.token.specs.States.{IsOpen, Lasting};
 ghost use Rattle.hall.specs.Histories.{Counts, Takes, replies_in, told_out};
 
 use channels::messages::AppCall;

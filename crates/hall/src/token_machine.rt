@@ -1,8 +1,7 @@
 //! The token takes one event after the other. What isn't done at each call isn't inlined into its loop.
 
 ghost use Rattle.keep.specs.Keeping.{Terms};
-ghost use Rattle.token_states.specs.Applications.{Shows};
-ghost use Rattle.token_states.specs.Runs.{MayLeave};
+ghost use Rattle.token.specs.States.{Shows, MayLeave};
 
 use crate::machine::Machine;
 use channels::messages::AppCall;

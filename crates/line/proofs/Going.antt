@@ -6,10 +6,8 @@ use Rattle.ck_calls.specs.declared.reply.Reply.{Reply}
 use Rattle.keep.specs.Keeping.{Terms}
 use Rattle.token_model.specs.declared.event.Event.TheVariants.{Gone}
 use Rattle.token_model.specs.Worlds.{World, goes, after}
-use Rattle.token_states.specs.Applications.{HasJobs}
+use Rattle.token.specs.States.{HasJobs, TokenState, Shows, Lasting, MayLeave, AccountsFor}
 use Rattle.token_store.specs.Stores.{StoreState}
-use Rattle.token_states.specs.Applications.{TokenState, Shows}
-use Rattle.token_states.specs.Runs.{Lasting, MayLeave, AccountsFor}
 use Rattle.line.specs.Lines.{Message, Leads, LeadsAway}
 use Rattle.line.proofs.Moving.{Idle, idle, no_jobs}
 

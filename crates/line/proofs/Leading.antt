@@ -11,9 +11,8 @@ use Rattle.wire.specs.declared.fault.WireFault.TheVariants as faults
 use Rattle.wire.specs.Messages.{Reads}
 use Rattle.views.specs.Refusals.{set_apart}
 use Rattle.token_model.specs.Worlds.{World, after}
-use Rattle.token_states.specs.Applications.{HasJobs, TokenState, Shows}
-use Rattle.token_states.specs.Runs.{MayLeave, AccountsFor}
-use Rattle.token_states.proofs.Accounts.{accounts-none, accounts-more, accounts-plain}
+use Rattle.token.specs.States.{HasJobs, TokenState, Shows, MayLeave, AccountsFor}
+use Rattle.token.proofs.States.{accounts-none, accounts-more, accounts-plain}
 use Rattle.line.specs.declared.fault.LineFault.{LineFault}
 use Rattle.line.specs.Words.{taken}
 use Rattle.line.specs.Lines.{Message, Calls, Finishes, acts_of, words_past, acts, words_after, refusal_of, calls_in, answers, Moved, Leads}

@@ -13,8 +13,7 @@ use Rattle.views.specs.Views.{Question}
 use Rattle.views.specs.Answering.{Said, Replies, Asks}
 use Rattle.views.specs.Refusals.{set_apart}
 use Rattle.token_model.specs.Worlds.{World, value_of, Move, Goes, Refuses, event_of, reveal_to_call, reveal_to_task, answer_at, result_at, change_for, called, says_called, told, refused, finish_refused, finished, happens, reply_to, after, replies}
-use Rattle.token_states.specs.Applications.{move_of, moved, HasJobs}
-use Rattle.token_states.specs.Runs.{Lasting, LeavesBy, LeftBy, LeftAfter, call_change}
+use Rattle.token.specs.States.{move_of, moved, HasJobs, Lasting, LeavesBy, LeftBy, LeftAfter, call_change}
 use Rattle.line.specs.Lines.{Act, Calls, Finishes, act_of, Moved}
 use Rattle.answers.proofs.Proper.{over-result}
 use Rattle.token_model.proofs.Tries.{seen-question}

@@ -15,9 +15,7 @@ use Rattle.wire.specs.Messages.{call_in}
 use Rattle.token_model.specs.declared.event.Event.{Event}
 use Rattle.token_model.specs.declared.event.Event.TheVariants.{Call, Finish, Gone}
 use Rattle.token_model.specs.Worlds.{World, Move, event_of, goes, after, replies}
-use Rattle.token_states.specs.Applications.{HasJobs}
-use Rattle.token_states.specs.Applications.{TokenState, Shows}
-use Rattle.token_states.specs.Runs.{Lasting, MayLeave, LeftAfter, AccountsFor}
+use Rattle.token.specs.States.{HasJobs, TokenState, Shows, Lasting, MayLeave, LeftAfter, AccountsFor}
 use Rattle.line.specs.Words.{taken}
 
 -- a message is what a payload says: a call, or why it is none

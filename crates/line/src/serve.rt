@@ -4,9 +4,7 @@ ghost use Rattle.std.specs.Prelude.{◌≡◌, ◌==◌, ◌≤◌, ◌∷◌, [
 ghost use Rattle.std.specs.Io.KnownBytes.{Appends, Keeps};
 ghost use Rattle.ck_calls.specs.Need.{random_bytes};
 ghost use Rattle.token_model.specs.Worlds.{World};
-ghost use Rattle.token_states.specs.Applications.{HasJobs};
-ghost use Rattle.token_states.specs.Applications.{Shows};
-ghost use Rattle.token_states.specs.Runs.{AccountsFor, MayLeave};
+ghost use Rattle.token.specs.States.{HasJobs, Shows, AccountsFor, MayLeave};
 ghost use Rattle.token_store.specs.Short.{IsShort, IsShortCall};
 ghost use Rattle.wire.specs.Messages.{call_in};
 ghost use Rattle.wire.specs.Replies.{HasReplyFrame};

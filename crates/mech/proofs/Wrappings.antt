@@ -5,7 +5,7 @@ use Rattle.std.proofs.lemmas.Bool.{and_from, and_parts, leb-true, le-leb}
 use Rattle.std.proofs.lemmas.Slice.Eq.{bytes_eq-Decides}
 use Rattle.fips_197.specs.Bytes.{AreBytes}
 use Rattle.aes_kw.specs.KeyWrap.{IsValue, wrapped}
-use Rattle.streams.proofs.FirstTexts.{first_text-only, first_text-none}
+use Rattle.ops.proofs.Texts.{first_text-only, first_text-none}
 use Rattle.mech.specs.Wrappings.{is_value_length, value_wrapped_in}
 
 module _ (key bytes : List ℕ) where

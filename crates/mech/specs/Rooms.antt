@@ -1,10 +1,6 @@
 -- How many bytes work gives at most.
 use Rattle.std.specs.Prelude.{ℕ, ◌+◌, ◌-◌, ◌≤◌, List, [], length}
-use Rattle.aes_modes.specs.declared.direction.Direction.{Direction}
-use Rattle.streams.specs.declared.mechanism.Mechanism.{Mechanism}
-use Rattle.streams.specs.declared.part.Part.{Part}
-use Rattle.streams.specs.declared.part.Part.TheVariants.{Update, Last}
-use Rattle.streams.specs.Lengths.{length_so_far, whole_length}
+use Rattle.ops.specs.Texts.{Direction, Mechanism, Part, Update, Last, length_so_far, whole_length}
 use Rattle.mech.specs.declared.outcome.Outcome.{Outcome}
 use Rattle.mech.specs.declared.outcome.Outcome.TheVariants.{Piece, Rest, Signature, Wrapped}
 use Rattle.mech.specs.declared.work.Work.{Work}

@@ -3,7 +3,7 @@ use Rattle.std.specs.Prelude.{Bool, true, not, ◌||◌, ◌&&◌, ◌==◌, ◌
 use Rattle.mech.specs.declared.work.Work.{Work}
 use Rattle.mech.specs.declared.work.Work.TheVariants.{Cipher, Take, Sign, Verify, Wrap, Unwrap, CheckPin, MakePin, ChangePin, InitToken, ResetToken}
 use Rattle.mech.specs.Wrappings.{is_value_length}
-use Rattle.streams.specs.Lengths.{refuses_length, ends_counters}
+use Rattle.ops.specs.Texts.{refuses_length, ends_counters}
 use Rattle.templates.specs.declared.call.Call.TheVariants as call
 use Rattle.templates.specs.Faults.{template_fault}
 

@@ -3,18 +3,13 @@ use Rattle.std.specs.Prelude.{ℕ, List, [], length, Option, Some, None, if◌th
 use Rattle.std.specs.Str.{bytes_eq}
 use Rattle.ck_types.specs.declared.entry.Entry.{Entry}
 use Rattle.aes_kw.specs.KeyWrap.{wrapped}
-use Rattle.aes_modes.specs.declared.direction.Direction.{Direction}
-use Rattle.macs.specs.Authentication.{longer}
-use Rattle.macs.specs.Codes.{code_of}
 use Rattle.mech.specs.declared.outcome.Outcome.{Outcome}
 use Rattle.mech.specs.declared.outcome.Outcome.TheVariants.{Piece, Rest, BadPadding, Taken, Signature, RightSignature, WrongSignature, Wrapped, Unwrapped, BadWrapping, WrongPin, RightPin, PinMade, PinChanged, TokenMade, TokenReset}
 use Rattle.mech.specs.declared.work.Work.{Work}
 use Rattle.mech.specs.declared.work.Work.TheVariants.{Cipher, Take, Sign, Verify, Wrap, Unwrap, CheckPin, MakePin, ChangePin, InitToken, ResetToken}
 use Rattle.mech.specs.Wrappings.{value_wrapped_in}
 use Rattle.pin_record.specs.Verifiers.{accepts, new_rounds, verifier_for}
-use Rattle.streams.specs.declared.part.Part.TheVariants.{Update, Last}
-use Rattle.streams.specs.Streamed.{after_piece}
-use Rattle.streams.specs.Outputs.{update_output, last_output}
+use Rattle.ops.specs.Texts.{Direction, Update, Last, after_piece, update_output, last_output, longer, code_of}
 use Rattle.templates.specs.declared.call.Call.TheVariants as call
 use Rattle.templates.specs.Made.{object_made}
 

@@ -1,7 +1,7 @@
 -- The value of a wrapping: the one that the wrapping key wraps to it (RFC 3394, 2.2; PKCS #11 v3.1, 5.18).
 use Rattle.std.specs.Prelude.{ℕ, Bool, ◌&&◌, ◌==◌, ◌%◌, nat_le, List, length, Option}
 use Rattle.std.specs.Str.{bytes_eq}
-use Rattle.streams.specs.Outputs.{first_text}
+use Rattle.ops.specs.Texts.{first_text}
 use Rattle.aes_kw.specs.KeyWrap.{wrapped}
 
 -- so many bytes can be wrapped: two or more whole halves of a block

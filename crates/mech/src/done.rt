@@ -16,14 +16,13 @@ use crate::message_codes::{signed, taken, verified};
 use crate::outcome::Outcome;
 use crate::slot::Slot;
 use crate::work::Work;
-use aes_modes::ModeFault;
 use ck_calls::Function;
 use ck_types::{Bytes, Label, UserType};
+use ops::{ModeFault, Part, Stream};
 use pin_record::Verifier;
 use std::alloc::Global;
 use std::mem;
 use std::snapshot::Snapshot;
-use streams::{Part, Stream};
 
 /// A job that was run, with what came of it in its slot. The job itself is for contracts alone, and takes no bytes.
 #[derive(Drop)]

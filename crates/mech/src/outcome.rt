@@ -1,12 +1,9 @@
 //! What work gives.
 
-use aes_modes::Direction;
 use attrs::Object;
 use ck_types::{Bytes, Label, UserType};
-use macs::Mac;
-use ops::MacPlace;
+use ops::{Direction, Mac, MacPlace, Stream};
 use pin_record::Verifier;
-use streams::Stream;
 
 /// What work gives. A verifier in it is new, with `pin_record::ROUNDS`.
 #[derive(Drop)]

@@ -1,9 +1,9 @@
 -- The operations of a session (PKCS #11 v3.1, 5.2): one of each kind may be active at a time.
 use Rattle.std.specs.Prelude.{ℕ, List, [], ◌++◌, Option, Some, None}
 use Rattle.std.specs.Option.{unwrap_or}
-use Rattle.aes_modes.specs.declared.direction.Direction.{Direction}
 use Rattle.streams.specs.declared.mechanism.Mechanism.{Mechanism}
-use Rattle.streams.specs.Streamed.{Streamed}
+pub use Rattle.streams.specs.declared.part.Part.{Part}
+use Rattle.streams.specs.Streamed.{Direction, Streamed}
 use Rattle.macs.specs.declared.mechanism.Mechanism.{Mechanism as MacMechanism}
 use Rattle.macs.specs.Authentication.{Authentication}
 use Rattle.sessions.specs.declared.Session.{Session}

@@ -3,8 +3,9 @@
 ghost use Rattle.std.specs.Prelude.{◌≡◌};
 ghost use Rattle.programs.specs.Statuses.{status_of, IsStatus};
 
+use hall::HallFault;
 use keep::KeepFault;
-use sockets::{HallFault, LineFault};
+use line::LineFault;
 use thiserror::Error;
 use wire::WireFault;
 

@@ -7,13 +7,12 @@ use Rattle.ck_calls.specs.declared.reply.Reply.TheVariants.{Code}
 use Rattle.precede.specs.declared.row.Row.TheVariants.{NoSession}
 use Rattle.sessions.specs.declared.Session.{Session}
 use Rattle.sessions.specs.Sessions.{login_among}
-use Rattle.ops.specs.Operations.{Operations}
 use Rattle.lists.proofs.ListLemmas.{filter-map}
 use Rattle.views.specs.Views.{SessionObject, seen_by}
 use Rattle.session_answers.specs.OpenSession.{slot_row}
 use Rattle.session_answers.specs.CloseSession.{close_row, closed, close_session, all_closed, close_all_sessions}
 use Rattle.views.proofs.Masks.{seen-tokens, login-among}
-use Rattle.views.proofs.Checks.{Row, View, mask, mask_session, mask_session_object, becomes, tokens-twice, own-twice, sessions-twice, question-twice, record-twice, IsProper, blind-becomes, fair, proper-checked, row-session}
+use Rattle.views.proofs.Checks.{Row, Operations, View, mask, mask_session, mask_session_object, becomes, tokens-twice, own-twice, sessions-twice, question-twice, record-twice, IsProper, blind-becomes, fair, proper-checked, row-session}
 
 row-mask : (s : ℕ) (v : View) (row : Row) → close_row (mask v) s row ≡ close_row v s row
 row-mask s v NoSession = row-session v s

@@ -4,10 +4,9 @@ use Rattle.std.specs.List.{count_by, fold}
 use Rattle.lists.proofs.ListLemmas.{length-map}
 use Rattle.ck_calls.specs.declared.function.Function.TheVariants.{GetTokenInfo}
 use Rattle.sessions.specs.declared.Session.{Session}
-use Rattle.ops.specs.Operations.{Operations}
 use Rattle.session_answers.specs.OpenSession.{slot_row}
 use Rattle.session_answers.specs.GetTokenInfo.{token_info, get_token_info}
-use Rattle.views.proofs.Checks.{View, mask, mask_session, shown, replies, IsProper, blind-reply, fair, proper-checked, set-masked}
+use Rattle.views.proofs.Checks.{Operations, View, mask, mask_session, shown, replies, IsProper, blind-reply, fair, proper-checked, set-masked}
 
 counted-mask : (n : ℕ) (ss : List (Session Operations)) → fold (λ a (x : Session Operations). a + cond x.read_write 1 0) n (map mask_session ss) ≡ fold (λ a x. a + cond x.read_write 1 0) n ss
 counted-mask n [] = refl

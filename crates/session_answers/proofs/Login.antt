@@ -16,14 +16,13 @@ use Rattle.precede.specs.declared.row.Row.TheVariants.{NoSession, ReadOnlySessio
 use Rattle.pin_record.specs.Records.{tries_limit, tries_of, with_tries}
 use Rattle.sessions.specs.declared.Session.{Session}
 use Rattle.sessions.specs.Sessions.{has_read_only, state_of}
-use Rattle.ops.specs.Operations.{Operations}
 use Rattle.lists.proofs.ListLemmas.{length-map}
 use Rattle.views.specs.Outcomes.{Outcome, Right, Wrong}
 use Rattle.views.specs.Views.{TokenObject, ChecksPin, mask_session, mask_token_object, sees, without_handle}
 use Rattle.views.specs.Answering.{Reveal, mask_reveal, mask_objects, answered, asks_checked}
 use Rattle.views.proofs.Masks.{with_tries-masked, tokens-twice, record-twice}
 use Rattle.views.proofs.Blind.{blind-if, blind-asks_checked, fair-asks_checked}
-use Rattle.views.proofs.Checks.{Row, View, mask, shown, own-twice, sessions-twice, question-twice, mask-twice, IsProper, blind-refusal, proper-given, has-session, row-session}
+use Rattle.views.proofs.Checks.{Row, Operations, View, mask, shown, own-twice, sessions-twice, question-twice, mask-twice, IsProper, blind-refusal, proper-given, has-session, row-session}
 use Rattle.session_answers.specs.Pins.{verifier_or, others, is_charged}
 use Rattle.session_answers.specs.Login.{user_of, keeps_out, login_row, logs_in, login, merged, tokens_for, may_log_in, logged_in, right_pin, login_result}
 use Rattle.session_answers.proofs.Over.{IsOver, over-if, over-refused, over-stores, blind-stores}

@@ -10,12 +10,11 @@ use Rattle.attrs.specs.Objects.{flag}
 use Rattle.attrs.specs.MaskingLaws.{flag-mask}
 use Rattle.sessions.specs.declared.Session.{Session}
 use Rattle.sessions.specs.Sessions.{busy_with}
-use Rattle.ops.specs.Operations.{Operations, no_operations}
 use Rattle.lists.proofs.ListLemmas.{filter-map, filter-equal}
 use Rattle.views.specs.Views.{SessionObject, seen_by}
 use Rattle.session_answers.specs.Logout.{logged_out, logout_row, logout}
 use Rattle.views.proofs.Masks.{seen-tokens}
-use Rattle.views.proofs.Checks.{Row, View, mask, mask_session, mask_session_object, mask_object, becomes, tokens-twice, own-twice, question-twice, record-twice, IsProper, blind-becomes, fair, proper-checked, row-session}
+use Rattle.views.proofs.Checks.{Row, Operations, no_operations, View, mask, mask_session, mask_session_object, mask_object, becomes, tokens-twice, own-twice, question-twice, record-twice, IsProper, blind-becomes, fair, proper-checked, row-session}
 
 row-mask : (s : ℕ) (v : View) (row : Row) → logout_row (mask v) s row ≡ logout_row v s row
 row-mask s v NoSession = row-session v s

@@ -4,10 +4,9 @@ use Rattle.std.specs.Prelude.{nat_le}
 use Rattle.ck_calls.specs.declared.function.Function.TheVariants.{OpenSession}
 use Rattle.precede.specs.declared.row.Row.TheVariants.{SessionLimit}
 use Rattle.sessions.specs.declared.Session.{Session}
-use Rattle.ops.specs.Operations.{Operations, no_operations}
 use Rattle.lists.proofs.ListLemmas.{map-push, length-map}
 use Rattle.session_answers.specs.OpenSession.{is_read_write, open_row, opened, open_session}
-use Rattle.views.proofs.Checks.{Row, View, mask, mask_session, shown, tokens-twice, own-twice, sessions-twice, question-twice, record-twice, IsProper, fair, proper-checked}
+use Rattle.views.proofs.Checks.{Row, Operations, no_operations, View, mask, mask_session, shown, tokens-twice, own-twice, sessions-twice, question-twice, record-twice, IsProper, fair, proper-checked}
 
 row-mask : (slot flags : ℕ) (v : View) (row : Row) → open_row (mask v) slot flags row ≡ open_row v slot flags row
 row-mask slot flags v SessionLimit = ap (nat_le 64) (length-map mask_session v.sessions.sessions)

@@ -4,8 +4,7 @@ use Rattle.ck_types.specs.declared.attr_type.AttrType.TheVariants as attr
 use Rattle.ck_calls.specs.declared.function.Function.TheVariants.{Logout}
 use Rattle.precede.specs.declared.row.Row.TheVariants.{NoSession, NobodyLoggedIn}
 use Rattle.sessions.specs.Sessions.{logged_out as nobody_in}
-use Rattle.ops.specs.Operations.{no_operations}
-use Rattle.views.specs.Calls.{Ok, Code, flag, Row, View, seen_by, Answer, becomes, session_of, checked}
+use Rattle.views.specs.Calls.{Ok, Code, flag, Row, View, seen_by, Answer, becomes, session_of, checked, no_operations}
 
 -- Private objects are seen no more, and the application's own are destroyed; all its operations end.
 abbrev pub logged_out : View → View

@@ -4,9 +4,8 @@ use Rattle.ck_calls.specs.declared.function.Function.TheVariants.{OpenSession}
 use Rattle.ck_calls.specs.declared.reply.Reply.TheVariants.{Session as SessionReply}
 use Rattle.precede.specs.declared.row.Row.TheVariants.{NoSlot, NotSerial, UnknownFlag, SoLoggedIn, SessionLimit}
 use Rattle.sessions.specs.Sessions.{with_session}
-use Rattle.ops.specs.Operations.{no_operations}
 use Rattle.session_answers.specs.Pins.{is_so}
-use Rattle.views.specs.Calls.{Row, View, Answer, becomes, checked}
+use Rattle.views.specs.Calls.{Row, View, Answer, becomes, checked, no_operations}
 
 -- the only slot
 abbrev pub is_slot : ℕ → Bool

@@ -1,7 +1,7 @@
 -- A text that is enciphered or deciphered in pieces, as contracts see it (SP 800-38A, 6; PKCS #11 v3.1,
 -- 5.8 and 5.10).
 use Rattle.std.specs.Prelude.{ℕ, List, [], ◌++◌}
-use Rattle.aes_modes.specs.declared.direction.Direction.{Direction}
+pub use Rattle.aes_modes.specs.declared.direction.Direction.{Direction}
 use Rattle.streams.specs.declared.mechanism.Mechanism.{Mechanism}
 
 -- the mechanism with its parameter, the direction, the key, all data that was taken and all bytes that were given for it

@@ -54,6 +54,7 @@ mod rooms;
 mod state;
 mod stream;
 
+pub use aes_modes::{Direction, ModeFault};
 pub use mechanism::Mechanism;
 pub use part::Part;
 pub use stream::Stream;

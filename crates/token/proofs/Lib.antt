@@ -2,3 +2,4 @@ pub mod Outcomes
 mod Shortness
 pub mod Endings
 pub mod Dispatching
+pub mod States

@@ -11,7 +11,7 @@ use Rattle.ck_calls.specs.declared.reply.Output.{Output}
 use Rattle.ck_calls.specs.declared.reply.Output.TheVariants.{Length, Data}
 use Rattle.ck_calls.specs.declared.reply.Reply.{Reply}
 use Rattle.ck_calls.specs.declared.reply.Reply.TheVariants as replies
-use Rattle.mech.specs.Rooms.{most_added}
+use Rattle.desk.specs.Jobs.{most_added}
 use Rattle.views.specs.Views.{Task, Ciphers, WrapsKey}
 use Rattle.views.specs.Answering.{Said, Replies, Asks}
 

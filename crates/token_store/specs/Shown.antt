@@ -10,9 +10,7 @@ use Rattle.lists.specs.Places.{updated}
 use Rattle.handles.specs.declared.Handle.{Handle}
 use Rattle.handles.specs.Handles.{number_of}
 use Rattle.keep.specs.Contents.{Contents, Kept, with_object, with_record, after_reset}
-use Rattle.mech.specs.declared.job.Job.{Job}
-use Rattle.mech.specs.declared.work.Work.{Work}
-use Rattle.mech.specs.declared.work.Work.TheVariants.{Cipher, Take, Sign, Verify, Wrap, Unwrap, CheckPin, MakePin, ChangePin, InitToken, ResetToken}
+use Rattle.desk.specs.Jobs.{Job, Work, Cipher, Take, Sign, Verify, Wrap, Unwrap, CheckPin, MakePin, ChangePin, InitToken, ResetToken}
 use Rattle.desk.specs.declared.own_object.OwnObject.{OwnObject}
 use Rattle.desk.specs.Desks.{DeskState}
 use Rattle.ops.specs.Operations.{operation_of, mac_of}

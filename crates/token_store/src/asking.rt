@@ -3,7 +3,7 @@
 ghost use Rattle.std.specs.Prelude.{◌≡◌, ℕ, ◌<◌, ◌^◌, IfErr, IfOk, IsTrue, Some, length};
 ghost use Rattle.desk.specs.Desks.{with_question};
 ghost use Rattle.keep.specs.Contents.{Contents};
-ghost use Rattle.mech.specs.Runnable.{is_runnable};
+ghost use Rattle.desk.specs.Jobs.{is_runnable};
 ghost use Rattle.token_store.specs.declared.out.Out.TheVariants.{Ask};
 ghost use Rattle.token_store.specs.Asking.{asks_within};
 ghost use Rattle.token_store.specs.Short.{IsShortSaid, IsShortTask};
@@ -11,8 +11,7 @@ ghost use Rattle.token_store.specs.Shown.{Fits, Gives, IsFor, question_of, said_
 
 use crate::out::Out;
 use ck_calls::{Function, Output, Reply};
-use desk::Desk;
-use mech::{Job, Work};
+use desk::{Desk, Job, Work};
 use std::alloc::{AllocError, Global};
 
 /// The job of a call, for the next question. It allocates.

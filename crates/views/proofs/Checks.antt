@@ -21,7 +21,7 @@ use Rattle.ck_types.specs.Numbers.{attr_type_number}
 use Rattle.attrs.specs.MaskingLaws.{flag-mask}
 use Rattle.sessions.specs.declared.Session.{Session}
 use Rattle.sessions.specs.Sessions.{state_of, session_at}
-use Rattle.ops.specs.Operations.{Operations}
+pub use Rattle.ops.specs.Operations.{Operations, no_operations}
 use Rattle.ck_calls.specs.declared.function.Function.{Function}
 use Rattle.ck_calls.specs.declared.reply.Reply.TheVariants.{Code}
 use Rattle.ck_calls.specs.Functions.{function_number}

@@ -10,7 +10,7 @@ pub use Rattle.attrs.specs.Objects.{attribute, attribute_of, flag, class_of, key
 pub use Rattle.precede.specs.declared.row.Row.{Row}
 pub use Rattle.sessions.specs.declared.Session.{Session}
 pub use Rattle.sessions.specs.Sessions.{state_of}
-pub use Rattle.ops.specs.Operations.{Operation, Operations}
+pub use Rattle.ops.specs.Operations.{Operation, Operations, no_operations}
 pub use Rattle.views.specs.Views.{View, TokenObject, SessionObject, seen_by}
 pub use Rattle.views.specs.Changes.{Stays, Insert, Replace, Remove, rewritten}
 pub use Rattle.views.specs.Answering.{Answer, Replies, replies, refuses, refuses_by, becomes, asks, answered, session_of, with_operation, place_of, object_at}

@@ -12,9 +12,8 @@ use Rattle.pin_record.specs.Verifiers.{PinVerifier, hidden_verifier}
 use Rattle.pin_record.specs.Records.{PinState, TokenRecord}
 use Rattle.sessions.specs.declared.Session.{Session}
 use Rattle.sessions.specs.Sessions.{SessionTable, state_of, no_sessions}
-use Rattle.streams.specs.declared.part.Part.{Part}
 use Rattle.ops.specs.declared.place.MacPlace.{MacPlace}
-use Rattle.ops.specs.Operations.{Operation, MacOperation, Operations, mask_operation, mask_mac}
+use Rattle.ops.specs.Operations.{Part, Operation, MacOperation, Operations, mask_operation, mask_mac}
 
 -- ---- objects
 

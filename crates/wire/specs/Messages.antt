@@ -29,6 +29,11 @@ Reads (Err faults.Malformed) said = said ≡ Err faults.Malformed
 Reads (Err faults.UnknownFunction) said = said ≡ Err faults.UnknownFunction
 Reads (Err faults.Memory) said = Unit {0}
 
+-- what a writer answers that has written into this vector
+abbrev pub result_with : {U : Type 0} → Result U WireFault → Vec ℕ → Result (Vec ℕ) WireFault
+result_with (Ok _) v = Ok v
+result_with (Err fault) _ = Err fault
+
 -- what the writer of a payload's frame answers
 abbrev pub Frames : List ℕ → Result (Vec ℕ) WireFault → Type 0
 Frames payload (Ok v) = (v.items ≡ frame payload) × (length payload ≤ most)

@@ -56,6 +56,20 @@ Finds (Err faults.UnknownFunction) bytes = ⊥
 abbrev pub IsRest : List ℕ → Type 0
 IsRest bytes = IsPartial bytes ⊎ IsTooLong bytes
 
+-- what a reader that is not changed answers for the next payload
+abbrev pub Shows : Held → Result (Option (Bor (List ℕ))) WireFault → Type 0
+Shows held (Ok found) = (held.failed ≡ false) × Finds (Ok found) held.bytes
+Shows held (Err faults.TooLong) = held.failed ≡ false → IsTooLong held.bytes
+Shows held (Err faults.Memory) = ⊥
+Shows held (Err faults.Malformed) = ⊥
+Shows held (Err faults.UnknownFunction) = ⊥
+
+-- a reader let the next payload go, if there is one
+abbrev pub Passes : Held → Held → Type 0
+Passes old new =
+    ((payload rest : List ℕ) → old.failed ≡ false → length payload ≤ most → old.bytes ≡ frame payload ++ rest → new ≡ record { bytes = rest; failed = false })
+    × ((old.failed ≡ true) ⊎ IsRest old.bytes → new ≡ old)
+
 -- a stream is the frames of these payloads, and a rest that is no whole frame
 abbrev pub Splits : List ℕ → List (List ℕ) → List ℕ → Type 0
 Splits stream payloads rest = (stream ≡ flat_map frame payloads ++ rest) × AllByRecursion (λ p. length p ≤ most) payloads × IsRest rest

@@ -7,7 +7,7 @@ ghost use Rattle.wire.specs.Messages.{call_in, call_payload, said_of, HasFrame, 
 ghost use Rattle.wire.specs.Requests.{Fits-fields};
 
 use crate::fault::WireFault;
-use crate::frame::{MAX_PAYLOAD_LEN, frame_start, framed};
+use crate::frame::{MAX_PAYLOAD_LEN, begin_frame, end_frame};
 use crate::length::fields_len;
 use crate::request::{decode_fields, encode_fields};
 use byteorder::{BigEndian, ByteOrder};
@@ -76,8 +76,10 @@ pub fn write_call(alloc: Global, call: &Call) -> Result<Vec<u8>, WireFault>
     if payload_len > MAX_PAYLOAD_LEN {
         return Err(WireFault::TooLong);
     }
-    let mut frame = frame_start(alloc, payload_len)?;
+    let mut frame = Vec::new(alloc);
+    begin_frame(&mut frame, payload_len)?;
     frame.extend_from_slice(&Function::of(call).number().to_be_bytes())?;
     encode_fields(call, &mut frame)?;
-    framed(frame)
+    end_frame(&mut frame)?;
+    Ok(frame)
 }

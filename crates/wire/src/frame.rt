@@ -1,10 +1,10 @@
 //! Frames: a payload behind its length.
 
-ghost use Rattle.std.specs.Prelude.{◌≡◌, ◌≤◌, IfOk, drop, length, replicate};
-ghost use Rattle.wire.specs.Messages.{Frames};
+ghost use Rattle.std.specs.Prelude.{◌≡◌, ◌≤◌, OnOk, drop, length, replicate};
+ghost use Rattle.wire.specs.Messages.{Frames, result_with};
 
 use crate::fault::WireFault;
-use std::alloc::{AllocError, Global};
+use std::alloc::AllocError;
 
 /// The greatest length of a payload, in bytes.
 pub const MAX_PAYLOAD_LEN: usize = 1_048_576;
@@ -12,24 +12,24 @@ pub const MAX_PAYLOAD_LEN: usize = 1_048_576;
 /// How many bytes the length of a payload takes.
 const LEN_BYTES: usize = 4;
 
-/// The place of a length, behind which a payload of so many bytes is to be written. Its memory is taken at once.
-pub(crate) fn frame_start(alloc: Global, payload_len: usize) -> Result<Vec<u8>, AllocError>
-    ensures { IfOk result (λ v. v.items ≡ replicate 4 0) }
+/// Leaves the place of a length, behind which a payload of so many bytes is to be written. Its memory is had at once.
+pub(crate) fn begin_frame(frame: &mut Vec<u8>, payload_len: usize) -> Result<(), AllocError>
+    ensures { OnOk result (frame.new.items ≡ replicate 4 0) }
 {
-    let mut frame = Vec::with_capacity(alloc, payload_len.saturating_add(LEN_BYTES))?;
-    frame.extend_from_slice(&[0; LEN_BYTES])?;
-    Ok(frame)
+    frame.clear();
+    frame.reserve_exact(payload_len.saturating_add(LEN_BYTES))?;
+    frame.extend_from_slice(&[0; LEN_BYTES])
 }
 
-/// The frame of the payload behind the place of its length. Nothing is copied but the length.
-pub(crate) fn framed(mut frame: Vec<u8>) -> Result<Vec<u8>, WireFault>
-    requires { 4 ≤ length frame.items }
-    ensures { Frames (drop 4 frame.items) result }
+/// Writes the length before the payload, which makes a frame of it. Nothing is copied but the length.
+pub(crate) fn end_frame(frame: &mut Vec<u8>) -> Result<(), WireFault>
+    requires { 4 ≤ length frame.old.items }
+    ensures { Frames (drop 4 frame.old.items) (result_with result frame.new) }
 {
     let (place, payload) = frame.split_at_mut(LEN_BYTES);
     if payload.len() > MAX_PAYLOAD_LEN {
         return Err(WireFault::TooLong);
     }
     place.copy_from_slice(&(payload.len() as u32).to_be_bytes());
-    Ok(frame)
+    Ok(())
 }

@@ -7,7 +7,9 @@
 //! - `read_call` and `read_reply` read just what `write_call` and `write_reply` write: what is read is
 //!   encoded so, what is encoded so is read, and each fault comes just where its condition stands.
 //! - `FrameReader` gives the payloads of a stream that comes in pieces, however it is cut, and no
-//!   others. After a length above the limit it answers `TooLong` for ever.
+//!   others. `front` shows the next where it lies, and `pass` lets it go. After a length above the limit it
+//!   answers `TooLong` for ever.
+//! - `write_reply_over` writes a reply's frame over the last one, whose memory it takes.
 //!
 //! ```
 //! let frame = write_call(alloc, &Call::CloseSession { session: 1 })?;
@@ -32,5 +34,5 @@ mod stream;
 pub use call::{read_call, write_call};
 pub use fault::WireFault;
 pub use frame::MAX_PAYLOAD_LEN;
-pub use reply::{read_reply, write_reply};
+pub use reply::{read_reply, write_reply, write_reply_over};
 pub use stream::{FrameReader, one_split};

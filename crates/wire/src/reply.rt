@@ -8,12 +8,12 @@ ghost use Rattle.ck_types.specs.Numbers.{rv_number};
 ghost use Rattle.ck_calls.specs.declared.function.Function.{Function as TheFunction};
 ghost use Rattle.ck_calls.specs.declared.reply.Reply.{Reply as TheReply};
 ghost use Rattle.ck_calls.specs.Functions.{function_number, function_at};
-ghost use Rattle.wire.specs.Messages.{Reads, Writes};
+ghost use Rattle.wire.specs.Messages.{Reads, Writes, result_with};
 ghost use Rattle.wire.specs.Replies.{decode_reply, decode_after, decode_carried, reply_said, reply_in, reply_payload, Fits-reply, IsWithinLimits, IsReplyTo, IsReplyAt, too_small};
 
 use crate::encode::encode_2;
 use crate::fault::WireFault;
-use crate::frame::{MAX_PAYLOAD_LEN, frame_start, framed};
+use crate::frame::{MAX_PAYLOAD_LEN, begin_frame, end_frame};
 use crate::length::reply_len;
 use crate::shape::{Shape, is};
 use ck_calls::{AttributeValue, Function, MechanismInfo, Output, Reply, SessionInfo, TokenInfo};
@@ -239,12 +239,26 @@ pub fn write_reply(alloc: Global, reply: &Reply) -> Result<Vec<u8>, WireFault>
     // A reply within the limits has an encoding.
     ensures fits { IsWithinLimits reply.now → Fits-reply reply.now }
 {
+    let mut frame = Vec::new(alloc);
+    write_reply_over(&mut frame, reply)?;
+    Ok(frame)
+}
+
+/// Writes the frame of a reply in place of what a vector held, whose memory it takes as far as that reaches.
+///
+/// # Errors
+///
+/// As `write_reply`. What the vector then holds is no frame.
+pub fn write_reply_over(frame: &mut Vec<u8>, reply: &Reply) -> Result<(), WireFault>
+    ensures writes { Writes (reply_payload reply.now) (Fits-reply reply.now) (result_with result frame.new) }
+    ensures fits { IsWithinLimits reply.now → Fits-reply reply.now }
+{
     reply_fits(reply);
     let payload_len = reply_len(reply);
     if payload_len > MAX_PAYLOAD_LEN {
         return Err(WireFault::TooLong);
     }
-    let mut frame = frame_start(alloc, payload_len)?;
-    encode_reply(reply, &mut frame)?;
-    framed(frame)
+    begin_frame(frame, payload_len)?;
+    encode_reply(reply, frame)?;
+    end_frame(frame)
 }

@@ -1,7 +1,7 @@
 //! Payloads out of a stream that comes in pieces.
 
 ghost use Rattle.std.specs.Prelude.{◌≡◌, ◌==◌, ◌+◌, ◌≤◌, ℕ, List, [], drop, length, false};
-ghost use Rattle.wire.specs.Stream.{Feeds, Finds, Nexts, Splits};
+ghost use Rattle.wire.specs.Stream.{Feeds, Finds, Nexts, Passes, Shows, Splits};
 
 use crate::fault::WireFault;
 use crate::frame::MAX_PAYLOAD_LEN;
@@ -100,7 +100,30 @@ impl FrameReader {
         Ok(())
     }
 
-    /// The next whole payload, or none yet.
+    /// The next whole payload, or none yet. It stays, where it is, until `pass` lets it go.
+    ///
+    /// # Errors
+    ///
+    /// `TooLong` for a length above the limit, and where the reader has failed.
+    pub fn front(&self) -> Result<Option<&[u8]>, WireFault>
+        ensures { Shows self.now result }
+    {
+        if self.failed {
+            return Err(WireFault::TooLong);
+        }
+        payload_at(&self.pending[self.start..])
+    }
+
+    /// Lets the payload go that `front` shows. Where it shows none, nothing changes.
+    pub fn pass(&mut self)
+        ensures { Passes self.old self.new }
+    {
+        if let Ok(Some(payload)) = self.front() {
+            self.start += 4 + payload.len();
+        }
+    }
+
+    /// The next whole payload, or none yet, in memory of its own.
     ///
     /// # Errors
     ///
@@ -109,10 +132,7 @@ impl FrameReader {
     pub fn next(&mut self, alloc: Global) -> Result<Option<Vec<u8>>, WireFault>
         ensures { Nexts self.old self.new result }
     {
-        if self.failed {
-            return Err(WireFault::TooLong);
-        }
-        let payload = match payload_at(&self.pending[self.start..]) {
+        let payload = match self.front() {
             Ok(None) => return Ok(None),
             Ok(Some(payload)) => Vec::from_slice(alloc, payload)?,
             Err(fault) => {
@@ -120,7 +140,7 @@ impl FrameReader {
                 return Err(fault);
             }
         };
-        self.start += 4 + payload.len();
+        self.pass();
         Ok(Some(payload))
     }
 }

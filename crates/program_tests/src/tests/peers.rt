@@ -3,8 +3,8 @@
 use super::daemon::{clear, connect, expect, expect_end, start_for};
 use super::{OPEN_SESSION, SESSION_ONE};
 use hall::{Seat, SeatEvent};
+use programs::SocketSeat;
 use scripts::{FIRST_REPLIES, FIRST_RUN};
-use sockets::SocketSeat;
 use std::io::{Read, Write};
 use std::net::Shutdown;
 use std::os::unix::net::{UnixListener, UnixStream};

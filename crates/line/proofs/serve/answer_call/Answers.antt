@@ -2,8 +2,8 @@ use Rattle.std.proofs.Common.{◌≡◌, Some, None, [], ◌∷◌, sym, ◌∙�
 use Rattle.token_model.specs.Worlds.{World, called}
 use Rattle.token_store.specs.declared.out.Out.TheVariants.{Reply as OutReply}
 use Rattle.token_store.specs.Shown.{question_of}
-use Rattle.token_states.proofs.Accounts.{accounts-none, accounts-more, accounts-one}
-use Rattle.token_states.specs.Applications.{IsOpen}
+use Rattle.token.proofs.States.{accounts-none, accounts-more, accounts-one}
+use Rattle.token.specs.States.{IsOpen}
 use Rattle.line.proofs.Moving.{idle, moved-reply, moved-ask}
 use Rattle.line.proofs.serve.answer_call.Goals as goal
 

@@ -2,8 +2,7 @@ use Rattle.std.proofs.Common.{◌≡◌, subst}
 use Rattle.token_model.specs.Worlds.{World}
 use Rattle.token_store.specs.Shown.{said_of}
 use Rattle.views.specs.Refusals.{apart}
-use Rattle.token_states.specs.Applications.{Shows}
-use Rattle.token_states.specs.Runs.{MayLeave}
+use Rattle.token.specs.States.{Shows, MayLeave}
 use Rattle.hall.proofs.PendingJobs.{called_is, left_is}
 use Rattle.hall.proofs.token_machine.TokenMachine.call.Goals as goal
 

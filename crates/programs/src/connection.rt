@@ -1,7 +1,7 @@
 //! A connection of an application.
 
 ghost use Rattle.std.specs.Prelude.{◌≡◌, IfSome};
-ghost use Rattle.sockets.specs.Asking.{IsOf};
+ghost use Rattle.programs.specs.Asking.{IsOf};
 
 use ck_calls::{Reply, need};
 use hall::AppCall;
@@ -9,7 +9,7 @@ use line::{Words, reply_to_fault};
 use std::alloc::Global;
 use std::io::{ErrorKind, Read, Write};
 use std::os::unix::net::UnixStream;
-use wire::{FrameReader, WireFault, read_call, write_reply};
+use wire::{FrameReader, WireFault, read_call, write_reply_over};
 
 /// A connection, the bytes that were read of it and not answered, and its application's random bytes.
 #[derive(Drop)]
@@ -17,6 +17,8 @@ pub(crate) struct Connection {
     stream: UnixStream,
     frames: FrameReader,
     words: Words,
+    /// Room for the frame of a reply.
+    frame: Vec<u8>,
     /// Nothing more is read of it or written.
     has_ended: bool,
 }
@@ -24,9 +26,9 @@ pub(crate) struct Connection {
 /// What a payload comes to.
 pub(crate) enum Asked {
     Call(AppCall),
-    /// No call; it has been answered.
-    Answered,
-    /// The connection ends.
+    /// No call.
+    Refused(WireFault),
+    /// There is no memory for its random bytes.
     Ended,
 }
 
@@ -36,6 +38,7 @@ impl Connection {
             stream,
             frames: FrameReader::new(alloc),
             words: Words::for_app(seed, app),
+            frame: Vec::new(alloc),
             has_ended: false,
         }
     }
@@ -48,24 +51,22 @@ impl Connection {
             return None;
         }
         for _ in 0..u64::MAX {
-            let payload = self.next_payload(alloc, piece)?;
-            match self.asked(alloc, app, &payload) {
+            let Some(payload) = self.frames.front().ok()? else {
+                if !self.read_piece(piece) {
+                    return None;
+                }
+                continue;
+            };
+            let asked = asked_in(alloc, app, payload, &mut self.words);
+            self.frames.pass();
+            match asked {
                 Asked::Call(call) => return Some(call),
-                Asked::Answered => {}
+                Asked::Refused(fault) => {
+                    if !self.answer_fault(fault) {
+                        return None;
+                    }
+                }
                 Asked::Ended => return None,
-            }
-        }
-        None
-    }
-
-    /// The payload of the next frame, or none where the connection ends.
-    fn next_payload(&mut self, alloc: Global, piece: &mut [u8]) -> Option<Vec<u8>> {
-        for _ in 0..u64::MAX {
-            if let Some(payload) = self.frames.next(alloc).ok()? {
-                return Some(payload);
-            }
-            if !self.read_piece(piece) {
-                return None;
             }
         }
         None
@@ -83,45 +84,39 @@ impl Connection {
         }
     }
 
-    /// What a payload comes to. One that is no call is answered here.
-    fn asked(&mut self, alloc: Global, app: u64, payload: &[u8]) -> Asked
-        ensures { IsOf app result }
-    {
-        match read_call(alloc, payload) {
-            Err(fault) => {
-                if self.answer_fault(alloc, fault) {
-                    Asked::Answered
-                } else {
-                    Asked::Ended
-                }
-            }
-            Ok(call) => match self.words.take(alloc, need(&call)) {
-                Ok(words) => Asked::Call(AppCall { app, call, words }),
-                Err(_) => Asked::Ended,
-            },
-        }
-    }
-
     /// Answers a payload that is no call. False where the connection ends.
     #[inline(never)]
-    fn answer_fault(&mut self, alloc: Global, fault: WireFault) -> bool {
+    fn answer_fault(&mut self, fault: WireFault) -> bool {
         match reply_to_fault(fault) {
-            Ok(reply) => self.send(alloc, &reply),
+            Ok(reply) => self.send(&reply),
             Err(_) => false,
         }
     }
 
     /// Writes a reply. Where that fails, the connection ends.
-    pub(crate) fn tell(&mut self, alloc: Global, reply: &Reply) {
-        if !self.send(alloc, reply) {
+    pub(crate) fn tell(&mut self, reply: &Reply) {
+        if !self.send(reply) {
             self.has_ended = true;
         }
     }
 
-    fn send(&mut self, alloc: Global, reply: &Reply) -> bool {
-        match write_reply(alloc, reply) {
-            Ok(frame) => self.stream.write_all(&frame).is_ok(),
+    fn send(&mut self, reply: &Reply) -> bool {
+        match write_reply_over(&mut self.frame, reply) {
+            Ok(()) => self.stream.write_all(&self.frame).is_ok(),
             Err(_) => false,
         }
+    }
+}
+
+/// What a payload comes to, with the random bytes of its call.
+fn asked_in(alloc: Global, app: u64, payload: &[u8], words: &mut Words) -> Asked
+    ensures { IsOf app result }
+{
+    match read_call(alloc, payload) {
+        Err(fault) => Asked::Refused(fault),
+        Ok(call) => match words.take(alloc, need(&call)) {
+            Ok(words) => Asked::Call(AppCall { app, call, words }),
+            Err(_) => Asked::Ended,
+        },
     }
 }

@@ -142,7 +142,7 @@ impl Seat for SocketSeat {
 
     fn take(&mut self, _app: u64, reply: Reply) {
         if let Some(connection) = &mut self.connection {
-            connection.tell(self.alloc, &reply);
+            connection.tell(&reply);
         }
     }
 }
