@@ -41,6 +41,29 @@ fn run<R: Threads + Wait + Copy + Send + Drop + 'static>(
     })
 }
 
+/// Whether a run ended with this status, and wrote this.
+fn has_ended_so(ended: &Ended, status: u8, output: &[u8], errors: &[u8]) -> bool {
+    ended.status == status && ended.output.as_slice() == output && ended.errors.as_slice() == errors
+}
+
+/// Sees that a command line with this input ends with this status, and writes this output and these errors.
+fn expect_run<R: Threads + Wait + Copy + Send + Drop + 'static>(
+    rt: &HostRuntime,
+    threads: R,
+    words: &[&str],
+    input: &[u8],
+    (status, output, errors): (u8, &[u8], &[u8]),
+) -> Result<(), Fail> {
+    let ended = run(rt, threads, words, input)?;
+    if has_ended_so(&ended, status, output, errors) {
+        return Ok(());
+    }
+    Err(Fail::new(format_args!(
+        "{words:?}: status {}, not {status}, or other texts",
+        ended.status
+    )))
+}
+
 const OPEN_SESSION: &[u8] =
     b"\x00\x00\x00\x12\x00\x07\x00\x00\x00\x00\x00\x00\x00\x00\x00\x00\x00\x00\x00\x00\x00\x06";
 
@@ -49,11 +72,7 @@ const SESSION_ONE: &[u8] =
 
 #[test]
 fn stdio_answers_the_first_run_byte_for_byte(rt: HostRuntime) -> Result<(), Fail> {
-    let ended = run(&rt, rt, &["stdio"], FIRST_RUN)?;
-    assert_eq!(rt; ended.output.as_slice(), FIRST_REPLIES);
-    assert_eq!(rt; ended.errors.len(), 0);
-    assert_eq!(rt; ended.status, 0);
-    Ok(())
+    expect_run(&rt, rt, &["stdio"], FIRST_RUN, (0, FIRST_REPLIES, b""))
 }
 
 #[test]
@@ -67,13 +86,13 @@ fn a_line_that_ends_badly_has_its_status_and_text(rt: HostRuntime) -> Result<(),
     for ending in endings {
         let mut input = Vec::from_slice(rt.alloc(), OPEN_SESSION)?;
         input.extend_from_slice(ending)?;
-        let ended = run(&rt, rt, &["stdio"], &input)?;
-        assert_eq!(rt; ended.status, 7);
-        assert_eq!(rt; ended.output.as_slice(), SESSION_ONE);
-        assert_eq!(rt;
-            ended.errors.as_slice(),
-            b"tokend: the line ended badly\n".as_slice()
-        );
+        expect_run(
+            &rt,
+            rt,
+            &["stdio"],
+            &input,
+            (7, SESSION_ONE, b"tokend: the line ended badly\n"),
+        )?;
     }
     Ok(())
 }
@@ -81,19 +100,26 @@ fn a_line_that_ends_badly_has_its_status_and_text(rt: HostRuntime) -> Result<(),
 #[test]
 fn a_seed_is_64_hexadecimal_digits(rt: HostRuntime) -> Result<(), Fail> {
     let digits = "000102030405060708090a0b0c0d0e0f101112131415161718191A1B1C1D1E1F";
-    let ended = run(&rt, rt, &["stdio", "--seed", digits], OPEN_SESSION)?;
-    assert_eq!(rt; ended.status, 0);
-    assert_eq!(rt; ended.output.as_slice(), SESSION_ONE);
+    expect_run(
+        &rt,
+        rt,
+        &["stdio", "--seed", digits],
+        OPEN_SESSION,
+        (0, SESSION_ONE, b""),
+    )?;
     for seed in [
         "",
         "0g",
         "00",
         "000102030405060708090a0b0c0d0e0f101112131415161718191a1b1c1d1e1f00",
     ] {
-        let ended = run(&rt, rt, &["stdio", "--seed", seed], OPEN_SESSION)?;
-        assert_eq!(rt; ended.status, 5, "seed {seed:?}");
-        assert_eq!(rt; ended.output.len(), 0);
-        assert_eq!(rt; ended.errors.as_slice(), b"tokend: bad input\n".as_slice());
+        expect_run(
+            &rt,
+            rt,
+            &["stdio", "--seed", seed],
+            OPEN_SESSION,
+            (5, b"", b"tokend: bad input\n"),
+        )?;
     }
     Ok(())
 }
@@ -106,9 +132,7 @@ fn help_and_version_go_to_the_output(rt: HostRuntime) -> Result<(), Fail> {
         assert!(rt; !ended.output.is_empty());
         assert_eq!(rt; ended.errors.len(), 0);
     }
-    let ended = run(&rt, rt, &["--version"], &[])?;
-    assert_eq!(rt; ended.output.as_slice(), b"tokend 0.1.0\n".as_slice());
-    Ok(())
+    expect_run(&rt, rt, &["--version"], b"", (0, b"tokend 0.1.0\n", b""))
 }
 
 #[test]
@@ -229,11 +253,12 @@ fn a_call_is_sent_as_a_frame(rt: HostRuntime) -> Result<(), Fail> {
 
 #[test]
 fn a_socket_that_is_not_there_has_its_status_and_text(rt: HostRuntime) -> Result<(), Fail> {
-    let ended = run(&rt, rt, &["p11call", "--socket", "/nowhere/tokend"], b"")?;
-    assert_eq!(rt; ended.status, 4);
-    assert_eq!(rt;
-        ended.errors.as_slice(),
-        b"tokend: cannot use the socket\n".as_slice()
-    );
-    Ok(())
+    let words = ["p11call", "--socket", "/nowhere/tokend"];
+    expect_run(
+        &rt,
+        rt,
+        &words,
+        b"",
+        (4, b"", b"tokend: cannot use the socket\n"),
+    )
 }

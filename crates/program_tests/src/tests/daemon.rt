@@ -1,6 +1,6 @@
 //! The daemon: its socket, its store and what it refuses.
 
-use super::{Ended, run};
+use super::{Ended, has_ended_so, run};
 use scripts::{FIRST_REPLIES, FIRST_RUN};
 use std::alloc::AllocError;
 use std::io::{Read, Write};
@@ -140,10 +140,7 @@ pub(super) fn expect(
 
 /// Sees how a run ended, and what it wrote.
 fn expect_ended(ended: &Ended, status: u8, output: &[u8], errors: &[u8]) -> Result<(), Fail> {
-    let is_so = ended.status == status
-        && ended.output.as_slice() == output
-        && ended.errors.as_slice() == errors;
-    if is_so {
+    if has_ended_so(ended, status, output, errors) {
         Ok(())
     } else {
         Err(Fail::new(format_args!("status {}, not {status}, or other texts", ended.status)))

@@ -75,20 +75,61 @@ fn a_length_above_the_limit_ends_its_connection_alone(rt: HostRuntime) -> Result
     Ok(())
 }
 
+/// What a seat asks, and of which application.
+#[derive(Clone, Copy, Debug, PartialEq, Eq)]
+enum Asks {
+    Call(u64),
+    Gone(u64),
+    Nothing,
+}
+
+fn what_is_asked(event: Option<SeatEvent>) -> Asks {
+    match event {
+        Some(SeatEvent::Call(call)) => {
+            let app = call.app;
+            drop(call);
+            Asks::Call(app)
+        }
+        Some(SeatEvent::Gone { app }) => Asks::Gone(app),
+        None => Asks::Nothing,
+    }
+}
+
+/// A peer that has sent two calls.
+fn send_twice(rt: &HostRuntime, socket: &str) -> Result<UnixStream, Fail> {
+    let mut peer = UnixStream::connect(rt, socket)?;
+    peer.write_all(OPEN_SESSION)?;
+    peer.write_all(OPEN_SESSION)?;
+    Ok(peer)
+}
+
+/// Gives a seat a reply.
+fn give(rt: &HostRuntime, seat: &mut SocketSeat) -> Result<(), Fail> {
+    let reply = read_reply(rt.alloc(), 7, SESSION_ONE.get(4..).unwrap_or(&[]))?;
+    seat.take(3, reply);
+    Ok(())
+}
+
+/// What a seat asks whose peer is gone before its reply: before that, and after.
+fn asked_of(rt: &HostRuntime, seat: &mut SocketSeat) -> Result<(Asks, Asks, Asks), Fail> {
+    let peer = send_twice(rt, "unread.sock")?;
+    let first = what_is_asked(seat.next());
+    drop(peer);
+    give(rt, seat)?;
+    let then = what_is_asked(seat.next());
+    Ok((first, then, what_is_asked(seat.next())))
+}
+
 #[test]
 fn a_reply_that_cannot_be_written_is_followed_by_gone(rt: HostRuntime) -> Result<(), Fail> {
     clear(&rt, UNREAD);
     let listener = UnixListener::bind(&rt, "unread.sock")?;
     let mut seat = SocketSeat::new(rt.alloc(), listener, [0; 32], 3, 1);
-    let mut peer = UnixStream::connect(&rt, "unread.sock")?;
-    peer.write_all(OPEN_SESSION)?;
-    peer.write_all(OPEN_SESSION)?;
-    assert!(rt; matches!(seat.next(), Some(SeatEvent::Call(call)) if call.app == 3));
-    drop(peer);
-    let reply = read_reply(rt.alloc(), 7, SESSION_ONE.get(4..).unwrap_or(&[]))?;
-    seat.take(3, reply);
-    assert!(rt; matches!(seat.next(), Some(SeatEvent::Gone { app: 3 })));
-    assert!(rt; seat.next().is_none() && !seat.has_failed());
+    let asked = asked_of(&rt, &mut seat);
+    let has_failed = seat.has_failed();
+    drop(seat);
     clear(&rt, UNREAD);
+    assert!(rt; !has_failed);
+    assert!(rt; asked? == (Asks::Call(3), Asks::Gone(3), Asks::Nothing));
     Ok(())
 }

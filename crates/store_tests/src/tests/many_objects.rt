@@ -25,6 +25,13 @@ struct Talk {
     wanted: Vec<(u64, Reply)>,
 }
 
+fn told_reply(alloc: Global, told: Told) -> Result<Reply, Fail> {
+    match reply_of(alloc, told)? {
+        Some(reply) => Ok(reply),
+        None => Err("a row without a reply".into()),
+    }
+}
+
 impl Talk {
     fn new(alloc: Global) -> Talk {
         Talk {
@@ -42,12 +49,21 @@ impl Talk {
     }
 
     fn add(&mut self, rows: &[Row]) -> Result<(), Fail> {
-        for (app, step, told) in rows {
-            let call = call_of(self.alloc, *step)?;
-            let reply = reply_of(self.alloc, *told)?.ok_or("a row without a reply")?;
-            self.ask(*app, call, reply)?;
+        for row in rows {
+            self.add_row(*row)?;
         }
         Ok(())
+    }
+
+    fn add_row(&mut self, (app, step, told): Row) -> Result<(), Fail> {
+        let reply = told_reply(self.alloc, told)?;
+        match call_of(self.alloc, step) {
+            Ok(call) => self.ask(app, call, reply),
+            Err(fault) => {
+                drop(reply);
+                Err(fault)
+            }
+        }
     }
 
     /// A makes an object whose value is its number, which is its handle too.

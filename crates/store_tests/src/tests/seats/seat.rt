@@ -69,6 +69,7 @@ impl<R: Clock + Drop> TurnSeat<R> {
         if self.turns.wait_for(&self.rt, place) {
             Some(event)
         } else {
+            drop(event);
             None
         }
     }
@@ -143,10 +144,11 @@ impl<R: Clock + Drop> Seat for TurnSeat<R> {
     ghost heard = { λ s. None };
 
     fn next(&mut self) -> Option<SeatEvent> {
-        if let Some(event) = self.next_event()
-            && self.may_put(&event)
-        {
-            return Some(event);
+        if let Some(event) = self.next_event() {
+            if self.may_put(&event) {
+                return Some(event);
+            }
+            drop(event);
         }
         self.has_ended = true;
         None
