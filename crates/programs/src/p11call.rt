@@ -44,12 +44,23 @@ pub(crate) fn ask_all<I: Read, O: Write, S: Read + Write>(
         if len == 0 {
             return Ok(());
         }
-        let payload = payload_in(alloc, &line)?;
-        send(stream, &payload)?;
-        let reply = reply_from(alloc, stream, &mut frames)?;
-        tell(alloc, output, &reply)?;
+        ask_line(alloc, &line, output, stream, &mut frames)?;
     }
     Err(Failure::Line)
+}
+
+/// Asks the call of a line, and writes its reply.
+fn ask_line<O: Write, S: Read + Write>(
+    alloc: Global,
+    line: &[u8],
+    output: &mut O,
+    stream: &mut S,
+    frames: &mut FrameReader,
+) -> Result<(), Failure> {
+    let payload = payload_in(alloc, line)?;
+    send(stream, &payload)?;
+    let reply = reply_from(alloc, stream, frames)?;
+    tell(alloc, output, &reply)
 }
 
 /// The payload that a line spells.

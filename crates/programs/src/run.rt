@@ -37,8 +37,9 @@ fn stdio<I: Read, O: Write>(
         return Err(Failure::Memory);
     };
     let (mut reader, mut writer) = (Watched::new(input), Watched::new(output));
-    let _replies = serve_one(alloc, &mut reader, &mut writer, &mut token, &mut words)?;
-    Ok(())
+    let served = serve_one(alloc, &mut reader, &mut writer, &mut token, &mut words);
+    drop(token);
+    served.map(|_| ()).map_err(Failure::from)
 }
 
 fn p11call<I: Read, O: Write>(

@@ -9,8 +9,9 @@ use crate::seat::SocketSeat;
 use cache::Cached;
 use clap::ArgMatches;
 use hall::{Gate, Seat, Token, hold};
-use keep::Keep;
+use keep::{Keep, ListKeep};
 use keep_sql::SqlKeep;
+use pin_record::Record;
 use sqlite_disk::Wary;
 use std::alloc::Global;
 use std::fs::File;
@@ -58,21 +59,11 @@ pub(crate) fn serve<R: Threads + Wait + Copy + Send + Drop + 'static, O: Write>(
         seed: seed_in(rt, seed_file)?,
     };
     if store == IN_MEMORY {
-        serve_over(
-            rt,
-            threads,
-            SqlKeep::in_memory(rt.alloc())?,
-            &served,
-            output,
-        )
+        let keep = ListKeep::new(rt.alloc(), Record::new());
+        serve_over(rt, threads, keep, &served, output)
     } else {
-        serve_over(
-            rt,
-            threads,
-            SqlKeep::open(rt, store, Wary)?,
-            &served,
-            output,
-        )
+        let keep = SqlKeep::open(rt, store, Wary)?;
+        serve_cached(rt, threads, keep, &served, output)
     }
 }
 
@@ -86,15 +77,25 @@ fn seed_in(rt: &HostRuntime, path: &str) -> Result<[u8; 32], Failure> {
     }
 }
 
-/// A token over a keeper behind a cache.
-fn token_over<K: Keep>(alloc: Global, keep: K) -> Result<Token<Cached<K>>, Failure> {
-    let capacity = NonZeroUsize::new(CAPACITY).ok_or(Failure::Memory)?;
-    let keep = match Cached::new(alloc, keep, capacity) {
-        Ok(keep) => keep,
-        Err((fault, _)) => return Err(fault.into()),
-    };
+/// A token over a keeper.
+fn token_over<K: Keep>(alloc: Global, keep: K) -> Result<Token<K>, Failure> {
     match Token::new(alloc, keep) {
         Ok(token) => Ok(token),
+        Err((fault, _)) => Err(fault.into()),
+    }
+}
+
+/// Serves a token over a keeper behind a cache.
+fn serve_cached<K: Keep, R: Threads + Wait + Copy + Send + Drop + 'static, O: Write>(
+    rt: &HostRuntime,
+    threads: R,
+    keep: K,
+    served: &Served<'_>,
+    output: &mut O,
+) -> Result<(), Failure> {
+    let capacity = NonZeroUsize::new(CAPACITY).ok_or(Failure::Memory)?;
+    match Cached::new(rt.alloc(), keep, capacity) {
+        Ok(keep) => serve_over(rt, threads, keep, served, output),
         Err((fault, _)) => Err(fault.into()),
     }
 }

@@ -13,7 +13,7 @@ use std::time::Duration;
 use std::{fs, thread};
 
 /// The files of each test.
-const FOUR: &[&str] = &["four.seed", "four.sock"];
+const FOUR: &[&str] = &["four.seed", "four.store", "four.store-wal", "four.sock"];
 
 const STAYS: &[&str] = &["stays.seed", "stays.store", "stays.store-wal", "stays.sock"];
 
@@ -165,7 +165,7 @@ fn expect_refusal(rt: &HostRuntime, ended: Ended, status: u8, text: &str) -> Res
 #[test]
 fn four_connections_are_four_applications(rt: HostRuntime) -> Result<(), Fail> {
     clear(&rt, FOUR);
-    let daemon = start(&rt, rt, ":memory:", "four.sock", "four.seed")?;
+    let daemon = start(&rt, rt, "four.store", "four.sock", "four.seed")?;
     for _ in 0..4 {
         expect(&rt, "four.sock", FIRST_RUN, FIRST_REPLIES)?;
     }
