@@ -23,9 +23,7 @@
 //! With the argument `pieces` it gives 64 MiB a row to a token, by CBC and by CTR, both ways: as pieces of 65,536 bytes of one
 //! operation (C_EncryptUpdate, C_DecryptUpdate), beside operations of one call each (C_Encrypt, C_Decrypt). With `small` there
 //! are two calls a row. With the argument `memory` it gives a token 1 GiB by C_EncryptUpdate, and prints what memory the
-//! system says it has resident before, amid and after. With the arguments `store FILE` it makes a store in that file, which
-//! should be new, and prints durable inserts, reads by id with and without a cache, and how long a store of 10,000 objects takes
-//! to open.
+//! system says it has resident before, amid and after.
 //!
 //! OpenSSL measures the same ciphers, in processor time too, without the AES instructions of the
 //! processor where the bits that announce these and the carry-less product are masked. Its ECB is
@@ -45,7 +43,6 @@ mod pieces;
 mod reading;
 mod run;
 mod searching;
-mod stores;
 mod texts;
 
 use aes_modes::Direction;
@@ -59,7 +56,6 @@ use searching::searching;
 use std::alloc::Global;
 use std::time::CpuClock;
 use std::{env, io};
-use stores::print_stores;
 use texts::{Work, derivation, over_texts};
 
 /// How much is done for each row, and what a row says.
@@ -143,8 +139,6 @@ enum Wanted {
     All(Scale),
     Pieces,
     Memory,
-    /// Of a store in this new file.
-    Store(String),
 }
 
 fn read_word(rt: &HostRuntime) -> io::Result<Wanted> {
@@ -155,10 +149,6 @@ fn read_word(rt: &HostRuntime) -> io::Result<Wanted> {
         Some(word) if word.as_str() == "small" => Ok(Wanted::All(SMALL)),
         Some(word) if word.as_str() == "pieces" => Ok(Wanted::Pieces),
         Some(word) if word.as_str() == "memory" => Ok(Wanted::Memory),
-        Some(word) if word.as_str() == "store" => match words.next() {
-            Some(path) => Ok(Wanted::Store(path)),
-            None => Err(io::Error::from(io::ErrorKind::InvalidInput)),
-        },
         Some(_) => Err(io::Error::from(io::ErrorKind::InvalidInput)),
     }
 }
@@ -245,7 +235,6 @@ fn main(rt: HostRuntime) -> io::Result<()> {
             return print_pieces(&rt, rt.alloc(), Report::Times);
         }
         Wanted::Memory => return print_memory(&rt, rt.alloc()),
-        Wanted::Store(path) => return print_stores(&rt, path.as_str()),
     };
     print_head(&rt, scale.report)?;
     for size in KEY_SIZES {

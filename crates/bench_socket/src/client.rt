@@ -19,7 +19,7 @@ const CODE_LEN: usize = 8;
 /// The session, and the handle of its key.
 const SESSION: u64 = 1;
 
-const KEY: u64 = 1;
+pub(crate) const KEY: u64 = 1;
 
 fn failed() -> io::Error {
     io::Error::from(ErrorKind::Other)
@@ -44,7 +44,7 @@ impl Client {
 
     fn begin(&mut self, alloc: Global) -> io::Result<()> {
         self.ask(&open_session(alloc)?)?;
-        self.ask(&new_key(alloc)?)
+        self.ask(&new_key(alloc, false)?)
     }
 
     /// Sends frames, each after the reply to the one before.
@@ -56,7 +56,7 @@ impl Client {
     }
 
     /// Sends a frame, and reads its reply, which is to be CKR_OK.
-    fn ask(&mut self, frame: &[u8]) -> io::Result<()> {
+    pub(crate) fn ask(&mut self, frame: &[u8]) -> io::Result<()> {
         self.stream.write_all(frame)?;
         let mut len: usize = 0;
         for _ in 0..u64::MAX {
@@ -106,8 +106,8 @@ fn open_session(alloc: Global) -> io::Result<Vec<u8>> {
     frame(alloc, Call::OpenSession { slot: 0, flags: 6 })
 }
 
-/// The frame of C_CreateObject of a session's AES key of 16 bytes.
-fn new_key(alloc: Global) -> io::Result<Vec<u8>> {
+/// The frame of C_CreateObject of an AES key of 16 bytes, of the token or of the session.
+pub(crate) fn new_key(alloc: Global, is_of_token: bool) -> io::Result<Vec<u8>> {
     let class = ObjectClass::SecretKey.number().to_be_bytes();
     let key_type = KeyType::Aes.number().to_be_bytes();
     let mut template = Template::new(alloc);
@@ -116,6 +116,7 @@ fn new_key(alloc: Global) -> io::Result<Vec<u8>> {
         (AttrType::KeyType, &key_type[..]),
         (AttrType::Value, &[7; 16][..]),
         (AttrType::Private, &[0][..]),
+        (AttrType::Token, &[u8::from(is_of_token)][..]),
     ] {
         template.push(Entry {
             number: attribute.number(),
@@ -125,6 +126,15 @@ fn new_key(alloc: Global) -> io::Result<Vec<u8>> {
     let call = Call::CreateObject {
         session: SESSION,
         template,
+    };
+    frame(alloc, call)
+}
+
+/// The frame of C_GetObjectSize.
+pub(crate) fn object_size(alloc: Global, object: u64) -> io::Result<Vec<u8>> {
+    let call = Call::GetObjectSize {
+        session: SESSION,
+        object,
     };
     frame(alloc, call)
 }

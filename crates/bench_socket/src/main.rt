@@ -10,14 +10,19 @@
 //! - C_EncryptInit by CKM_AES_CBC_PAD and C_Encrypt of 16 KiB, counted as one;
 //! - C_GetSessionInfo by four clients together, each in a thread of its own, beside one.
 //!
+//! With the argument `objects SOCKET` it makes 10,000 keys of the daemon's token, which stay, and prints how many of them a second, and
+//! how many reads of a hundred of them, for which the daemon's cache has room, and of each in turn, which the store is asked for.
+//!
 //! With the argument `echo SOCKET` it echoes a few times over that socket and prints how often, so that the gate can run it.
 #![tactic(auto)]
 
 mod client;
 mod echo;
 mod measures;
+mod objects;
 
 use measures::{print_calls, print_echo};
+use objects::print_objects;
 use std::thread::Threads;
 use std::{env, io};
 
@@ -26,7 +31,8 @@ fn run<T: Threads>(rt: HostRuntime, threads: &T, words: &[String]) -> io::Result
     match words {
         [_, what, socket] if what.as_str() == "calls" => print_calls(rt, threads, socket.as_str()),
         [_, what, socket] if what.as_str() == "echo" => print_echo(rt, threads, socket.as_str()),
-        _ => println!(rt; "bench_socket: calls SOCKET, or echo SOCKET"),
+        [_, what, socket] if what.as_str() == "objects" => print_objects(&rt, socket.as_str()),
+        _ => println!(rt; "bench_socket: calls SOCKET, objects SOCKET, or echo SOCKET"),
     }
 }
 

@@ -20,7 +20,7 @@ const BLOCK_LEN: usize = 16;
 const LONG_LEN: usize = 16_384;
 
 /// So many a second since a moment.
-fn rate(rt: &impl Clock, count: u64, since: Instant) -> io::Result<u64> {
+pub(crate) fn rate(rt: &impl Clock, count: u64, since: Instant) -> io::Result<u64> {
     let micros = u64::try_from(since.elapsed(rt)?.as_micros()).unwrap_or(u64::MAX);
     Ok(count.saturating_mul(1_000_000) / micros.max(1))
 }
