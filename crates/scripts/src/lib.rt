@@ -3,6 +3,8 @@
 //! and the step.
 //!
 //! - `given` names what many scripts speak of: applications, keys, texts, templates and codes.
+//! - `script_at` and `questions_at` tell scripts of ciphers, objects and PINs, for tests that play them over several keepers and by
+//!   seats.
 //! - `EVERY_CALL` has rows of all calls, each answered with CKR_OK; `FIRST_RUN` and `FIRST_REPLIES` are a first run in frames.
 //! - `Row`, `Step` and `Told` are the vocabulary; `call_of` and `reply_of` make a call and a reply of them, and `random_for`
 //!   gives a call its random bytes.
@@ -26,6 +28,7 @@
 
 mod bench;
 mod calls;
+mod chapters;
 mod every_call;
 mod first_run;
 pub mod given;
@@ -41,13 +44,16 @@ mod tokens;
 
 pub use bench::{Bench, BenchOver, expect_row, expect_told, play, play_over};
 pub use calls::call_of;
+pub use chapters::{Script, questions_at, record_at, script_at};
 pub use every_call::EVERY_CALL;
 pub use first_run::{FIRST_REPLIES, FIRST_RUN};
 pub use keepers::{cached, cached_list};
 pub use order::{LeftOut, Pair, expect_neighbours};
 pub use random::random_for;
 pub use replies::reply_of;
-pub use runs::{play_and_run, play_and_run_questions, replies_to, run, run_over, with_finishes};
+pub use runs::{
+    play_and_run, play_and_run_questions, replies_to, run, run_over, run_script, with_finishes,
+};
 pub use steps::{Asked, Given, GivenMechanism, Row, Step, Told, Values};
 pub use stored::record_with;
 pub use texts::{NewToken, Server, add_output, expect_each_mechanism, expect_long_chain};

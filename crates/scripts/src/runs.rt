@@ -5,6 +5,7 @@ ghost use Rattle.token_model.specs.Events.{HasRandom};
 
 use crate::bench::{expect_told, play};
 use crate::calls::call_of;
+use crate::chapters::Script;
 use crate::keepers::cached_list;
 use crate::random::random_for;
 use crate::replies::reply_of;
@@ -26,8 +27,13 @@ pub fn run(alloc: Global, rows: &[Row]) -> Result<(), Fail> {
 
 /// And one over this keeper.
 pub fn run_over<K: Keep>(alloc: Global, keep: K, rows: &[Row]) -> Result<(), Fail> {
+    run_script(alloc, keep, ("a run", rows))
+}
+
+/// The same of a script with a name.
+pub fn run_script<K: Keep>(alloc: Global, keep: K, (name, rows): Script<'_>) -> Result<(), Fail> {
     let replies = replies_to(alloc, keep, events_of(alloc, rows)?)?;
-    expect_replies(alloc, &replies, rows)
+    expect_replies(alloc, &replies, (name, rows))
 }
 
 /// Sees that a new token goes as the rows say, after those that come before, by calls one after the other and in one list of
@@ -76,12 +82,16 @@ pub fn replies_to<K: Keep>(
     Ok(ran.replies)
 }
 
-fn expect_replies(alloc: Global, replies: &[(u64, Reply)], rows: &[Row]) -> Result<(), Fail> {
+fn expect_replies(
+    alloc: Global,
+    replies: &[(u64, Reply)],
+    (name, rows): Script<'_>,
+) -> Result<(), Fail> {
     let mut rest = replies;
     for (number, row) in rows.iter().enumerate() {
         let (app, step, told) = *row;
         if let Some(reply) = reply_of(alloc, told)? {
-            expect_reply(number, step, &(app, reply), rest.first())?;
+            expect_reply((name, number), step, &(app, reply), rest.first())?;
             rest = rest.get(1..).unwrap_or(&[]);
         }
     }
@@ -93,7 +103,7 @@ fn expect_replies(alloc: Global, replies: &[(u64, Reply)], rows: &[Row]) -> Resu
 }
 
 fn expect_reply(
-    number: usize,
+    (name, number): (&str, usize),
     step: Step,
     wanted: &(u64, Reply),
     got: Option<&(u64, Reply)>,
@@ -102,7 +112,7 @@ fn expect_reply(
         return Ok(());
     }
     Err(Fail::new(format_args!(
-        "row {number} of a run: wanted {wanted:?}, got {got:?}, by {step:?}"
+        "{name}, row {number}: wanted {wanted:?}, got {got:?}, by {step:?}"
     )))
 }
 

@@ -1,16 +1,10 @@
-mod beside;
-mod ciphers;
 mod crashes;
 mod every_call;
-mod given;
 mod keepers;
 mod lines;
 mod many_objects;
-mod not_started;
-mod objects;
 mod older_store;
-mod pins;
-mod seats;
 mod served;
 mod session_limit;
+mod unread;
 mod worlds;

@@ -1,7 +1,6 @@
-//! Each of the 41 calls: through a line, where it is written as a frame, answered with CKR_OK, and its reply read; and by a
-//! seat in a thread of its own.
+//! Each of the 41 calls: through a line, where it is written as a frame, answered with CKR_OK, and its reply read.
 
-use super::keepers::{Script, run_over_each, see_over_each};
+use super::keepers::{Script, see_over_each};
 use super::served::expect_served;
 use keep::Keep;
 use pin_record::Record;
@@ -36,9 +35,4 @@ impl Script for Line {
 #[test]
 fn every_call_is_answered(rt: HostRuntime) -> Result<(), Fail> {
     see_over_each(rt.alloc(), Record::new(), &Line)
-}
-
-#[test]
-fn every_call_is_answered_to_a_seat(rt: HostRuntime) -> Result<(), Fail> {
-    run_over_each(rt, rt.alloc(), EVERY_CALL)
 }

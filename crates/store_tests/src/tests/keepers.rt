@@ -1,17 +1,13 @@
 //! The keepers over which each test runs.
 
-use super::seats::hold_rows;
 use cache::Cached;
 use keep::{Keep, ListKeep};
 use keep_sql::SqlKeep;
 use pin_record::Record;
-use scripts::{Row, cached, run_over, with_finishes};
+use scripts::{cached, questions_at, record_at, run_script, script_at, with_finishes};
 use sqlite::MemStore;
 use std::alloc::Global;
-use std::sync::Wait;
 use std::test::*;
-use std::thread::Threads;
-use std::time::Clock;
 
 /// What is to be seen of a new token over a keeper.
 pub(super) trait Script {
@@ -66,43 +62,35 @@ fn sql_keep(alloc: Global, record: Record) -> Result<SqlKeep<MemStore>, Fail> {
     Ok(keep)
 }
 
-/// Rows that a token takes as one list of events.
+/// A script that a token takes as one list of events.
 #[derive(Clone, Copy)]
-struct Rows<'a>(&'a [Row]);
+struct InARun<'a>(scripts::Script<'a>);
 
-impl Script for Rows<'_> {
+impl Script for InARun<'_> {
     fn see<K: Keep>(&self, alloc: Global, keep: K) -> Result<(), Fail> {
-        run_over(alloc, keep, self.0)
+        run_script(alloc, keep, self.0)
     }
 }
 
-/// Sees that four seats before a new token over each keeper, in threads of their own, go as the rows say.
-fn hold_over_each<R: Threads + Wait + Clock + Copy + Send + Sync + Drop + 'static>(
-    rt: R,
-    alloc: Global,
-    record: Record,
-    rows: &[Row],
-) -> Result<(), Fail> {
-    hold_rows(rt, alloc, ListKeep::new(alloc, record), rows)?;
-    hold_rows(rt, alloc, cached_list(alloc, record)?, rows)?;
-    hold_rows(rt, alloc, sql_keep(alloc, record)?, rows)?;
-    hold_rows(rt, alloc, cached_sql(alloc, record)?, rows)
+#[test]
+fn each_script_goes_so_over_each_keeper(rt: HostRuntime) -> Result<(), Fail> {
+    for place in 0..usize::MAX {
+        let Some((name, rows)) = script_at(place) else {
+            break;
+        };
+        let rows = with_finishes(rt.alloc(), rows)?;
+        see_over_each(rt.alloc(), Record::new(), &InARun((name, &rows)))?;
+    }
+    Ok(())
 }
 
-/// Sees that a new token over each keeper goes as the rows say, which leave no question pending: as one list of events, and by
-/// four seats.
-pub(super) fn run_over_each<R: Threads + Wait + Clock + Copy + Send + Sync + Drop + 'static>(
-    rt: R,
-    alloc: Global,
-    rows: &[Row],
-) -> Result<(), Fail> {
-    run_questions_over_each(rt, alloc, Record::new(), &with_finishes(alloc, rows)?)
-}
-
-/// The same from a record, for rows some of which leave a question pending until its own row.
-pub(super) fn run_questions_over_each<
-    R: Threads + Wait + Clock + Copy + Send + Sync + Drop + 'static,
->(rt: R, alloc: Global, record: Record, rows: &[Row]) -> Result<(), Fail> {
-    see_over_each(alloc, record, &Rows(rows))?;
-    hold_over_each(rt, alloc, record, rows)
+#[test]
+fn each_script_of_questions_goes_so_over_each_keeper(rt: HostRuntime) -> Result<(), Fail> {
+    for place in 0..usize::MAX {
+        let Some(script) = questions_at(place) else {
+            break;
+        };
+        see_over_each(rt.alloc(), record_at(place)?, &InARun(script))?;
+    }
+    Ok(())
 }

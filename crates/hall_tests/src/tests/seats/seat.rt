@@ -2,7 +2,7 @@
 
 ghost use Rattle.std.specs.Prelude.{◌≡◌, ◌%◌, None, true, IfNone, IfSome, IfOk, IsTrue};
 ghost use Rattle.hall.specs.SeatEvents.{seat_app, Notes};
-ghost use Rattle.store_tests.specs.Gone.{is_gone};
+ghost use Rattle.hall_tests.specs.Gone.{is_gone};
 
 use super::turns::{Turns, is_finish};
 use ck_calls::Reply;

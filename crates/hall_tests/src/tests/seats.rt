@@ -8,4 +8,4 @@ mod play;
 mod seat;
 mod turns;
 
-pub(super) use play::hold_rows;
+pub(super) use play::{hold_over_lists, hold_rows};

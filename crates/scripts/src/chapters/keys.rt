@@ -1,11 +1,11 @@
-//! What the rows speak of beside what all scripts do: keys of the token, which each have the handle of their place in `KEYS`.
+//! The keys of the token that the chapters speak of.
 
+use crate::given::*;
+use crate::steps::{Given, Told};
 use ck_types::{AttrType, Rv};
-use scripts::given::*;
-use scripts::{Given, Told};
 
 /// The keys of SP 800-38A and SP 800-38B, and of FIPS 197, C.3.
-pub(super) const KEY: Given = &[
+pub(crate) const KEY: Given = &[
     (AttrType::Class, SECRET_KEY),
     (AttrType::KeyType, AES),
     (
@@ -16,7 +16,7 @@ pub(super) const KEY: Given = &[
     (AttrType::Token, YES),
 ];
 
-pub(super) const KEY_256: Given = &[
+pub(crate) const KEY_256: Given = &[
     (AttrType::Class, SECRET_KEY),
     (AttrType::KeyType, AES),
     (
@@ -29,7 +29,7 @@ pub(super) const KEY_256: Given = &[
 ];
 
 /// The key of RFC 4231, 4.2.
-pub(super) const SECRET: Given = &[
+pub(crate) const SECRET: Given = &[
     (AttrType::Class, SECRET_KEY),
     (AttrType::KeyType, GENERIC_SECRET),
     (
@@ -41,7 +41,7 @@ pub(super) const SECRET: Given = &[
 ];
 
 /// The keys of RFC 3394, 4.1: one that wraps and unwraps, and one that it wraps; and one that can't be extracted.
-pub(super) const WRAPPING: Given = &[
+pub(crate) const WRAPPING: Given = &[
     (AttrType::Class, SECRET_KEY),
     (AttrType::KeyType, AES),
     (AttrType::Value, KEY_BYTES),
@@ -51,7 +51,7 @@ pub(super) const WRAPPING: Given = &[
     (AttrType::Unwrap, YES),
 ];
 
-pub(super) const EXTRACTABLE: Given = &[
+pub(crate) const EXTRACTABLE: Given = &[
     (AttrType::Class, SECRET_KEY),
     (AttrType::KeyType, AES),
     (AttrType::Value, TEXT),
@@ -62,7 +62,7 @@ pub(super) const EXTRACTABLE: Given = &[
 ];
 
 /// Sensitive and unextractable, with a label.
-pub(super) const LABELLED: Given = &[
+pub(crate) const LABELLED: Given = &[
     (AttrType::Class, SECRET_KEY),
     (AttrType::KeyType, AES),
     (AttrType::Value, KEY_BYTES),
@@ -71,10 +71,10 @@ pub(super) const LABELLED: Given = &[
     (AttrType::Label, b"k1"),
 ];
 
-pub(super) const UNWRAPPED: Given = &[
+pub(crate) const UNWRAPPED: Given = &[
     (AttrType::KeyType, AES),
     (AttrType::Private, NO),
     (AttrType::Token, YES),
 ];
 
-pub(super) const WRONG_LENGTH: Told = Told::Code(Rv::DataLenRange);
+pub(crate) const WRONG_LENGTH: Told = Told::Code(Rv::DataLenRange);

@@ -8,7 +8,7 @@ use scripts::Step::{
     GetSessionInfo, Goes,
 };
 use scripts::given::*;
-use scripts::{EVERY_CALL, Row, Step, Told, with_finishes};
+use scripts::{Row, Script, Step, Told};
 use std::alloc::Global;
 use std::sync::Wait;
 use std::test::*;
@@ -27,9 +27,9 @@ const ENCRYPT: Step = Encrypt(1, TEXT, Some(16));
 fn hold_over_list<R: Threads + Wait + Clock + Copy + Send + Sync + Drop + 'static>(
     rt: R,
     alloc: Global,
-    rows: &[Row],
+    script: Script<'_>,
 ) -> Result<(), Fail> {
-    hold_rows(rt, alloc, ListKeep::new(alloc, Record::new()), rows)
+    hold_rows(rt, alloc, ListKeep::new(alloc, Record::new()), script)
 }
 
 /// B's job is asked for, run and answered while A's waits at the gate.
@@ -48,7 +48,7 @@ fn a_job_waits_for_no_other(rt: HostRuntime) -> Result<(), Fail> {
         (B, Finish, CIPHERTEXT),
         (A, Finish, CIPHERTEXT),
     ];
-    hold_over_list(rt, rt.alloc(), ROWS)
+    hold_over_list(rt, rt.alloc(), ("a job", ROWS))
 }
 
 /// The jobs of all four seats are asked for, and then run, the last first.
@@ -76,7 +76,7 @@ fn four_jobs_are_out_at_once(rt: HostRuntime) -> Result<(), Fail> {
         (A, Finish, CIPHERTEXT),
         (C, Finish, CIPHERTEXT),
     ];
-    hold_over_list(rt, rt.alloc(), ROWS)
+    hold_over_list(rt, rt.alloc(), ("four jobs", ROWS))
 }
 
 /// What an application of a seat had is not there for the seat's next one, and what it made of the token is.
@@ -94,10 +94,5 @@ fn an_application_goes_and_its_seat_stays(rt: HostRuntime) -> Result<(), Fail> {
         (SECOND, FindObjects(1, 9), Told::Objects(&[1])),
         (SECOND, GetObjectSize(1, 1), Told::ObjectSize(128)),
     ];
-    hold_over_list(rt, rt.alloc(), ROWS)
-}
-
-#[test]
-fn every_call_is_answered(rt: HostRuntime) -> Result<(), Fail> {
-    hold_over_list(rt, rt.alloc(), &with_finishes(rt.alloc(), EVERY_CALL)?)
+    hold_over_list(rt, rt.alloc(), ("an application goes", ROWS))
 }

@@ -7,8 +7,9 @@ use super::seat::TurnSeat;
 use super::turns::Turns;
 use ck_calls::Reply;
 use hall::{Held, hold};
-use keep::Keep;
-use scripts::{Row, reply_of, token_over};
+use keep::{Keep, ListKeep};
+use pin_record::Record;
+use scripts::{Row, Script, cached_list, reply_of, token_over};
 use std::alloc::Global;
 use std::sync::{Arc, Wait};
 use std::test::Fail;
@@ -20,20 +21,35 @@ type Seats<R> = (TurnSeat<R>, TurnSeat<R>, TurnSeat<R>, TurnSeat<R>);
 /// What the applications of a seat were told.
 type Told = Vec<(u64, Reply)>;
 
-/// Sees that four seats that play the rows before a new token over the keeper are told what the rows say, and that each row
-/// had its turn. An application makes no step while its own question is pending, and none where another one of its seat waits.
+/// Sees it over a list with this record, and over one behind a cache.
+pub(crate) fn hold_over_lists<R: Threads + Wait + Clock + Copy + Send + Sync + Drop + 'static>(
+    rt: R,
+    alloc: Global,
+    record: Record,
+    script: Script<'_>,
+) -> Result<(), Fail> {
+    hold_rows(rt, alloc, ListKeep::new(alloc, record), script)?;
+    hold_rows(rt, alloc, cached_list(alloc, record)?, script)
+}
+
+/// Sees that four seats that play the rows of a script before a new token over the keeper are told what these say, and that each
+/// row had its turn. An application makes no step while its own question is pending, and none where another one of its seat waits.
 pub(crate) fn hold_rows<K: Keep, R: Threads + Wait + Clock + Copy + Send + Sync + Drop + 'static>(
     rt: R,
     alloc: Global,
     keep: K,
-    rows: &[Row],
+    (name, rows): Script<'_>,
 ) -> Result<(), Fail> {
     let turns = Arc::new(alloc, Turns::new(Vec::from_slice(alloc, rows)?))?;
-    expect_all(alloc, rows, told_by_seats(rt, alloc, keep, rows, &turns)?)?;
+    expect_all(
+        alloc,
+        (name, rows),
+        told_by_seats(rt, alloc, keep, rows, &turns)?,
+    )?;
     if turns.went_on() {
         Ok(())
     } else {
-        Err("a turn never came".into())
+        Err(Fail::new(format_args!("{name}: a turn never came")))
     }
 }
 
@@ -94,15 +110,24 @@ fn told_of<R: Clock + Drop>(seats: Seats<R>) -> (Told, Told, Told, Told) {
 }
 
 /// Sees that the applications of all seats were told what the rows say.
-fn expect_all(alloc: Global, rows: &[Row], told: (Told, Told, Told, Told)) -> Result<(), Fail> {
-    expect(alloc, rows, 0, &told.0)
-        .and_then(|()| expect(alloc, rows, 1, &told.1))
-        .and_then(|()| expect(alloc, rows, 2, &told.2))
-        .and_then(|()| expect(alloc, rows, 3, &told.3))
+fn expect_all(
+    alloc: Global,
+    script: Script<'_>,
+    told: (Told, Told, Told, Told),
+) -> Result<(), Fail> {
+    expect(alloc, script, 0, &told.0)
+        .and_then(|()| expect(alloc, script, 1, &told.1))
+        .and_then(|()| expect(alloc, script, 2, &told.2))
+        .and_then(|()| expect(alloc, script, 3, &told.3))
 }
 
 /// Sees that the applications of a seat were told what the rows say.
-fn expect(alloc: Global, rows: &[Row], seat: u64, told: &[(u64, Reply)]) -> Result<(), Fail> {
+fn expect(
+    alloc: Global,
+    (name, rows): Script<'_>,
+    seat: u64,
+    told: &[(u64, Reply)],
+) -> Result<(), Fail> {
     let mut rest = told;
     for (number, (app, step, wanted)) in rows.iter().enumerate() {
         if app % 4 != seat {
@@ -111,7 +136,7 @@ fn expect(alloc: Global, rows: &[Row], seat: u64, told: &[(u64, Reply)]) -> Resu
         if let Some(reply) = reply_of(alloc, *wanted)? {
             if rest.first() != Some(&(*app, reply)) {
                 return Err(Fail::new(format_args!(
-                    "row {number} of seat {seat}: got {:?}, by {step:?}",
+                    "{name}, row {number} of seat {seat}: got {:?}, by {step:?}",
                     rest.first()
                 )));
             }

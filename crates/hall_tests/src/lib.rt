@@ -1,0 +1,14 @@
+//! Tests of the hall: rows that four seats in threads of their own play before one token (`tests/seats.rt`), jobs that are done
+//! beside one another, and threads that are not started. The rows of all chapters go over a list, and over one behind a cache.
+//!
+//! ```text
+//! const ROWS: &[Row] = &[
+//!     (A, OPEN, Told::Session(1)),
+//!     (A, Step::CreateObject(1, TOKEN_KEY), Told::Object(1)),
+//! ];
+//! hold_over_lists(rt, rt.alloc(), Record::new(), ("a script", ROWS))
+//! ```
+#![tactic(auto)]
+
+#[cfg(test)]
+mod tests;

@@ -1,0 +1,4 @@
+mod beside;
+mod chapters;
+mod not_started;
+mod seats;
