@@ -56,12 +56,20 @@ fn private_objects_are_seen_by_the_user_and_token_objects_written_in_rw_sessions
 ) -> Result<(), Fail> {
     for (given, seen, written) in ACCESS {
         let object = key(rt.alloc(), given)?;
-        let is_seen = STATES.map(|state| visible(state, &object));
-        assert_eq!(rt; is_seen, *seen, "seen, with {given:?}");
-        let is_written = STATES.map(|state| writable(state, &object));
-        assert_eq!(rt; is_written, *written, "written, with {given:?}");
+        let access = (seen_in(&object), written_in(&object));
+        assert!(rt; access == (*seen, *written), "{given:?}");
     }
     Ok(())
+}
+
+/// In which of the states the object is seen.
+fn seen_in(object: &Object) -> [bool; 5] {
+    STATES.map(|state| visible(state, object))
+}
+
+/// In which of the states it is written.
+fn written_in(object: &Object) -> [bool; 5] {
+    STATES.map(|state| writable(state, object))
 }
 
 /// What the key has, and whether its value is kept back.

@@ -73,6 +73,26 @@ fn expect_twice<K: Keep>(
     Ok(())
 }
 
+/// Replaces each object, by a value more.
+fn replace_all<K: Keep>(alloc: Global, keep: &mut K, rows: &mut Rows) -> Result<(), Fail> {
+    for row in rows.iter_mut() {
+        row.1 = row.1.wrapping_add(1);
+        replace(alloc, keep, row.0, row.1)??;
+    }
+    Ok(())
+}
+
+/// Removes each object with an even id.
+fn remove_even<K: Keep>(keep: &mut K, rows: &mut Rows) -> Result<(), KeepFault> {
+    for row in rows.iter() {
+        if row.0 % 2 == 0 {
+            keep.remove(row.0)?;
+        }
+    }
+    rows.retain(|row| row.0 % 2 == 1);
+    Ok(())
+}
+
 /// Replaces each object, by a value more, and then removes each second one.
 fn change_all<K: Keep>(
     rt: &impl Abort,
@@ -80,17 +100,9 @@ fn change_all<K: Keep>(
     keep: &mut K,
     rows: &mut Rows,
 ) -> Result<(), Fail> {
-    for row in rows.iter_mut() {
-        row.1 = row.1.wrapping_add(1);
-        replace(alloc, keep, row.0, row.1)??;
-    }
+    replace_all(alloc, keep, rows)?;
     expect_twice(rt, alloc, keep, rows)?;
-    for row in rows.iter() {
-        if row.0 % 2 == 0 {
-            keep.remove(row.0)?;
-        }
-    }
-    rows.retain(|row| row.0 % 2 == 1);
+    remove_even(keep, rows)?;
     expect_twice(rt, alloc, keep, rows)
 }
 
@@ -115,33 +127,50 @@ fn one_object_more_than_the_cache_has_room_for(rt: HostRuntime) -> Result<(), Fa
 /// A keeper that fails once, behind a cache.
 type Failing = Cached<FailingKeep<ListKeep>>;
 
+const THREE: &[(u64, u8)] = &[(1, 1), (2, 2), (3, 3)];
+
+/// Inserts three objects, and reads each.
+fn insert_and_read<K: Keep>(alloc: Global, keep: &mut K) -> Result<(), Fail> {
+    insert_up_to(alloc, keep, 3)?;
+    if has_rows(alloc, keep, THREE)? {
+        Ok(())
+    } else {
+        Err("three objects".into())
+    }
+}
+
 /// Three objects that were read once, and a keeper whose next call fails.
 fn failing_after_reads(alloc: Global) -> Result<Failing, Fail> {
     let list = ListKeep::new(alloc, Record::new());
     // after three inserts, the ids, and three reads
     let failing = FailingKeep::new(list, 8, Failure::Device);
     let mut keep = cached(alloc, failing, 3)?;
-    insert_up_to(alloc, &mut keep, 3)?;
-    let is_there = has_rows(alloc, &mut keep, THREE)?;
-    if is_there {
-        Ok(keep)
-    } else {
-        Err("three objects".into())
+    match insert_and_read(alloc, &mut keep) {
+        Ok(()) => Ok(keep),
+        Err(fault) => {
+            drop(keep);
+            Err(fault)
+        }
     }
 }
 
-const THREE: &[(u64, u8)] = &[(1, 1), (2, 2), (3, 3)];
+/// Sees that objects are read, though the keeper's next call fails.
+fn expect_remembered<K: Keep>(rt: &impl Abort, alloc: Global, keep: &mut K) -> Result<(), Fail> {
+    for id in [3, 1, 2, 2] {
+        keep.object(alloc, id)?;
+    }
+    assert_eq!(rt; keep.failures(), 0);
+    let is_refused = keep.ids(alloc) == Err(KeepFault::Device);
+    assert!(rt; is_refused && keep.failures() == 1);
+    Ok(())
+}
 
 #[test]
 fn an_object_that_was_read_is_read_from_memory(rt: HostRuntime) -> Result<(), Fail> {
     let mut keep = failing_after_reads(rt.alloc())?;
-    for id in [3, 1, 2, 2] {
-        keep.object(rt.alloc(), id)?;
-    }
-    assert_eq!(rt; keep.failures(), 0);
-    let is_refused = keep.ids(rt.alloc()) == Err(KeepFault::Device);
-    assert!(rt; is_refused && keep.failures() == 1);
-    Ok(())
+    let seen = expect_remembered(&rt, rt.alloc(), &mut keep);
+    drop(keep);
+    seen
 }
 
 /// A change of three objects: one more, another second one, no second one, or none.
@@ -171,16 +200,29 @@ const CHANGES: &[(Change, &[(u64, u8)])] = &[
     (Change::Reset, &[]),
 ];
 
+/// Sees that the change of three objects is refused, and then made.
+fn expect_refused<K: Keep>(
+    rt: &impl Abort,
+    alloc: Global,
+    keep: &mut K,
+    change: Change,
+    after: &[(u64, u8)],
+) -> Result<(), Fail> {
+    let refused = change.made(alloc, keep)?;
+    let is_told = refused == Err(KeepFault::Device) && keep.failures() == 1;
+    assert!(rt; is_told, "{change:?}");
+    expect_twice(rt, alloc, keep, THREE)?;
+    change.made(alloc, keep)??;
+    expect_twice(rt, alloc, keep, after)
+}
+
 #[test]
 fn a_refused_change_is_told_and_not_made(rt: HostRuntime) -> Result<(), Fail> {
     for (change, after) in CHANGES {
         let mut keep = failing_after_reads(rt.alloc())?;
-        let refused = change.made(rt.alloc(), &mut keep)?;
-        let is_told = refused == Err(KeepFault::Device) && keep.failures() == 1;
-        assert!(rt; is_told, "{change:?}");
-        expect_twice(&rt, rt.alloc(), &mut keep, THREE)?;
-        change.made(rt.alloc(), &mut keep)??;
-        expect_twice(&rt, rt.alloc(), &mut keep, after)?;
+        let seen = expect_refused(&rt, rt.alloc(), &mut keep, *change, after);
+        drop(keep);
+        seen?;
     }
     Ok(())
 }

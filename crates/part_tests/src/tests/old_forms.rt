@@ -41,9 +41,8 @@ fn aes_key(alloc: Global) -> Result<Object, Fail> {
 /// Sees that the old bytes are read as the object, and in no other form; and that no part of them is read, nor they with a
 /// byte more.
 fn expect_old(rt: &impl Abort, alloc: Global, object: &Object, old: &[u8]) -> Result<(), Fail> {
-    let read = decode_old(alloc, old)?;
-    assert!(rt; read.entries() == object.entries());
-    assert!(rt; decode(alloc, old).is_err());
+    let is_read = is_read_so(alloc, object, old)?;
+    assert!(rt; is_read);
     for len in 0..old.len() {
         let front = old.get(..len).unwrap_or(&[]);
         assert!(rt; decode_old(alloc, front).is_err(), "{len} bytes");
@@ -52,6 +51,12 @@ fn expect_old(rt: &impl Abort, alloc: Global, object: &Object, old: &[u8]) -> Re
     longer.push(0)?;
     assert!(rt; decode_old(alloc, &longer).is_err());
     Ok(())
+}
+
+/// Whether the old bytes are read as the object, and in no other form.
+fn is_read_so(alloc: Global, object: &Object, old: &[u8]) -> Result<bool, Fail> {
+    let read = decode_old(alloc, old)?;
+    Ok(read.entries() == object.entries() && decode(alloc, old).is_err())
 }
 
 #[test]

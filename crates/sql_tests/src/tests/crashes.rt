@@ -1,6 +1,6 @@
 //! What a crash leaves, over files in memory that fail after so many calls.
 
-use super::disks::{MANY, Work, crashed, fused, new_files, work_in};
+use super::disks::{MANY, Work, crashed, new_files, work_in};
 use super::given::{Change, are_same, make};
 use Change::{Insert, Remove, Replace, Reset, SetRecord};
 use keep::{Keep, KeepFault, ListKeep};
@@ -112,7 +112,7 @@ fn is_whole(rt: &impl Abort, alloc: Global, log: u64, db: u64) -> Result<bool, F
         changes: 0,
         is_counted: true,
     };
-    let left = work_in(alloc, fused(new_files(alloc), log, db), &mut made)?;
+    let left = work_in(alloc, new_files(alloc, log, db), &mut made)?;
     let mut kept = Kept {
         changes: made.changes,
         is_kept: false,

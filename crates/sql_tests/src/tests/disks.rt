@@ -33,24 +33,33 @@ pub(super) fn work_in<D: Disk + Drop, W: Work>(
     }
 }
 
-/// New files.
-pub(super) fn new_files(alloc: Global) -> Files<Memory> {
+/// New files, of which the log stops after so many calls, and the database.
+pub(super) fn new_files(alloc: Global, log: u64, db: u64) -> Files<Fuse<Memory>> {
     Files {
-        log: Memory::new(alloc),
-        db: Memory::new(alloc),
+        log: Fuse::new(Memory::new(alloc), log),
+        db: Fuse::new(Memory::new(alloc), db),
     }
 }
 
-/// The files, of which the log stops after so many calls, and the database.
-pub(super) fn fused(files: Files<Memory>, log: u64, db: u64) -> Files<Fuse<Memory>> {
-    let Files {
-        log: log_file,
-        db: db_file,
-    } = files;
-    Files {
-        log: Fuse::new(log_file, log),
-        db: Fuse::new(db_file, db),
-    }
+/// Files with the same bytes, which stop after so many calls.
+pub(super) fn fused(
+    alloc: Global,
+    files: &Files<Fuse<Memory>>,
+    log: u64,
+    db: u64,
+) -> Result<Files<Fuse<Memory>>, Fail> {
+    let log = Fuse::new(copied(alloc, files.log.inner())?, log);
+    let db = Fuse::new(copied(alloc, files.db.inner())?, db);
+    Ok(Files { log, db })
+}
+
+/// A disk with the same bytes.
+fn copied(alloc: Global, disk: &Memory) -> Result<Memory, Fail> {
+    let mut copy = Memory::new(alloc);
+    copy.set_len(disk.bytes().len())?;
+    copy.write_at(0, disk.bytes())?;
+    copy.sync()?;
+    Ok(copy)
 }
 
 /// The files as a crash leaves them.

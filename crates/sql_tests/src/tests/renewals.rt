@@ -4,7 +4,7 @@ use super::disks::{MANY, Work, crashed, fused, new_files, work_in};
 use super::old::{bodies_in, new_bodies, old_bodies, stored};
 use keep_sql::SqlKeep;
 use sqlite::{Alter, Connection, Files};
-use sqlite_disk::Memory;
+use sqlite_disk::{Fuse, Memory};
 use std::alloc::Global;
 use std::process::Abort;
 use std::test::Fail;
@@ -24,8 +24,8 @@ impl Work for Old {
 }
 
 /// The files of a store of format 1.
-fn old_files(alloc: Global) -> Result<Files<Memory>, Fail> {
-    work_in(alloc, new_files(alloc), &mut Old)
+fn old_files(alloc: Global) -> Result<Files<Fuse<Memory>>, Fail> {
+    work_in(alloc, new_files(alloc, MANY, MANY), &mut Old)
 }
 
 /// Takes the store over: whether that went well.
@@ -83,7 +83,8 @@ fn are_whole<S: Alter>(
 /// Sees what a stop leaves, and what the next open finds. Whether nothing stopped.
 fn expect_whole(rt: &impl Abort, alloc: Global, log: u64, db: u64) -> Result<bool, Fail> {
     let mut taken = TakenOver(false);
-    let files = work_in(alloc, fused(old_files(alloc)?, log, db), &mut taken)?;
+    let files = fused(alloc, &old_files(alloc)?, log, db)?;
+    let files = work_in(alloc, files, &mut taken)?;
     let mut found = Whole {
         was_open: taken.0,
         is_whole: false,
