@@ -81,8 +81,8 @@ impl<K: Keep> Keep for Cached<K> {
         Ok(object)
     }
 
-    fn set_record(&mut self, record: Record) -> Result<(), KeepFault> {
-        self.keep.set_record(record)
+    fn set_record(&mut self, token_record: Record) -> Result<(), KeepFault> {
+        self.keep.set_record(token_record)
     }
 
     fn insert(&mut self, object: &Object) -> Result<u64, KeepFault> {
@@ -101,8 +101,8 @@ impl<K: Keep> Keep for Cached<K> {
         Ok(())
     }
 
-    fn reset(&mut self, record: Record) -> Result<(), KeepFault> {
-        self.keep.reset(record)?;
+    fn reset(&mut self, token_record: Record) -> Result<(), KeepFault> {
+        self.keep.reset(token_record)?;
         self.entries.clear();
         Ok(())
     }

@@ -146,10 +146,10 @@ impl<K: Keep> Keep for FailingKeep<K> {
         }
     }
 
-    fn set_record(&mut self, record: Record) -> Result<(), KeepFault> {
+    fn set_record(&mut self, token_record: Record) -> Result<(), KeepFault> {
         self.tried.add();
         self.pass()?;
-        match self.keep.set_record(record) {
+        match self.keep.set_record(token_record) {
             Ok(()) => Ok(()),
             Err(fault) => Err(noted(&mut self.failures, fault)),
         }
@@ -182,10 +182,10 @@ impl<K: Keep> Keep for FailingKeep<K> {
         }
     }
 
-    fn reset(&mut self, record: Record) -> Result<(), KeepFault> {
+    fn reset(&mut self, token_record: Record) -> Result<(), KeepFault> {
         self.tried.add();
         self.pass()?;
-        match self.keep.reset(record) {
+        match self.keep.reset(token_record) {
             Ok(()) => Ok(()),
             Err(fault) => Err(noted(&mut self.failures, fault)),
         }

@@ -68,8 +68,8 @@ impl<K: Keep> Keep for UnreadKeep<K> {
         Err(KeepFault::Device)
     }
 
-    fn set_record(&mut self, record: Record) -> Result<(), KeepFault> {
-        match self.keep.set_record(record) {
+    fn set_record(&mut self, token_record: Record) -> Result<(), KeepFault> {
+        match self.keep.set_record(token_record) {
             Ok(()) => Ok(()),
             Err(fault) => Err(noted(&mut self.failures, fault)),
         }
@@ -96,8 +96,8 @@ impl<K: Keep> Keep for UnreadKeep<K> {
         }
     }
 
-    fn reset(&mut self, record: Record) -> Result<(), KeepFault> {
-        match self.keep.reset(record) {
+    fn reset(&mut self, token_record: Record) -> Result<(), KeepFault> {
+        match self.keep.reset(token_record) {
             Ok(()) => Ok(()),
             Err(fault) => Err(noted(&mut self.failures, fault)),
         }

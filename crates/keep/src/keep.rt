@@ -80,9 +80,9 @@ pub trait Keep: Drop {
         ensures cause { HasCause (terms.failures self.old) (terms.failures self.new) result };
 
     /// Puts another record in the place of the one held.
-    fn set_record(&mut self, record: Record) -> Result<(), KeepFault>
-        ensures ok { OnOk result (Changes terms self.old self.new (with_record «record»)) }
-        ensures err { OnErr result (Fails terms self.old self.new (with_record «record»)) }
+    fn set_record(&mut self, token_record: Record) -> Result<(), KeepFault>
+        ensures ok { OnOk result (Changes terms self.old self.new (with_record token_record)) }
+        ensures err { OnErr result (Fails terms self.old self.new (with_record token_record)) }
         ensures steady { terms.is_steady self.old → IsErrOf result Device → ⊥ }
         ensures counts { Counted terms self.old self.new 1 1 }
         ensures cause { HasCause (terms.failures self.old) (terms.failures self.new) result };
@@ -119,9 +119,9 @@ pub trait Keep: Drop {
         ensures cause { HasCause (terms.failures self.old) (terms.failures self.new) result };
 
     /// Takes all objects away and puts another record in the place of the one held, as one change.
-    fn reset(&mut self, record: Record) -> Result<(), KeepFault>
-        ensures ok { OnOk result (Changes terms self.old self.new (after_reset «record»)) }
-        ensures err { OnErr result (Fails terms self.old self.new (after_reset «record»)) }
+    fn reset(&mut self, token_record: Record) -> Result<(), KeepFault>
+        ensures ok { OnOk result (Changes terms self.old self.new (after_reset token_record)) }
+        ensures err { OnErr result (Fails terms self.old self.new (after_reset token_record)) }
         ensures steady { terms.is_steady self.old → IsErrOf result Device → ⊥ }
         ensures counts { Counted terms self.old self.new 1 1 }
         ensures cause { HasCause (terms.failures self.old) (terms.failures self.new) result };

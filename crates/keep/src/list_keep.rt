@@ -32,13 +32,13 @@ impl Model for ListKeep {
 
 impl ListKeep {
     /// A keeper of no objects and this record. Nothing is allocated.
-    pub fn new(alloc: Global, record: Record) -> Self
-        ensures new { result ≡ new_list «record» }
-        ensures begins { Begins ⟦<ListKeep as Keep>⟧.terms result (new_contents «record») }
+    pub fn new(alloc: Global, token_record: Record) -> Self
+        ensures new { result ≡ new_list token_record }
+        ensures begins { Begins ⟦<ListKeep as Keep>⟧.terms result (new_contents token_record) }
         ensures steady { (⟦<ListKeep as Keep>⟧.terms).is_steady result }
     {
         ListKeep {
-            contents: MemoryContents::new(alloc, record),
+            contents: MemoryContents::new(alloc, token_record),
             failures: 0,
             tried: WriteCount::new(),
         }
@@ -98,9 +98,9 @@ impl Keep for ListKeep {
         }
     }
 
-    fn set_record(&mut self, record: Record) -> Result<(), KeepFault> {
+    fn set_record(&mut self, token_record: Record) -> Result<(), KeepFault> {
         self.tried.add();
-        self.contents.set_record(record);
+        self.contents.set_record(token_record);
         Ok(())
     }
 
@@ -129,9 +129,9 @@ impl Keep for ListKeep {
         }
     }
 
-    fn reset(&mut self, record: Record) -> Result<(), KeepFault> {
+    fn reset(&mut self, token_record: Record) -> Result<(), KeepFault> {
         self.tried.add();
-        self.contents.reset(record);
+        self.contents.reset(token_record);
         Ok(())
     }
 }

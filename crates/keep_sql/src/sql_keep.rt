@@ -138,11 +138,11 @@ impl<S: Alter + Drop> Keep for SqlKeep<S> {
         }
     }
 
-    fn set_record(&mut self, record: Record) -> Result<(), KeepFault> {
+    fn set_record(&mut self, token_record: Record) -> Result<(), KeepFault> {
         self.tried.add();
-        match changes::set_record(self.alloc, &mut self.conn, record) {
+        match changes::set_record(self.alloc, &mut self.conn, token_record) {
             Ok(()) => {
-                self.token_record = record;
+                self.token_record = token_record;
                 Ok(())
             }
             Err(fault) => Err(counted(&mut self.failures, fault)),
@@ -179,11 +179,11 @@ impl<S: Alter + Drop> Keep for SqlKeep<S> {
         }
     }
 
-    fn reset(&mut self, record: Record) -> Result<(), KeepFault> {
+    fn reset(&mut self, token_record: Record) -> Result<(), KeepFault> {
         self.tried.add();
-        match changes::reset(self.alloc, &mut self.conn, record) {
+        match changes::reset(self.alloc, &mut self.conn, token_record) {
             Ok(()) => {
-                self.token_record = record;
+                self.token_record = token_record;
                 Ok(())
             }
             Err(fault) => Err(counted(&mut self.failures, fault)),

@@ -59,28 +59,28 @@ impl<K: Keep> Store<K> {
     }
 
     /// Puts another record in the place of the one held. The objects stay.
-    pub fn set_record(&mut self, record: Record) -> Result<(), KeepFault>
-        ensures has { (c : Contents) → Has K.terms self.old c → OnOk result (Has K.terms self.new (with_record «record» c)) }
-        ensures leaves { (c : Contents) → Has K.terms self.old c → OnOk result (LeavesAlone K.terms self.new (with_record «record» c)) }
+    pub fn set_record(&mut self, token_record: Record) -> Result<(), KeepFault>
+        ensures has { (c : Contents) → Has K.terms self.old c → OnOk result (Has K.terms self.new (with_record token_record c)) }
+        ensures leaves { (c : Contents) → Has K.terms self.old c → OnOk result (LeavesAlone K.terms self.new (with_record token_record c)) }
         ensures same { (c : Contents) → Has K.terms self.old c → OnErr result (Has K.terms self.new c) }
-        ensures leaves_or { (c : Contents) → Has K.terms self.old c → OnErr result (LeavesOr K.terms self.old self.new (with_record «record» c)) }
+        ensures leaves_or { (c : Contents) → Has K.terms self.old c → OnErr result (LeavesOr K.terms self.old self.new (with_record token_record c)) }
         ensures counts { Counted K.terms self.old.keep self.new.keep 0 1 }
         ensures cause { HasCause (K.terms.failures self.old.keep) (K.terms.failures self.new.keep) result }
     {
-        self.keep.set_record(record)?;
+        self.keep.set_record(token_record)?;
         Ok(())
     }
 
     /// Takes all objects away and puts another record in the place of the one held, as one change. Ids go on.
-    pub fn reset(&mut self, record: Record) -> Result<(), KeepFault>
-        ensures has { (c : Contents) → Has K.terms self.old c → OnOk result (Has K.terms self.new (after_reset «record» c)) }
-        ensures leaves { (c : Contents) → Has K.terms self.old c → OnOk result (LeavesAlone K.terms self.new (after_reset «record» c)) }
+    pub fn reset(&mut self, token_record: Record) -> Result<(), KeepFault>
+        ensures has { (c : Contents) → Has K.terms self.old c → OnOk result (Has K.terms self.new (after_reset token_record c)) }
+        ensures leaves { (c : Contents) → Has K.terms self.old c → OnOk result (LeavesAlone K.terms self.new (after_reset token_record c)) }
         ensures same { (c : Contents) → Has K.terms self.old c → OnErr result (Has K.terms self.new c) }
-        ensures leaves_or { (c : Contents) → Has K.terms self.old c → OnErr result (LeavesOr K.terms self.old self.new (after_reset «record» c)) }
+        ensures leaves_or { (c : Contents) → Has K.terms self.old c → OnErr result (LeavesOr K.terms self.old self.new (after_reset token_record c)) }
         ensures counts { Counted K.terms self.old.keep self.new.keep 0 1 }
         ensures cause { HasCause (K.terms.failures self.old.keep) (K.terms.failures self.new.keep) result }
     {
-        self.keep.reset(record)?;
+        self.keep.reset(token_record)?;
         self.ids.clear();
         Ok(())
     }
