@@ -1,0 +1,28 @@
+//! Decryption functions (5.10).
+
+use super::begin;
+use super::pieces::{Calls, cipher, returned};
+use crate::edge::memory::{Answer, Input, MechanismPointer, Output};
+use crate::frame::Function;
+
+/// C_DecryptInit.
+pub fn decrypt_init(session: u64, mechanism: MechanismPointer, key: u64) -> Answer {
+    begin(Function::DecryptInit, session, mechanism, key)
+}
+
+/// C_Decrypt.
+pub fn decrypt(session: u64, data: Input, output: Output) -> Answer {
+    let calls = Calls { whole: Function::Decrypt, update: Function::DecryptUpdate, last: Some(Function::DecryptFinal) };
+    cipher(&calls, session, data, output)
+}
+
+/// C_DecryptUpdate.
+pub fn decrypt_update(session: u64, data: Input, output: Output) -> Answer {
+    let calls = Calls { whole: Function::DecryptUpdate, update: Function::DecryptUpdate, last: None };
+    cipher(&calls, session, data, output)
+}
+
+/// C_DecryptFinal.
+pub fn decrypt_final(session: u64, output: Output) -> Answer {
+    returned(Function::DecryptFinal, session, output, |it| it)
+}

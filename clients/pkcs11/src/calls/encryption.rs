@@ -1,0 +1,28 @@
+//! Encryption functions (5.8).
+
+use super::begin;
+use super::pieces::{Calls, cipher, returned};
+use crate::edge::memory::{Answer, Input, MechanismPointer, Output};
+use crate::frame::Function;
+
+/// C_EncryptInit.
+pub fn encrypt_init(session: u64, mechanism: MechanismPointer, key: u64) -> Answer {
+    begin(Function::EncryptInit, session, mechanism, key)
+}
+
+/// C_Encrypt.
+pub fn encrypt(session: u64, data: Input, output: Output) -> Answer {
+    let calls = Calls { whole: Function::Encrypt, update: Function::EncryptUpdate, last: Some(Function::EncryptFinal) };
+    cipher(&calls, session, data, output)
+}
+
+/// C_EncryptUpdate.
+pub fn encrypt_update(session: u64, data: Input, output: Output) -> Answer {
+    let calls = Calls { whole: Function::EncryptUpdate, update: Function::EncryptUpdate, last: None };
+    cipher(&calls, session, data, output)
+}
+
+/// C_EncryptFinal.
+pub fn encrypt_final(session: u64, output: Output) -> Answer {
+    returned(Function::EncryptFinal, session, output, |it| it)
+}

@@ -1,0 +1,67 @@
+//! Functions for verifying signatures and MACs (5.15).
+//!
+//! C_Verify of an operation that has taken data by C_VerifyUpdate is CKR_OPERATION_ACTIVE. Data longer than a frame goes by
+//! C_VerifyUpdate itself, and no call asks whether data was taken without ending the operation; so the link notes it.
+
+use super::begin;
+use super::pieces::{ONE_FRAME, taken};
+use crate::abi::codes::*;
+use crate::edge::memory::{Answer, Input, MechanismPointer};
+use crate::frame::Function;
+use crate::link::Link;
+use crate::process::with_link;
+
+/// A longer signature than this is of no mechanism: so much of it is refused for its length as well.
+const LONGEST_SIGNATURE: u64 = 1_024;
+
+/// C_VerifyInit.
+pub fn verify_init(session: u64, mechanism: MechanismPointer, key: u64) -> Answer {
+    begin(Function::VerifyInit, session, mechanism, key)?;
+    with_link(|link| {
+        link.set_taken_data(session, false);
+        Ok(())
+    })
+}
+
+/// C_Verify.
+pub fn verify(session: u64, data: Input, signature: Input) -> Answer {
+    let signature = signature.at_most(LONGEST_SIGNATURE);
+    if data.is_null() && data.len() != 0 {
+        return Err(CKR_ARGUMENTS_BAD);
+    }
+    with_link(|link| {
+        let is_whole = data.len() <= ONE_FRAME - LONGEST_SIGNATURE;
+        if is_whole || link.has_taken_data(session) {
+            // (where data was taken, the token refuses it, whatever comes now)
+            let data = if is_whole { data } else { data.at_most(0) };
+            return link.in_session(
+                Function::Verify,
+                session,
+                |it| it.input(&data, CKR_DATA_LEN_RANGE).input(&signature, CKR_SIGNATURE_LEN_RANGE),
+                |it| it.ok(),
+            );
+        }
+        taken(link, Function::VerifyUpdate, session, &data)?;
+        last(link, session, &signature)
+    })
+}
+
+/// C_VerifyUpdate.
+pub fn verify_update(session: u64, data: Input) -> Answer {
+    with_link(|link| {
+        taken(link, Function::VerifyUpdate, session, &data)?;
+        if data.len() != 0 {
+            link.set_taken_data(session, true);
+        }
+        Ok(())
+    })
+}
+
+/// C_VerifyFinal.
+pub fn verify_final(session: u64, signature: Input) -> Answer {
+    with_link(|link| last(link, session, &signature.at_most(LONGEST_SIGNATURE)))
+}
+
+fn last(link: &mut Link, session: u64, signature: &Input) -> Answer {
+    link.in_session(Function::VerifyFinal, session, |it| it.input(signature, CKR_SIGNATURE_LEN_RANGE), |it| it.ok())
+}
