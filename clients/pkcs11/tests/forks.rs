@@ -8,6 +8,7 @@ use common::{Folder, templates::*};
 use std::ffi::c_int;
 use std::ptr::null_mut;
 use std::sync::atomic::{AtomicBool, Ordering::SeqCst};
+use std::sync::{Mutex, MutexGuard, PoisonError};
 use tokend_pkcs11::abi::codes::*;
 
 unsafe extern "C" {
@@ -33,6 +34,13 @@ fn in_child(checks: impl Fn() -> Vec<bool>) -> c_int {
     }
 }
 
+/// One test at a time: in a child C_Initialize reads the environment, which is one for all tests.
+static ALONE: Mutex<()> = Mutex::new(());
+
+fn alone() -> MutexGuard<'static, ()> {
+    ALONE.lock().unwrap_or_else(PoisonError::into_inner)
+}
+
 fn begun(folder: &Folder) -> Module {
     let module = Module::load(folder, "module.so");
     assert_eq!(module.initialize(folder), CKR_OK);
@@ -46,6 +54,7 @@ fn again(module: &Module) -> bool {
 
 #[test]
 fn with_a_session() {
+    let _alone = alone();
     let folder = Folder::new();
     let _daemon = Daemon::start(&folder);
     let module = begun(&folder);
@@ -74,6 +83,7 @@ fn with_a_session() {
 
 #[test]
 fn without_a_session() {
+    let _alone = alone();
     let folder = Folder::new();
     let _daemon = Daemon::start(&folder);
     let module = begun(&folder);
@@ -87,6 +97,7 @@ fn without_a_session() {
 /// C_InitToken would be refused.
 #[test]
 fn a_child_that_goes_on_keeps_nothing_open() {
+    let _alone = alone();
     let folder = Folder::new();
     let _daemon = Daemon::start(&folder);
     let module = begun(&folder);
@@ -106,11 +117,13 @@ fn a_child_that_goes_on_keeps_nothing_open() {
 /// While other threads are inside of calls, the lock is held at some of the forks.
 #[test]
 fn in_the_midst_of_calls() {
+    let _alone = alone();
     let folder = Folder::new();
     let _daemon = Daemon::start(&folder);
     let module = begun(&folder);
     let session = module.open(RW).unwrap();
     let ends = AtomicBool::new(false);
+    let mut failed = Vec::new();
     std::thread::scope(|scope| {
         for _ in 0..2 {
             scope.spawn(|| {
@@ -119,11 +132,9 @@ fn in_the_midst_of_calls() {
                 }
             });
         }
-        for _ in 0..40 {
-            let failed = in_child(|| vec![again(&module), module.open(RW).is_ok(), module.finalize() == CKR_OK]);
-            assert_eq!(failed, 0, "the check that failed in the child, from 1");
-        }
+        failed.extend((0..40).map(|_| in_child(|| vec![again(&module), module.open(RW).is_ok(), module.finalize() == CKR_OK])));
         ends.store(true, SeqCst);
     });
+    assert_eq!(failed, [0; 40], "the check that failed in each child, from 1");
     assert_eq!(module.finalize(), CKR_OK);
 }

@@ -6,8 +6,8 @@
 Starts a daemon of its own. Prints a line a step, `ok NAME`, `FAILED NAME` or `skipped NAME`, and behind a failed one what differs.
 The last line is `N passed, M failed, K skipped`. With --accept it writes the files instead of comparing.
 
-A file's first line is the exit status; what was printed follows, on both streams, with the names of folders and the serial number
-replaced.
+A file's first line is the exit status; standard output and standard error follow. What differs from run to run is replaced: names of
+folders, the serial number, addresses, and what random bytes make.
 """
 import difflib, os, re, shutil, subprocess, sys, tempfile
 
@@ -110,24 +110,29 @@ def fill(room):
             it.write(text[:len_])
     with open(f"{room}/object", "w") as it:
         it.write("hello\n")
+    # (a machine that does much else is no reason to give up)
+    with open(f"{room}/pkcs11.conf", "w") as it:
+        it.write("timeout = 60\n")
 
 
 def normal(text, room, module):
     """What was printed, without what differs from run to run."""
     text = text.replace(module, "MODULE").replace(room, "FOLDER")
     text = re.sub(r"(?i)(serial( num)?(ber)?\s*[:=]\s*)[0-9a-f]{16}", r"\1SERIAL", text)
-    text = re.sub(r"\b[0-9a-f]{32}\b", "UNIQUE-ID", text)
-    return "".join(f"{it.rstrip()}\n" for it in text.split("\n")).rstrip("\n") + "\n"
+    text = re.sub(r"\b[0-9a-f]{32,64}\b", "RANDOM", text)
+    text = re.sub(r"\b0x[0-9a-f]{8,16}\b", "ADDRESS", text)
+    return "".join(f"{it.rstrip()}\n" for it in text.strip("\n").split("\n")) if text else ""
 
 
 def run(words, room, module):
     words = [module if it == "MODULE" else it for it in words]
-    variables = {"PATH": os.environ["PATH"], "HOME": room, "LC_ALL": "C.UTF-8", "TOKEND_SOCKET": f"{room}/socket", "TOKEND_PKCS11_CONF": f"{room}/none"}
+    variables = {"PATH": os.environ["PATH"], "HOME": room, "LC_ALL": "C.UTF-8", "TOKEND_SOCKET": f"{room}/socket", "TOKEND_PKCS11_CONF": f"{room}/pkcs11.conf"}
     try:
-        ran = subprocess.run(words, cwd=room, env=variables, stdin=subprocess.DEVNULL, stdout=subprocess.PIPE, stderr=subprocess.STDOUT, timeout=SECONDS)
+        ran = subprocess.run(words, cwd=room, env=variables, stdin=subprocess.DEVNULL, stdout=subprocess.PIPE, stderr=subprocess.PIPE, timeout=SECONDS)
     except subprocess.TimeoutExpired:
         return f"no end after {SECONDS} seconds\n"
-    return f"status {ran.returncode}\n" + normal(ran.stdout.decode(errors="replace"), room, module)
+    output, errors = (normal(it.decode(errors="replace"), room, module) for it in (ran.stdout, ran.stderr))
+    return f"status {ran.returncode}\n{output}{errors and '-- standard error' + chr(10)}{errors}"
 
 
 def play(room, module, accepts):
