@@ -1,5 +1,6 @@
 #!/usr/bin/env python3
-"""Plays pkcs11-tool (opensc) and p11tool (gnutls-bin) over the module, and compares what they print with the files beside this one.
+"""Plays pkcs11-tool (opensc) and p11tool (gnutls-bin) over the module, and the protocol's client in Python, and compares what they print
+with the files beside this one.
 
     play.py PROGRAM MODULE [--accept]
 
@@ -12,6 +13,7 @@ folders, the serial number, addresses, and what random bytes make.
 import difflib, os, re, shutil, subprocess, sys, tempfile
 
 HERE = os.path.dirname(os.path.abspath(__file__))
+CLIENT = os.path.normpath(f"{HERE}/../../../python/encrypt.py")
 SECONDS = 60
 SO, USER = ["--so-pin", "12345678"], ["--login", "--pin", "1234"]
 IV = ["--iv", "000102030405060708090a0b0c0d0e0f"]
@@ -40,6 +42,7 @@ def cipher(way, mechanism, iv, given, made):
 
 # The name of a step, its command, and whether what it prints is compared (else its status alone).
 STEPS = [
+    ("client in Python", ["python3", CLIENT, "socket"], True),
     ("info", tool("-I"), True),
     ("slots of a new token", tool("-L"), True),
     ("mechanisms", tool("-M"), True),
@@ -138,7 +141,7 @@ def run(words, room, module):
 def play(room, module, accepts):
     counts = {"ok": 0, "FAILED": 0, "skipped": 0}
     for name, words, is_compared in STEPS:
-        program = next(it for it in words if it in ("pkcs11-tool", "p11tool", "cmp"))
+        program = next(it for it in words if it in ("pkcs11-tool", "p11tool", "cmp", "python3"))
         file, found = f"{HERE}/{name.replace(' ', '-')}.txt", None
         if not shutil.which(program):
             how = "skipped"
