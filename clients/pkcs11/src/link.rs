@@ -165,18 +165,23 @@ impl Link {
         }
         let mut ask = |link: &mut Link| link.ask(function, |it| write(it.number(slot)), &mut read);
         let mut is_new = self.connection.is_none();
+        if is_new && again == Again::NotSent {
+            self.connect_and_be_served()?;
+            is_new = false;
+        }
         let mut found = if is_new { self.connect().and_then(|()| ask(self)) } else { ask(self) };
         if !is_new && again == Again::Sent && matches!(found, Err(Failure::Lost(Loss::Closed))) {
             is_new = true;
             found = self.connect().and_then(|()| ask(self));
         }
-        found.map_err(|it| match it {
-            Failure::Code(code) => code,
-            Failure::Lost(Loss::Nonsense) => CKR_DEVICE_ERROR,
-            // (a connection beyond those that the daemon serves is accepted by the system, and nobody answers)
-            Failure::Lost(_) if is_new => CKR_TOKEN_NOT_PRESENT,
-            Failure::Lost(_) => CKR_DEVICE_REMOVED,
-        })
+        found.map_err(|it| slot_code(it, is_new))
+    }
+
+    /// Connects, and asks something harmless. A connection beyond those that the daemon serves is accepted by the system, and a request
+    /// that was given up there would be read once a place is free.
+    fn connect_and_be_served(&mut self) -> Result<(), CK_RV> {
+        let served = self.connect().and_then(|()| self.ask(Function::CloseAllSessions, |it| it.number(SLOT), |it| it.ok()));
+        served.map_err(|it| slot_code(it, true))
     }
 
     /// Opens a session, with which the connection stays.
@@ -235,5 +240,16 @@ impl Link {
         } else {
             self.verifying.remove(&session);
         }
+    }
+}
+
+/// What a failure on the slot is answered, by whether the connection was made for the call.
+fn slot_code(failure: Failure, is_new: bool) -> CK_RV {
+    match failure {
+        Failure::Code(code) => code,
+        Failure::Lost(Loss::Nonsense) => CKR_DEVICE_ERROR,
+        // (nobody answers, or the daemon is about to end)
+        Failure::Lost(_) if is_new => CKR_TOKEN_NOT_PRESENT,
+        Failure::Lost(_) => CKR_DEVICE_REMOVED,
     }
 }

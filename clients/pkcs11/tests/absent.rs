@@ -5,7 +5,7 @@ mod common;
 use common::daemon::Daemon;
 use common::module::{Module, RW};
 use common::{Folder, templates::*};
-use std::io::Write;
+use std::io::{Read, Write};
 use std::os::unix::net::UnixListener;
 use std::ptr::null_mut;
 use std::time::{Duration, Instant};
@@ -70,6 +70,21 @@ fn a_daemon_that_does_not_answer() {
     let took = since.elapsed();
     assert!(took >= Duration::from_secs(1) && took < Duration::from_secs(4), "it took {took:?}");
     assert_eq!(module.finalize(), CKR_OK);
+}
+
+/// The daemon would read what was sent on a connection that it comes to later: C_InitToken isn't sent before something was answered.
+#[test]
+fn a_token_is_not_made_anew_later() {
+    let folder = Folder::new();
+    std::fs::write(folder.file("pkcs11.conf"), "timeout = 1\n").unwrap();
+    let listener = UnixListener::bind(folder.file("socket")).unwrap();
+    let module = Module::load(&folder, "module.so");
+    assert_eq!(module.initialize(&folder), CKR_OK);
+    assert_eq!(module.init_token("so pin", "a token"), CKR_TOKEN_NOT_PRESENT);
+    let mut sent = Vec::new();
+    listener.accept().unwrap().0.read_to_end(&mut sent).unwrap();
+    // (C_CloseAllSessions of slot 0, and nothing more)
+    assert_eq!(sent, [0, 0, 0, 10, 0, 9, 0, 0, 0, 0, 0, 0, 0, 0]);
 }
 
 /// Answers C_OpenSession, and then sends a byte of a reply now and then.
