@@ -2,7 +2,7 @@
 use Rattle.std.proofs.Common.{◌≡◌, ◌≢◌, ◌⊎◌, inl, inr, Bool, true, false, not, Ok, Err, Result, IfOk, IfErr, OnOk, OnErr, IsErrAnd, IsErrOf, IsTrue, refl, sym, ap, subst, ◌∙◌, arith, ◌≤◌}
 use Rattle.sqlite_trees.specs.View.{doubt}
 use Rattle.sqlite.specs.Tree.{Trees}
-use Rattle.sqlite.specs.Effect.{Database}
+use Rattle.sqlite.specs.Effect.{Database, IsDatabase}
 use Rattle.sqlite.specs.Store.{Ghosts}
 use Rattle.sqlite.specs.State.{State, HasCleanDisk}
 use Rattle.sqlite.specs.Held.{state}
@@ -12,20 +12,20 @@ use Rattle.keep.specs.declared.keep.KeepFault.{KeepFault}
 use Rattle.keep.specs.declared.keep.KeepFault.TheVariants.{Damaged}
 use Rattle.table_statements.specs.Tables.{no_schema, token_schema}
 use Rattle.table_statements.specs.Store.{IsReady, OnlyReads, Sees, SeesTables, ShowsNow, Unwritten}
-use Rattle.stored_contents.specs.Store.{Stores, IsAt, Holds, ReadsAs}
+use Rattle.stored_contents.specs.Store.{IsStore, IsAt, Holds, ReadsAs}
 use Rattle.stored_contents.specs.SqlState.{SqlState, sql_terms}
 use Rattle.keep_sql.specs.declared.taking.Found.{Found}
 use Rattle.stored_contents.specs.Formats.{HoldsEither, IsAtEither, StoresEither}
 use Rattle.keep_sql.specs.Found.{Finds, is_current}
 use Rattle.stored_contents.specs.Opening.{Adopts, AllDecode, HasOld, IsOurs, NotOpened, Opened, has_tables}
-use Rattle.stored_contents.proofs.Held.{at_again, held_on, one_contents, reads_one, reads_stay, sees_held}
+use Rattle.stored_contents.proofs.Held.{at_again, held_on, one_contents, reads_one, reads_stay, sees_held, store_at}
 use Rattle.stored_contents.proofs.Opens.{not_both, not_none}
 use Rattle.keep_sql.proofs.Taken.{either_decodes, found_decodes, has_old, none_old, same_record, stored_either}
 
 -- ---- in either format
 
 pub either_held : (s : State) (c : Contents) → Holds s c → HoldsEither s c
-either_held s c h = λ clean up. let at = h clean up in record { schema = at.schema; settled = at.settled; autocommit = at.autocommit; stores = stored_either s.now.trees c at.stores }
+either_held s c h = λ clean up. let at = h clean up in record { schema = at.schema; settled = at.settled; autocommit = at.autocommit; stores = stored_either s.now.trees c at.stores; sound = at.sound }
 
 either_sees : (s : State) (c : Contents) → HoldsEither s c → SeesTables s s.now
 either_sees s c h = λ clean up. let at = h clean up in (record { now = refl; settled = at.settled; autocommit = at.autocommit }, at.schema)
@@ -36,6 +36,7 @@ either_again old new c at shows = record {
   settled = shows.settled ∙ sym shows.now;
   autocommit = shows.autocommit;
   stores = subst (λ (d : Database). StoresEither d.trees c) (sym shows.now) at.stores;
+  sound = subst (λ (d : Database). IsDatabase d) (sym shows.now) at.sound;
 }
 
 either_on : (old new : State) (c : Contents) → Unwritten old new → HoldsEither old c → HoldsEither new c
@@ -118,7 +119,7 @@ module _ (old mid : State) (ready : IsReady old) (sees : Sees old old.now) (ther
     }
 
     taken_err : (fault : KeepFault) → fault ≢ Damaged → is_current f ≡ false → (same : (db : Database) → IsReady mid → Sees mid db → HasCleanDisk new → IsTrue new.is_open → ShowsNow new db)
-        → (crash : (c : Contents) → IsAtEither mid c → Finds mid.now.trees f → HasCleanDisk new → (left : Trees) → new.may_leave left → mid.may_leave left ⊎ Stores left c) → NotOpened old new fault
+        → (crash : (c : Contents) → IsAtEither mid c → Finds mid.now.trees f → HasCleanDisk new → (left : Trees) → new.may_leave left → mid.may_leave left ⊎ IsStore left c) → NotOpened old new fault
     taken_err fault sound old_one same crash = record {
       clean = omega (arith, reads.clean, clean_on);
       same = λ ours clean up. elim ours [
@@ -150,7 +151,7 @@ module _ (old mid : State) (ready : IsReady old) (sees : Sees old old.now) (ther
 
     pub taken : (r : Result TokenRecord KeepFault) → IfOk r (λ x. x ≡ f.token_record) → ((c : Contents) → IsReady mid → IsAtEither mid c → Finds mid.now.trees f → HasCleanDisk new → OnOk r (IsTrue new.is_open × IsAt new c))
         → (IsReady mid → HasCleanDisk new → OnOk r (IsTrue new.is_open)) → ((db : Database) → IsReady mid → Sees mid db → HasCleanDisk new → IsTrue new.is_open → OnErr r (ShowsNow new db))
-        → ((c : Contents) → IsAtEither mid c → Finds mid.now.trees f → HasCleanDisk new → (left : Trees) → new.may_leave left → mid.may_leave left ⊎ Stores left c) → OnErr r (is_current f ≡ false) → (IsErrOf r Damaged → ⊥)
+        → ((c : Contents) → IsAtEither mid c → Finds mid.now.trees f → HasCleanDisk new → (left : Trees) → new.may_leave left → mid.may_leave left ⊎ IsStore left c) → OnErr r (is_current f ≡ false) → (IsErrOf r Damaged → ⊥)
         → IfOk r (Opened old new) × IfErr r (NotOpened old new)
     taken (Ok x) is made up same crash old_one undamaged = (subst (Opened old new) (sym is) (taken_ok made up), tt)
     taken (Err fault) is made up same crash old_one undamaged = (tt, taken_err fault (λ damage. undamaged (ap (λ (d : KeepFault). Err d) damage)) old_one same crash)
@@ -167,7 +168,7 @@ module _ (old new : State) (ready : IsReady old) (sees : Sees old old.now) (ther
 
   pub made : (r : Result TokenRecord KeepFault) → (old.now.schema ≡ no_schema → HasCleanDisk new → IfOk r (λ x. IsTrue new.is_open × IsAt new (new_contents new_record) × (x ≡ new_record)))
       → ((db : Database) → IsReady old → Sees old db → HasCleanDisk new → IsTrue new.is_open → OnErr r (ShowsNow new db))
-      → (old.now.schema ≡ no_schema → HasCleanDisk new → (left : Trees) → new.may_leave left → old.may_leave left ⊎ Stores left (new_contents new_record))
+      → (old.now.schema ≡ no_schema → HasCleanDisk new → (left : Trees) → new.may_leave left → old.may_leave left ⊎ IsStore left (new_contents new_record))
       → (IsErrOf r Damaged → ⊥) → IfOk r (Opened old new) × IfErr r (NotOpened old new)
   made (Ok x) fresh same crash undamaged = (
     record {
@@ -313,5 +314,5 @@ module _ {S : Type 0} (g : Ghosts S) (k : SqlState S) (c : Contents) (clean : Ha
     only = λ d h. one_contents (state g k.conn).now.trees d c (h.0 clean up).stores at.stores;
     alone = λ left may.
         let trees : may.1.0 ≡ (state g k.conn).now.trees = alone may.1.0 up may.1.1 ∙ ap (λ (d : Database). d.trees) at.settled in
-        reads_one (state g k.conn).now.trees c left at.stores (subst (λ (t : Trees). ReadsAs t left) trees may.1.2);
+        reads_one (state g k.conn).now.trees c left (store_at (state g k.conn) c at) (subst (λ (t : Trees). ReadsAs t left) trees may.1.2);
   }

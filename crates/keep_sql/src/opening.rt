@@ -11,7 +11,7 @@ ghost use Rattle.keep.specs.declared.keep.KeepFault.TheVariants.{Damaged};
 ghost use Rattle.keep.specs.Contents.{new_contents};
 ghost use Rattle.table_statements.specs.Tables.{no_schema};
 ghost use Rattle.table_statements.specs.Store.{IsReady, Sees, ShowsNow};
-ghost use Rattle.stored_contents.specs.Store.{IsAt, Stores};
+ghost use Rattle.stored_contents.specs.Store.{IsAt, IsStore};
 ghost use Rattle.stored_contents.specs.Opening.{NotOpened, Opened, has_tables as has_tables_in, is_token_table as is_one_of_two};
 
 use crate::taking::take_over;
@@ -45,7 +45,7 @@ fn create<S: Alter>(alloc: Global, conn: &mut Connection<S>) -> Result<Record, K
     ensures same { (db : Database) → IsReady (state S.Store conn.old) → Sees (state S.Store conn.old) db → HasCleanDisk (state S.Store conn.new) → IsTrue (state S.Store conn.new).is_open
         → OnErr result (ShowsNow (state S.Store conn.new) db) }
     ensures crash { (state S.Store conn.old).now.schema ≡ no_schema → HasCleanDisk (state S.Store conn.new) → (left : Trees) → (state S.Store conn.new).may_leave left
-        → (state S.Store conn.old).may_leave left ⊎ Stores left (new_contents new_record) }
+        → (state S.Store conn.old).may_leave left ⊎ IsStore left (new_contents new_record) }
     ensures undamaged { IsErrOf result Damaged → ⊥ }
 {
     let record = Record::new();

@@ -10,7 +10,7 @@ ghost use Rattle.pin_record.specs.Records.{TokenRecord};
 ghost use Rattle.keep.specs.declared.keep.KeepFault.TheVariants.{Damaged};
 ghost use Rattle.keep.specs.Contents.{Contents};
 ghost use Rattle.table_statements.specs.Store.{IsReady, OnlyReads, Sees, SeesTables, ShowsNow};
-ghost use Rattle.stored_contents.specs.Store.{IsAt, Stores};
+ghost use Rattle.stored_contents.specs.Store.{IsAt, IsStore};
 ghost use Rattle.stored_contents.specs.Formats.{IsAtEither};
 ghost use Rattle.stored_contents.specs.Rows.{ShowRecordEither, ShowsEither};
 ghost use Rattle.stored_contents.specs.Renewals.{FindsRecord, IsCovered, IsOfRow};
@@ -94,7 +94,7 @@ fn renew<S: Alter>(alloc: Global, conn: &mut Connection<S>, found: &Found) -> Re
     ensures same { (db : Database) → IsReady (state S.Store conn.old) → Sees (state S.Store conn.old) db → HasCleanDisk (state S.Store conn.new) → IsTrue (state S.Store conn.new).is_open
         → OnErr result (ShowsNow (state S.Store conn.new) db) }
     ensures crash { (c : Contents) → IsAtEither (state S.Store conn.old) c → Finds (state S.Store conn.old).now.trees found.now → HasCleanDisk (state S.Store conn.new) → (left : Trees) → (state S.Store conn.new).may_leave left
-        → (state S.Store conn.old).may_leave left ⊎ Stores left c }
+        → (state S.Store conn.old).may_leave left ⊎ IsStore left c }
     ensures undamaged { IsErrOf result Damaged → ⊥ }
 {
     let bytes = pin_record::encode(alloc, &found.token_record)?;
@@ -119,7 +119,7 @@ fn make_current<S: Alter>(
     ensures same { (db : Database) → IsReady (state S.Store conn.old) → Sees (state S.Store conn.old) db → HasCleanDisk (state S.Store conn.new) → IsTrue (state S.Store conn.new).is_open
         → OnErr result (ShowsNow (state S.Store conn.new) db) }
     ensures crash { (c : Contents) → IsAtEither (state S.Store conn.old) c → Finds (state S.Store conn.old).now.trees found.now → HasCleanDisk (state S.Store conn.new) → (left : Trees) → (state S.Store conn.new).may_leave left
-        → (state S.Store conn.old).may_leave left ⊎ Stores left c }
+        → (state S.Store conn.old).may_leave left ⊎ IsStore left c }
     ensures old { OnErr result (is_current_in found.now ≡ false) }
     ensures undamaged { IsErrOf result Damaged → ⊥ }
 {

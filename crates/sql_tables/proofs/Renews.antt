@@ -1,8 +1,8 @@
 -- What the transaction that writes bodies again makes of the tables.
-use Rattle.std.proofs.Common.{◌≡◌, ℕ, ℤ, pos, ◌==◌, List, [], ◌∷◌, map, codes, Bool, true, false, cond, None, Ok, refl, ap, subst, ◌∙◌}
+use Rattle.std.proofs.Common.{◌≡◌, ℕ, ℤ, pos, ◌==◌, List, [], ◌∷◌, map, codes, Bool, true, false, cond, None, Ok, refl, sym, ap, subst, ◌∙◌}
 use Rattle.sqlite_value.specs.declared.value.Value.TheVariants.{Blob, Int}
 use Rattle.sqlite.specs.Command.TheVariants.{Update}
-use Rattle.sqlite.specs.Effect.{Database}
+use Rattle.sqlite.specs.Effect.{Database, IsDatabase}
 use Rattle.sqlite.specs.Listing.{understood}
 use Rattle.sqlite.specs.Store.{Ghosts}
 use Rattle.sqlite.specs.State.{State, Executes, Writes}
@@ -56,7 +56,7 @@ each_is g (e ∷ es) old new xs ids has are rise ran =
     (rest.0, rest.1 ∙ one.1, rest.2, rest.3 ∙ one.3)
 
 pub renews_is : {S : Type 0} (g : Ghosts S) (es : List Renewal) (old : Held S) (db : Database) (to : List ℕ) (b : Bodies) → AreNatural es → (state g old).now.schema ≡ token_schema → HasRows (state g old).now.trees b → RanRenewals g es to old db
-    → (db.schema ≡ token_schema) × HasRows db.trees (renewed es to b)
+    → (db.schema ≡ token_schema) × HasRows db.trees (renewed es to b) × IsDatabase db
 renews_is g es old db to b ids has it ran =
     let set_text = codes "UPDATE record SET body = ?1" in
     let mid = state g ran.mid in
@@ -73,4 +73,5 @@ renews_is g es old db to b ids has it ran =
         count_is = ap (λ (d : Database). d.trees 2) now ∙ done.3 ∙ each.3 ∙ it.count_is;
         ids = each_rises es b.last_id b.objects it.ids;
       },
+      subst (λ (d : Database). IsDatabase d) (sym now) w.sound,
     )

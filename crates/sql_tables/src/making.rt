@@ -8,7 +8,7 @@ ghost use Rattle.sqlite.specs.State.{HasCleanDisk};
 ghost use Rattle.sqlite.specs.Held.{state};
 ghost use Rattle.table_statements.specs.Bodies.{new_bodies};
 ghost use Rattle.table_statements.specs.Tables.{no_schema};
-ghost use Rattle.table_statements.specs.Store.{HasRows, IsAtRows, IsReady, Sees, ShowsNow};
+ghost use Rattle.table_statements.specs.Store.{HasTables, IsAtRows, IsReady, Sees, ShowsNow};
 
 use crate::transactions::{Three, run_all};
 use sqlite::{Alter, Connection, Error};
@@ -25,7 +25,7 @@ pub fn make_tables<S: Alter>(conn: &mut Connection<S>, bytes: &[u8]) -> Result<b
     ensures same { (db : Database) → IsReady (state S.Store conn.old) → Sees (state S.Store conn.old) db → HasCleanDisk (state S.Store conn.new) → IsTrue (state S.Store conn.new).is_open
         → OnErr result (ShowsNow (state S.Store conn.new) db) }
     ensures crash { (state S.Store conn.old).now.schema ≡ no_schema → HasCleanDisk (state S.Store conn.new)
-        → (left : Trees) → (state S.Store conn.new).may_leave left → (state S.Store conn.old).may_leave left ⊎ HasRows left (new_bodies bytes.now) }
+        → (left : Trees) → (state S.Store conn.new).may_leave left → (state S.Store conn.old).may_leave left ⊎ HasTables left (new_bodies bytes.now) }
 {
     run_all(
         conn,

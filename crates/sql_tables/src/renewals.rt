@@ -8,7 +8,7 @@ ghost use Rattle.sqlite.specs.declared.types.Value.TheVariants.{Blob, Int};
 ghost use Rattle.sqlite.specs.State.{ExecutesInside, HasCleanDisk, KeepsCommit, Survives};
 ghost use Rattle.sqlite.specs.Held.{state};
 ghost use Rattle.table_statements.specs.Bodies.{Bodies};
-ghost use Rattle.table_statements.specs.Store.{HasRows, IsAtRows, IsReady, Sees, ShowsNow};
+ghost use Rattle.table_statements.specs.Store.{HasTables, IsAtRows, IsReady, Sees, ShowsNow};
 ghost use Rattle.sql_tables.specs.RanEach.{RanEach, RanRenewals};
 ghost use Rattle.sql_tables.specs.Renewed.{AreNatural, renewed};
 
@@ -85,7 +85,7 @@ pub fn renew_bodies<S: Alter>(
     ensures same { (db : Database) → IsReady (state S.Store conn.old) → Sees (state S.Store conn.old) db → HasCleanDisk (state S.Store conn.new) → IsTrue (state S.Store conn.new).is_open
         → OnErr result (ShowsNow (state S.Store conn.new) db) }
     ensures crash { (b : Bodies) → IsAtRows (state S.Store conn.old) b → AreNatural renewals.now → HasCleanDisk (state S.Store conn.new) → (left : Trees) → (state S.Store conn.new).may_leave left
-        → (state S.Store conn.old).may_leave left ⊎ HasRows left (renewed renewals.now bytes.now b) }
+        → (state S.Store conn.old).may_leave left ⊎ HasTables left (renewed renewals.now bytes.now b) }
 {
     run_all(
         conn,

@@ -1,8 +1,9 @@
 -- Tables hold one contents, and calls that write nothing leave them.
 use Rattle.std.proofs.Common.{◌≡◌, ℕ, zero, suc, List, [], ◌∷◌, map, Some, None, Option, refl, sym, ap, subst, ◌∙◌, arith}
 use Rattle.sqlite.specs.Tree.{Trees}
-use Rattle.sqlite.specs.Effect.{Database}
+use Rattle.sqlite.specs.Effect.{Database, IsDatabase}
 use Rattle.sqlite.specs.State.{State, HasCleanDisk}
+use Rattle.sqlite.specs.Schema.{Schema}
 use Rattle.attrs.specs.Objects.{IsObject}
 use Rattle.attrs.specs.Stored.{object_stored}
 use Rattle.attrs.specs.StoredLaws.{object_stored-complete}
@@ -11,7 +12,7 @@ use Rattle.pin_record.specs.Stored.{IsRecord, record_stored}
 use Rattle.pin_record.proofs.StoredLaws.{record_stored-complete}
 use Rattle.keep.specs.Contents.{Contents}
 use Rattle.table_statements.specs.Store.{counter_rows, OnlyReads, Sees, SeesTables, ShowsNow, Unwritten}
-use Rattle.stored_contents.specs.Store.{AreObjects, Body, Holds, IsAt, ReadsAs, Stayed, Stores, encoded, encoded_record, object_row, record_row}
+use Rattle.stored_contents.specs.Store.{AreObjects, Body, Holds, IsAt, IsStore, ReadsAs, Stayed, Stores, encoded, encoded_record, object_row, record_row}
 
 object_of : (a b : Body) → IsObject a → IsObject b → encoded a ≡ encoded b → a ≡ b
 unfolding encoded
@@ -52,9 +53,13 @@ one_contents trees c d one two =
     ap (λ (xs : List (ℕ × Body)). record c { objects = xs }) objects ∙ ap (λ (r : TokenRecord). record c { objects = d.objects; token_record = r }) token ∙ ap (λ (n : ℕ). record d { last_id = n }) last
 
 -- what tables read as, where they hold contents
-pub reads_one : (trees : Trees) (c : Contents) (left : Option Contents) → Stores trees c → ReadsAs trees left → left ≡ Some c
+pub reads_one : (trees : Trees) (c : Contents) (left : Option Contents) → IsStore trees c → ReadsAs trees left → left ≡ Some c
 reads_one trees c None it reads = absurd (reads c it)
-reads_one trees c (Some d) it reads = ap (λ (x : Contents). Some x) (one_contents trees d c reads it)
+reads_one trees c (Some d) it reads = ap (λ (x : Contents). Some x) (one_contents trees d c reads.stores it.stores)
+
+-- an open connection that is at contents has their store
+pub store_at : (s : State) (c : Contents) → IsAt s c → IsStore s.now.trees c
+store_at s c at = record { stores = at.stores; sound = subst (λ (x : Schema). IsDatabase (record { schema = x; trees = s.now.trees })) at.schema at.sound }
 
 -- what an open connection that is at contents sees
 pub sees_at : (s : State) (c : Contents) → IsAt s c → Sees s s.now
@@ -66,6 +71,7 @@ at_again old new c at shows = record {
   settled = shows.settled ∙ sym shows.now;
   autocommit = shows.autocommit;
   stores = subst (λ (d : Database). Stores d.trees c) (sym shows.now) at.stores;
+  sound = subst (λ (d : Database). IsDatabase d) (sym shows.now) at.sound;
 }
 
 -- nothing was written, so what it holds is held

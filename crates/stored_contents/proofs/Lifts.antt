@@ -12,8 +12,8 @@ use Rattle.keep.specs.Contents.{Contents, IdsRise, IsSound, IsTokenObject, after
 use Rattle.keep.specs.ContentsLaws.{IsSound-after_reset, IsSound-with_object, IsSound-with_record, IsSound-with_replacement, IsSound-without_object}
 use Rattle.table_statements.specs.Bodies as tables
 use Rattle.table_statements.specs.Bodies.{Bodies, put_at}
-use Rattle.table_statements.specs.Store.{HasRows, HoldsRows, IsAtRows, RowsChanged, RowsFailed, RowsStayed, ShowsBody, body_row}
-use Rattle.stored_contents.specs.Store.{AreObjects, Body, Changed, Failed, Holds, IsAt, Shows, Stayed, Stores, encoded, encoded_record, object_row}
+use Rattle.table_statements.specs.Store.{HasRows, HasTables, HoldsRows, IsAtRows, RowsChanged, RowsFailed, RowsStayed, ShowsBody, body_row}
+use Rattle.stored_contents.specs.Store.{AreObjects, Body, Changed, Failed, Holds, IsAt, IsStore, Shows, Stayed, Stores, encoded, encoded_record, object_row}
 use Rattle.stored_contents.proofs.Held.{reads_one}
 
 -- ---- contents as bodies
@@ -55,10 +55,13 @@ as_contents trees c kept it = record {
 }
 
 at_rows : (s : State) (c : Contents) → IsAt s c → IsAtRows s (bodies_of c)
-at_rows s c at = record { schema = at.schema; settled = at.settled; autocommit = at.autocommit; stores = as_rows s.now.trees c at.stores }
+at_rows s c at = record { schema = at.schema; settled = at.settled; autocommit = at.autocommit; stores = as_rows s.now.trees c at.stores; sound = at.sound }
 
 pub at_contents : (s : State) (c : Contents) → IsKept c → IsAtRows s (bodies_of c) → IsAt s c
-at_contents s c kept at = record { schema = at.schema; settled = at.settled; autocommit = at.autocommit; stores = as_contents s.now.trees c kept at.stores }
+at_contents s c kept at = record { schema = at.schema; settled = at.settled; autocommit = at.autocommit; stores = as_contents s.now.trees c kept at.stores; sound = at.sound }
+
+pub as_store : (trees : Trees) (c : Contents) → IsKept c → HasTables trees (bodies_of c) → IsStore trees c
+as_store trees c kept it = record { stores = as_contents trees c kept it.rows; sound = it.sound }
 
 pub hold_rows : (s : State) (c : Contents) → Holds s c → HoldsRows s (bodies_of c)
 hold_rows s c h clean up = at_rows s c (h clean up)
@@ -73,8 +76,8 @@ module _ (old new : State) (step : Contents → Contents) (rows : Bodies → Bod
   at_step : (c : Contents) → IsAt old c → IsAtRows new (rows (bodies_of c)) → IsAt new (step c)
   at_step c at made = at_contents new (step c) (it.keeps c (kept_of old.now.trees c at.stores)) (subst (λ (b : Bodies). IsAtRows new b) (sym (it.same c)) made)
 
-  left_step : (c : Contents) (trees : Trees) → IsAt old c → HasRows trees (rows (bodies_of c)) → Stores trees (step c)
-  left_step c trees at made = as_contents trees (step c) (it.keeps c (kept_of old.now.trees c at.stores)) (subst (λ (b : Bodies). HasRows trees b) (sym (it.same c)) made)
+  left_step : (c : Contents) (trees : Trees) → IsAt old c → HasTables trees (rows (bodies_of c)) → IsStore trees (step c)
+  left_step c trees at made = as_store trees (step c) (it.keeps c (kept_of old.now.trees c at.stores)) (subst (λ (b : Bodies). HasTables trees b) (sym (it.same c)) made)
 
   pub changed : RowsChanged old new rows → Changed old new step
   changed did = record {
@@ -205,11 +208,11 @@ module _ (r : TokenRecord) (fits : IsRecord r) (bytes : List ℕ) (is : bytes �
   created s at =
       subst (λ (x : TokenRecord). IsAt s (new_contents x)) first (at_contents s (new_contents r) (is_new r fits) (subst (λ (b : List ℕ). IsAtRows s (tables.new_bodies b)) is at))
 
-  created_left : (left : Trees) → HasRows left (tables.new_bodies bytes) → Stores left (new_contents new_record)
+  created_left : (left : Trees) → HasTables left (tables.new_bodies bytes) → IsStore left (new_contents new_record)
   created_left left has =
-      subst (λ (x : TokenRecord). Stores left (new_contents x)) first (as_contents left (new_contents r) (is_new r fits) (subst (λ (b : List ℕ). HasRows left (tables.new_bodies b)) is has))
+      subst (λ (x : TokenRecord). IsStore left (new_contents x)) first (as_store left (new_contents r) (is_new r fits) (subst (λ (b : List ℕ). HasTables left (tables.new_bodies b)) is has))
 
-  pub left_new : {P : Type 0} (left : Trees) → P ⊎ HasRows left (tables.new_bodies bytes) → P ⊎ Stores left (new_contents new_record)
+  pub left_new : {P : Type 0} (left : Trees) → P ⊎ HasTables left (tables.new_bodies bytes) → P ⊎ IsStore left (new_contents new_record)
   left_new left (inl before) = inl before
   left_new left (inr whole) = inr (created_left left whole)
 

@@ -17,7 +17,8 @@ use Rattle.keep.specs.Contents.{Contents, new_contents}
 use Rattle.keep.specs.Keeping.{Begins}
 use Rattle.keep.specs.declared.keep.KeepFault.{KeepFault}
 use Rattle.table_statements.specs.Tables.{no_schema}
-use Rattle.stored_contents.specs.Store.{Stores}
+use Rattle.stored_contents.specs.Store.{IsStore}
+use Rattle.stored_contents.proofs.Held.{store_at}
 use Rattle.stored_contents.specs.Formats.{HoldsEither}
 use Rattle.stored_contents.specs.Opening.{Adopts, Opened}
 use Rattle.stored_contents.specs.OpenedFile.{OpenedFile}
@@ -40,7 +41,7 @@ memory_opened was (Ok k) empty opened fresh counts =
     record {
       held = it.held;
       only = it.only;
-      left = (clean, ((state over_memory k.conn).committed.trees, refl, subst (λ (t : Trees). Stores t (new_contents new_record)) settled made.1.stores));
+      left = (clean, ((state over_memory k.conn).committed.trees, refl, subst (λ (t : Trees). IsStore t (new_contents new_record)) settled (store_at (state over_memory k.conn) (new_contents new_record) made.1)));
       alone = it.alone;
       sure = clean;
       failures = counts.0;

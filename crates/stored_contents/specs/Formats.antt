@@ -1,6 +1,7 @@
 -- Stores whose bodies have format 2, or format 1, in which older tokens wrote them.
 use Rattle.std.specs.Prelude.{◌≡◌, ◌⊎◌, ℕ, ◌==◌, Bool, false, List, [], ◌∷◌, map, IsTrue, ⊤}
 use Rattle.sqlite.specs.Tree.{Trees}
+use Rattle.sqlite.specs.Effect.{IsDatabase}
 use Rattle.sqlite.specs.State.{State, HasCleanDisk}
 use Rattle.attrs.specs.OldStored as object
 use Rattle.attrs.specs.OldStored.{has_new_flags}
@@ -57,6 +58,7 @@ pub record IsAtEither (s : State) (c : Contents) : Type 0 where
   pub settled : s.committed ≡ s.now
   pub autocommit : s.in_transaction ≡ false
   pub stores : StoresEither s.now.trees c
+  pub sound : IsDatabase s.now
 
 -- a connection that is shut, or whose disk has lied, is at any contents
 abbrev pub HoldsEither : State → Contents → Type 0

@@ -7,7 +7,7 @@ use Rattle.sqlite_trees.specs.View.{doubt}
 use Rattle.pin_record.specs.Records.{TokenRecord}
 use Rattle.keep.specs.Contents.{Contents}
 use Rattle.keep.specs.Keeping.{LeavesSome, Terms}
-use Rattle.stored_contents.specs.Store.{Holds, MayLeave, ReadsAs, Stores}
+use Rattle.stored_contents.specs.Store.{Holds, IsStore, MayLeave, ReadsAs}
 
 -- It holds what its connection holds, and the record that it has at hand is that of the store. It isn't steady: sqlite may refuse
 -- any statement for want of memory.
@@ -25,4 +25,4 @@ terms_by state_of record_of failures tried = record {
 pub some_left : (is_clean : Bool) (may_leave : Trees → Type 0) → doubt is_clean ≡ 0 → ∥ ((db : Trees) × may_leave db) ∥₁
     → LeavesSome (λ left. (doubt is_clean ≡ 0) × ((trees : Trees) × may_leave trees × ReadsAs trees left))
 some_left is_clean may_leave clean there none =
-    ∥∥₁_elim there (λ x y. absurd x) (λ it. none None (clean, (it.0, it.1, λ (c : Contents) (stands : Stores it.0 c). none (Some c) (clean, (it.0, it.1, stands)))))
+    ∥∥₁_elim there (λ x y. absurd x) (λ it. none None (clean, (it.0, it.1, λ (c : Contents) (stands : IsStore it.0 c). none (Some c) (clean, (it.0, it.1, stands)))))

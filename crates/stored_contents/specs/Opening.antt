@@ -14,7 +14,7 @@ use Rattle.keep.specs.declared.keep.KeepFault.TheVariants.{Damaged}
 use Rattle.keep.specs.Contents.{Contents, new_contents}
 use Rattle.keep.specs.Keeping.{Terms}
 use Rattle.table_statements.specs.Tables.{no_schema, token_schema}
-use Rattle.stored_contents.specs.Store.{Holds, IsAt, Stores}
+use Rattle.stored_contents.specs.Store.{Holds, IsAt, IsStore}
 use Rattle.table_statements.specs.Rows.{bodies, ids_and_bodies}
 use Rattle.stored_contents.specs.Formats.{HoldsEither, is_old}
 use Rattle.stored_contents.specs.Rows.{ShowRecordEither, ShowsEither}
@@ -58,12 +58,12 @@ pub record NotOpened (old new : State) (fault : KeepFault) : Type 0 where
   pub clean : doubt old.is_clean ≤ doubt new.is_clean
   pub same : IsOurs old.now.schema → HasCleanDisk new → IsTrue new.is_open → (new.now ≡ old.now) × (new.committed ≡ old.committed) × (new.in_transaction ≡ old.in_transaction)
   pub crash : IsOurs old.now.schema → ¬ HasOld old.now.trees → HasCleanDisk new → (left : Trees) → new.may_leave left
-      → old.may_leave left ⊎ ((old.now.schema ≡ no_schema) × Stores left (new_contents new_record))
+      → old.may_leave left ⊎ ((old.now.schema ≡ no_schema) × IsStore left (new_contents new_record))
   pub unwritten : fault ≡ Damaged → IsOurs old.now.schema → HasCleanDisk new → (left : Trees) → new.may_leave left → old.may_leave left
   pub held : (c : Contents) → Holds old c → Holds new c
   pub held_either : (c : Contents) → HoldsEither old c → HoldsEither new c
   pub left : (c : Contents) → Holds old c → HasCleanDisk new → (left : Trees) → new.may_leave left → old.may_leave left
-  pub left_either : (c : Contents) → HoldsEither old c → HasCleanDisk new → (left : Trees) → new.may_leave left → old.may_leave left ⊎ Stores left c
+  pub left_either : (c : Contents) → HoldsEither old c → HasCleanDisk new → (left : Trees) → new.may_leave left → old.may_leave left ⊎ IsStore left c
   pub undamaged : (c : Contents) → HoldsEither old c → HasCleanDisk new → fault ≢ Damaged
   pub fresh : old.now.schema ≡ no_schema → HasCleanDisk new → fault ≢ Damaged
 

@@ -4,6 +4,7 @@ use Rattle.sqlite_value.specs.declared.value.Value.TheVariants.{Blob}
 use Rattle.sqlite_value.specs.Order.{Row}
 use Rattle.sqlite.specs.Tree.{Trees}
 use Rattle.sqlite_trees.specs.View.{doubt}
+use Rattle.sqlite.specs.Effect.{IsDatabase}
 use Rattle.sqlite.specs.State.{State, HasCleanDisk}
 use Rattle.ck_types.specs.declared.entry.Entry.{Entry}
 use Rattle.attrs.specs.Objects.{IsObject}
@@ -43,10 +44,15 @@ pub record Stores (trees : Trees) (c : Contents) : Type 0 where
   pub is_record : token.IsRecord c.token_record
   pub are_objects : AreObjects c.objects
 
--- the tables read as contents, or as those of no token
+-- the same, and the trees list the two tables and obey them
+pub record IsStore (trees : Trees) (c : Contents) : Type 0 where
+  pub stores : Stores trees c
+  pub sound : IsDatabase (record { schema = token_schema; trees = trees })
+
+-- the trees are the store of contents, or no token's
 abbrev pub ReadsAs : Trees → Option Contents → Type 0
-ReadsAs trees (Some c) = Stores trees c
-ReadsAs trees None = (c : Contents) → ¬ Stores trees c
+ReadsAs trees (Some c) = IsStore trees c
+ReadsAs trees None = (c : Contents) → ¬ IsStore trees c
 
 -- an open connection on the two tables, with no transaction
 pub record IsAt (s : State) (c : Contents) : Type 0 where
@@ -54,6 +60,7 @@ pub record IsAt (s : State) (c : Contents) : Type 0 where
   pub settled : s.committed ≡ s.now
   pub autocommit : s.in_transaction ≡ false
   pub stores : Stores s.now.trees c
+  pub sound : IsDatabase s.now
 
 -- a connection that is shut, or whose disk has lied, is at any contents
 abbrev pub Holds : State → Contents → Type 0

@@ -7,7 +7,7 @@ use Rattle.sqlite_sql.specs.Term.{Term, lit, col}
 use Rattle.sqlite.specs.Schema.{Schema}
 use Rattle.sqlite.specs.Source.TheVariants.{Values}
 use Rattle.sqlite.specs.Command.TheVariants.{Insert}
-use Rattle.sqlite.specs.Effect.{Database}
+use Rattle.sqlite.specs.Effect.{Database, IsDatabase}
 use Rattle.sqlite.specs.Does.{Tally, Does}
 use Rattle.sqlite.specs.Store.{Ghosts}
 use Rattle.sqlite.specs.State.{State, mode_of, Writes}
@@ -70,7 +70,7 @@ first_does r s text tally after has none h =
 
 -- the three in turn
 pub creates_is : {S : Type 0} (g : Ghosts S) (old : Held S) (r : List ℕ) (db : Database) → (state g old).now.schema ≡ no_schema
-    → RanThree g record_text objects_text first_text r old db → (db.schema ≡ token_schema) × HasRows db.trees (new_bodies r)
+    → RanThree g record_text objects_text first_text r old db → (db.schema ≡ token_schema) × HasRows db.trees (new_bodies r) × IsDatabase db
 creates_is g old r db has ran =
     let one = makes_record (state g (record old { in_transaction = true })) (state g ran.half) ran.counts.0 has ran.one in
     let two = makes_objects (state g ran.half) (state g ran.mid) ran.counts.1 one.0 ran.two in
@@ -85,4 +85,4 @@ creates_is g old r db has ran =
       count_is = done.3 ∙ two.3;
       ids = tt;
     } in
-    (ap (λ (d : Database). d.schema) ran.is ∙ done.0, subst (λ (d : Database). HasRows d.trees (new_bodies r)) (sym ran.is) whole)
+    (ap (λ (d : Database). d.schema) ran.is ∙ done.0, subst (λ (d : Database). HasRows d.trees (new_bodies r)) (sym ran.is) whole, subst (λ (d : Database). IsDatabase d) (sym ran.is) w.sound)

@@ -2,7 +2,7 @@
 use Rattle.std.proofs.Common.{◌≡◌, ◌⊎◌, inl, inr, ℕ, List, [], false, if◌then◌else◌, None, Ok, Err, Result, OnOk, OnErr, IfOk, IfErr, IsTrue, refl, sym, ap, subst, ◌∙◌, arith, append-nil}
 use Rattle.sqlite.specs.Order.{Row}
 use Rattle.sqlite.specs.Tree.{Trees}
-use Rattle.sqlite.specs.Effect.{Database}
+use Rattle.sqlite.specs.Effect.{Database, IsDatabase}
 use Rattle.sqlite.specs.Does.{Tally, Does}
 use Rattle.sqlite.specs.Command.{Command}
 use Rattle.sqlite.specs.Command.TheVariants.{Commit, Release}
@@ -13,7 +13,12 @@ use Rattle.sqlite.proofs.Callers.{IsPlain, command_of, runs_as}
 use Rattle.std.proofs.lemmas.Bool.{cases_Bool}
 use Rattle.table_statements.specs.Bodies.{Bodies}
 use Rattle.table_statements.specs.Tables.{token_schema}
-use Rattle.table_statements.specs.Store.{HasRows, IsAtRows, HoldsRows, IsReady, ShowsNow, Sees, Unwritten, Committed, Uncommitted, RowsChanged, RowsFailed}
+use Rattle.sqlite.specs.Schema.{Schema}
+use Rattle.table_statements.specs.Store.{HasRows, HasTables, IsAtRows, HoldsRows, IsReady, ShowsNow, Sees, Unwritten, Committed, Uncommitted, RowsChanged, RowsFailed}
+
+-- a database with the two tables
+pub tables_in : (db : Database) (b : Bodies) → db.schema ≡ token_schema → HasRows db.trees b → IsDatabase db → HasTables db.trees b
+tables_in db b has rows sound = record { rows = rows; sound = subst (λ (s : Schema). IsDatabase (record { schema = s; trees = db.trees })) has sound }
 
 -- the text is a write, which makes this of the bodies
 pub record IsStep (sql : List ℕ) (params : Row) (command : Command) (step : Bodies → Bodies) : Type 1 where
@@ -32,6 +37,7 @@ back_to old new c up (inl same) at = record {
   settled = same.0.committed_is ∙ at.settled ∙ sym same.0.now_is;
   autocommit = same.0.mode ∙ at.autocommit;
   stores = subst (λ (d : Database). HasRows d.trees c) (sym same.0.now_is) at.stores;
+  sound = subst (λ (d : Database). IsDatabase d) (sym same.0.now_is) at.sound;
 }
 back_to old new c up (inr undone) at =
     let now = (undone.undone up).0 ∙ at.settled in record {
@@ -39,6 +45,7 @@ back_to old new c up (inr undone) at =
       settled = (undone.undone up).1 ∙ sym (undone.undone up).0;
       autocommit = undone.autocommit;
       stores = subst (λ (d : Database). HasRows d.trees c) (sym now) at.stores;
+      sound = subst (λ (d : Database). IsDatabase d) (sym now) at.sound;
     }
 
 module _ (sql : List ℕ) (params : Row) (command : Command) (step : Bodies → Bodies) (it : IsStep sql params command step) (old new : State) where
@@ -52,10 +59,11 @@ module _ (sql : List ℕ) (params : Row) (command : Command) (step : Bodies → 
           settled = w.shown.committed_is ∙ ap (λ b. if b then old.committed else new.now) at.autocommit;
           autocommit = w.shown.mode ∙ at.autocommit;
           stores = d.1;
+          sound = w.sound;
         },
       )
 
-  pub commit_at : (c : Bodies) (db : Trees) → IsAtRows old c → CommitsBy sql params old db → HasRows db (step c)
+  pub commit_at : (c : Bodies) (db : Trees) → IsAtRows old c → CommitsBy sql params old db → HasTables db (step c)
   unfolding CommitsBy
   commit_at c db at h =
       let known = sym h.1.is ∙ ap (λ s. understood s sql) at.schema in
@@ -66,7 +74,7 @@ module _ (sql : List ℕ) (params : Row) (command : Command) (step : Bodies → 
         | inr made ↦
             let one = subst (λ (k : Command). MayWrite old None k (text_of sql h.0) params db) same (rw (bare.0, bare.1, append-nil params) at made) in
             let d = it.does old (text_of sql h.0) c one.1 one.2 at.schema at.stores one.3 in
-            subst (λ (t : Trees). HasRows t (step c)) (sym one.5) d.1
+            subst (λ (t : Trees). HasTables t (step c)) (sym one.5) (tables_in one.2 (step c) d.0 d.1 one.4)
       ]
 
   pub err_at : (e : Error) → Executes sql params old new (Err e) → IsUnchanged old new ⊎ IsRolledBack old new
@@ -90,7 +98,7 @@ module _ (sql : List ℕ) (params : Row) (command : Command) (step : Bodies → 
     crash = λ c ready at clean left may.
         let now = ok_at c count (at (before clean) (ready (before clean))) (ran clean) in
         let trees : left ≡ new.now.trees = settled left now.0 may ∙ ap (λ (d : Database). d.trees) now.1.settled in
-        subst (λ (t : Trees). HasRows t (step c)) (sym trees) now.1.stores;
+        subst (λ (t : Trees). HasTables t (step c)) (sym trees) (tables_in new.now (step c) now.1.schema now.1.stores now.1.sound);
   }
     where
       before : HasCleanDisk new → HasCleanDisk old
@@ -143,6 +151,7 @@ at_again old new c at shows = record {
   settled = shows.settled ∙ sym shows.now;
   autocommit = shows.autocommit;
   stores = subst (λ (d : Database). HasRows d.trees c) (sym shows.now) at.stores;
+  sound = subst (λ (d : Database). IsDatabase d) (sym shows.now) at.sound;
 }
 
 -- nothing was written, so what it holds is held

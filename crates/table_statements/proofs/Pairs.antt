@@ -1,16 +1,16 @@
 -- What the transaction of a reset makes of a connection.
 use Rattle.std.proofs.Common.{◌≡◌, inl, inr, ℕ, List, Bool, true, false, Ok, Err, Result, OnErr, IfOk, IsTrue, refl, sym, ap, subst, ◌∙◌, arith}
 use Rattle.sqlite.specs.Tree.{Trees}
-use Rattle.sqlite.specs.Effect.{Database}
+use Rattle.sqlite.specs.Effect.{Database, IsDatabase}
 use Rattle.sqlite.specs.Store.{Ghosts}
 use Rattle.sqlite.specs.declared.error.Error.{Error}
 use Rattle.sqlite.specs.State.{State, HasCleanDisk, Survives}
 use Rattle.sqlite.specs.Held.{Held, state}
 use Rattle.table_statements.specs.Bodies.{Bodies, after_reset}
-use Rattle.table_statements.specs.Store.{HasRows, IsAtRows, HoldsRows, IsReady, Unwritten, RowsChanged, RowsFailed}
+use Rattle.table_statements.specs.Store.{HasRows, HasTables, IsAtRows, HoldsRows, IsReady, Unwritten, RowsChanged, RowsFailed}
 use Rattle.table_statements.specs.Tables.{token_schema}
 use Rattle.table_statements.specs.Ran.{RanPair}
-use Rattle.table_statements.proofs.Lift.{not_sent, held_on}
+use Rattle.table_statements.proofs.Lift.{not_sent, held_on, tables_in}
 use Rattle.table_statements.proofs.Reset.{clear_text, set_text, reset_is}
 
 module _ {S : Type 0} (g : Ghosts S) (old : State) (mid new : Held S) (to : List ℕ) (kept : Unwritten old (state g mid)) (ready : IsReady (state g mid))
@@ -32,12 +32,15 @@ module _ {S : Type 0} (g : Ghosts S) (old : State) (mid new : Held S) (to : List
     held = λ c h clean open_now.
         let is = made c h clean in
         let now = same open_now in
-        record { schema = ap (λ (d : Database). d.schema) now ∙ is.0; settled = sym now; autocommit = ended; stores = subst (λ (d : Database). HasRows d.trees (after_reset to c)) (sym now) is.1 };
+        record { schema = ap (λ (d : Database). d.schema) now ∙ is.0; settled = sym now; autocommit = ended; stores = subst (λ (d : Database). HasRows d.trees (after_reset to c)) (sym now) is.1; sound = subst (λ (d : Database). IsDatabase d) (sym now) is.2 };
     was_open = was_up;
-    crash = λ c h clean left may. let trees = alone left (up clean) may in subst (λ (t : Trees). HasRows t (after_reset to c)) (sym trees) (made c h clean).1;
+    crash = λ c h clean left may.
+        let trees = alone left (up clean) may in
+        let is = made c h clean in
+        subst (λ (t : Trees). HasTables t (after_reset to c)) (sym trees) (tables_in (state g new).committed (after_reset to c) is.0 is.1 is.2);
   }
     where
-      made : (c : Bodies) → HoldsRows old c → HasCleanDisk (state g new) → ((state g new).committed.schema ≡ token_schema) × HasRows (state g new).committed.trees (after_reset to c)
+      made : (c : Bodies) → HoldsRows old c → HasCleanDisk (state g new) → ((state g new).committed.schema ≡ token_schema) × HasRows (state g new).committed.trees (after_reset to c) × IsDatabase (state g new).committed
       made c h clean = let at = at_mid clean c h in reset_is g mid to c (state g new).committed at.schema at.stores (ran clean)
 
   pub pair_failed : (HasCleanDisk (state g new) → IsTrue (state g new).is_open → ((state g new).now ≡ (state g mid).now) × ((state g new).committed ≡ (state g mid).committed)) → new.in_transaction ≡ false
@@ -47,13 +50,13 @@ module _ {S : Type 0} (g : Ghosts S) (old : State) (mid new : Held S) (to : List
     held = λ c h clean open_now.
         let at = at_mid clean c h in
         let both = neither clean open_now in
-        record { schema = ap (λ (d : Database). d.schema) both.0 ∙ at.schema; settled = both.1 ∙ at.settled ∙ sym both.0; autocommit = stopped; stores = subst (λ (d : Database). HasRows d.trees c) (sym both.0) at.stores };
+        record { schema = ap (λ (d : Database). d.schema) both.0 ∙ at.schema; settled = both.1 ∙ at.settled ∙ sym both.0; autocommit = stopped; stores = subst (λ (d : Database). HasRows d.trees c) (sym both.0) at.stores; sound = subst (λ (d : Database). IsDatabase d) (sym both.0) at.sound };
     was_open = λ clean up. was_up clean;
     crash = λ c h clean left may.
         let at = at_mid clean c h in
         elim (lasts.crash clean left may) [
           | inl before ↦ inl (kept.crash (mid_clean clean) left before)
-          | inr ran ↦ inr (was_up clean, subst (λ (t : Trees). HasRows t (after_reset to c)) (sym ran.2) (reset_is g mid to c ran.0 at.schema at.stores ran.1).1)
+          | inr ran ↦ let is = reset_is g mid to c ran.0 at.schema at.stores ran.1 in inr (was_up clean, subst (λ (t : Trees). HasTables t (after_reset to c)) (sym ran.2) (tables_in ran.0 (after_reset to c) is.0 is.1 is.2))
         ];
   }
 

@@ -2,7 +2,7 @@
 use Rattle.std.proofs.Common.{◌≡◌, ℕ, List, [], codes, true, None, Ok, refl, sym, ap, subst, ◌∙◌}
 use Rattle.sqlite.specs.Schema.{Schema}
 use Rattle.sqlite.specs.Command.TheVariants.{Delete, Update}
-use Rattle.sqlite.specs.Effect.{Database}
+use Rattle.sqlite.specs.Effect.{Database, IsDatabase}
 use Rattle.sqlite.specs.Does.{Tally, Does}
 use Rattle.sqlite.specs.Store.{Ghosts}
 use Rattle.sqlite.specs.State.{State, mode_of}
@@ -59,7 +59,7 @@ set_text = codes "UPDATE record SET body = ?1"
 
 -- both, in turn
 pub reset_is : {S : Type 0} (g : Ghosts S) (old : Held S) (to : List ℕ) (c : Bodies) (db : Database) → (state g old).now.schema ≡ token_schema → HasRows (state g old).now.trees c
-    → RanPair g (codes "DELETE FROM objects") (codes "UPDATE record SET body = ?1") to old db → (db.schema ≡ token_schema) × HasRows db.trees (after_reset to c)
+    → RanPair g (codes "DELETE FROM objects") (codes "UPDATE record SET body = ?1") to old db → (db.schema ≡ token_schema) × HasRows db.trees (after_reset to c) × IsDatabase db
 reset_is g old to c db has it ran =
     let first = clear_step in
     let second = set_step to in
@@ -70,4 +70,4 @@ reset_is g old to c db has it ran =
     let half = first.does began (statement_of clear_text (understood token_schema clear_text)) c one.tally mid.now has it one.changed in
     let two = second.writes mid last (statement_of set_text (understood token_schema set_text)) ran.counts.1 (runs_as set_text (set_params to) mid last token_schema half.0 (Update 0 (record { lets = []; body = set_query })) second.is second.plain ran.counts.1 ran.two) in
     let whole = second.does mid (statement_of set_text (understood token_schema set_text)) (record c { objects = [] }) two.tally last.now half.0 half.1 two.changed in
-    (ap (λ (d : Database). d.schema) ran.is ∙ whole.0, subst (λ (d : Database). HasRows d.trees (after_reset to c)) (sym ran.is) whole.1)
+    (ap (λ (d : Database). d.schema) ran.is ∙ whole.0, subst (λ (d : Database). HasRows d.trees (after_reset to c)) (sym ran.is) whole.1, subst (λ (d : Database). IsDatabase d) (sym ran.is) two.sound)

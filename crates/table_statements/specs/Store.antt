@@ -4,7 +4,7 @@ use Rattle.sqlite_value.specs.declared.value.Value.TheVariants.{Null, Int, Text,
 use Rattle.sqlite_value.specs.Order.{Row}
 use Rattle.sqlite.specs.Tree.{Trees}
 use Rattle.sqlite_trees.specs.View.{doubt}
-use Rattle.sqlite.specs.Effect.{Database}
+use Rattle.sqlite.specs.Effect.{Database, IsDatabase}
 use Rattle.sqlite.specs.Given.{IsPlain}
 use Rattle.sqlite.specs.Command.{Command}
 use Rattle.sqlite.proofs.Callers.{command_of}
@@ -29,12 +29,18 @@ pub record HasRows (trees : Trees) (b : Bodies) : Type 0 where
   pub count_is : trees 2 ≡ counter_rows b.last_id
   pub ids : IdsRise 0 b.objects b.last_id
 
+-- the same, and the trees list the two tables and obey them
+pub record HasTables (trees : Trees) (b : Bodies) : Type 0 where
+  pub rows : HasRows trees b
+  pub sound : IsDatabase (record { schema = token_schema; trees = trees })
+
 -- an open connection on the two tables, with no transaction
 pub record IsAtRows (s : State) (b : Bodies) : Type 0 where
   pub schema : s.now.schema ≡ token_schema
   pub settled : s.committed ≡ s.now
   pub autocommit : s.in_transaction ≡ false
   pub stores : HasRows s.now.trees b
+  pub sound : IsDatabase s.now
 
 -- a connection that is shut, or whose disk has lied, is at any bodies
 abbrev pub HoldsRows : State → Bodies → Type 0
@@ -87,13 +93,13 @@ IsQuery sql = IsPlain (understood token_schema sql) × (reads_listing token_sche
 pub record Committed (old new : State) (step : Bodies → Bodies) : Type 0 where
   pub clean : doubt old.is_clean ≤ doubt new.is_clean
   pub held : (b : Bodies) → IsReady old → HoldsRows old b → HoldsRows new (step b)
-  pub crash : (b : Bodies) → IsReady old → HoldsRows old b → HasCleanDisk new → (left : Trees) → new.may_leave left → HasRows left (step b)
+  pub crash : (b : Bodies) → IsReady old → HoldsRows old b → HasCleanDisk new → (left : Trees) → new.may_leave left → HasTables left (step b)
 
 -- it was not
 pub record Uncommitted (old new : State) (step : Bodies → Bodies) : Type 0 where
   pub clean : doubt old.is_clean ≤ doubt new.is_clean
   pub held : (b : Bodies) → IsReady old → HoldsRows old b → HoldsRows new b
-  pub crash : (b : Bodies) → IsReady old → HoldsRows old b → HasCleanDisk new → (left : Trees) → new.may_leave left → old.may_leave left ⊎ HasRows left (step b)
+  pub crash : (b : Bodies) → IsReady old → HoldsRows old b → HasCleanDisk new → (left : Trees) → new.may_leave left → old.may_leave left ⊎ HasTables left (step b)
 
 -- ---- the same with no premise, where a call before has found the connection open
 
@@ -109,11 +115,11 @@ pub record RowsChanged (old new : State) (step : Bodies → Bodies) : Type 0 whe
   pub clean : doubt old.is_clean ≤ doubt new.is_clean
   pub was_open : HasCleanDisk new → IsTrue old.is_open
   pub held : (b : Bodies) → HoldsRows old b → HoldsRows new (step b)
-  pub crash : (b : Bodies) → HoldsRows old b → HasCleanDisk new → (left : Trees) → new.may_leave left → HasRows left (step b)
+  pub crash : (b : Bodies) → HoldsRows old b → HasCleanDisk new → (left : Trees) → new.may_leave left → HasTables left (step b)
 
 -- it was refused
 pub record RowsFailed (old new : State) (step : Bodies → Bodies) : Type 0 where
   pub clean : doubt old.is_clean ≤ doubt new.is_clean
   pub was_open : HasCleanDisk new → IsTrue new.is_open → IsTrue old.is_open
   pub held : (b : Bodies) → HoldsRows old b → HoldsRows new b
-  pub crash : (b : Bodies) → HoldsRows old b → HasCleanDisk new → (left : Trees) → new.may_leave left → old.may_leave left ⊎ (IsTrue old.is_open × HasRows left (step b))
+  pub crash : (b : Bodies) → HoldsRows old b → HasCleanDisk new → (left : Trees) → new.may_leave left → old.may_leave left ⊎ (IsTrue old.is_open × HasTables left (step b))

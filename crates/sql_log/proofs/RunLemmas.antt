@@ -1,0 +1,53 @@
+-- A run of frames as it is counted.
+use Rattle.std.proofs.Common.{◌≡◌, ◌≢◌, ◌⊎◌, inl, inr, ℕ, ◌+◌, ◌<◌, ◌≤◌, List, refl, sym, subst, arith}
+use Rattle.std.proofs.Math.Nat.{eq-or-lt_of_le}
+use Rattle.sql_log.specs.Damage.{CommitsAt, HasCommit, HasTwoCommits, IsRun, PassesUnder}
+
+pub record Before (size : ℕ) (log : List ℕ) (from at : ℕ) : Type 0 where
+  pub one : ℕ
+  pub after : from ≤ one
+  pub before : one < at
+  pub commits : CommitsAt size log one
+
+-- each frame from one on and before another passes, and so many of them commit
+pub record Counted (head : List ℕ) (size : ℕ) (log : List ℕ) (from at count : ℕ) : Type 0 where
+  pub run : (i : ℕ) → from ≤ i → i < at → PassesUnder head size log i
+  pub few : count ≤ 1
+  pub one : 1 ≤ count → Before size log from at
+
+module _ (head : List ℕ) (size : ℕ) (log : List ℕ) (from at : ℕ) where
+  pub none_yet : Counted head size log from from 0
+  none_yet = record { run = λ i low high. absurd (omega (arith, low, high)); few = omega arith; one = λ some. absurd (omega (arith, some)) }
+
+  pub commit_of : (count : ℕ) → Counted head size log from at count → 1 ≤ count → HasCommit head size log from
+  commit_of count it some =
+      let b = it.one some in
+      record { one = b.one; after = b.after; run = λ i low high. it.run i low (omega (arith, high, b.before)); commits = b.commits }
+
+  pub not_two : (count : ℕ) → Counted head size log from at count → 2 ≤ count → HasTwoCommits head size log from
+  not_two count it some = absurd (omega (arith, some, it.few))
+
+  -- the frame at the end passes
+  module _ (count : ℕ) (it : Counted head size log from at count) (passes : PassesUnder head size log at) where
+    run_on : (i : ℕ) → from ≤ i → i ≤ at → PassesUnder head size log i
+    run_on i low high = elim (eq-or-lt_of_le high) [ inl same ↦ subst (λ (j : ℕ). PassesUnder head size log j) (sym same) passes | inr less ↦ it.run i low less ]
+
+    pub still : (now : ℕ) → now ≡ count → Counted head size log from (at + 1) now
+    still now same = subst (λ (n : ℕ). Counted head size log from (at + 1) n) (sym same) (record {
+      run = λ i low high. run_on i low (omega (arith, high));
+      few = it.few;
+      one = λ some. let b = it.one some in record { one = b.one; after = b.after; before = omega (arith, b.before); commits = b.commits };
+    })
+
+    pub first : from ≤ at → CommitsAt size log at → Counted head size log from (at + 1) 1
+    first low commits = record {
+      run = λ i low high. run_on i low (omega (arith, high));
+      few = omega arith;
+      one = λ some. record { one = at; after = low; before = omega arith; commits = commits };
+    }
+
+    pub second : 1 ≤ count → CommitsAt size log at → HasTwoCommits head size log from
+    second some commits = let b = it.one some in record { one = b.one; two = at; after = b.after; later = b.before; run = run_on; first = b.commits; second = commits }
+
+    pub one_of_two : 1 ≤ count → HasCommit head size log from
+    one_of_two some = commit_of count it some

@@ -1,0 +1,61 @@
+-- Damage in a log that no power cut leaves.
+use Rattle.std.specs.Prelude.{◌≡◌, ◌≢◌, ◌⊎◌, ℕ, ◌+◌, ◌<◌, ◌≤◌, List, length, slice_index}
+use Rattle.sqlite_wal.specs.Format.{IsFrame, IsSigned, be32, commit_size}
+use Rattle.sqlite_wal.specs.Recovery.{Passes, frame, frame_at, header, sum_before}
+
+-- a log that is too short for a frame and has no header that passes its checksum
+abbrev pub IsUnwritten : List ℕ → Type 0
+IsUnwritten log = (length log ≤ 41) × ((length log < 32) ⊎ (¬ IsSigned (header log)))
+
+-- the log has the frame, and it passes SQLite's test under this header
+pub record PassesUnder (head : List ℕ) (size : ℕ) (log : List ℕ) (at : ℕ) : Type 0 where
+  pub within : frame_at size at + (24 + size) ≤ length log
+  pub passes : IsFrame head (sum_before size log at) (frame size log at)
+
+-- a frame that commits
+abbrev pub CommitsAt : ℕ → List ℕ → ℕ → Type 0
+CommitsAt size log at = commit_size (frame size log at) ≢ 0
+
+-- each frame from one to another is of the same log, and goes on from the one before it
+abbrev pub IsRun : List ℕ → ℕ → List ℕ → ℕ → ℕ → Type 0
+IsRun head size log from to = (at : ℕ) → from ≤ at → at ≤ to → PassesUnder head size log at
+
+-- a run of frames with one that commits
+pub record HasCommit (head : List ℕ) (size : ℕ) (log : List ℕ) (from : ℕ) : Type 0 where
+  pub one : ℕ
+  pub after : from ≤ one
+  pub run : IsRun head size log from one
+  pub commits : CommitsAt size log one
+
+-- a run of frames with two that commit
+pub record HasTwoCommits (head : List ℕ) (size : ℕ) (log : List ℕ) (from : ℕ) : Type 0 where
+  pub one : ℕ
+  pub two : ℕ
+  pub after : from ≤ one
+  pub later : one < two
+  pub run : IsRun head size log from two
+  pub first : CommitsAt size log one
+  pub second : CommitsAt size log two
+
+-- Frame `bad` fails its test. Behind it, at once or after one more frame, whose checksum goes on from the bad one's, stands a run with
+-- two frames that commit. The first may end the transaction of the bad frame. The second is of a transaction that was begun only once
+-- that one was on the disk, so no power cut took it back.
+pub record IsBroken (size : ℕ) (log : List ℕ) : Type 0 where
+  pub bad : ℕ
+  pub fails : ¬ Passes size log bad
+  pub behind : HasTwoCommits (header log) size log (bad + 1) ⊎ HasTwoCommits (header log) size log (bad + 2)
+
+-- under some header, a run from the first frame on, or the second, has one that commits
+pub record HasAnyCommit (size : ℕ) (log : List ℕ) : Type 0 where
+  pub head : List ℕ
+  pub behind : HasCommit head size log 0 ⊎ HasCommit head size log 1
+
+-- The header fails its checksum, but its first byte isn't 0, as it is while a log is emptied, and a commit stands behind it.
+pub record IsBeheaded (size : ℕ) (log : List ℕ) : Type 0 where
+  pub unsigned : ¬ IsSigned (header log)
+  pub shown : slice_index log 0 ≢ 0
+  pub behind : HasAnyCommit size log
+
+-- pages have the size that the header says, or 4096 bytes where it is damaged
+abbrev pub IsDamaged : List ℕ → Type 0
+IsDamaged log = IsBroken (be32 (header log) 8) log ⊎ IsBeheaded 4096 log

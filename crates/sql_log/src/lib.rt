@@ -1,0 +1,19 @@
+//! What the log beside a database file says before the files are opened, so that no store is taken for a new one and no damaged
+//! log for one that a power cut left.
+//!
+//! - `bytes_of` reads a file whole.
+//! - `is_begun` says whether a log is the one of a first opening, and `is_unwritten` whether it has no header at all.
+//! - `has_commits_behind` says whether commits stand behind a frame or a header that is damaged.
+//!
+//! The bytes are those of SQLite's fileformat2.html, section 4.
+#![tactic(auto)]
+
+mod damage;
+mod frames;
+mod first;
+mod format;
+mod reading;
+
+pub use damage::has_commits_behind;
+pub use first::{is_begun, is_unwritten};
+pub use reading::bytes_of;
