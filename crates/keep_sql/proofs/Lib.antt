@@ -1,3 +1,4 @@
 pub mod Outcomes
 pub mod Taken
 pub mod Takes
+pub mod Refusals

@@ -169,7 +169,7 @@ module _ (old new : State) (ready : IsReady old) (sees : Sees old old.now) (ther
   pub made : (r : Result TokenRecord KeepFault) → (old.now.schema ≡ no_schema → HasCleanDisk new → IfOk r (λ x. IsTrue new.is_open × IsAt new (new_contents new_record) × (x ≡ new_record)))
       → ((db : Database) → IsReady old → Sees old db → HasCleanDisk new → IsTrue new.is_open → OnErr r (ShowsNow new db))
       → (old.now.schema ≡ no_schema → HasCleanDisk new → (left : Trees) → new.may_leave left → old.may_leave left ⊎ IsStore left (new_contents new_record))
-      → (IsErrOf r Damaged → ⊥) → IfOk r (Opened old new) × IfErr r (NotOpened old new)
+      → (old.now.schema ≡ no_schema → IsErrOf r Damaged → ⊥) → IfOk r (Opened old new) × IfErr r (NotOpened old new)
   made (Ok x) fresh same crash undamaged = (
     record {
       clean = clean_on;
@@ -191,13 +191,13 @@ module _ (old new : State) (ready : IsReady old) (sees : Sees old old.now) (ther
         | inl none ↦ elim (crash none clean left may) [ inl before ↦ inl before | inr whole ↦ inr (none, whole) ]
         | inr both ↦ absurd (not_both old there both)
       ];
-      unwritten = λ damaged ours clean left may. absurd (undamaged (ap Err damaged));
+      unwritten = λ damaged ours clean left may. elim ours [ inl none ↦ absurd (undamaged none (ap Err damaged)) | inr both ↦ absurd (not_both old there both) ];
       held = λ c h clean up. absurd (none_held c (either_held old c h) clean);
       held_either = λ c h clean up. absurd (none_held c h clean);
       left = λ c h clean left may. absurd (none_held c (either_held old c h) clean);
       left_either = λ c h clean left may. absurd (none_held c h clean);
       undamaged = λ c h clean. absurd (none_held c h clean);
-      fresh = λ none clean is. undamaged (ap Err is);
+      fresh = λ none clean is. undamaged none (ap Err is);
     },
   )
 

@@ -1,24 +1,32 @@
-//! Keepers over a file and in memory.
+//! Keepers over files and in memory.
 
-ghost use Rattle.std.specs.Prelude.{◌≡◌, codes, Err, IfOk, IsErrOf};
+ghost use Rattle.std.specs.Prelude.{◌≡◌, IfOk, IfErr, IsErrOf, IsTrue};
 ghost use Rattle.sqlite.specs.State.{HasCleanDisk};
 ghost use Rattle.sqlite.specs.Held.{state};
-ghost use Rattle.sqlite.specs.WalFiles.{image_at};
+ghost use Rattle.sqlite.specs.Files.{file_state, image_of, over_files};
 ghost use Rattle.pin_record.specs.Records.{new_record};
 ghost use Rattle.keep.specs.Contents.{Contents, new_contents};
 ghost use Rattle.keep.specs.Keeping.{Begins};
-ghost use Rattle.keep.specs.declared.keep.KeepFault.TheVariants.{Damaged, Device};
+ghost use Rattle.keep.specs.declared.keep.KeepFault.TheVariants.{Damaged};
 ghost use Rattle.table_statements.specs.Tables.{no_schema};
 ghost use Rattle.stored_contents.specs.Formats.{HoldsEither};
 ghost use Rattle.stored_contents.specs.Opening.{Adopts, Opened};
 ghost use Rattle.stored_contents.specs.OpenedFile.{OpenedFile};
 ghost use Rattle.stored_contents.specs.SqlState.{sql_terms};
+ghost use Rattle.keep_sql.specs.Refusal.{Leaves, LeavesConnection};
 
-use crate::sql_keep::SqlKeep;
+use crate::copying::copied;
+use crate::inspecting::inspect;
+use crate::opening::lacks_tables;
+use crate::refusal::{Left, OpenFault, Refused};
+use crate::sql_keep::{SqlKeep, with_record};
 use keep::{Keep, KeepFault};
-use sqlite::{Alter, Connection, FileFrom, FileStore, MemStore, Start};
+use sqlite::{Alter, Connection, FileStore, Files, MemStore, Options};
+use sqlite_disk::Disk;
 use std::alloc::Global;
-use std::rt::HostRuntime;
+
+/// How many frames the log has, at most, before a change first copies it into the file.
+pub const LOG_FRAMES: usize = 64;
 
 /// The keeper over a connection that nobody wants back.
 fn adopt<S: Alter + Drop>(alloc: Global, conn: Connection<S>) -> Result<SqlKeep<S>, KeepFault>
@@ -34,20 +42,95 @@ fn adopt<S: Alter + Drop>(alloc: Global, conn: Connection<S>) -> Result<SqlKeep<
     }
 }
 
-impl<S: Start> SqlKeep<FileStore<FileFrom<S>>> {
-    /// Opens the store in a file, or makes it. Nobody else may write the file and the log beside it
-    /// while the store is open; sqlite holds a lock on it. `start` says what is supposed of the file:
-    /// `Wary`, that a torn write may leave any bytes, so each commit syncs twice, or `Unknown`, that it
-    /// leaves each byte old or new.
+/// The options of a connection to a token's store.
+pub fn store_options(seed: u64) -> Options
+    ensures seed { result.seed ≡ seed }
+    ensures log { result.checkpoint_frames ≡ 64 }
+{
+    let mut options = Options::new(seed);
+    options.checkpoint_frames = LOG_FRAMES;
+    options
+}
+
+/// The keeper over a connection to files, once the log is copied into the database file.
+fn settle<D: Disk + Drop>(
+    alloc: Global,
+    conn: Connection<FileStore<D>>,
+) -> Result<SqlKeep<FileStore<D>>, (OpenFault, Left<D>)>
+    ensures opened { IfOk result (λ k. Opened (file_state conn) (file_state k.conn) k.token_record) }
+    ensures found { (c : Contents) → HoldsEither (file_state conn) c → IfOk result (λ k. HasCleanDisk (file_state k.conn) → Adopts (sql_terms over_files) k c) }
+    ensures fresh { (file_state conn).now.schema ≡ no_schema → IfOk result (λ k. HasCleanDisk (file_state k.conn) → Adopts (sql_terms over_files) k (new_contents new_record)) }
+    ensures counts { IfOk result (λ k. (k.failures ≡ 0) × (k.tried ≡ 0)) }
+    ensures leaves { IfErr result (λ e. LeavesConnection conn e.0 e.1) }
+{
+    let keep = match SqlKeep::from_connection(alloc, conn) {
+        Ok(keep) => keep,
+        Err((fault, conn)) => return Err((OpenFault::Keeper(fault), Left::Connection(conn))),
+    };
+    let (conn, token_record) = keep.into_parts();
+    match copied(alloc, conn) {
+        Ok(conn) => Ok(with_record(alloc, conn, token_record)),
+        Err((error, store)) => Err((OpenFault::Sqlite(error), Left::Store(store))),
+    }
+}
+
+/// Whether a connection is one to a store, or to files that a first opening left.
+fn is_ours<S: Alter>(conn: &Connection<S>, is_first: bool) -> bool
+    ensures { IsTrue result → (state S.Store conn.now).now.schema ≡ no_schema → IsTrue is_first }
+{
+    is_first || !lacks_tables(conn)
+}
+
+impl<D: Disk + Drop> SqlKeep<FileStore<D>> {
+    /// Opens the store in two files, or makes it where they are what a first opening leaves. New files get the sums of SQLite's
+    /// cksumvfs on their pages; older ones go on without. The log is copied into the file before this answers.
     ///
-    /// `Device` where sqlite refuses the file, and else as `from_connection`.
-    pub fn open(rt: &HostRuntime, path: &str, start: S) -> Result<Self, KeepFault>
-        ensures opened { IfOk result (OpenedFile (image_at S.Start)) }
-        ensures memory { path.now ≡ codes ":memory:" → result ≡ Err Device }
+    /// A refusal says why, and what is left of the files. For what the files hold: `FileLost`, `LogDamaged`, `NoTables`, what sqlite
+    /// answers of files that are no sound database, and `Damaged` as `from_connection` has it. The database file is not written then.
+    pub fn open_files(
+        alloc: Global,
+        mut files: Files<D>,
+        options: Options,
+    ) -> Result<Self, Refused<D>>
+        requires log { IsTrue (D.Disk.is_usable files.log) }
+        requires db { IsTrue (D.Disk.is_usable files.db) }
+        ensures opened { IfOk result (OpenedFile (image_of D.Disk files)) }
+        ensures leaves { IfErr result (λ r. Leaves files r.fault r.left) }
     {
-        match Connection::open_from(rt, path, false, start) {
-            Ok(conn) => adopt(rt.alloc(), conn),
-            Err(_) => Err(KeepFault::Device),
+        let found = match inspect(alloc, &mut files) {
+            Ok(found) => found,
+            Err(fault) => {
+                return Err(Refused {
+                    fault,
+                    left: Left::Files(files),
+                    log: None,
+                });
+            }
+        };
+        let conn = match Connection::open_files_with(alloc, files, options, true) {
+            Ok(conn) => conn,
+            Err((error, left)) => {
+                return Err(Refused {
+                    fault: OpenFault::Sqlite(error),
+                    left: Left::Sqlite(left),
+                    log: Some(found.log),
+                });
+            }
+        };
+        if !is_ours(&conn, found.is_first) {
+            return Err(Refused {
+                fault: OpenFault::NoTables,
+                left: Left::Connection(conn),
+                log: Some(found.log),
+            });
+        }
+        match settle(alloc, conn) {
+            Ok(keep) => Ok(keep),
+            Err((fault, left)) => Err(Refused {
+                fault,
+                left,
+                log: Some(found.log),
+            }),
         }
     }
 }

@@ -35,10 +35,16 @@
 #![tactic(auto)]
 
 mod changes;
+mod copying;
 mod files;
+mod inspecting;
 mod opening;
+mod path;
+mod refusal;
 mod rows;
 mod sql_keep;
 mod taking;
 
+pub use files::{LOG_FRAMES, store_options};
+pub use refusal::{Left, OpenFault, Refused};
 pub use sql_keep::SqlKeep;

@@ -1,12 +1,15 @@
 //! The keeper.
 
-ghost use Rattle.std.specs.Prelude.{◌≡◌, ◌+◌, ◌≤◌, IfOk, IfErr};
+ghost use Rattle.std.specs.Prelude.{◌≡◌, ◌+◌, ◌≤◌, IfOk, IfErr, IsTrue};
+ghost use Rattle.sqlite.specs.State.{HasCleanDisk};
 ghost use Rattle.sqlite.specs.Held.{state};
 ghost use Rattle.pin_record.specs.Records.{new_record};
 ghost use Rattle.keep.specs.Contents.{Contents, new_contents};
 ghost use Rattle.keep.specs.declared.keep.KeepFault.TheVariants.{Device};
 ghost use Rattle.keep.specs.Keeping.{Rises};
 ghost use Rattle.table_statements.specs.Tables.{no_schema};
+ghost use Rattle.stored_contents.specs.Store.{IsAt};
+ghost use Rattle.stored_contents.specs.SqlState.{sql_terms};
 ghost use Rattle.stored_contents.specs.Formats.{HoldsEither};
 ghost use Rattle.stored_contents.specs.Opening.{Adopts, NotOpened, Opened};
 
@@ -62,6 +65,25 @@ fn counted(failures: &mut u64, fault: KeepFault) -> KeepFault
     }
 }
 
+/// The keeper over a connection to a store with this record.
+pub(crate) fn with_record<S: Alter + Drop>(
+    alloc: Global,
+    conn: Connection<S>,
+    token_record: Record,
+) -> SqlKeep<S>
+    ensures is { (result.conn ≡ conn) × (result.token_record ≡ token_record) }
+    ensures counts { (result.failures ≡ 0) × (result.tried ≡ 0) }
+    ensures adopts { (c : Contents) → HasCleanDisk (state S.Store conn) → IsTrue (state S.Store conn).is_open → IsAt (state S.Store conn) c → token_record ≡ c.token_record → Adopts (sql_terms S.Store) result c }
+{
+    SqlKeep {
+        conn,
+        token_record,
+        failures: 0,
+        tried: WriteCount::new(),
+        alloc,
+    }
+}
+
 impl<S: Alter + Drop> SqlKeep<S> {
     /// Opens the store over a connection. One with neither of the two tables is new: it gets both and a
     /// record that isn't initialised, in one transaction. Where one of them is there, both are taken to be
@@ -92,6 +114,16 @@ impl<S: Alter + Drop> SqlKeep<S> {
             }),
             Err(fault) => Err((fault, conn)),
         }
+    }
+
+    /// The connection and the record.
+    pub(crate) fn into_parts(self) -> (Connection<S>, Record)
+        ensures { (result.0 ≡ self.conn) × (result.1 ≡ self.token_record) }
+    {
+        let SqlKeep {
+            conn, token_record, ..
+        } = self;
+        (conn, token_record)
     }
 
     /// Gives the connection back, as it is.

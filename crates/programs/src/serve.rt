@@ -62,7 +62,10 @@ pub(crate) fn serve<R: Threads + Wait + Copy + Send + Drop + 'static, O: Write>(
         let keep = ListKeep::new(rt.alloc(), Record::new());
         serve_over(rt, threads, keep, &served, output)
     } else {
-        let keep = SqlKeep::open(rt, store, Wary)?;
+        let keep = match SqlKeep::open(rt, store, Wary) {
+            Ok(keep) => keep,
+            Err(refused) => return Err(refused.put_back(rt.alloc()).as_keep_fault().into()),
+        };
         serve_cached(rt, threads, keep, &served, output)
     }
 }

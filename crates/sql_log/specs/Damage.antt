@@ -1,7 +1,7 @@
 -- Damage in a log that no power cut leaves.
 use Rattle.std.specs.Prelude.{◌≡◌, ◌≢◌, ◌⊎◌, ℕ, ◌+◌, ◌<◌, ◌≤◌, List, length, slice_index}
 use Rattle.sqlite_wal.specs.Format.{IsFrame, IsSigned, be32, commit_size}
-use Rattle.sqlite_wal.specs.Recovery.{Passes, frame, frame_at, header, sum_before}
+use Rattle.sqlite_wal.specs.Recovery.{Image, IsBegun, Passes, frame, frame_at, header, sum_before}
 
 -- a log that is too short for a frame and has no header that passes its checksum
 abbrev pub IsUnwritten : List ℕ → Type 0
@@ -59,3 +59,8 @@ pub record IsBeheaded (size : ℕ) (log : List ℕ) : Type 0 where
 -- pages have the size that the header says, or 4096 bytes where it is damaged
 abbrev pub IsDamaged : List ℕ → Type 0
 IsDamaged log = IsBroken (be32 (header log) 8) log ⊎ IsBeheaded 4096 log
+
+-- What a first opening that was cut off may leave: the log has the header that it writes, or not yet one, and then the database file
+-- has a byte at most.
+abbrev pub IsFirst : Image → Type 0
+IsFirst image = IsBegun 4096 image.log ⊎ ((length image.db ≤ 1) × IsUnwritten image.log)

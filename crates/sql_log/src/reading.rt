@@ -1,6 +1,6 @@
 //! A file's bytes.
 
-ghost use Rattle.std.specs.Prelude.{◌≡◌, IsTrue, IfOk};
+ghost use Rattle.std.specs.Prelude.{◌≡◌, ◌≤◌, length, IsTrue, IfOk, OnOk};
 ghost use Rattle.sqlite_wal.specs.Reads.{IsClean, OnlyReads};
 
 use sqlite_disk::Disk;
@@ -19,4 +19,35 @@ pub fn bytes_of<D: Disk>(alloc: Global, disk: &mut D) -> io::Result<Vec<u8>>
     };
     disk.read_at(0, &mut bytes)?;
     Ok(bytes)
+}
+
+/// How many bytes two texts begin with alike.
+fn alike(a: &[u8], b: &[u8]) -> usize
+    ensures first { result ≤ length a.now }
+    ensures second { result ≤ length b.now }
+{
+    let most = a.len().min(b.len());
+    for at in 0..most {
+        if a[at] != b[at] {
+            return at;
+        }
+    }
+    most
+}
+
+/// Gives a file these bytes again, and syncs. What it begins with alike is not written.
+pub fn put_back<D: Disk>(alloc: Global, disk: &mut D, bytes: &[u8]) -> io::Result<()>
+    requires { IsTrue (D.Disk.is_usable disk.old) }
+    ensures len { OnOk result (IsClean D.Disk disk.new → length (D.Disk.seen disk.new) ≡ length bytes.now) }
+{
+    let now = bytes_of(alloc, disk)?;
+    let same = alike(now.as_slice(), bytes);
+    if same == now.len() && same == bytes.len() {
+        return Ok(());
+    }
+    if same < bytes.len() {
+        disk.write_at(same, &bytes[same..])?;
+    }
+    disk.set_len(bytes.len())?;
+    disk.sync()
 }

@@ -6,3 +6,4 @@ pub mod Places
 pub mod Bytes
 pub mod Renewed
 pub mod Covers
+pub mod Copies

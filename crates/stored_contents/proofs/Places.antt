@@ -24,12 +24,6 @@ use Rattle.stored_contents.specs.Opening.{Adopts, Opened}
 use Rattle.stored_contents.specs.OpenedFile.{OpenedFile}
 use Rattle.stored_contents.specs.SqlState.{SqlState, sql_terms}
 
-pub file_opened : {D : Type 0} {g : Ghosts D} (start : Image) (was : Held (FileStore D g)) (r : Result (SqlState (FileStore D g)) KeepFault) → (HasCleanDisk (file_state was) → IsOpened was) → (HasCleanDisk (file_state was) → FindsIn start (file_state was))
-    → IfOk r (λ k. Opened (file_state was) (file_state k.conn) k.token_record) → ((c : Contents) → HoldsEither (file_state was) c → IfOk r (λ k. HasCleanDisk (file_state k.conn) → Adopts (sql_terms over_files) k c))
-    → ((file_state was).now.schema ≡ no_schema → IfOk r (λ k. HasCleanDisk (file_state k.conn) → Adopts (sql_terms over_files) k (new_contents new_record))) → IfOk r (λ k. (k.failures ≡ 0) × (k.tried ≡ 0)) → IfOk r (OpenedFile start)
-file_opened start was (Ok k) is_open finds opened found fresh counts = record { was = was; is_open = is_open; finds = finds; opened = opened; found = found; fresh = fresh; failures = counts.0; tried = counts.1 }
-file_opened start was (Err fault) is_open finds opened found fresh counts = tt
-
 pub memory_opened : (was : Held MemStore) (r : Result (SqlState MemStore) KeepFault) → IsEmpty (state over_memory was) → IfOk r (λ k. Opened (state over_memory was) (state over_memory k.conn) k.token_record)
     → ((state over_memory was).now.schema ≡ no_schema → IfOk r (λ k. HasCleanDisk (state over_memory k.conn) → Adopts (sql_terms over_memory) k (new_contents new_record))) → IfOk r (λ k. (k.failures ≡ 0) × (k.tried ≡ 0))
     → IfOk r (λ k. Begins (sql_terms over_memory) k (new_contents new_record))

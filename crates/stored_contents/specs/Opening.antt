@@ -1,5 +1,5 @@
 -- What the opening of a store makes of a connection.
-use Rattle.std.specs.Prelude.{◌≡◌, ◌≢◌, ◌⊎◌, ◌≤◌, ◌||◌, ℕ, Bool, true, List, Contains, All, bytes_eq, codes, IsTrue, Option, Some}
+use Rattle.std.specs.Prelude.{◌≡◌, ◌≢◌, ◌⊎◌, ◌≤◌, ◌||◌, ◌&&◌, ◌==◌, length, ℕ, Bool, true, List, Contains, All, bytes_eq, codes, IsTrue, Option, Some}
 use Rattle.std.specs.List.{list_any}
 use Rattle.sqlite_value.specs.declared.value.Value.TheVariants.{Blob}
 use Rattle.sqlite.specs.Table.{Table}
@@ -38,6 +38,10 @@ is_token_table t = bytes_eq t.name (codes "record") || bytes_eq t.name (codes "o
 
 abbrev pub has_tables : Schema → Bool
 has_tables schema = list_any is_token_table schema.tables
+
+-- no table, index or view
+abbrev pub is_blank : Schema → Bool
+is_blank schema = (length schema.tables == 0) && (length schema.indexes == 0) && (length schema.views == 0)
 
 -- no table, or the two
 abbrev pub IsOurs : Schema → Type 0

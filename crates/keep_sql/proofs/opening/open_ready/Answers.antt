@@ -11,8 +11,8 @@ returns-then-has_tables-clause-not_opened g c = λ ready sees. c.take_over.ensur
 
 pub returns-else-has_tables-clause-opened : goal.returns-else-has_tables-clause-opened
 returns-else-has_tables-clause-opened g c = λ ready sees.
-    (made (state g.S.Store c.args.conn.now) (state g.S.Store c.create.new.conn) ready sees (sym c.has_tables.ensures ∙ c.if-has_tables.false) c.create.ensures.clean c.create.result c.create.ensures.made c.create.ensures.same c.create.ensures.crash c.create.ensures.undamaged).0
+    (made (state g.S.Store c.args.conn.now) (state g.S.Store c.make_new.new.conn) ready sees (sym c.has_tables.ensures ∙ c.if-has_tables.false) c.make_new.ensures.clean c.make_new.result c.make_new.ensures.made c.make_new.ensures.same c.make_new.ensures.crash c.make_new.ensures.undamaged).0
 
 pub returns-else-has_tables-clause-not_opened : goal.returns-else-has_tables-clause-not_opened
 returns-else-has_tables-clause-not_opened g c = λ ready sees.
-    (made (state g.S.Store c.args.conn.now) (state g.S.Store c.create.new.conn) ready sees (sym c.has_tables.ensures ∙ c.if-has_tables.false) c.create.ensures.clean c.create.result c.create.ensures.made c.create.ensures.same c.create.ensures.crash c.create.ensures.undamaged).1
+    (made (state g.S.Store c.args.conn.now) (state g.S.Store c.make_new.new.conn) ready sees (sym c.has_tables.ensures ∙ c.if-has_tables.false) c.make_new.ensures.clean c.make_new.result c.make_new.ensures.made c.make_new.ensures.same c.make_new.ensures.crash c.make_new.ensures.undamaged).1

@@ -1,0 +1,106 @@
+//! The store in a file, by its path.
+
+ghost use Rattle.std.specs.Prelude.{◌≡◌, ◌⊎◌, codes, true, false, IfOk, IfErr, IsErrAnd, IsTrue};
+ghost use Rattle.sqlite.specs.declared.error.ErrorCode.TheVariants.{CannotOpen};
+ghost use Rattle.sqlite.specs.declared.error.Error.TheVariants.{SqliteFailure};
+ghost use Rattle.sqlite_wal.specs.Files.{image_at};
+ghost use Rattle.sqlite_std_file.specs.File.{file_is_usable, IsFresh};
+ghost use Rattle.stored_contents.specs.OpenedFile.{OpenedFile};
+ghost use Rattle.keep_sql.specs.Refusal.{Leaves};
+
+use crate::files::store_options;
+use crate::refusal::{Left, OpenFault, Refused};
+use crate::sql_keep::SqlKeep;
+use sqlite::{Error, ErrorCode, FileFrom, FileStore, Files, Start};
+use sqlite_disk::Disk;
+use sqlite_std_file::OpenError;
+use std::fs;
+use std::hash::{BuildHasher, RandomState};
+use std::io::{self, ErrorKind};
+use std::rt::HostRuntime;
+
+const CANNOT_OPEN: OpenFault = OpenFault::Sqlite(Error::SqliteFailure(ErrorCode::CannotOpen));
+
+const NO_MEMORY: OpenFault = OpenFault::Sqlite(Error::SqliteFailure(ErrorCode::OutOfMemory));
+
+const BUSY: OpenFault = OpenFault::Sqlite(Error::SqliteFailure(ErrorCode::DatabaseBusy));
+
+/// Whether there is no file at the path, and a log beside it that is not empty.
+fn is_log_alone(rt: &HostRuntime, path: &str) -> Result<bool, OpenFault> {
+    match fs::symlink_metadata(rt, path) {
+        Err(error) if error.kind() == ErrorKind::NotFound => {}
+        _ => return Ok(false),
+    }
+    let Ok(log) = format!(in rt.alloc(); "{path}-wal") else {
+        return Err(NO_MEMORY);
+    };
+    match fs::symlink_metadata(rt, log.as_str()) {
+        Ok(found) => Ok(found.len() > 0),
+        Err(_) => Ok(false),
+    }
+}
+
+fn open_pair<S: Start>(
+    rt: &HostRuntime,
+    path: &str,
+    start: S,
+) -> Result<Files<FileFrom<S>>, OpenFault>
+    ensures memory { path.now ≡ codes ":memory:" → result ≡ Err (OpenFault.Sqlite (SqliteFailure CannotOpen)) }
+    ensures usable { IfOk result (λ files. IsTrue (file_is_usable S.Start files.log) × IsTrue (file_is_usable S.Start files.db)) }
+    ensures fresh { IfOk result (λ files. IsFresh true files.log × IsFresh false files.db) }
+{
+    if path == ":memory:" || path.starts_with("file:") {
+        return Err(CANNOT_OPEN);
+    }
+    if is_log_alone(rt, path)? {
+        return Err(OpenFault::FileLost);
+    }
+    match sqlite_std_file::open(rt, path, start) {
+        Ok(files) => Ok(files),
+        Err(OpenError::OutOfMemory) => Err(NO_MEMORY),
+        Err(OpenError::Busy) => Err(BUSY),
+        Err(OpenError::Io(error)) if error.kind() == ErrorKind::OutOfMemory => Err(NO_MEMORY),
+        Err(_) => Err(CANNOT_OPEN),
+    }
+}
+
+/// A random number for the salts of the log.
+fn random(rt: &HostRuntime) -> Result<u64, OpenFault> {
+    match RandomState::new(rt) {
+        Ok(state) => Ok(state.hash_one(&0u8)),
+        Err(_) => Err(CANNOT_OPEN),
+    }
+}
+
+fn unopened<S: Start>(fault: OpenFault) -> Refused<FileFrom<S>>
+    ensures { (result.fault ≡ fault) × (result.left ≡ Left.Nothing) }
+{
+    Refused {
+        fault,
+        left: Left::Nothing,
+        log: None,
+    }
+}
+
+impl<S: Start> SqlKeep<FileStore<FileFrom<S>>> {
+    /// Opens the store in a file, or makes it, as `open_files` does. Nobody else may write the file and the log beside it while the
+    /// store is open; sqlite holds a lock on it. `start` says what is supposed of the file: `Wary`, that a torn write may leave any
+    /// bytes, so each commit syncs twice, or `Unknown`, that it leaves each byte old or new.
+    ///
+    /// `CannotOpen` where the path can't be opened, and `DatabaseBusy` where another handle has it. A file that is not there is not
+    /// made where a log stands beside it (`FileLost`).
+    pub fn open(rt: &HostRuntime, path: &str, start: S) -> Result<Self, Refused<FileFrom<S>>>
+        ensures opened { IfOk result (OpenedFile (image_at S.Start)) }
+        ensures memory { path.now ≡ codes ":memory:" → IsErrAnd result (λ r. r.fault ≡ OpenFault.Sqlite (SqliteFailure CannotOpen)) }
+        ensures leaves { IfErr result (λ r. (r.left ≡ Left.Nothing) ⊎ ((files : _) × IsFresh true files.log × IsFresh false files.db × Leaves files r.fault r.left)) }
+    {
+        let files = match open_pair(rt, path, start) {
+            Ok(files) => files,
+            Err(fault) => return Err(unopened(fault)),
+        };
+        match random(rt) {
+            Ok(seed) => SqlKeep::open_files(rt.alloc(), files, store_options(seed)),
+            Err(fault) => Err(unopened(fault)),
+        }
+    }
+}

@@ -1,0 +1,128 @@
+//! Why a store in files isn't opened, and what is left of it.
+
+ghost use Rattle.std.specs.Prelude.{◌≡◌};
+
+use keep::KeepFault;
+use sql_log::put_back;
+use sqlite::{Connection, Error, ErrorCode, FileStore, Files, Leftover};
+use sqlite_disk::Disk;
+use std::alloc::Global;
+use thiserror::Error as AsError;
+
+/// Why a store in files isn't opened.
+#[derive(Clone, Copy, Debug, PartialEq, Eq, AsError)]
+pub enum OpenFault {
+    /// sqlite refused the files, for this reason.
+    #[error("{0}")]
+    Sqlite(Error),
+    /// The database file is gone or empty, and its log isn't.
+    #[error("the database file is gone or empty, and its log is not")]
+    FileLost,
+    /// Commits stand in the log behind damage that no power cut leaves.
+    #[error("the log is damaged before its last commits")]
+    LogDamaged,
+    /// The file has no table, and isn't what a first opening leaves.
+    #[error("the file has no tables of a token, or its log is lost")]
+    NoTables,
+    /// The keeper's own refusal.
+    #[error("{0}")]
+    Keeper(KeepFault),
+}
+
+impl OpenFault {
+    /// Whether the files were refused for what they hold, and not for want of memory or a failing disk.
+    pub fn is_damage(self) -> bool {
+        match self {
+            OpenFault::Sqlite(Error::SqliteFailure(
+                ErrorCode::NotADatabase | ErrorCode::DatabaseCorrupt,
+            )) => true,
+            OpenFault::Sqlite(_) => false,
+            OpenFault::Keeper(fault) => fault == KeepFault::Damaged,
+            OpenFault::FileLost | OpenFault::LogDamaged | OpenFault::NoTables => true,
+        }
+    }
+
+    /// The same as a keeper's refusal: `Damaged` for what the files hold, `Memory`, or else `Device`.
+    pub fn as_keep_fault(self) -> KeepFault {
+        match self {
+            OpenFault::Keeper(fault) => fault,
+            OpenFault::Sqlite(Error::SqliteFailure(ErrorCode::OutOfMemory)) => KeepFault::Memory,
+            other => {
+                if other.is_damage() {
+                    KeepFault::Damaged
+                } else {
+                    KeepFault::Device
+                }
+            }
+        }
+    }
+}
+
+/// What is left of the files of a store that isn't opened.
+pub enum Left<D: Disk + Drop> {
+    /// Nothing was opened.
+    Nothing,
+    /// The files, to which nothing was written.
+    Files(Files<D>),
+    /// What sqlite left of them.
+    Sqlite(Leftover<D>),
+    /// The connection, as `SqlKeep::from_connection` gives it back.
+    Connection(Connection<FileStore<D>>),
+    /// The store, whose log could not be copied into its file.
+    Store(FileStore<D>),
+}
+
+impl<D: Disk + Drop> Left<D> {
+    /// The files, where they were opened.
+    pub fn into_files(self) -> Option<Files<D>> {
+        match self {
+            Left::Nothing => None,
+            Left::Files(files) => Some(files),
+            Left::Sqlite(left) => Some(left.into_files()),
+            Left::Connection(conn) => Some(conn.into_store().close()),
+            Left::Store(store) => Some(store.close()),
+        }
+    }
+}
+
+// It is written out, so that a caller does not prove again how each part is dropped.
+impl<D: Disk + Drop> Drop for Left<D> {
+    fn drop(self) {
+        match self {
+            Left::Nothing => {}
+            Left::Files(_files) => {}
+            Left::Sqlite(_left) => {}
+            Left::Connection(_conn) => {}
+            Left::Store(_store) => {}
+        }
+    }
+}
+
+/// A refusal of a store in files.
+#[derive(Drop)]
+pub struct Refused<D: Disk + Drop> {
+    pub fault: OpenFault,
+    pub left: Left<D>,
+    /// The bytes of the log as they were found, where they were read.
+    pub log: Option<Vec<u8>>,
+}
+
+impl<D: Disk + Drop> Refused<D> {
+    /// Closes what is left. Where the files were refused for what they hold, the log first gets back the bytes that it was found with,
+    /// since sqlite may have written a new header to it, or shut it behind its last commit. What it begins with alike is not written, so
+    /// that no commit is touched.
+    pub fn put_back(self, alloc: Global) -> OpenFault
+        ensures { result ≡ self.fault }
+    {
+        let Refused { fault, left, log } = self;
+        if !fault.is_damage() {
+            return fault;
+        }
+        if let (Some(mut files), Some(bytes)) = (left.into_files(), log) {
+            if files.may_be_used() {
+                let _done = put_back(alloc, &mut files.log, bytes.as_slice());
+            }
+        }
+        fault
+    }
+}
