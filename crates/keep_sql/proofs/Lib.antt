@@ -2,3 +2,4 @@ pub mod Outcomes
 pub mod Taken
 pub mod Takes
 pub mod Refusals
+pub mod Crashes

@@ -38,6 +38,7 @@ mod changes;
 mod copying;
 mod files;
 mod inspecting;
+mod laws;
 mod opening;
 mod path;
 mod refusal;
@@ -45,6 +46,7 @@ mod rows;
 mod sql_keep;
 mod taking;
 
+pub use laws::crash_then_open;
 pub use files::{LOG_FRAMES, store_options};
 pub use refusal::{Left, OpenFault, Refused};
 pub use sql_keep::SqlKeep;

@@ -1,0 +1,49 @@
+-- What a crash leaves of a store in files is what the next opening finds.
+use Rattle.std.proofs.Common.{◌≡◌, Option, Some, None, IsTrue, sym, ap, subst, arith}
+use Rattle.std.proofs.Math.Logic.{∥∥₁_elim}
+use Rattle.sqlite_disk.specs.declared.Disk.{Ghosts}
+use Rattle.sqlite_wal.specs.Recovery.{Image}
+use Rattle.sqlite.specs.Tree.{Trees}
+use Rattle.sqlite.specs.Schema.{Schema}
+use Rattle.sqlite.specs.declared.FileStore.{FileStore}
+use Rattle.sqlite_store.specs.FileStore.{recovers, state, view}
+use Rattle.sqlite.specs.State.{HasCleanDisk}
+use Rattle.sqlite.specs.Held.{AreDatabases}
+use Rattle.sqlite.specs.Files.{file_state, over_files}
+use Rattle.sqlite.specs.Effect.{Database, IsDatabase}
+use Rattle.sqlite.proofs.Theorems.{next_run}
+use Rattle.sqlite_catalog.specs.Listing.{IsSound}
+use Rattle.keep.specs.Contents.{Contents}
+use Rattle.table_statements.specs.Tables.{token_schema}
+use Rattle.stored_contents.specs.Store.{IsStore, Stores}
+use Rattle.stored_contents.specs.Opening.{Adopts}
+use Rattle.stored_contents.specs.OpenedFile.{OpenedFile}
+use Rattle.stored_contents.specs.SqlState.{SqlState, sql_terms}
+use Rattle.stored_contents.proofs.Copies.{one_schema}
+use Rattle.keep_sql.specs.CrashThenOpen.{HoldsLeft}
+use Rattle.keep_sql.proofs.Taken.{stored_either}
+
+-- a store that an opening finds is held
+found_held : {N : Type 0} {h : Ghosts N} (next : SqlState (FileStore N h)) (image : Image) (it : OpenedFile image next) → HasCleanDisk (file_state next.conn) → (c : Contents) → IsStore (file_state it.was).committed.trees c
+    → Adopts (sql_terms over_files) next c
+found_held next image it clean c left = it.found c (λ sure up.
+    let open_now = it.is_open sure in
+    let opens = open_now.0 in
+    let live = (open_now.1 up).0 in
+    let trees : (file_state it.was).committed.trees ≡ (file_state it.was).now.trees = ap (λ (d : Database). d.trees) (sym opens.clean) in
+    record {
+      schema = one_schema (file_state it.was).now.trees (file_state it.was).now.schema (subst (λ (t : Trees). IsSound token_schema t) trees left.sound) live;
+      settled = sym opens.clean;
+      autocommit = opens.autocommit;
+      stores = stored_either (file_state it.was).now.trees c (subst (λ (t : Trees). Stores t c) trees left.stores);
+      sound = live;
+    }) clean
+
+module _ {D N : Type 0} {g : Ghosts D} {h : Ghosts N} (k : SqlState (FileStore D g)) (next : SqlState (FileStore N h)) (image : Image) (clean : HasCleanDisk (file_state k.conn)) (numbered : IsTrue (view k.conn.store).is_numbered)
+    (sound : AreDatabases (recovers k.conn.store)) (may : (state k.conn.store).may_leave image) (it : OpenedFile image next) (sure : HasCleanDisk (file_state next.conn)) where
+  pub finds_left : ¬ ((left : Option Contents) → (sql_terms over_files).may_leave k left → ¬ HoldsLeft next left)
+  finds_left none =
+      let was_sure : HasCleanDisk (file_state it.was) = omega (arith, it.opened.clean) in
+      ∥∥₁_elim (next_run k.conn.store numbered sound image may (file_state it.was) (it.finds was_sure)) (λ x y. absurd x) (λ left.
+        none None (clean, ((file_state it.was).committed.trees, left, λ (c : Contents) (store : IsStore (file_state it.was).committed.trees c).
+          none (Some c) (clean, ((file_state it.was).committed.trees, left, store)) (found_held next image it sure c store))) tt)
