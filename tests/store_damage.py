@@ -1,0 +1,214 @@
+#!/usr/bin/env python3
+"""What `tokend serve` makes of a store that is damaged, cut or gone.
+
+    store_damage.py TOKEND [STEP]
+
+makes a small store with the program TOKEND, and then starts it on copies of which a bit is flipped, a file is cut, or a file is gone.
+Every STEP-th bit is flipped, and every STEP-th length is a cut (1: each; without it 199). A start has to end with status 3 and leave
+both files byte for byte, or the store has to be the whole one, the one at its last checkpoint where the log was touched, or the one
+before its last commits. It prints how many of how many were which, and ends with status 1 where one was anything else.
+"""
+import os, shutil, socket, struct, subprocess, sys, tempfile, time
+
+
+def n(value):
+    return struct.pack(">Q", value)
+
+
+def blob(data):
+    return struct.pack(">I", len(data)) + data
+
+
+def template(*entries):
+    return struct.pack(">I", len(entries)) + b"".join(n(kind) + blob(value) for kind, value in entries)
+
+
+class Token:
+    """A running daemon, and one connection to it."""
+
+    def __init__(self, program, folder):
+        self.path = os.path.join(folder, "s")
+        if os.path.exists(self.path):
+            os.remove(self.path)
+        self.process = subprocess.Popen(
+            [program, "serve", "--store", os.path.join(folder, "token.db"), "--socket", self.path, "--seed-file", os.path.join(folder, "seed")],
+            stdin=subprocess.DEVNULL, stdout=subprocess.PIPE, stderr=subprocess.PIPE)
+        self.is_ready = self.process.stdout.readline() == b"ready\n"
+        if self.is_ready:
+            self.socket = socket.socket(socket.AF_UNIX)
+            self.socket.settimeout(20)
+            self.socket.connect(self.path)
+
+    def call(self, function, *fields):
+        payload = struct.pack(">H", function) + b"".join(fields)
+        self.socket.sendall(struct.pack(">I", len(payload)) + payload)
+        length = struct.unpack(">I", self.take(4))[0]
+        reply = self.take(length)
+        return struct.unpack(">Q", reply[:8])[0], reply[8:]
+
+    def take(self, count):
+        data = b""
+        while len(data) < count:
+            piece = self.socket.recv(count - len(data))
+            if not piece:
+                raise OSError("the daemon closed the connection")
+            data += piece
+        return data
+
+    def contents(self):
+        """The objects' values and the token's label, or the code of a refusal."""
+        code, reply = self.call(7, n(0), n(6))
+        if code:
+            return code
+        session = reply
+        code, info = self.call(1, n(0))
+        if code:
+            return code
+        found = [info[:32]]
+        code, _ = self.call(19, session, template())
+        if code:
+            return code
+        code, reply = self.call(20, session, n(100))
+        if code:
+            return code
+        for at in range(struct.unpack(">I", reply[:4])[0]):
+            handle = reply[4 + 8 * at:12 + 8 * at]
+            code, value = self.call(17, session, handle, struct.pack(">I", 1) + n(0x11) + b"\1" + n(64))
+            if code:
+                return code
+            found.append(value)
+        return tuple(found)
+
+    def kill(self):
+        self.process.kill()
+        self.process.wait()
+        if self.is_ready:
+            self.socket.close()
+        self.process.stdout.close()
+        self.process.stderr.close()
+
+
+def add(token, value):
+    code, reply = token.call(7, n(0), n(6))
+    assert code == 0, code
+    code, _ = token.call(13, reply, template((0, n(0)), (1, b"\1"), (2, b"\0"), (0x11, value)))
+    assert code == 0, code
+
+
+def files(folder):
+    found = []
+    for name in ("token.db", "token.db-wal"):
+        path = os.path.join(folder, name)
+        found.append(open(path, "rb").read() if os.path.exists(path) else None)
+    return found
+
+
+def put(folder, db, log):
+    for name, data in (("token.db", db), ("token.db-wal", log)):
+        path = os.path.join(folder, name)
+        if data is None:
+            if os.path.exists(path):
+                os.remove(path)
+        else:
+            with open(path, "wb") as file:
+                file.write(data)
+
+
+def start(program, folder, db, log):
+    """What a start on these files comes to: 'refused', or the contents."""
+    put(folder, db, log)
+    token = Token(program, folder)
+    if token.is_ready:
+        try:
+            return token.contents()
+        finally:
+            token.kill()
+    error = token.process.stderr.read()
+    status = token.process.wait()
+    token.kill()
+    if status != 3:
+        return "status %d: %s" % (status, error.decode())
+    now = files(folder)
+    if now[0] != db or (now[1] or b"") != (log or b""):
+        return "refused, and the files changed"
+    return "refused"
+
+
+def flips(data, step):
+    for bit in range(0, 8 * len(data), step):
+        yield "bit %d" % bit, data[:bit // 8] + bytes([data[bit // 8] ^ 1 << bit % 8]) + data[bit // 8 + 1:]
+
+
+def cuts(data, step):
+    for length in sorted(set(range(0, len(data), step)) | set(range(0, min(64, len(data))))):
+        yield "cut to %d" % length, data[:length]
+
+
+def main():
+    program = os.path.abspath(sys.argv[1])
+    step = int(sys.argv[2]) if len(sys.argv) > 2 else 199
+    folder = tempfile.mkdtemp()
+    with open(os.path.join(folder, "seed"), "wb") as file:
+        file.write(os.urandom(32))
+    states = []
+    for values in ([b"one", b"two"], [b"three", b"four", b"five"]):
+        token = Token(program, folder)
+        assert token.is_ready, token.process.stderr.read()
+        states.append(token.contents())
+        for value in values:
+            add(token, value)
+            states.append(token.contents())
+        token.kill()
+    whole, copied, new = states[-1], states[2], states[0]
+    later = states[4:-1]
+    db, log = files(folder)
+    print("database file %d bytes, log %d bytes" % (len(db), len(log)))
+    bad = 0
+
+    def run(name, changes, is_log):
+        nonlocal bad
+        counts = {}
+        for what, (a, b) in changes:
+            found = start(program, folder, a, b)
+            if found == "refused":
+                kind = "refused, unchanged"
+            elif isinstance(found, int):
+                kind = "CKR_DEVICE_ERROR" if found == 0x30 else "code %#x" % found
+            elif found == whole:
+                kind = "whole"
+            elif found == copied and is_log:
+                kind = "at its last checkpoint"
+            elif found in later and is_log:
+                kind = "before its last commits"
+            else:
+                kind = "WRONG: a new token" if found == new else "WRONG: %s" % (found,)
+            if kind.startswith("WRONG") or kind.startswith("code"):
+                bad += 1
+                print("%s, %s: %s" % (name, what, kind))
+            counts[kind] = counts.get(kind, 0) + 1
+        print("%s: %d starts: %s" % (name, sum(counts.values()), ", ".join("%d %s" % (counts[k], k) for k in sorted(counts))))
+
+    run("flips of the file", ((w, (d, log)) for w, d in flips(db, step)), False)
+    run("flips of the log", ((w, (db, d)) for w, d in flips(log, step)), True)
+    run("cuts of the file", ((w, (d, log)) for w, d in cuts(db, step)), False)
+    run("cuts of the log", ((w, (db, d)) for w, d in cuts(log, step)), True)
+    run("the file gone", [("gone", (None, log))], False)
+    run("the log gone", [("gone", (db, None))], True)
+    other = os.path.join(folder, "other.db")
+    try:
+        import sqlite3
+        connection = sqlite3.connect(other)
+        connection.execute("create table note (id integer primary key, text)")
+        connection.execute("insert into note (text) values ('somebody else')")
+        connection.commit()
+        connection.close()
+        run("another program's file", [("whole", (open(other, "rb").read(), None))], False)
+    except ImportError:
+        print("another program's file: not tried, since there is no sqlite3 here")
+    run("a text", [("whole", (b"no database at all\n" * 40, None))], False)
+    shutil.rmtree(folder)
+    return 1 if bad else 0
+
+
+if __name__ == "__main__":
+    sys.exit(main())
