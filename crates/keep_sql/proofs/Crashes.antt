@@ -45,5 +45,12 @@ module _ {D N : Type 0} {g : Ghosts D} {h : Ghosts N} (k : SqlState (FileStore D
   finds_left none =
       let was_sure : HasCleanDisk (file_state it.was) = omega (arith, it.opened.clean) in
       ∥∥₁_elim (next_run k.conn.store numbered sound image may (file_state it.was) (it.finds was_sure)) (λ x y. absurd x) (λ left.
-        none None (clean, ((file_state it.was).committed.trees, left, λ (c : Contents) (store : IsStore (file_state it.was).committed.trees c).
-          none (Some c) (clean, ((file_state it.was).committed.trees, left, store)) (found_held next image it sure c store))) tt)
+      none None (
+        clean,
+        (
+          (file_state it.was).committed.trees,
+          left,
+          λ (c : Contents) (store : IsStore (file_state it.was).committed.trees c).
+              none (Some c) (clean, ((file_state it.was).committed.trees, left, store)) (found_held next image it sure c store),
+        ),
+      ) tt)

@@ -52,10 +52,7 @@ fn is_first(log: &[u8], db_len: usize) -> Result<bool, OpenFault>
 }
 
 /// Inspects the files.
-pub(crate) fn inspect<D: Disk>(
-    alloc: Global,
-    files: &mut Files<D>,
-) -> Result<Inspected, OpenFault>
+pub(crate) fn inspect<D: Disk>(alloc: Global, files: &mut Files<D>) -> Result<Inspected, OpenFault>
     requires log { IsTrue (D.Disk.is_usable files.old.log) }
     requires db { IsTrue (D.Disk.is_usable files.old.db) }
     ensures bytes { IfOk result (λ it. AreClean D.Disk files.new.log files.new.db → it.log.items ≡ D.Disk.seen files.old.log) }

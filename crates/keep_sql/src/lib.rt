@@ -46,7 +46,7 @@ mod rows;
 mod sql_keep;
 mod taking;
 
-pub use laws::crash_then_open;
 pub use files::{LOG_FRAMES, store_options};
+pub use laws::crash_then_open;
 pub use refusal::{Left, OpenFault, Refused};
 pub use sql_keep::SqlKeep;

@@ -33,9 +33,9 @@ impl OpenFault {
     /// Whether the files were refused for what they hold, and not for want of memory or a failing disk.
     pub fn is_damage(self) -> bool {
         match self {
-            OpenFault::Sqlite(Error::SqliteFailure(
-                ErrorCode::NotADatabase | ErrorCode::DatabaseCorrupt,
-            )) => true,
+            OpenFault::Sqlite(
+                Error::SqliteFailure(ErrorCode::NotADatabase | ErrorCode::DatabaseCorrupt),
+            ) => true,
             OpenFault::Sqlite(_) => false,
             OpenFault::Keeper(fault) => fault == KeepFault::Damaged,
             OpenFault::FileLost | OpenFault::LogDamaged | OpenFault::NoTables => true,

@@ -121,7 +121,9 @@ impl<S: Alter + Drop> SqlKeep<S> {
         ensures { (result.0 ≡ self.conn) × (result.1 ≡ self.token_record) }
     {
         let SqlKeep {
-            conn, token_record, ..
+            conn,
+            token_record,
+            ..
         } = self;
         (conn, token_record)
     }

@@ -9,9 +9,9 @@
 #![tactic(auto)]
 
 mod damage;
-mod frames;
 mod first;
 mod format;
+mod frames;
 mod reading;
 
 pub use damage::has_commits_behind;
