@@ -4,5 +4,6 @@ mod disks;
 mod formats;
 mod given;
 mod old;
+mod openings;
 mod renewals;
 mod reopening;

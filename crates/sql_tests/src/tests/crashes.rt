@@ -1,13 +1,10 @@
 //! What a crash leaves, over files in memory that fail after so many calls.
 
-use super::disks::{MANY, Work, crashed, new_files, work_in};
+use super::disks::{MANY, OverStore, endings, new_files, store_in};
 use super::given::{Change, are_same, make};
 use Change::{Insert, Remove, Replace, Reset, SetRecord};
 use keep::{Keep, KeepFault, ListKeep};
-use keep_sql::SqlKeep;
 use pin_record::Record;
-use sqlite::{Alter, Connection, Files};
-use sqlite_disk::{Fuse, Memory};
 use std::alloc::Global;
 use std::process::Abort;
 use std::test::Fail;
@@ -45,19 +42,10 @@ struct Made {
     is_counted: bool,
 }
 
-impl Work for Made {
-    fn over<S: Alter + Drop>(
-        &mut self,
-        alloc: Global,
-        conn: Connection<S>,
-    ) -> Result<Connection<S>, Fail> {
-        match SqlKeep::from_connection(alloc, conn) {
-            Ok(mut keep) => {
-                (self.changes, self.is_counted) = make_all(alloc, &mut keep);
-                Ok(keep.close())
-            }
-            Err((_, conn)) => Ok(conn),
-        }
+impl OverStore for Made {
+    fn over<K: Keep>(&mut self, alloc: Global, mut keep: K) -> Result<K, Fail> {
+        (self.changes, self.is_counted) = make_all(alloc, &mut keep);
+        Ok(keep)
     }
 }
 
@@ -88,59 +76,68 @@ struct Kept {
     is_kept: bool,
 }
 
-impl Work for Kept {
-    fn over<S: Alter + Drop>(
-        &mut self,
-        alloc: Global,
-        conn: Connection<S>,
-    ) -> Result<Connection<S>, Fail> {
-        match SqlKeep::from_connection(alloc, conn) {
-            Ok(mut keep) => {
-                let is_kept = has_changes_or_one(alloc, &mut keep, self.changes);
-                let conn = keep.close();
-                self.is_kept = is_kept?;
-                Ok(conn)
-            }
-            Err((_, conn)) => Ok(conn),
-        }
+impl OverStore for Kept {
+    fn over<K: Keep>(&mut self, alloc: Global, mut keep: K) -> Result<K, Fail> {
+        self.is_kept = has_changes_or_one(alloc, &mut keep, self.changes)?;
+        Ok(keep)
     }
 }
 
-/// Whether a run made all changes. It leaves what was acknowledged, or that and the next change.
-fn is_whole(rt: &impl Abort, alloc: Global, log: u64, db: u64) -> Result<bool, Fail> {
+/// Whether a run made all changes, where the log is copied once it has so many frames. However the machine ends, the store has what
+/// was acknowledged, or that and the next change.
+fn is_whole(
+    rt: &impl Abort,
+    alloc: Global,
+    frames: usize,
+    log: u64,
+    db: u64,
+) -> Result<bool, Fail> {
     let mut made = Made {
         changes: 0,
         is_counted: true,
     };
-    let left = work_in(alloc, new_files(alloc, log, db), &mut made)?;
-    let mut kept = Kept {
-        changes: made.changes,
-        is_kept: false,
-    };
-    work_in(alloc, crashed(left), &mut kept)?;
+    let (left, _) = store_in(alloc, new_files(alloc, log, db), frames, &mut made)?;
     assert!(rt; made.is_counted, "log {log}, db {db}");
-    assert!(rt; kept.is_kept, "log {log}, db {db}");
+    for (ending, files) in endings(alloc, left)?.into_iter().enumerate() {
+        let mut kept = Kept {
+            changes: made.changes,
+            is_kept: false,
+        };
+        let (_files, fault) = store_in(alloc, files, frames, &mut kept)?;
+        assert!(rt; kept.is_kept, "log {log}, db {db}, ending {ending}: {fault:?}");
+    }
     Ok(made.changes == CHANGES.len())
 }
+
+/// How many frames the log has before it is copied: as the daemon has it, and few, so that it is copied between the changes.
+const FRAMES: [usize; 2] = [64, 3];
 
 #[test]
 fn a_stop_of_the_log_leaves_whole_changes(rt: HostRuntime) -> Result<(), Fail> {
     let alloc = rt.alloc();
-    for calls in 0..1000 {
-        if is_whole(&rt, alloc, calls, MANY)? {
-            return Ok(());
+    for frames in FRAMES {
+        let mut is_done = false;
+        for calls in 0..1000 {
+            if !is_done {
+                is_done = is_whole(&rt, alloc, frames, calls, MANY)?;
+            }
         }
+        assert!(rt; is_done, "each run with {frames} frames stopped");
     }
-    Err("a run with no stop".into())
+    Ok(())
 }
 
 #[test]
 fn a_stop_of_the_database_file_leaves_whole_changes(rt: HostRuntime) -> Result<(), Fail> {
     let alloc = rt.alloc();
-    for calls in 0..1000 {
-        if is_whole(&rt, alloc, MANY, calls)? {
-            return Ok(());
+    for frames in FRAMES {
+        let mut is_done = false;
+        for calls in 0..1000 {
+            if !is_done {
+                is_done = is_whole(&rt, alloc, frames, MANY, calls)?;
+            }
         }
+        assert!(rt; is_done, "each run with {frames} frames stopped");
     }
-    Err("a run with no stop".into())
+    Ok(())
 }

@@ -2,11 +2,13 @@ mod disks;
 mod lasting;
 mod script;
 
-use disks::{Disks, ENDLESS, Work, crashed, disks, work_in};
+use disks::{Disks, ENDLESS, Work, disks, endings, work_in};
 use keep::Keep;
 use lasting::{Lasting, lasting_of, states};
 use script::told_as_wanted;
 use scripts::BenchOver;
+use sqlite::Files;
+use sqlite_disk::Memory;
 use std::alloc::Global;
 use std::process::Abort;
 use std::test::*;
@@ -42,65 +44,73 @@ impl Work for Opened {
     }
 }
 
-/// How many rows of the script were told as they say before the machine stopped, and its files.
-fn stopped(alloc: Global, files: Disks) -> Result<(usize, Disks), Fail> {
-    let mut told = Told(0);
-    let files = work_in(alloc, files, &mut told)?;
-    Ok((told.0, files))
-}
+/// How many frames the log has before it is copied: as the daemon has it, and few, so that it is copied between the rows.
+const FRAMES: [usize; 2] = [64, 3];
 
 /// What lasts in the files once the machine has come back.
-fn what_lasts(alloc: Global, files: Disks) -> Result<Lasting, Fail> {
+fn what_lasts(alloc: Global, files: Files<Memory>, frames: usize) -> Result<Lasting, Fail> {
     let mut opened = Opened(None);
-    work_in(alloc, crashed(files), &mut opened)?;
+    work_in(alloc, files, frames, &mut opened)?;
     match opened.0 {
         Some(lasting) => Ok(lasting),
         None => Err("the store does not open again".into()),
     }
 }
 
-/// Sees that after a stop what was acknowledged is found, and perhaps the next change, whole. How many rows were told as they
-/// say before.
+/// Sees that after a stop what was acknowledged is found, and perhaps the next change, whole, however the machine ends. How many rows
+/// were told as they say before.
 fn expect_whole(
     alloc: Global,
     states: &[Lasting],
     files: Disks,
+    frames: usize,
     stop: (&str, u64),
 ) -> Result<usize, Fail> {
-    let (told, files) = stopped(alloc, files)?;
-    let found = what_lasts(alloc, files)?;
-    let next = told.saturating_add(1);
-    if states.get(told) == Some(&found) || states.get(next) == Some(&found) {
-        return Ok(told);
+    let mut told = Told(0);
+    let files = work_in(alloc, files, frames, &mut told)?;
+    let next = told.0.saturating_add(1);
+    for (ending, files) in endings(alloc, files)?.into_iter().enumerate() {
+        let found = what_lasts(alloc, files, frames)?;
+        if states.get(told.0) != Some(&found) && states.get(next) != Some(&found) {
+            return Err(Fail::new(format_args!("{stop:?}, ending {ending}: {} rows were told, and another store was found", told.0)));
+        }
     }
-    Err(Fail::new(format_args!("{stop:?}: {told} rows were told, and another store was found")))
+    Ok(told.0)
 }
 
 #[test]
 fn a_stop_at_each_call_of_the_log_leaves_whole_changes(rt: HostRuntime) -> Result<(), Fail> {
     let states = states(rt.alloc())?;
-    for calls in 0..ENDLESS {
-        let files = disks(rt.alloc(), calls, ENDLESS);
-        let told = expect_whole(rt.alloc(), &states, files, ("log", calls))?;
-        if told.saturating_add(1) == states.len() {
-            // More calls than the opening of a store takes.
-            assert!(rt; calls > 10, "{calls} calls");
-            return Ok(());
+    for frames in FRAMES {
+        let mut is_done = false;
+        for calls in 0..1000 {
+            if !is_done {
+                let files = disks(rt.alloc(), calls, ENDLESS);
+                let told = expect_whole(rt.alloc(), &states, files, frames, ("log", calls))?;
+                is_done = told.saturating_add(1) == states.len();
+                // More calls than the opening of a store takes.
+                assert!(rt; !is_done || calls > 10, "{calls} calls");
+            }
         }
+        assert!(rt; is_done, "each run with {frames} frames stopped");
     }
-    Err("each run stopped".into())
+    Ok(())
 }
 
 #[test]
 fn a_stop_at_each_call_of_the_database_leaves_whole_changes(rt: HostRuntime) -> Result<(), Fail> {
     let states = states(rt.alloc())?;
-    for calls in 0..ENDLESS {
-        let files = disks(rt.alloc(), ENDLESS, calls);
-        let told = expect_whole(rt.alloc(), &states, files, ("database", calls))?;
-        if told.saturating_add(1) == states.len() {
-            assert!(rt; calls > 3, "{calls} calls");
-            return Ok(());
+    for frames in FRAMES {
+        let mut is_done = false;
+        for calls in 0..1000 {
+            if !is_done {
+                let files = disks(rt.alloc(), ENDLESS, calls);
+                let told = expect_whole(rt.alloc(), &states, files, frames, ("database", calls))?;
+                is_done = told.saturating_add(1) == states.len();
+                assert!(rt; !is_done || calls > 3, "{calls} calls");
+            }
         }
+        assert!(rt; is_done, "each run with {frames} frames stopped");
     }
-    Err("each run stopped".into())
+    Ok(())
 }

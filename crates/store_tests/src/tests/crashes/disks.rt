@@ -2,10 +2,10 @@
 //! its keeper, so that the one function which names the store of files costs its proof once.
 
 use keep::Keep;
-use keep_sql::SqlKeep;
-use sqlite::{Alter, Connection, Files, Options};
+use keep_sql::{SqlKeep, store_options};
+use sqlite::Files;
 use sqlite_disk::{Crash, Disk, Fuse, Memory};
-use std::alloc::Global;
+use std::alloc::{AllocError, Global};
 use std::test::Fail;
 
 pub(super) type Disks = Files<Fuse<Memory>>;
@@ -26,36 +26,74 @@ pub(super) fn disks(alloc: Global, log_calls: u64, db_calls: u64) -> Disks {
     }
 }
 
-/// The files as the machine finds them when it comes back.
-pub(super) fn crashed(mut files: Disks) -> Disks {
+/// A file in memory with these bytes, which are synced.
+fn disk_of(alloc: Global, bytes: &[u8]) -> Result<Memory, Fail> {
+    let mut disk = Memory::new(alloc);
+    disk.set_len(bytes.len())?;
+    disk.write_at(0, bytes)?;
+    disk.sync()?;
+    Ok(disk)
+}
+
+fn files_of(alloc: Global, log: &[u8], db: &[u8]) -> Result<Files<Memory>, Fail> {
+    let log = disk_of(alloc, log)?;
+    let db = disk_of(alloc, db)?;
+    Ok(Files { log, db })
+}
+
+/// What was written, where every other sector of 512 bytes is as it was synced.
+fn torn(
+    alloc: Global,
+    synced: &[u8],
+    written: &[u8],
+    kept: usize,
+) -> Result<Vec<u8>, AllocError> {
+    let mut bytes = Vec::new(alloc);
+    for (at, byte) in written.iter().enumerate() {
+        let old = synced.get(at).copied().unwrap_or(0);
+        bytes.push(if at / 512 % 2 == kept { *byte } else { old })?;
+    }
+    Ok(bytes)
+}
+
+/// The files as the machine may find them when it comes back: without the writes that were not synced, with all of them, and with every
+/// other sector of them.
+pub(super) fn endings(alloc: Global, mut files: Disks) -> Result<Vec<Files<Memory>>, Fail> {
+    let log = Vec::from_slice(alloc, files.log.inner().bytes())?;
+    let db = Vec::from_slice(alloc, files.db.inner().bytes())?;
     files.log.crash();
     files.db.crash();
-    files
-}
-
-/// Does the work over the store of a connection, unless it isn't opened.
-fn work_over<S: Alter + Drop, W: Work>(
-    alloc: Global,
-    conn: Connection<S>,
-    work: &mut W,
-) -> Result<Connection<S>, Fail> {
-    match SqlKeep::from_connection(alloc, conn) {
-        Ok(keep) => Ok(work.over(alloc, keep)?.close()),
-        Err((_, conn)) => Ok(conn),
+    let synced_log = files.log.inner().bytes();
+    let synced_db = files.db.inner().bytes();
+    let mut endings = Vec::new(alloc);
+    endings.push(files_of(alloc, synced_log, synced_db)?)?;
+    endings.push(files_of(alloc, log.as_slice(), db.as_slice())?)?;
+    for kept in 0..2 {
+        let torn_log = torn(alloc, synced_log, log.as_slice(), kept)?;
+        let torn_db = torn(alloc, synced_db, db.as_slice(), kept)?;
+        endings.push(files_of(alloc, torn_log.as_slice(), torn_db.as_slice())?)?;
     }
+    Ok(endings)
 }
 
-/// Does the work over the store in the files, unless it isn't opened, and gives the files back.
+/// Does the work over the store in the files, unless it isn't opened, and gives the files back. The log is copied once it has so many
+/// frames.
 pub(super) fn work_in<D: Disk + Drop, W: Work>(
     alloc: Global,
     files: Files<D>,
+    frames: usize,
     work: &mut W,
 ) -> Result<Files<D>, Fail> {
     if !files.may_be_used() {
         return Ok(files);
     }
-    match Connection::open_files(alloc, files, Options::new(1)) {
-        Ok(conn) => Ok(work_over(alloc, conn, work)?.into_store().close()),
-        Err((_, left)) => Ok(left.into_files()),
+    let mut options = store_options(1);
+    options.checkpoint_frames = frames;
+    match SqlKeep::open_files(alloc, files, options) {
+        Ok(keep) => Ok(work.over(alloc, keep)?.close().into_store().close()),
+        Err(refused) => match refused.left.into_files() {
+            Some(files) => Ok(files),
+            None => Err("the files".into()),
+        },
     }
 }
