@@ -1,6 +1,7 @@
 ghost use Rattle.std.specs.Prelude.{None};
 
 mod daemon;
+mod operating;
 mod peers;
 
 use programs::{ask, refuse_args, tokend_with};
@@ -75,24 +76,34 @@ fn stdio_answers_the_first_run_byte_for_byte(rt: HostRuntime) -> Result<(), Fail
     expect_run(&rt, rt, &["stdio"], FIRST_RUN, (0, FIRST_REPLIES, b""))
 }
 
+/// Sees that a command line with this input ends with this status and output, and says this failure and this cause.
+fn expect_refusal<R: Threads + Wait + Copy + Send + Drop + 'static>(
+    rt: &HostRuntime,
+    threads: R,
+    words: &[&str],
+    input: &[u8],
+    (status, output, failure, because): (u8, &[u8], &str, &str),
+) -> Result<(), Fail> {
+    let errors = format!(in rt.alloc(); "tokend: {failure}\ntokend: because {because}\n")?;
+    expect_run(rt, threads, words, input, (status, output, errors.as_bytes()))
+}
+
+/// A frame that is cut, and lengths above the limit, and what is said of each.
+const ENDINGS: &[(&[u8], &str)] = &[
+    (
+        b"\x00\x00\x00\x12\x00",
+        "the input ends within a frame",
+    ),
+    (b"\x00\x10\x00\x01", "a frame is too long"),
+    (b"\xff\xff\xff\xff", "a frame is too long"),
+];
+
 #[test]
 fn a_line_that_ends_badly_has_its_status_and_text(rt: HostRuntime) -> Result<(), Fail> {
-    let endings: [&[u8]; 3] = [
-        // A frame that is cut, and lengths above the limit.
-        b"\x00\x00\x00\x12\x00",
-        b"\x00\x10\x00\x01",
-        b"\xff\xff\xff\xff",
-    ];
-    for ending in endings {
+    for (ending, because) in ENDINGS {
         let mut input = Vec::from_slice(rt.alloc(), OPEN_SESSION)?;
         input.extend_from_slice(ending)?;
-        expect_run(
-            &rt,
-            rt,
-            &["stdio"],
-            &input,
-            (7, SESSION_ONE, b"tokend: the line ended badly\n"),
-        )?;
+        expect_refusal(&rt, rt, &["stdio"], &input, (7, SESSION_ONE, "the line ended badly", *because))?;
     }
     Ok(())
 }
@@ -113,12 +124,13 @@ fn a_seed_is_64_hexadecimal_digits(rt: HostRuntime) -> Result<(), Fail> {
         "00",
         "000102030405060708090a0b0c0d0e0f101112131415161718191a1b1c1d1e1f00",
     ] {
-        expect_run(
+        let because = "--seed is not 64 hexadecimal digits";
+        expect_refusal(
             &rt,
             rt,
             &["stdio", "--seed", seed],
             OPEN_SESSION,
-            (5, b"", b"tokend: bad input\n"),
+            (5, b"", "bad input", because),
         )?;
     }
     Ok(())
@@ -254,11 +266,6 @@ fn a_call_is_sent_as_a_frame(rt: HostRuntime) -> Result<(), Fail> {
 #[test]
 fn a_socket_that_is_not_there_has_its_status_and_text(rt: HostRuntime) -> Result<(), Fail> {
     let words = ["p11call", "--socket", "/nowhere/tokend"];
-    expect_run(
-        &rt,
-        rt,
-        &words,
-        b"",
-        (4, b"", b"tokend: cannot use the socket\n"),
-    )
+    let because = "--socket cannot be used: No such file or directory (os error 2)";
+    expect_refusal(&rt, rt, &words, b"", (4, b"", "cannot use the socket", because))
 }

@@ -1,2 +1,4 @@
 pub mod Asking
+pub mod Modes
+pub mod Priorities
 pub mod Statuses

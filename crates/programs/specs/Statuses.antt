@@ -4,7 +4,9 @@ use Rattle.programs.specs.declared.failure.Failure.{Failure}
 use Rattle.programs.specs.declared.failure.Failure.TheVariants as failures
 
 abbrev pub status_of : Failure → ℕ
+status_of failures.CommandLine = 2
 status_of failures.Store = 3
+status_of failures.Copy = 3
 status_of failures.Socket = 4
 status_of failures.BadInput = 5
 status_of failures.Memory = 6

@@ -1,12 +1,13 @@
 //! The command line.
 
-use crate::failure::Failure;
 use clap::builder::ValueParser;
-use clap::{Arg, ArgAction, ArgMatches, Command, Error};
-use hex::FromHex;
+use clap::{Arg, ArgAction, Command, Error};
 use std::alloc::Global;
 
-const VERSION: &str = "0.1.0";
+pub(crate) const VERSION: &str = "0.1.0";
+
+/// The texts of a level, the least said first.
+static LEVELS: [&str; 4] = ["off", "error", "warn", "info"];
 
 /// How many connections each seat of the daemon accepts at most, and where no number is given. Those of seat s are the
 /// applications 4c + s for c from 0, which stay below 2^63.
@@ -20,7 +21,9 @@ pub(crate) fn command<'a>(alloc: Global) -> Result<Command<'a>, Error> {
         .subcommand_required(true);
     let command = with_subcommand(command, stdio(alloc))?;
     let command = with_subcommand(command, serve(alloc))?;
-    with_subcommand(command, p11call(alloc))
+    let command = with_subcommand(command, p11call(alloc))?;
+    let command = with_subcommand(command, check(alloc))?;
+    with_subcommand(command, backup(alloc))
 }
 
 /// The command with a subcommand.
@@ -39,12 +42,11 @@ fn with_subcommand<'a>(
 
 /// The command for one application on standard input and output.
 fn stdio<'a>(alloc: Global) -> Result<Command<'a>, Error> {
-    let seed = Arg::new(alloc, "seed")
-        .long("seed")
-        .action(ArgAction::Set)
-        .help(
-            "The seed of random bytes, 64 hexadecimal digits; zeros, for trial only, if left out",
-        );
+    let seed = chosen(
+        alloc,
+        "seed",
+        "The seed of random bytes, 64 hexadecimal digits; zeros, for trial only, if left out",
+    );
     Ok(
         Command::new(alloc, "stdio")
             .about("Answers the frames of standard input on standard output, as application 0")
@@ -63,6 +65,25 @@ fn p11call<'a>(alloc: Global) -> Result<Command<'a>, Error> {
     )
 }
 
+/// The command that looks through a store.
+fn check<'a>(alloc: Global) -> Result<Command<'a>, Error> {
+    Ok(
+        Command::new(alloc, "check")
+            .about("Looks through a store that no daemon has open, and changes nothing")
+            .arg(needed(alloc, "store", "The path of the store's file"))?,
+    )
+}
+
+/// The command that copies a store.
+fn backup<'a>(alloc: Global) -> Result<Command<'a>, Error> {
+    Ok(
+        Command::new(alloc, "backup")
+            .about("Copies a whole store that no daemon has open to a new file")
+            .arg(needed(alloc, "store", "The path of the store's file"))?
+            .arg(needed(alloc, "to", "The path of the copy, where no file is yet"))?,
+    )
+}
+
 /// The daemon's command.
 fn serve<'a>(alloc: Global) -> Result<Command<'a>, Error> {
     Ok(
@@ -73,40 +94,55 @@ fn serve<'a>(alloc: Global) -> Result<Command<'a>, Error> {
                 "store",
                 "The path of the store's file, which is made where there is none; \":memory:\" keeps it in memory",
             ))?
-            .arg(needed(alloc, "socket", "The path of the socket, which is made"))?
             .arg(needed(
                 alloc,
-                "seed-file",
-                "A file whose first 32 bytes are the seed of random bytes",
+                "socket",
+                "The path of the socket, which is made, unless a service manager hands one over (LISTEN_FDS)",
             ))?
+            .arg(chosen(
+                alloc,
+                "seed-file",
+                "A file whose first 32 bytes are the seed of random bytes; the system gives the seed if left out",
+            ))?
+            .arg(chosen(
+                alloc,
+                "socket-mode",
+                "The permission bits of the socket, in octal digits; 600 if left out",
+            ))?
+            .arg(level(alloc))?
             .arg(connections(alloc))?,
     )
 }
 
+/// The option of what is said on standard error while the daemon serves.
+fn level<'a>(alloc: Global) -> Arg<'a> {
+    chosen(
+        alloc,
+        "log",
+        "The least important of what is said on standard error; warn if left out",
+    )
+    .value_parser(ValueParser::Names(&LEVELS))
+}
+
 /// The option of how many connections there are.
 fn connections<'a>(alloc: Global) -> Arg<'a> {
-    Arg::new(alloc, "connections")
-        .long("connections")
+    chosen(
+        alloc,
+        "connections",
+        "How many connections each of the four seats accepts before it ends; without end if left out",
+    )
+    .value_parser(ValueParser::unsigned(0, MAX_CONNECTIONS))
+}
+
+/// An option that may be given.
+fn chosen<'a>(alloc: Global, name: &'a str, help: &'a str) -> Arg<'a> {
+    Arg::new(alloc, name)
+        .long(name)
         .action(ArgAction::Set)
-        .value_parser(ValueParser::unsigned(0, MAX_CONNECTIONS))
-        .help(
-            "How many connections each of the four seats accepts before it ends; without end if left out",
-        )
+        .help(help)
 }
 
 /// An option that must be given.
 fn needed<'a>(alloc: Global, name: &'a str, help: &'a str) -> Arg<'a> {
-    Arg::new(alloc, name)
-        .long(name)
-        .action(ArgAction::Set)
-        .required(true)
-        .help(help)
-}
-
-/// The seed that is given, or zeros.
-pub(crate) fn seed_of(matches: &ArgMatches<'_>) -> Result<[u8; 32], Failure> {
-    match matches.get_str("seed") {
-        None => Ok([0; 32]),
-        Some(text) => <[u8; 32]>::from_hex(text).map_err(|_| Failure::BadInput),
-    }
+    chosen(alloc, name, help).required(true)
 }

@@ -3,17 +3,23 @@
 ghost use Rattle.std.specs.Prelude.{◌≡◌};
 ghost use Rattle.programs.specs.Statuses.{status_of, IsStatus};
 
+use crate::cause::Cause;
 use hall::HallFault;
 use keep::KeepFault;
 use line::LineFault;
+use std::io::Write;
 use thiserror::Error;
 use wire::WireFault;
 
 /// Why a run failed. Its text stands on the output for errors.
 #[derive(Clone, Copy, Debug, PartialEq, Eq, Error)]
 pub(crate) enum Failure {
+    #[error("the command line is refused")]
+    CommandLine,
     #[error("cannot open the store")]
     Store,
+    #[error("cannot write the copy")]
+    Copy,
     #[error("cannot use the socket")]
     Socket,
     #[error("bad input")]
@@ -31,11 +37,62 @@ impl Failure {
         ensures known { IsStatus result }
     {
         match self {
-            Failure::Store => 3,
+            Failure::CommandLine => 2,
+            Failure::Store | Failure::Copy => 3,
             Failure::Socket => 4,
             Failure::BadInput => 5,
             Failure::Memory => 6,
             Failure::Line => 7,
+        }
+    }
+
+    /// The failure with what led to it.
+    pub(crate) fn because(self, cause: Cause) -> Fault
+        ensures { result.failure ≡ self }
+    {
+        Fault {
+            failure: self,
+            cause: Some(cause),
+        }
+    }
+}
+
+/// A failure, and what led to it where the failure doesn't say that itself.
+#[derive(Clone, Copy, Debug)]
+pub(crate) struct Fault {
+    failure: Failure,
+    cause: Option<Cause>,
+}
+
+impl Fault {
+    /// The exit status.
+    pub(crate) fn status(&self) -> u8
+        ensures value { result ≡ status_of self.now.failure }
+        ensures known { IsStatus result }
+    {
+        self.failure.status()
+    }
+
+    /// Writes the failure as a line, and its cause as the next one, and answers the exit status.
+    pub(crate) fn report<E: Write>(&self, errors: &mut E) -> u8
+        ensures value { result ≡ status_of self.now.failure }
+        ensures known { IsStatus result }
+    {
+        let _ = writeln!(errors, "tokend: {}", self.failure);
+        if let Some(cause) = &self.cause {
+            let _ = writeln!(errors, "tokend: because {cause}");
+        }
+        self.status()
+    }
+}
+
+impl From<Failure> for Fault {
+    ghost from_gives = { λ failure fault. fault.failure ≡ failure };
+
+    fn from(failure: Failure) -> Fault {
+        Fault {
+            failure,
+            cause: None,
         }
     }
 }
@@ -50,31 +107,32 @@ impl From<WireFault> for Failure {
     }
 }
 
-impl From<LineFault> for Failure {
-    fn from(fault: LineFault) -> Failure {
+/// Of a line over standard input and output.
+impl From<LineFault> for Fault {
+    fn from(fault: LineFault) -> Fault {
         match fault {
-            LineFault::Memory => Failure::Memory,
-            _ => Failure::Line,
+            LineFault::Memory => Failure::Memory.into(),
+            _ => Failure::Line.because(Cause::Line(fault)),
         }
     }
 }
 
 /// Of the store.
-impl From<KeepFault> for Failure {
-    fn from(fault: KeepFault) -> Failure {
+impl From<KeepFault> for Fault {
+    fn from(fault: KeepFault) -> Fault {
         match fault {
-            KeepFault::Memory => Failure::Memory,
-            _ => Failure::Store,
+            KeepFault::Memory => Failure::Memory.into(),
+            _ => Failure::Store.because(Cause::Keeper(fault)),
         }
     }
 }
 
 /// Of the seats and their threads.
-impl From<HallFault> for Failure {
-    fn from(fault: HallFault) -> Failure {
+impl From<HallFault> for Fault {
+    fn from(fault: HallFault) -> Fault {
         match fault {
-            HallFault::Memory => Failure::Memory,
-            HallFault::Thread => Failure::Socket,
+            HallFault::Memory => Failure::Memory.into(),
+            HallFault::Thread => Failure::Socket.because(Cause::Thread),
         }
     }
 }

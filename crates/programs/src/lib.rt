@@ -1,14 +1,16 @@
 //! The program `tokend`, all but the process's own arguments and streams.
 //!
 //! `tokend_with` runs a command line over an input, an output and an output for errors, and answers
-//! the exit status: 0 where it ended as asked, 2 for a command line that is refused, 3 where the store can't be opened, 4 where
-//! the socket can't be used, 5 for a bad seed or line of a script, 6 where memory ran out, 7 where the line ended badly. `refuse_args` answers it where the process's own
-//! arguments can't be read.
+//! the exit status: 0 where it ended as asked, 2 for a command line that is refused, 3 where the store can't be opened or copied, 4
+//! where the socket can't be used, 5 for a bad seed or line of a script, 6 where memory ran out, 7 where the line ended badly. A failure
+//! is a line on the output for errors, and its cause the next one. `refuse_args` answers the status where the process's own arguments
+//! can't be read.
 //!
 //! `SocketSeat` is a seat on a Unix socket, whose connections are applications. It accepts one connection after the other from a
 //! listener. The c-th connection of seat s, both from 0, is application 4c + s. It reads frames and gives their calls, and writes the
 //! frames of replies. A payload that is no call is answered at once. A frame that is too long or is cut off, a read or a write that
-//! fails, and want of memory end the connection, and its application goes.
+//! fails, and want of memory end the connection, which is logged, and its application goes. A seat that is told that the daemon ends
+//! accepts and reads no more. `Journal` is a log on standard error, as a journal reads it.
 //!
 //! This crate is safe and tested. It states no theorem, but that it keeps the rules of `hall`.
 //!
@@ -18,16 +20,26 @@
 #![tactic(auto)]
 
 mod args;
+mod cause;
 mod command;
 mod connection;
+mod copying;
+mod examining;
 mod failure;
+mod journal;
 mod listening;
+mod notify;
+mod options;
 mod p11call;
 mod run;
 mod seat;
+mod seed;
 mod serve;
+mod store;
+mod upkeep;
 
 pub use args::refuse_args;
+pub use journal::Journal;
 pub use p11call::ask;
 pub use run::tokend_with;
 pub use seat::SocketSeat;

@@ -1,30 +1,120 @@
 //! The daemon's socket.
 
-use crate::failure::Failure;
-use std::fs;
-use std::fs::Permissions;
+use crate::cause::Cause;
+use crate::connection::PATIENCE;
+use crate::failure::{Failure, Fault};
+use libc::net::{SO_RCVTIMEO, SOL_SOCKET, setsockopt};
+use os::FromRawFd;
+use std::fs::{Files, Permissions};
 use std::io::ErrorKind;
+use std::net::Net;
+use std::os::fd::{AsFd, AsRawFd};
 use std::os::unix::fs::{FileTypeExt, PermissionsExt};
-use std::os::unix::net::{UnixListener, UnixStream};
+use std::os::unix::net::{SocketAddr, UnixListener, UnixStream};
+use std::{env, fs, io};
 
-/// Who made the socket may write to it and read from it, and nobody else.
-const MODE: u32 = 0o600;
+/// As many connections may wait to be accepted as the system allows.
+const BACKLOG: i32 = -1;
 
-/// Listens on a path. A socket's file that nobody listens on, as a daemon leaves that was killed, is removed first. Where
-/// somebody answers, or another file stands there, it stays, and this is refused.
-pub(crate) fn listen(rt: &HostRuntime, path: &str) -> Result<UnixListener, Failure> {
-    let listener = match UnixListener::bind(rt, path) {
-        Ok(listener) => listener,
-        Err(error) if error.kind() == ErrorKind::AddrInUse && is_stale(rt, path) => {
-            fs::remove_file(rt, path).map_err(|_| Failure::Socket)?;
-            UnixListener::bind(rt, path).map_err(|_| Failure::Socket)?
-        }
-        Err(_) => return Err(Failure::Socket),
+/// The descriptor that a service manager hands over (sd_listen_fds(3)).
+const HANDED_OVER: i32 = 3;
+
+/// The socket that a service manager hands over, or one at a path, with these permission bits from its first moment.
+pub(crate) fn daemon_socket(
+    rt: &HostRuntime,
+    path: &str,
+    mode: u32,
+) -> Result<UnixListener, Fault> {
+    let listener = match handed_over(rt)? {
+        Some(listener) => listener,
+        None => listen(rt, path, mode)?,
     };
-    match fs::set_permissions(rt, path, Permissions::from_mode(MODE)) {
+    match limit_accept(&listener) {
         Ok(()) => Ok(listener),
-        Err(_) => Err(Failure::Socket),
+        Err(error) => Err(refused(error)),
     }
+}
+
+fn refused(error: io::Error) -> Fault {
+    Failure::Socket.because(Cause::Socket(error))
+}
+
+/// Why the system's last call failed.
+fn last_error() -> io::Error {
+    io::Error::from_raw_os_error(os::errno())
+}
+
+/// A number in an environment variable.
+fn number_in(rt: &HostRuntime, name: &str) -> Option<u64> {
+    match env::var(rt, name) {
+        Ok(text) => text.parse::<u64>().ok(),
+        Err(_) => None,
+    }
+}
+
+/// The listening socket that was handed over to this process, if one was.
+fn handed_over(rt: &HostRuntime) -> Result<Option<UnixListener>, Fault> {
+    if number_in(rt, "LISTEN_PID") != u64::try_from(libc::getpid()).ok() {
+        return Ok(None);
+    }
+    match number_in(rt, "LISTEN_FDS") {
+        None | Some(0) => Ok(None),
+        Some(1) => {
+            let listener = unsafe { UnixListener::from_raw_fd(HANDED_OVER) };
+            let checked = listener
+                .local_addr()
+                .and_then(|_| listener.set_nonblocking(false));
+            match checked {
+                Ok(()) => Ok(Some(listener)),
+                Err(error) => Err(Failure::Socket.because(Cause::HandedOverSocket(error))),
+            }
+        }
+        Some(count) => Err(Failure::Socket.because(Cause::HandedOver(count))),
+    }
+}
+
+/// Listens at a path. A socket's file that nobody listens on, as a daemon leaves that was killed, is removed first. Where
+/// somebody answers, or another file stands there, it stays, and this is refused.
+fn listen(rt: &HostRuntime, path: &str, mode: u32) -> Result<UnixListener, Fault> {
+    match bind(rt, path, mode) {
+        Ok(listener) => return Ok(listener),
+        Err(error) if error.kind() != ErrorKind::AddrInUse => return Err(refused(error)),
+        Err(_) => {}
+    }
+    if !is_stale(rt, path) {
+        return Err(Failure::Socket.because(Cause::SocketTaken));
+    }
+    match fs::remove_file(rt, path).and_then(|()| bind(rt, path, mode)) {
+        Ok(listener) => Ok(listener),
+        Err(error) => Err(refused(error)),
+    }
+}
+
+/// Listens at a path where no file is. The file never has other bits than these: it is bound with those of them that the
+/// process's umask leaves, gets all of them, and then listens.
+fn bind(rt: &HostRuntime, path: &str, mode: u32) -> io::Result<UnixListener> {
+    let fd = rt.unix_socket()?;
+    if libc::fchmod(fd.as_raw_fd(), mode) != 0 {
+        return Err(last_error());
+    }
+    rt.bind_unix(fd.as_fd(), &SocketAddr::from_pathname(path)?)?;
+    fs::set_permissions(rt, path, Permissions::from_mode(mode))?;
+    if libc::net::listen(fd.as_raw_fd(), BACKLOG) != 0 {
+        return Err(last_error());
+    }
+    Ok(UnixListener::from(fd))
+}
+
+/// Has an accept wait no longer than `PATIENCE`: it is answered `WouldBlock` then.
+fn limit_accept(listener: &UnixListener) -> io::Result<()> {
+    // A timeval: seconds, and microseconds.
+    let mut value = [0u8; 16];
+    value[..8].copy_from_slice(&PATIENCE.to_ne_bytes());
+    let set = unsafe { setsockopt(listener.as_raw_fd(), SOL_SOCKET, SO_RCVTIMEO, &value, 16) };
+    if set != 0 {
+        return Err(last_error());
+    }
+    Ok(())
 }
 
 /// Whether a socket stands there on which nobody listens.

@@ -2,7 +2,8 @@
 
 ghost use Rattle.programs.specs.Statuses.{IsStatus};
 
-use crate::failure::Failure;
+use crate::cause::Cause;
+use crate::failure::{Failure, Fault};
 use std::alloc::Global;
 use std::io::{BufRead, BufReader, Read, Write};
 use wire::{FrameReader, MAX_PAYLOAD_LEN};
@@ -21,7 +22,7 @@ pub fn ask<I: Read, O: Write, S: Read + Write>(
 {
     match ask_all(alloc, input, output, stream) {
         Ok(()) => 0,
-        Err(failure) => failure.status(),
+        Err(fault) => fault.status(),
     }
 }
 
@@ -30,57 +31,59 @@ pub(crate) fn ask_all<I: Read, O: Write, S: Read + Write>(
     input: &mut I,
     output: &mut O,
     stream: &mut S,
-) -> Result<(), Failure> {
+) -> Result<(), Fault> {
     let Ok(mut input) = BufReader::new(alloc, input) else {
-        return Err(Failure::Memory);
+        return Err(Failure::Memory.into());
     };
     let mut frames = FrameReader::new(alloc);
     let mut line = Vec::new(alloc);
-    for _ in 0..u64::MAX {
+    for number in 1..u64::MAX {
         line.clear();
-        let len = input
-            .read_until(b'\n', &mut line)
-            .map_err(|_| Failure::Line)?;
-        if len == 0 {
-            return Ok(());
+        match input.read_until(b'\n', &mut line) {
+            Ok(0) => return Ok(()),
+            Ok(_) => ask_line(alloc, number, &line, output, stream, &mut frames)?,
+            Err(error) => return Err(Failure::Line.because(Cause::Input(error))),
         }
-        ask_line(alloc, &line, output, stream, &mut frames)?;
     }
-    Err(Failure::Line)
+    Err(Failure::Line.into())
 }
 
 /// Asks the call of a line, and writes its reply.
 fn ask_line<O: Write, S: Read + Write>(
     alloc: Global,
+    number: u64,
     line: &[u8],
     output: &mut O,
     stream: &mut S,
     frames: &mut FrameReader,
-) -> Result<(), Failure> {
-    let payload = payload_in(alloc, line)?;
+) -> Result<(), Fault> {
+    let payload = payload_in(alloc, number, line)?;
     send(stream, &payload)?;
     let reply = reply_from(alloc, stream, frames)?;
     tell(alloc, output, &reply)
 }
 
 /// The payload that a line spells.
-fn payload_in(alloc: Global, line: &[u8]) -> Result<Vec<u8>, Failure> {
+fn payload_in(alloc: Global, number: u64, line: &[u8]) -> Result<Vec<u8>, Fault> {
     match hex::decode(alloc, line.trim_ascii()) {
         Ok(payload) if payload.len() <= MAX_PAYLOAD_LEN => Ok(payload),
-        Err(hex::FromHexError::OutOfMemory) => Err(Failure::Memory),
-        _ => Err(Failure::BadInput),
+        Err(hex::FromHexError::OutOfMemory) => Err(Failure::Memory.into()),
+        _ => Err(Failure::BadInput.because(Cause::InputLine(number))),
     }
 }
 
-fn send<S: Write>(stream: &mut S, payload: &[u8]) -> Result<(), Failure> {
+fn send<S: Write>(stream: &mut S, payload: &[u8]) -> Result<(), Fault> {
     let Ok(len) = u32::try_from(payload.len()) else {
-        return Err(Failure::BadInput);
+        return Err(Failure::BadInput.into());
     };
     let sent = stream
         .write_all(&len.to_be_bytes())
         .and_then(|()| stream.write_all(payload))
         .and_then(|()| stream.flush());
-    sent.map_err(|_| Failure::Socket)
+    match sent {
+        Ok(()) => Ok(()),
+        Err(error) => Err(Failure::Socket.because(Cause::Socket(error))),
+    }
 }
 
 /// The payload of the next frame.
@@ -88,26 +91,32 @@ fn reply_from<S: Read>(
     alloc: Global,
     stream: &mut S,
     frames: &mut FrameReader,
-) -> Result<Vec<u8>, Failure> {
+) -> Result<Vec<u8>, Fault> {
     let mut piece = [0u8; 4096];
     for _ in 0..u64::MAX {
-        if let Some(payload) = frames.next(alloc)? {
-            return Ok(payload);
+        match frames.next(alloc) {
+            Ok(Some(payload)) => return Ok(payload),
+            Ok(None) => {}
+            Err(fault) => return Err(Failure::from(fault).into()),
         }
-        let len = stream.read(&mut piece).map_err(|_| Failure::Socket)?;
-        if len == 0 {
-            return Err(Failure::Socket);
+        match stream.read(&mut piece) {
+            Ok(0) => return Err(Failure::Socket.because(Cause::Ended)),
+            Ok(len) => match frames.feed(piece.get(..len).unwrap_or(&[])) {
+                Ok(()) => {}
+                Err(fault) => return Err(Failure::from(fault).into()),
+            },
+            Err(error) => return Err(Failure::Socket.because(Cause::Socket(error))),
         }
-        frames.feed(piece.get(..len).unwrap_or(&[]))?;
     }
-    Err(Failure::Socket)
+    Err(Failure::Socket.into())
 }
 
-fn tell<O: Write>(alloc: Global, output: &mut O, reply: &[u8]) -> Result<(), Failure> {
+fn tell<O: Write>(alloc: Global, output: &mut O, reply: &[u8]) -> Result<(), Fault> {
     let Ok(text) = hex::encode(alloc, reply) else {
-        return Err(Failure::Memory);
+        return Err(Failure::Memory.into());
     };
-    writeln!(output, "{text}")
-        .and_then(|()| output.flush())
-        .map_err(|_| Failure::Line)
+    match writeln!(output, "{text}").and_then(|()| output.flush()) {
+        Ok(()) => Ok(()),
+        Err(error) => Err(Failure::Line.because(Cause::Output(error))),
+    }
 }

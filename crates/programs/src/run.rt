@@ -4,10 +4,13 @@ ghost use Rattle.std.specs.Prelude.{◌≡◌};
 ghost use Rattle.clap.specs.Values.{kind_of};
 ghost use Rattle.programs.specs.Statuses.{IsStatus};
 
-use crate::command::{command, seed_of};
-use crate::failure::Failure;
+use crate::cause::Cause;
+use crate::command::command;
+use crate::failure::{Failure, Fault};
 use crate::p11call::ask_all;
+use crate::seed::trial_seed;
 use crate::serve::serve;
+use crate::upkeep::{backup, check};
 use clap::error::ErrorKind;
 use clap::{ArgMatches, Error};
 use keep::ListKeep;
@@ -30,16 +33,19 @@ fn stdio<I: Read, O: Write>(
     matches: &ArgMatches<'_>,
     input: &mut I,
     output: &mut O,
-) -> Result<(), Failure> {
-    let mut words = Words::for_app(seed_of(matches)?, STDIO_APP);
+) -> Result<(), Fault> {
+    let mut words = Words::for_app(trial_seed(matches.get_str("seed"))?, STDIO_APP);
     let keep = ListKeep::new(alloc, Record::new());
     let Ok(mut token) = Token::new(alloc, keep) else {
-        return Err(Failure::Memory);
+        return Err(Failure::Memory.into());
     };
     let (mut reader, mut writer) = (Watched::new(input), Watched::new(output));
     let served = serve_one(alloc, &mut reader, &mut writer, &mut token, &mut words);
     drop(token);
-    served.map(|_| ()).map_err(Failure::from)
+    match served {
+        Ok(_) => Ok(()),
+        Err(fault) => Err(fault.into()),
+    }
 }
 
 fn p11call<I: Read, O: Write>(
@@ -47,26 +53,29 @@ fn p11call<I: Read, O: Write>(
     matches: &ArgMatches<'_>,
     input: &mut I,
     output: &mut O,
-) -> Result<(), Failure> {
+) -> Result<(), Fault> {
     let path = matches.get_str("socket").ok_or(Failure::Socket)?;
-    let Ok(mut stream) = UnixStream::connect(rt, path) else {
-        return Err(Failure::Socket);
-    };
-    ask_all(rt.alloc(), input, output, &mut stream)
+    match UnixStream::connect(rt, path) {
+        Ok(mut stream) => ask_all(rt.alloc(), input, output, &mut stream),
+        Err(error) => Err(Failure::Socket.because(Cause::Socket(error))),
+    }
 }
 
-fn run<R: Threads + Wait + Copy + Send + Drop + 'static, I: Read, O: Write>(
+fn run<R: Threads + Wait + Copy + Send + Drop + 'static, I: Read, O: Write, E: Write>(
     rt: &HostRuntime,
     threads: R,
     matches: &ArgMatches<'_>,
     input: &mut I,
     output: &mut O,
-) -> Result<(), Failure> {
+    errors: &mut E,
+) -> Result<(), Fault> {
     match matches.subcommand() {
         Some(("stdio", matches)) => stdio(rt.alloc(), matches, input, output),
-        Some(("serve", matches)) => serve(rt, threads, matches, output),
+        Some(("serve", matches)) => serve(rt, threads, matches, output, errors),
         Some(("p11call", matches)) => p11call(rt, matches, input, output),
-        _ => Err(Failure::BadInput),
+        Some(("check", matches)) => check(rt, matches, output),
+        Some(("backup", matches)) => backup(rt, matches),
+        _ => Err(Failure::BadInput.into()),
     }
 }
 
@@ -119,11 +128,8 @@ pub fn tokend_with<
         Ok(matches) => matches,
         Err(error) => return tell(&error, output, errors),
     };
-    match run(rt, threads, &matches, input, output) {
+    match run(rt, threads, &matches, input, output, errors) {
         Ok(()) => 0,
-        Err(failure) => {
-            let _ = writeln!(errors, "tokend: {failure}");
-            failure.status()
-        }
+        Err(fault) => fault.report(errors),
     }
 }

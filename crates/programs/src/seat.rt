@@ -3,20 +3,26 @@
 ghost use Rattle.std.specs.Prelude.{◌≡◌, ◌+◌, ◌*◌, ◌<◌, ◌%◌, ◌^◌, None, not, true};
 ghost use Rattle.hall.specs.declared.seats.SeatEvent.TheVariants.{Gone};
 
-use crate::connection::Connection;
+use crate::connection::{Connection, Parting};
 use ck_calls::Reply;
 use hall::{Seat, SeatEvent};
+use log::{Log, error, info, warn};
 use std::alloc::Global;
 use std::io::ErrorKind;
 use std::os::unix::net::UnixListener;
+use std::sync::Arc;
+use std::sync::atomic::{AtomicBool, Ordering};
 
 /// How many bytes are read at once.
 const READ_LEN: usize = 32_768;
 
-/// Accepts one connection after the other, each an application of its own.
+/// Accepts one connection after the other, each an application of its own. It ends early where it is told that the daemon ends.
 #[derive(Drop)]
-pub struct SocketSeat {
+pub struct SocketSeat<L> {
     alloc: Global,
+    log: L,
+    /// The daemon is to end.
+    is_stopping: Arc<AtomicBool, Global>,
     listener: UnixListener,
     seed: [u8; 32],
     number: u64,
@@ -34,22 +40,27 @@ pub struct SocketSeat {
     ghost fits: { app + 4 * left < 2 ^ 64 },
 }
 
-impl SocketSeat {
-    /// The seat with a number from 0 to 3, which ends after so many connections. The seed is that of all applications' random
-    /// bytes.
+impl<L: Log> SocketSeat<L> {
+    /// The seat with a number from 0 to 3, which ends after so many connections, and before where `is_stopping` is set: then it
+    /// accepts and reads no more. The seed is that of all applications' random bytes. A connection that ends otherwise than
+    /// between two frames is logged.
     pub fn new(
         alloc: Global,
+        log: L,
+        is_stopping: Arc<AtomicBool, Global>,
         listener: UnixListener,
         seed: [u8; 32],
         number: u64,
         connections: u64,
-    ) -> SocketSeat
+    ) -> SocketSeat<L>
         requires number { number < 4 }
         requires connections { connections < 2 ^ 61 }
-        ensures { ⟦<SocketSeat as Seat>⟧.number result ≡ number }
+        ensures { ⟦<SocketSeat<L> as Seat>⟧.number result ≡ number }
     {
         SocketSeat {
             alloc,
+            log,
+            is_stopping,
             listener,
             seed,
             number,
@@ -82,9 +93,32 @@ impl SocketSeat {
                 self.connection = Some(connection);
                 true
             }
-            // A peer that is gone before it was accepted.
-            Err(error) => error.kind() == ErrorKind::ConnectionAborted,
+            // A peer that is gone before it was accepted, or none that came yet.
+            Err(error) => matches!(
+                error.kind(),
+                ErrorKind::ConnectionAborted | ErrorKind::WouldBlock | ErrorKind::Interrupted
+            ),
         }
+    }
+
+    /// Logs why a connection ends.
+    #[inline(never)]
+    fn report(&self, parting: &Parting) {
+        let app = self.app;
+        match parting {
+            Parting::TooLong | Parting::Cut => {
+                warn!(self.log; "connection {app} is refused: {parting}");
+            }
+            Parting::Memory => error!(self.log; "connection {app} is ended: {parting}"),
+            Parting::Read(_) | Parting::Write(_) => {
+                info!(self.log; "connection {app} is ended: {parting}");
+            }
+            Parting::Closed | Parting::Stopped => {}
+        }
+    }
+
+    fn is_stopping(&self) -> bool {
+        self.is_stopping.load(Ordering::SeqCst)
     }
 
     /// The connection ends, and its application goes.
@@ -103,7 +137,7 @@ impl SocketSeat {
     }
 }
 
-impl Seat for SocketSeat {
+impl<L: Log> Seat for SocketSeat<L> {
     ghost number = { λ s. s.number };
 
     ghost over = { λ s. s.has_ended ≡ true };
@@ -123,15 +157,26 @@ impl Seat for SocketSeat {
             }
             match &mut self.connection {
                 None => {
+                    if self.is_stopping() {
+                        break;
+                    }
                     if !self.accept() {
                         self.is_accepting = false;
                         break;
                     }
                 }
                 Some(connection) => {
-                    match connection.next_call(self.alloc, self.app, &mut self.piece) {
-                        Some(call) => return Some(SeatEvent::Call(call)),
-                        None => return Some(self.end_connection()),
+                    match connection.next_call(
+                        self.alloc,
+                        self.app,
+                        &mut self.piece,
+                        &self.is_stopping,
+                    ) {
+                        Ok(call) => return Some(SeatEvent::Call(call)),
+                        Err(parting) => {
+                            self.report(&parting);
+                            return Some(self.end_connection());
+                        }
                     }
                 }
             }
@@ -142,7 +187,7 @@ impl Seat for SocketSeat {
 
     fn take(&mut self, _app: u64, reply: Reply) {
         if let Some(connection) = &mut self.connection {
-            connection.tell(&reply);
+            connection.tell(&reply, &self.is_stopping);
         }
     }
 }

@@ -1,23 +1,28 @@
 //! `tokend serve`: a daemon on a Unix socket.
 
-ghost use Rattle.std.specs.Prelude.{◌≡◌, IfOk};
+ghost use Rattle.std.specs.Prelude.{◌≡◌, ◌<◌, IfOk};
 
-use crate::command::MAX_CONNECTIONS;
-use crate::failure::Failure;
-use crate::listening::listen;
+use crate::cause::Cause;
+use crate::command::{MAX_CONNECTIONS, VERSION};
+use crate::failure::{Failure, Fault};
+use crate::journal::{Journal, note};
+use crate::listening::daemon_socket;
+use crate::notify::notify;
+use crate::options::{level_in, mode_in};
 use crate::seat::SocketSeat;
+use crate::seed::daemon_seed;
+use crate::store::{keep_private, open_store};
 use cache::Cached;
 use clap::ArgMatches;
 use hall::{Gate, Seat, Token, hold};
 use keep::{Keep, ListKeep};
-use keep_sql::SqlKeep;
+use log::{Level, LevelFilter, Log};
 use pin_record::Record;
-use sqlite_disk::Wary;
 use std::alloc::Global;
-use std::fs::File;
-use std::io::{Read, Write};
+use std::io::{Stderr, Write};
 use std::num::NonZeroUsize;
 use std::os::unix::net::UnixListener;
+use std::sync::atomic::{AtomicBool, Ordering};
 use std::sync::{Arc, Wait};
 use std::thread::Threads;
 
@@ -27,6 +32,9 @@ const CAPACITY: usize = 128;
 /// The path that stands for a store in memory.
 const IN_MEMORY: &str = ":memory:";
 
+/// The permission bits of the socket where none are given: who made it may connect, and nobody else.
+const SOCKET_MODE: u32 = 0o600;
+
 /// A gate that is always open: a seat runs its job at once.
 #[derive(Drop)]
 struct OpenGate;
@@ -35,53 +43,94 @@ impl Gate for OpenGate {
     fn pass(&self, _seat: usize, _app: u64) {}
 }
 
-/// Where the daemon listens, how often each of its seats accepts a connection, and the seed of the random bytes.
+/// Where the daemon listens, how often each of its seats accepts a connection, the seed of the random bytes, and what is logged.
 #[derive(Drop)]
 struct Served<'a> {
+    store: &'a str,
     socket: &'a str,
+    socket_mode: u32,
     connections: u64,
     seed: [u8; 32],
+    level: LevelFilter,
+    /// The daemon is to end: its store is shut.
+    is_stopping: Arc<AtomicBool, Global>,
 }
+
+/// The four seats.
+type Seats<L> = (SocketSeat<L>, SocketSeat<L>, SocketSeat<L>, SocketSeat<L>);
 
 /// Serves as the command line says, until each seat has had its connections. `threads` is a handle on which the seats' threads are
 /// started.
-pub(crate) fn serve<R: Threads + Wait + Copy + Send + Drop + 'static, O: Write>(
+pub(crate) fn serve<R: Threads + Wait + Copy + Send + Drop + 'static, O: Write, E: Write>(
     rt: &HostRuntime,
     threads: R,
     matches: &ArgMatches<'_>,
     output: &mut O,
-) -> Result<(), Failure> {
-    let seed_file = matches.get_str("seed-file").ok_or(Failure::BadInput)?;
-    let store = matches.get_str("store").ok_or(Failure::Store)?;
-    let served = Served {
-        socket: matches.get_str("socket").ok_or(Failure::Socket)?,
-        connections: matches.get_one("connections").unwrap_or(MAX_CONNECTIONS),
-        seed: seed_in(rt, seed_file)?,
-    };
-    if store == IN_MEMORY {
+    errors: &mut E,
+) -> Result<(), Fault> {
+    let served = read_options(rt, matches, errors)?;
+    if served.store == IN_MEMORY {
         let keep = ListKeep::new(rt.alloc(), Record::new());
-        serve_over(rt, threads, keep, &served, output)
-    } else {
-        let keep = match SqlKeep::open(rt, store, Wary) {
-            Ok(keep) => keep,
-            Err(refused) => return Err(refused.put_back(rt.alloc()).as_keep_fault().into()),
-        };
-        serve_cached(rt, threads, keep, &served, output)
+        return serve_over(rt, threads, keep, &served, output, errors);
     }
+    if keep_private(rt, served.store)? {
+        let text =
+            "other users could read the store or its log: their modes are those of their owner now";
+        note(errors, served.level, Level::Warn, &text);
+    }
+    let keep = open_store(rt, served.store)?;
+    serve_cached(rt, threads, keep, &served, output, errors)
 }
 
-/// The first 32 bytes of a file.
-fn seed_in(rt: &HostRuntime, path: &str) -> Result<[u8; 32], Failure> {
-    let mut seed = [0u8; 32];
-    let mut file = File::open(rt, path).map_err(|_| Failure::BadInput)?;
-    match file.read_exact(&mut seed) {
-        Ok(()) => Ok(seed),
-        Err(_) => Err(Failure::BadInput),
+/// What the command line asks for.
+fn read_options<'a, E: Write>(
+    rt: &HostRuntime,
+    matches: &ArgMatches<'a>,
+    errors: &mut E,
+) -> Result<Served<'a>, Fault> {
+    let socket_mode = match matches.get_str("socket-mode") {
+        None => SOCKET_MODE,
+        Some(text) => match mode_in(text) {
+            Some(mode) => mode,
+            None => return Err(Failure::CommandLine.because(Cause::SocketMode)),
+        },
+    };
+    let level = level_in(matches.get_str("log").unwrap_or("warn"));
+    let store = matches.get_str("store").ok_or(Failure::Store)?;
+    let socket = matches.get_str("socket").ok_or(Failure::Socket)?;
+    let seed = seed_from(rt, matches.get_str("seed-file"), level, errors)?;
+    let Ok(is_stopping) = Arc::new(rt.alloc(), AtomicBool::new(false)) else {
+        return Err(Failure::Memory.into());
+    };
+    Ok(Served {
+        store,
+        socket,
+        socket_mode,
+        connections: matches.get_one("connections").unwrap_or(MAX_CONNECTIONS),
+        seed,
+        level,
+        is_stopping,
+    })
+}
+
+/// The seed. One that comes again at the next start is said.
+fn seed_from<E: Write>(
+    rt: &HostRuntime,
+    path: Option<&str>,
+    level: LevelFilter,
+    errors: &mut E,
+) -> Result<[u8; 32], Fault> {
+    let seed = daemon_seed(rt, path)?;
+    if seed.comes_again {
+        let text = "--seed-file is a regular file: the same file at two starts gives the same keys";
+        note(errors, level, Level::Info, &text);
     }
+    let bytes = seed.bytes;
+    Ok(bytes)
 }
 
 /// A token over a keeper.
-fn token_over<K: Keep>(alloc: Global, keep: K) -> Result<Token<K>, Failure> {
+fn token_over<K: Keep>(alloc: Global, keep: K) -> Result<Token<K>, Fault> {
     match Token::new(alloc, keep) {
         Ok(token) => Ok(token),
         Err((fault, _)) => Err(fault.into()),
@@ -89,37 +138,41 @@ fn token_over<K: Keep>(alloc: Global, keep: K) -> Result<Token<K>, Failure> {
 }
 
 /// Serves a token over a keeper behind a cache.
-fn serve_cached<K: Keep, R: Threads + Wait + Copy + Send + Drop + 'static, O: Write>(
+fn serve_cached<K: Keep, R: Threads + Wait + Copy + Send + Drop + 'static, O: Write, E: Write>(
     rt: &HostRuntime,
     threads: R,
     keep: K,
     served: &Served<'_>,
     output: &mut O,
-) -> Result<(), Failure> {
+    errors: &mut E,
+) -> Result<(), Fault> {
     let capacity = NonZeroUsize::new(CAPACITY).ok_or(Failure::Memory)?;
     match Cached::new(rt.alloc(), keep, capacity) {
-        Ok(keep) => serve_over(rt, threads, keep, served, output),
+        Ok(keep) => serve_over(rt, threads, keep, served, output, errors),
         Err((fault, _)) => Err(fault.into()),
     }
 }
 
 /// Serves a token over a keeper.
-fn serve_over<K: Keep, R: Threads + Wait + Copy + Send + Drop + 'static, O: Write>(
+fn serve_over<K: Keep, R: Threads + Wait + Copy + Send + Drop + 'static, O: Write, E: Write>(
     rt: &HostRuntime,
     threads: R,
-    keep: K,
+    mut keep: K,
     served: &Served<'_>,
     output: &mut O,
-) -> Result<(), Failure> {
+    errors: &mut E,
+) -> Result<(), Fault> {
     let alloc = rt.alloc();
+    let objects = count_objects(alloc, &mut keep, served.level)?;
     let token = token_over(alloc, keep)?;
     let Ok(gate) = Arc::new(alloc, OpenGate) else {
-        return Err(Failure::Memory);
+        return Err(Failure::Memory.into());
     };
-    let seats = ready_seats(rt, alloc, served, output)?;
+    let seats = ready_seats(rt, served, output)?;
+    say_ready(rt, served, objects, errors);
     match hold(threads, alloc, token, seats, &gate) {
         Ok(held) => {
-            let ended = seats_ended(&held.seats);
+            let ended = seats_ended(&held.seats, served);
             drop(held);
             ended
         }
@@ -130,57 +183,117 @@ fn serve_over<K: Keep, R: Threads + Wait + Copy + Send + Drop + 'static, O: Writ
     }
 }
 
+/// How many objects the store has, where that is going to be said.
+fn count_objects<K: Keep>(alloc: Global, keep: &mut K, level: LevelFilter) -> Result<usize, Fault> {
+    if !level.allows(Level::Info) {
+        return Ok(0);
+    }
+    match keep.ids(alloc) {
+        Ok(ids) => Ok(ids.len()),
+        Err(fault) => Err(fault.into()),
+    }
+}
+
+/// Says that the daemon serves, on standard error and to a service manager.
+fn say_ready<E: Write>(rt: &HostRuntime, served: &Served<'_>, objects: usize, errors: &mut E) {
+    let (store, socket) = (served.store, served.socket);
+    let text = format_args!(
+        "version {VERSION} serves the store {store} with {objects} objects on {socket}"
+    );
+    note(errors, served.level, Level::Info, &text);
+    if !notify(rt, "READY=1\nSTATUS=serving\n") {
+        note(
+            errors,
+            served.level,
+            Level::Warn,
+            &"NOTIFY_SOCKET cannot be used",
+        );
+    }
+}
+
 /// The four seats on the socket, once the daemon listens and has said so.
 fn ready_seats<O: Write>(
     rt: &HostRuntime,
-    alloc: Global,
     served: &Served<'_>,
     output: &mut O,
-) -> Result<(SocketSeat, SocketSeat, SocketSeat, SocketSeat), Failure>
-    ensures { IfOk result (λ seats. (⟦<SocketSeat as Seat>⟧.number seats.0 ≡ 0) × (⟦<SocketSeat as Seat>⟧.number seats.1 ≡ 1) × (⟦<SocketSeat as Seat>⟧.number seats.2 ≡ 2) × (⟦<SocketSeat as Seat>⟧.number seats.3 ≡ 3)) }
+) -> Result<Seats<Journal<Stderr>>, Fault>
+    ensures { IfOk result (λ seats. (⟦<SocketSeat<Journal<Stderr>> as Seat>⟧.number seats.0 ≡ 0) × (⟦<SocketSeat<Journal<Stderr>> as Seat>⟧.number seats.1 ≡ 1) × (⟦<SocketSeat<Journal<Stderr>> as Seat>⟧.number seats.2 ≡ 2) × (⟦<SocketSeat<Journal<Stderr>> as Seat>⟧.number seats.3 ≡ 3)) }
 {
-    let listener = listen(rt, served.socket)?;
-    let seats = seats_on(alloc, listener, served)?;
-    writeln!(output, "ready")
-        .and_then(|()| output.flush())
-        .map_err(|_| Failure::Line)?;
-    Ok(seats)
+    let listener = daemon_socket(rt, served.socket, served.socket_mode)?;
+    let log = Journal::new(rt.stderr(), served.level);
+    let seats = seats_on(rt.alloc(), log, listener, served)?;
+    match writeln!(output, "ready").and_then(|()| output.flush()) {
+        Ok(()) => Ok(seats),
+        Err(error) => Err(Failure::Line.because(Cause::Output(error))),
+    }
 }
 
-/// Whether the seats ended as asked, and not for want of connections.
-fn seats_ended(seats: &(SocketSeat, SocketSeat, SocketSeat, SocketSeat)) -> Result<(), Failure> {
+/// Whether the seats ended as asked, and not because the store is shut, or for want of connections.
+fn seats_ended<L: Log>(seats: &Seats<L>, served: &Served<'_>) -> Result<(), Fault> {
+    if served.is_stopping.load(Ordering::SeqCst) {
+        return Err(Failure::Store.because(Cause::StoreShut));
+    }
     if seats.0.has_failed()
         || seats.1.has_failed()
         || seats.2.has_failed()
         || seats.3.has_failed()
     {
-        Err(Failure::Socket)
+        Err(Failure::Socket.because(Cause::Accept))
     } else {
         Ok(())
     }
 }
 
 /// The four seats, all on one socket.
-fn seats_on(
+fn seats_on<L: Log + Copy + Drop>(
     alloc: Global,
+    log: L,
     listener: UnixListener,
     served: &Served<'_>,
-) -> Result<(SocketSeat, SocketSeat, SocketSeat, SocketSeat), Failure>
-    ensures { IfOk result (λ seats. (⟦<SocketSeat as Seat>⟧.number seats.0 ≡ 0) × (⟦<SocketSeat as Seat>⟧.number seats.1 ≡ 1) × (⟦<SocketSeat as Seat>⟧.number seats.2 ≡ 2) × (⟦<SocketSeat as Seat>⟧.number seats.3 ≡ 3)) }
+) -> Result<Seats<L>, Fault>
+    ensures { IfOk result (λ seats. (⟦<SocketSeat<L> as Seat>⟧.number seats.0 ≡ 0) × (⟦<SocketSeat<L> as Seat>⟧.number seats.1 ≡ 1) × (⟦<SocketSeat<L> as Seat>⟧.number seats.2 ≡ 2) × (⟦<SocketSeat<L> as Seat>⟧.number seats.3 ≡ 3)) }
 {
-    let connections = served.connections.min(MAX_CONNECTIONS);
     let second = again(&listener)?;
     let third = again(&listener)?;
     let fourth = again(&listener)?;
     Ok((
-        SocketSeat::new(alloc, listener, served.seed, 0, connections),
-        SocketSeat::new(alloc, second, served.seed, 1, connections),
-        SocketSeat::new(alloc, third, served.seed, 2, connections),
-        SocketSeat::new(alloc, fourth, served.seed, 3, connections),
+        seat_on(alloc, log, listener, 0, served)?,
+        seat_on(alloc, log, second, 1, served)?,
+        seat_on(alloc, log, third, 2, served)?,
+        seat_on(alloc, log, fourth, 3, served)?,
+    ))
+}
+
+/// The seat with a number.
+fn seat_on<L: Log + Drop>(
+    alloc: Global,
+    log: L,
+    listener: UnixListener,
+    number: u64,
+    served: &Served<'_>,
+) -> Result<SocketSeat<L>, Fault>
+    requires { number < 4 }
+    ensures { IfOk result (λ seat. ⟦<SocketSeat<L> as Seat>⟧.number seat ≡ number) }
+{
+    let Ok(is_stopping) = Arc::try_clone(&served.is_stopping) else {
+        return Err(Failure::Memory.into());
+    };
+    let connections = served.connections.min(MAX_CONNECTIONS);
+    Ok(SocketSeat::new(
+        alloc,
+        log,
+        is_stopping,
+        listener,
+        served.seed,
+        number,
+        connections,
     ))
 }
 
 /// The same socket once more.
-fn again(listener: &UnixListener) -> Result<UnixListener, Failure> {
-    listener.try_clone().map_err(|_| Failure::Socket)
+fn again(listener: &UnixListener) -> Result<UnixListener, Fault> {
+    match listener.try_clone() {
+        Ok(again) => Ok(again),
+        Err(error) => Err(Failure::Socket.because(Cause::Socket(error))),
+    }
 }

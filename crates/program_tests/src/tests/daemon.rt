@@ -27,7 +27,7 @@ pub(super) fn clear(rt: &HostRuntime, paths: &[&str]) {
 }
 
 /// C_OpenSession with flags 6, and C_CreateObject of a data object of the token that is not private.
-const NEW_OBJECT: &[u8] =
+pub(super) const NEW_OBJECT: &[u8] =
     b"\x00\x00\x00\x12\x00\x07\x00\x00\x00\x00\x00\x00\x00\x00\x00\x00\x00\x00\x00\x00\x00\x06\
 \x00\x00\x00\x3c\x00\x0d\x00\x00\x00\x00\x00\x00\x00\x01\x00\x00\x00\x03\
 \x00\x00\x00\x00\x00\x00\x00\x00\x00\x00\x00\x08\x00\x00\x00\x00\x00\x00\x00\x00\
@@ -35,24 +35,27 @@ const NEW_OBJECT: &[u8] =
 \x00\x00\x00\x00\x00\x00\x00\x02\x00\x00\x00\x01\x00";
 
 /// Session 1 and object 1.
-const NEW_OBJECT_REPLIES: &[u8] =
+pub(super) const NEW_OBJECT_REPLIES: &[u8] =
     b"\x00\x00\x00\x10\x00\x00\x00\x00\x00\x00\x00\x00\x00\x00\x00\x00\x00\x00\x00\x01\
 \x00\x00\x00\x10\x00\x00\x00\x00\x00\x00\x00\x00\x00\x00\x00\x00\x00\x00\x00\x01";
 
 /// C_OpenSession with flags 6, C_FindObjectsInit with no template, and C_FindObjects of up to 9.
-const SEARCH: &[u8] =
+pub(super) const SEARCH: &[u8] =
     b"\x00\x00\x00\x12\x00\x07\x00\x00\x00\x00\x00\x00\x00\x00\x00\x00\x00\x00\x00\x00\x00\x06\
 \x00\x00\x00\x0e\x00\x13\x00\x00\x00\x00\x00\x00\x00\x01\x00\x00\x00\x00\
 \x00\x00\x00\x12\x00\x14\x00\x00\x00\x00\x00\x00\x00\x01\x00\x00\x00\x00\x00\x00\x00\x09";
 
 /// Session 1, CKR_OK, and object 1.
-const SEARCH_REPLIES: &[u8] =
+pub(super) const SEARCH_REPLIES: &[u8] =
     b"\x00\x00\x00\x10\x00\x00\x00\x00\x00\x00\x00\x00\x00\x00\x00\x00\x00\x00\x00\x01\
 \x00\x00\x00\x08\x00\x00\x00\x00\x00\x00\x00\x00\
 \x00\x00\x00\x14\x00\x00\x00\x00\x00\x00\x00\x00\x00\x00\x00\x01\x00\x00\x00\x00\x00\x00\x00\x01";
 
+/// What is said where the socket's path is taken.
+const TAKEN: &str = "another program listens on --socket, or its file is no socket";
+
 /// Runs `tokend serve` in a thread of its own, each seat of which accepts one connection.
-fn start<R: Threads + Wait + Copy + Send + Drop + 'static>(
+pub(super) fn start<R: Threads + Wait + Copy + Send + Drop + 'static>(
     rt: &HostRuntime,
     threads: R,
     store: &'static str,
@@ -139,7 +142,7 @@ pub(super) fn expect(
 }
 
 /// Sees how a run ended, and what it wrote.
-fn expect_ended(ended: &Ended, status: u8, output: &[u8], errors: &[u8]) -> Result<(), Fail> {
+pub(super) fn expect_ended(ended: &Ended, status: u8, output: &[u8], errors: &[u8]) -> Result<(), Fail> {
     if has_ended_so(ended, status, output, errors) {
         Ok(())
     } else {
@@ -156,9 +159,15 @@ pub(super) fn expect_end<R: Threads + Drop>(
     expect_ended(&ended, 0, b"ready\n", b"")
 }
 
-/// Sees that a daemon is refused, and what it says.
-fn expect_refusal(rt: &HostRuntime, ended: Ended, status: u8, text: &str) -> Result<(), Fail> {
-    let wanted = format!(in rt.alloc(); "tokend: {text}\n")?;
+/// Sees that a daemon is refused, and what it says: the failure, and its cause.
+pub(super) fn expect_refusal(
+    rt: &HostRuntime,
+    ended: Ended,
+    status: u8,
+    failure: &str,
+    because: &str,
+) -> Result<(), Fail> {
+    let wanted = format!(in rt.alloc(); "tokend: {failure}\ntokend: because {because}\n")?;
     expect_ended(&ended, status, b"", wanted.as_bytes())
 }
 
@@ -182,9 +191,9 @@ fn a_store_in_a_file_stays(rt: HostRuntime) -> Result<(), Fail> {
     let daemon = start(&rt, rt, "stays.store", "stays.sock", "stays.seed")?;
     expect(&rt, "stays.sock", NEW_OBJECT, NEW_OBJECT_REPLIES)?;
     let second = serve(&rt, rt, "stays.store", "second.sock", "stays.seed")?;
-    expect_refusal(&rt, second, 3, "cannot open the store")?;
+    expect_refusal(&rt, second, 3, "cannot open the store", "another program has the store open")?;
     let third = serve(&rt, rt, ":memory:", "stays.sock", "stays.seed")?;
-    expect_refusal(&rt, third, 4, "cannot use the socket")?;
+    expect_refusal(&rt, third, 4, "cannot use the socket", TAKEN)?;
     for _ in 0..2 {
         expect(&rt, "stays.sock", SEARCH, SEARCH_REPLIES)?;
     }
@@ -206,17 +215,20 @@ fn a_daemon_is_refused_for_its_first_fault(rt: HostRuntime) -> Result<(), Fail> 
     fs::write(&rt, "no.store", b"no store of a token")?;
     let nowhere = "/nowhere/tokend";
     let seed = serve(&rt, rt, "no.store", nowhere, "short.seed")?;
-    expect_refusal(&rt, seed, 5, "bad input")?;
+    expect_refusal(&rt, seed, 5, "bad input", "--seed-file has fewer than 32 bytes")?;
     let seed = serve(&rt, rt, "no.store", nowhere, nowhere)?;
-    expect_refusal(&rt, seed, 5, "bad input")?;
+    let missing = "--seed-file cannot be read: No such file or directory (os error 2)";
+    expect_refusal(&rt, seed, 5, "bad input", missing)?;
     fs::write(&rt, "faults.seed", &[0u8; 32])?;
     let store = serve(&rt, rt, "no.store", nowhere, "faults.seed")?;
-    expect_refusal(&rt, store, 3, "cannot open the store")?;
+    let malformed = "sqlite refuses the store: database disk image is malformed";
+    expect_refusal(&rt, store, 3, "cannot open the store", malformed)?;
     let socket = serve(&rt, rt, ":memory:", nowhere, "faults.seed")?;
-    expect_refusal(&rt, socket, 4, "cannot use the socket")?;
+    let missing = "--socket cannot be used: No such file or directory (os error 2)";
+    expect_refusal(&rt, socket, 4, "cannot use the socket", missing)?;
     // A file that is no socket is not removed.
     let file = serve(&rt, rt, ":memory:", "no.store", "faults.seed")?;
-    expect_refusal(&rt, file, 4, "cannot use the socket")?;
+    expect_refusal(&rt, file, 4, "cannot use the socket", TAKEN)?;
     assert!(rt; fs::metadata(&rt, "no.store").is_ok());
     clear(&rt, FAULTS);
     Ok(())

@@ -3,11 +3,14 @@
 use super::daemon::{clear, connect, expect, expect_end, start_for};
 use super::{OPEN_SESSION, SESSION_ONE};
 use hall::{Seat, SeatEvent};
+use log::sink::Discard;
 use programs::SocketSeat;
 use scripts::{FIRST_REPLIES, FIRST_RUN};
 use std::io::{Read, Write};
 use std::net::Shutdown;
 use std::os::unix::net::{UnixListener, UnixStream};
+use std::sync::Arc;
+use std::sync::atomic::{AtomicBool, Ordering};
 use std::test::*;
 use wire::read_reply;
 
@@ -17,6 +20,8 @@ const CUT: &[&str] = &["cut.seed", "cut.sock"];
 const TOO_LONG: &[&str] = &["long.seed", "long.sock"];
 
 const UNREAD: &[&str] = &["unread.sock"];
+
+const STOPPED: &[&str] = &["stopped.sock"];
 
 /// All that is answered to a connection of which these bytes come and no more.
 fn answered(rt: &HostRuntime, socket: &str, sent: &[u8]) -> Result<Vec<u8>, Fail> {
@@ -104,14 +109,14 @@ fn send_twice(rt: &HostRuntime, socket: &str) -> Result<UnixStream, Fail> {
 }
 
 /// Gives a seat a reply.
-fn give(rt: &HostRuntime, seat: &mut SocketSeat) -> Result<(), Fail> {
+fn give(rt: &HostRuntime, seat: &mut SocketSeat<Discard>) -> Result<(), Fail> {
     let reply = read_reply(rt.alloc(), 7, SESSION_ONE.get(4..).unwrap_or(&[]))?;
     seat.take(3, reply);
     Ok(())
 }
 
 /// What a seat asks whose peer is gone before its reply: before that, and after.
-fn asked_of(rt: &HostRuntime, seat: &mut SocketSeat) -> Result<(Asks, Asks, Asks), Fail> {
+fn asked_of(rt: &HostRuntime, seat: &mut SocketSeat<Discard>) -> Result<(Asks, Asks, Asks), Fail> {
     let peer = send_twice(rt, "unread.sock")?;
     let first = what_is_asked(seat.next());
     drop(peer);
@@ -124,12 +129,38 @@ fn asked_of(rt: &HostRuntime, seat: &mut SocketSeat) -> Result<(Asks, Asks, Asks
 fn a_reply_that_cannot_be_written_is_followed_by_gone(rt: HostRuntime) -> Result<(), Fail> {
     clear(&rt, UNREAD);
     let listener = UnixListener::bind(&rt, "unread.sock")?;
-    let mut seat = SocketSeat::new(rt.alloc(), listener, [0; 32], 3, 1);
+    let is_stopping = Arc::new(rt.alloc(), AtomicBool::new(false))?;
+    let mut seat = SocketSeat::new(rt.alloc(), Discard, is_stopping, listener, [0; 32], 3, 1);
     let asked = asked_of(&rt, &mut seat);
     let has_failed = seat.has_failed();
     drop(seat);
     clear(&rt, UNREAD);
     assert!(rt; !has_failed);
     assert!(rt; asked? == (Asks::Call(3), Asks::Gone(3), Asks::Nothing));
+    Ok(())
+}
+
+/// What a seat does that is told to stop while a connection waits, and how it ended.
+fn stopped(rt: &HostRuntime) -> Result<(Asks, Asks, Asks, bool), Fail> {
+    let listener = UnixListener::bind(rt, "stopped.sock")?;
+    let is_stopping = Arc::new(rt.alloc(), AtomicBool::new(false))?;
+    let told = Arc::try_clone(&is_stopping)?;
+    let mut seat = SocketSeat::new(rt.alloc(), Discard, is_stopping, listener, [0; 32], 3, 5);
+    let peer = send_twice(rt, "stopped.sock")?;
+    let first = what_is_asked(seat.next());
+    told.store(true, Ordering::SeqCst);
+    give(rt, &mut seat)?;
+    let then = what_is_asked(seat.next());
+    drop(peer);
+    Ok((first, then, what_is_asked(seat.next()), seat.has_failed()))
+}
+
+#[test]
+fn a_seat_that_is_told_to_stop_reads_and_accepts_no_more(rt: HostRuntime) -> Result<(), Fail> {
+    clear(&rt, STOPPED);
+    let ended = stopped(&rt);
+    clear(&rt, STOPPED);
+    // The second call is not asked, though it has come, and the seat is over before its five connections.
+    assert!(rt; ended? == (Asks::Call(3), Asks::Gone(3), Asks::Nothing, false));
     Ok(())
 }

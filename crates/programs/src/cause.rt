@@ -1,0 +1,68 @@
+//! What led to a failure, as the line after the failure's own says it. It names options and ids, and no value, PIN, label or
+//! handle.
+
+use keep::KeepFault;
+use line::LineFault;
+use std::io;
+use thiserror::Error;
+
+/// What led to a failure.
+#[derive(Clone, Copy, Debug, Error)]
+pub(crate) enum Cause {
+    #[error("--socket-mode is not a number of up to 777 in octal digits")]
+    SocketMode,
+    #[error("--seed is not 64 hexadecimal digits")]
+    SeedDigits,
+    #[error("--seed-file cannot be read: {0}")]
+    SeedFile(io::Error),
+    #[error("--seed-file has fewer than 32 bytes")]
+    ShortSeedFile,
+    #[error("the system gives no random bytes: {0}")]
+    RandomBytes(io::Error),
+    #[error("--store cannot be used: {0}")]
+    StoreFile(io::Error),
+    #[error("--store cannot be kept from other users: {0}")]
+    StoreMode(io::Error),
+    #[error("another program has the store open")]
+    StoreBusy,
+    #[error("a daemon or another program has the store open: stop it first (systemctl stop tokend), and start it again afterwards")]
+    CopyBusy,
+    #[error("the store's folder or its log cannot be used: {0}")]
+    StoreFolder(io::Error),
+    #[error("sqlite refuses the store: {0}")]
+    Sqlite(sqlite::Error),
+    #[error("the store has no table of a token")]
+    NoTables,
+    #[error("the row of object {0} is no token object's")]
+    Object(i64),
+    #[error("the row of the token's record is none, or not the only one")]
+    Record,
+    #[error("{0}")]
+    Keeper(KeepFault),
+    #[error("its disk failed and sqlite has shut it: what was acknowledged is in it, start again")]
+    StoreShut,
+    #[error("--to cannot be written: {0}")]
+    CopyFile(io::Error),
+    #[error("--socket cannot be used: {0}")]
+    Socket(io::Error),
+    #[error("another program listens on --socket, or its file is no socket")]
+    SocketTaken,
+    #[error("LISTEN_FDS hands over {0} sockets, and one is wanted")]
+    HandedOver(u64),
+    #[error("what LISTEN_FDS hands over is no Unix socket: {0}")]
+    HandedOverSocket(io::Error),
+    #[error("no connection can be accepted any more")]
+    Accept,
+    #[error("a thread cannot be started")]
+    Thread,
+    #[error("line {0} of the input is no payload in hexadecimal")]
+    InputLine(u64),
+    #[error("{0}")]
+    Line(LineFault),
+    #[error("standard input cannot be read: {0}")]
+    Input(io::Error),
+    #[error("standard output cannot be written: {0}")]
+    Output(io::Error),
+    #[error("the daemon ended the connection")]
+    Ended,
+}

@@ -1,0 +1,158 @@
+//! What a look at a whole copy of a store finds.
+
+use crate::cause::Cause;
+use crate::copying::{connect, sqlite_fault};
+use crate::failure::{Failure, Fault};
+use attrs::Object;
+use ck_types::{AttrType, ObjectClass};
+use keep::KeepFault;
+use keep_sql::SqlKeep;
+use sqlite::types::ValueRef;
+use sqlite::{Connection, Error, FileStore, Row};
+use sqlite_disk::Memory;
+use std::alloc::Global;
+
+/// Where a SQLite file's header says how many bytes of each page are left for sums, and how many the sums take
+/// (sqlite.org/fileformat2.html, 1.3.4, and cksumvfs.html).
+const RESERVED: usize = 20;
+
+const SUM_LEN: u8 = 8;
+
+/// What a store has, and the first of what is no token's in it.
+#[derive(Drop)]
+pub(crate) struct Findings {
+    /// Some bodies have format 1, which the daemon writes again in format 2 as it opens the store.
+    pub(crate) has_old: bool,
+    pub(crate) has_sums: bool,
+    pub(crate) data: u64,
+    pub(crate) keys: u64,
+    /// Rows of objects that are no token object's.
+    pub(crate) damaged: u64,
+    first_damage: Option<Cause>,
+}
+
+impl Findings {
+    fn new(image: &[u8]) -> Findings {
+        Findings {
+            has_old: false,
+            has_sums: image.get(RESERVED) == Some(&SUM_LEN),
+            data: 0,
+            keys: 0,
+            damaged: 0,
+            first_damage: None,
+        }
+    }
+
+    /// Whether the store is one that the daemon opens, and else the first of what is damaged.
+    pub(crate) fn verdict(&self) -> Result<(), Fault> {
+        match self.first_damage {
+            None => Ok(()),
+            Some(cause) => Err(Failure::Store.because(cause)),
+        }
+    }
+
+    fn add_damage(&mut self, cause: Cause) {
+        if self.first_damage.is_none() {
+            self.first_damage = Some(cause);
+        }
+    }
+
+    /// Counts the row of an object.
+    fn add_row(&mut self, alloc: Global, row: &Row) {
+        let id = row.get::<i64>(0).unwrap_or(0);
+        match body_in(alloc, row) {
+            Some((object, is_old)) if id > 0 => {
+                self.has_old |= is_old;
+                match object.class() {
+                    ObjectClass::Data => self.data = self.data.saturating_add(1),
+                    ObjectClass::SecretKey => self.keys = self.keys.saturating_add(1),
+                }
+            }
+            _ => {
+                self.damaged = self.damaged.saturating_add(1);
+                self.add_damage(Cause::Object(id));
+            }
+        }
+    }
+}
+
+/// The token object in the second column, and whether it has format 1.
+fn body_in(alloc: Global, row: &Row) -> Option<(Object, bool)> {
+    let Ok(ValueRef::Blob(body)) = row.get_ref(1) else {
+        return None;
+    };
+    let is_old = body.first() == Some(&1);
+    let decoded = if is_old {
+        attrs::decode_old(alloc, body)
+    } else {
+        attrs::decode(alloc, body)
+    };
+    match decoded {
+        Ok(object) if object.flag(AttrType::Token) => Some((object, is_old)),
+        _ => None,
+    }
+}
+
+/// Whether the only row of the record's table is a record.
+fn has_record(rows: &[Row]) -> bool {
+    let [row] = rows else {
+        return false;
+    };
+    match row.get_ref(0) {
+        Ok(ValueRef::Blob(body)) => {
+            pin_record::decode(body).is_ok() || pin_record::decode_old(body).is_ok()
+        }
+        _ => false,
+    }
+}
+
+/// Looks through the tables.
+fn look_through(
+    alloc: Global,
+    conn: &mut Connection<FileStore<Memory>>,
+    found: &mut Findings,
+) -> Result<(), Error> {
+    let record = conn.query_all("SELECT body FROM record", &[])?;
+    if !has_record(&record) {
+        found.add_damage(Cause::Record);
+    }
+    let rows = conn.query_all("SELECT id, body FROM objects ORDER BY id", &[])?;
+    for row in &rows {
+        found.add_row(alloc, row);
+    }
+    Ok(())
+}
+
+/// Whether the daemon would open the store.
+fn opens(alloc: Global, conn: Connection<FileStore<Memory>>) -> Result<(), KeepFault> {
+    match SqlKeep::from_connection(alloc, conn) {
+        Ok(keep) => {
+            drop(keep);
+            Ok(())
+        }
+        Err((fault, conn)) => {
+            drop(conn);
+            Err(fault)
+        }
+    }
+}
+
+/// Looks through a store's file, into which its log was copied. Whether it is a token's is what the daemon's own open says of it.
+pub(crate) fn examine(alloc: Global, image: &[u8]) -> Result<Findings, Fault> {
+    let mut conn = connect(alloc, image, &[])?;
+    let mut found = Findings::new(image);
+    match look_through(alloc, &mut conn, &mut found) {
+        Ok(()) => {}
+        Err(Error::SqlInputError(_)) => {
+            found.add_damage(Cause::NoTables);
+            return Ok(found);
+        }
+        Err(error) => return Err(sqlite_fault(error)),
+    }
+    match opens(alloc, conn) {
+        Ok(()) => {}
+        Err(KeepFault::Memory) => return Err(Failure::Memory.into()),
+        Err(fault) => found.add_damage(Cause::Keeper(fault)),
+    }
+    Ok(found)
+}
