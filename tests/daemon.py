@@ -22,8 +22,25 @@ if not os.access(PROGRAM, os.X_OK):
     sys.exit(f"daemon.py: no program: {PROGRAM}")
 NOBODY = 65534
 SECONDS = 60
-OK, DEVICE_ERROR = 0, 0x30
+OK, DEVICE_ERROR, PIN_INCORRECT, PIN_LOCKED = 0, 0x30, 0xA0, 0xA4
 CHECKS = []
+
+# A library that fails each fdatasync once a file is there.
+FAILING_SYNC = r"""
+#define _GNU_SOURCE
+#include <dlfcn.h>
+#include <errno.h>
+#include <stdlib.h>
+#include <unistd.h>
+
+int fdatasync(int fd) {
+    static int (*real)(int);
+    if (access(getenv("FAIL_SYNC"), F_OK) == 0) { errno = EIO; return -1; }
+    if (!real) real = dlsym(RTLD_NEXT, "fdatasync");
+    return real(fd);
+}
+"""
+
 
 class Failed(Exception):
     pass
@@ -411,6 +428,24 @@ def a_connection_refused_for_its_frames_is_said(folder):
         see(client.stream.recv(1) == b"" and daemon.errors() == b"", daemon.said)
 
 
+@check
+def a_pin_that_had_its_tenth_check_is_said(folder):
+    with Daemon(folder) as daemon:
+        client = daemon.client()
+        client.expect(call(4, number(0), data(b"officer"), data(b" " * 32)))
+        client.expect(OPEN_SESSION)
+        client.expect(call(11, SESSION, number(0), data(b"officer")))
+        client.expect(call(5, SESSION, data(b"secret")))
+        client.expect(call(12, SESSION))
+        for _ in range(9):
+            client.expect(call(11, SESSION, number(1), data(b"wrong")), PIN_INCORRECT)
+        see(b"PIN" not in daemon.errors(), daemon.said)
+        client.expect(call(11, SESSION, number(1), data(b"wrong")), PIN_INCORRECT)
+        client.expect(call(11, SESSION, number(1), data(b"secret")), PIN_LOCKED)
+        said = daemon.errors(b"PIN")
+        see(said.count(b"\n") == 1 and said.startswith(b"<4>tokend: the user's PIN") and b"wrong" not in said and b"secret" not in said, said)
+
+
 def handing_over(folder, listener, fds="1", pid="$$", path="nowhere/s", **how):
     """A daemon to which a service manager hands a socket over."""
     def argv(words):
@@ -551,7 +586,7 @@ def small_disk(folder, size):
 
 
 @check
-def writes_go_on_when_a_full_disk_has_room_again(folder):
+def a_full_disk_is_said_and_writes_go_on_when_there_is_room(folder):
     with small_disk(folder, "1m") as disk:
         with Daemon(disk) as daemon:
             client = daemon.client()
@@ -564,10 +599,37 @@ def writes_go_on_when_a_full_disk_has_room_again(folder):
             os.close(filler)
             codes = {client.ask(data_object(bytes(30_000)))[0] for _ in range(5)}
             see(codes == {DEVICE_ERROR}, codes)
+            said = daemon.errors(b"full")
+            see(said.startswith(b"<3>tokend: ") and b"full" in said and said.count(b"\n") == 1, said)
             os.remove(os.path.join(disk, "filler"))
             client.expect(data_object(b"again"))
             see(found(daemon) == 2, "other objects")
             see(daemon.run.poll() is None, "the daemon ended")
+
+
+@check
+def a_store_that_is_shut_ends_the_daemon(folder):
+    cc = shutil.which("cc")
+    if not cc:
+        raise Skipped("there is no C compiler")
+    source, library = os.path.join(folder, "failing.c"), os.path.join(folder, "failing.so")
+    with open(source, "w", encoding="utf-8") as it:
+        it.write(FAILING_SYNC)
+    subprocess.run([cc, "-shared", "-fPIC", "-o", library, source, "-ldl"], check=True)
+    sign = os.path.join(folder, "fail")
+    with Daemon(folder, env={"LD_PRELOAD": library, "FAIL_SYNC": sign}) as daemon:
+        client, idle = daemon.client(), daemon.client()
+        client.expect(OPEN_SESSION)
+        client.expect(data_object(b"first"))
+        with open(sign, "wb"):
+            pass
+        client.expect(data_object(b"second"), DEVICE_ERROR)
+        status, said = daemon.end(30)
+        lines = said.split(b"\n")
+        see(status == 3 and lines[0].startswith(b"<3>tokend: ") and b"tokend: cannot open the store" in lines and any(it.startswith(b"tokend: because ") for it in lines), status, said)
+        idle.close()
+    with Daemon(folder) as daemon:
+        see(found(daemon) in (1, 2), "other objects")
 
 
 def main():

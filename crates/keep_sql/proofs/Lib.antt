@@ -3,3 +3,4 @@ pub mod Taken
 pub mod Takes
 pub mod Refusals
 pub mod Crashes
+pub mod Unwritten

@@ -4,7 +4,7 @@ ghost use Rattle.std.specs.Prelude.{◌≡◌, ◌+◌, ◌<◌, ◌≤◌, ◌^
 ghost use Rattle.sqlite.specs.State.{HasCleanDisk};
 ghost use Rattle.sqlite.specs.Held.{state};
 ghost use Rattle.keep.specs.Contents.{Contents, IsTokenObject, after_reset, greatest_id, ids_of as ids_in, IsSound, object_at, with_object, with_record, with_replacement, without_object};
-ghost use Rattle.keep.specs.declared.keep.KeepFault.TheVariants.{Damaged};
+ghost use Rattle.keep.specs.declared.keep.KeepFault.TheVariants.{Damaged, Device};
 ghost use Rattle.stored_contents.specs.Store.{Changed, Failed, Holds, Stayed};
 
 use crate::rows::{ids_of, stored_object};
@@ -14,13 +14,23 @@ use pin_record::Record;
 use sql_tables::{
     insert_object, put_record, read_ids, read_row, remove_object, replace_object, reset_rows,
 };
-use sqlite::{Alter, Connection};
+use sqlite::{Alter, Connection, Error};
 use std::alloc::Global;
+
+/// Notes why sqlite refused a statement.
+fn refused(cause: &mut Option<Error>, error: Error) -> KeepFault
+    ensures fault { result ≡ Device }
+    ensures cause { cause.new ≡ Some error }
+{
+    *cause = Some(error);
+    KeepFault::Device
+}
 
 /// Puts another record in the place of the one stored.
 pub(crate) fn set_record<S: Alter>(
     alloc: Global,
     conn: &mut Connection<S>,
+    cause: &mut Option<Error>,
     to: Record,
 ) -> Result<(), KeepFault>
     ensures ok { OnOk result (Changed (state S.Store conn.old) (state S.Store conn.new) (with_record to)) }
@@ -30,7 +40,7 @@ pub(crate) fn set_record<S: Alter>(
     let bytes = pin_record::encode(alloc, &to)?;
     match put_record(conn, bytes.as_slice()) {
         Ok(()) => Ok(()),
-        Err(_) => Err(KeepFault::Device),
+        Err(error) => Err(refused(cause, error)),
     }
 }
 
@@ -38,6 +48,7 @@ pub(crate) fn set_record<S: Alter>(
 pub(crate) fn reset<S: Alter>(
     alloc: Global,
     conn: &mut Connection<S>,
+    cause: &mut Option<Error>,
     to: Record,
 ) -> Result<(), KeepFault>
     ensures ok { OnOk result (Changed (state S.Store conn.old) (state S.Store conn.new) (after_reset to)) }
@@ -48,7 +59,7 @@ pub(crate) fn reset<S: Alter>(
     match reset_rows(conn, bytes.as_slice()) {
         Ok(true) => Ok(()),
         Ok(false) => Err(KeepFault::Device),
-        Err(_) => Err(KeepFault::Device),
+        Err(error) => Err(refused(cause, error)),
     }
 }
 
@@ -56,6 +67,7 @@ pub(crate) fn reset<S: Alter>(
 pub(crate) fn insert<S: Alter>(
     alloc: Global,
     conn: &mut Connection<S>,
+    cause: &mut Option<Error>,
     object: &Object,
 ) -> Result<u64, KeepFault>
     requires { IsTokenObject object.now }
@@ -69,7 +81,7 @@ pub(crate) fn insert<S: Alter>(
     let bytes = attrs::encode(alloc, object)?;
     match insert_object(conn, bytes.as_slice()) {
         Ok(id) => Ok(id),
-        Err(_) => Err(KeepFault::Device),
+        Err(error) => Err(refused(cause, error)),
     }
 }
 
@@ -77,6 +89,7 @@ pub(crate) fn insert<S: Alter>(
 pub(crate) fn replace<S: Alter>(
     alloc: Global,
     conn: &mut Connection<S>,
+    cause: &mut Option<Error>,
     id: u64,
     object: &Object,
 ) -> Result<(), KeepFault>
@@ -90,16 +103,20 @@ pub(crate) fn replace<S: Alter>(
     let _entries = object.entries();
     let bytes = attrs::encode(alloc, object)?;
     match read_row(conn, id) {
-        Err(_) => Err(KeepFault::Device),
+        Err(error) => Err(refused(cause, error)),
         Ok(_) => match replace_object(conn, id, bytes.as_slice()) {
             Ok(()) => Ok(()),
-            Err(_) => Err(KeepFault::Device),
+            Err(error) => Err(refused(cause, error)),
         },
     }
 }
 
 /// `Device` where the id has no object.
-pub(crate) fn remove<S: Alter>(conn: &mut Connection<S>, id: u64) -> Result<(), KeepFault>
+pub(crate) fn remove<S: Alter>(
+    conn: &mut Connection<S>,
+    cause: &mut Option<Error>,
+    id: u64,
+) -> Result<(), KeepFault>
     requires { id < 2 ^ 63 }
     ensures ok { OnOk result (Changed (state S.Store conn.old) (state S.Store conn.new) (without_object id)) }
     ensures err { OnErr result (Failed (state S.Store conn.old) (state S.Store conn.new) (without_object id)) }
@@ -107,10 +124,10 @@ pub(crate) fn remove<S: Alter>(conn: &mut Connection<S>, id: u64) -> Result<(), 
     ensures open { IsErrOf result Damaged → ⊥ }
 {
     match read_row(conn, id) {
-        Err(_) => Err(KeepFault::Device),
+        Err(error) => Err(refused(cause, error)),
         Ok(_) => match remove_object(conn, id) {
             Ok(()) => Ok(()),
-            Err(_) => Err(KeepFault::Device),
+            Err(error) => Err(refused(cause, error)),
         },
     }
 }
@@ -119,6 +136,7 @@ pub(crate) fn remove<S: Alter>(conn: &mut Connection<S>, id: u64) -> Result<(), 
 pub(crate) fn read<S: Alter>(
     alloc: Global,
     conn: &mut Connection<S>,
+    cause: &mut Option<Error>,
     id: u64,
 ) -> Result<Object, KeepFault>
     requires { id < 2 ^ 63 }
@@ -129,12 +147,16 @@ pub(crate) fn read<S: Alter>(
 {
     match read_row(conn, id) {
         Ok(row) => stored_object(alloc, &row),
-        Err(_) => Err(KeepFault::Device),
+        Err(error) => Err(refused(cause, error)),
     }
 }
 
 /// The ids of all objects, in order.
-pub(crate) fn ids<S: Alter>(alloc: Global, conn: &mut Connection<S>) -> Result<Vec<u64>, KeepFault>
+pub(crate) fn ids<S: Alter>(
+    alloc: Global,
+    conn: &mut Connection<S>,
+    cause: &mut Option<Error>,
+) -> Result<Vec<u64>, KeepFault>
     ensures ids { HasCleanDisk (state S.Store conn.new) → (c : Contents) → Holds (state S.Store conn.old) c → IfOk result (λ ids. ids.items ≡ ids_in c) }
     ensures sound { HasCleanDisk (state S.Store conn.new) → (c : Contents) → Holds (state S.Store conn.old) c → OnOk result (IsSound c) }
     ensures same { Stayed (state S.Store conn.old) (state S.Store conn.new) }
@@ -142,6 +164,6 @@ pub(crate) fn ids<S: Alter>(alloc: Global, conn: &mut Connection<S>) -> Result<V
 {
     match read_ids(conn) {
         Ok(rows) => ids_of(alloc, rows.as_slice()),
-        Err(_) => Err(KeepFault::Device),
+        Err(error) => Err(refused(cause, error)),
     }
 }

@@ -6,7 +6,7 @@ ghost use Rattle.sqlite.specs.Held.{state};
 ghost use Rattle.pin_record.specs.Records.{new_record};
 ghost use Rattle.keep.specs.Contents.{Contents, new_contents};
 ghost use Rattle.keep.specs.declared.keep.KeepFault.TheVariants.{Device};
-ghost use Rattle.keep.specs.Keeping.{Rises};
+ghost use Rattle.keep.specs.Keeping.{Counted, Rises, Stays};
 ghost use Rattle.table_statements.specs.Tables.{no_schema};
 ghost use Rattle.stored_contents.specs.Store.{IsAt};
 ghost use Rattle.stored_contents.specs.SqlState.{sql_terms};
@@ -18,7 +18,8 @@ use crate::opening::open_store;
 use attrs::Object;
 use keep::{GREATEST_ID, Keep, KeepFault, WriteCount};
 use pin_record::Record;
-use sqlite::{Alter, Connection};
+use sql_tables::ensure_open;
+use sqlite::{Alter, Connection, Error, ErrorCode};
 use std::alloc::Global;
 use std::marker::Model;
 
@@ -30,6 +31,8 @@ pub struct SqlKeep<S: Alter + Drop> {
     failures: u64,
     tried: WriteCount,
     alloc: Global,
+    /// Why sqlite refused a statement of an open store last.
+    cause: Option<Error>,
 }
 
 impl<S: Alter + Drop> Model for SqlKeep<S> {
@@ -81,6 +84,7 @@ pub(crate) fn with_record<S: Alter + Drop>(
         failures: 0,
         tried: WriteCount::new(),
         alloc,
+        cause: None,
     }
 }
 
@@ -111,6 +115,7 @@ impl<S: Alter + Drop> SqlKeep<S> {
                 failures: 0,
                 tried: WriteCount::new(),
                 alloc,
+                cause: None,
             }),
             Err(fault) => Err((fault, conn)),
         }
@@ -126,6 +131,21 @@ impl<S: Alter + Drop> SqlKeep<S> {
             ..
         } = self;
         (conn, token_record)
+    }
+
+    /// Why sqlite refused a statement of the open store last, if it has refused any.
+    pub fn cause(&self) -> Option<Error> {
+        self.cause
+    }
+
+    /// Whether sqlite has shut the connection, as after a sync that failed: then each later call is `Device`. It writes nothing.
+    pub fn is_shut(&mut self) -> bool
+        ensures same { Stays ⟦<SqlKeep<S> as Keep>⟧.terms self.old self.new }
+        ensures counts { Counted ⟦<SqlKeep<S> as Keep>⟧.terms self.old self.new 0 0 }
+        ensures failures { self.new.failures ≡ self.old.failures }
+    {
+        let found = ensure_open(&mut self.conn, "SELECT 1");
+        matches!(found, Err(Error::SqliteFailure(ErrorCode::Closed)))
     }
 
     /// Gives the connection back, as it is.
@@ -156,7 +176,7 @@ impl<S: Alter + Drop> Keep for SqlKeep<S> {
     }
 
     fn ids(&mut self, alloc: Global) -> Result<Vec<u64>, KeepFault> {
-        match changes::ids(alloc, &mut self.conn) {
+        match changes::ids(alloc, &mut self.conn, &mut self.cause) {
             Ok(ids) => Ok(ids),
             Err(fault) => Err(counted(&mut self.failures, fault)),
         }
@@ -166,7 +186,7 @@ impl<S: Alter + Drop> Keep for SqlKeep<S> {
         if id > GREATEST_ID {
             return Err(device_failure(&mut self.failures));
         }
-        match changes::read(alloc, &mut self.conn, id) {
+        match changes::read(alloc, &mut self.conn, &mut self.cause, id) {
             Ok(object) => Ok(object),
             Err(fault) => Err(counted(&mut self.failures, fault)),
         }
@@ -174,7 +194,7 @@ impl<S: Alter + Drop> Keep for SqlKeep<S> {
 
     fn set_record(&mut self, token_record: Record) -> Result<(), KeepFault> {
         self.tried.add();
-        match changes::set_record(self.alloc, &mut self.conn, token_record) {
+        match changes::set_record(self.alloc, &mut self.conn, &mut self.cause, token_record) {
             Ok(()) => {
                 self.token_record = token_record;
                 Ok(())
@@ -185,7 +205,7 @@ impl<S: Alter + Drop> Keep for SqlKeep<S> {
 
     fn insert(&mut self, object: &Object) -> Result<u64, KeepFault> {
         self.tried.add();
-        match changes::insert(self.alloc, &mut self.conn, object) {
+        match changes::insert(self.alloc, &mut self.conn, &mut self.cause, object) {
             Ok(id) => Ok(id),
             Err(fault) => Err(counted(&mut self.failures, fault)),
         }
@@ -196,7 +216,7 @@ impl<S: Alter + Drop> Keep for SqlKeep<S> {
         if id > GREATEST_ID {
             return Err(device_failure(&mut self.failures));
         }
-        match changes::replace(self.alloc, &mut self.conn, id, object) {
+        match changes::replace(self.alloc, &mut self.conn, &mut self.cause, id, object) {
             Ok(()) => Ok(()),
             Err(fault) => Err(counted(&mut self.failures, fault)),
         }
@@ -207,7 +227,7 @@ impl<S: Alter + Drop> Keep for SqlKeep<S> {
         if id > GREATEST_ID {
             return Err(device_failure(&mut self.failures));
         }
-        match changes::remove(&mut self.conn, id) {
+        match changes::remove(&mut self.conn, &mut self.cause, id) {
             Ok(()) => Ok(()),
             Err(fault) => Err(counted(&mut self.failures, fault)),
         }
@@ -215,7 +235,7 @@ impl<S: Alter + Drop> Keep for SqlKeep<S> {
 
     fn reset(&mut self, token_record: Record) -> Result<(), KeepFault> {
         self.tried.add();
-        match changes::reset(self.alloc, &mut self.conn, token_record) {
+        match changes::reset(self.alloc, &mut self.conn, &mut self.cause, token_record) {
             Ok(()) => {
                 self.token_record = token_record;
                 Ok(())

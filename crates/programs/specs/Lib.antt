@@ -1,4 +1,5 @@
 pub mod Asking
 pub mod Modes
 pub mod Priorities
+pub mod Reported
 pub mod Statuses

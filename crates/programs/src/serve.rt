@@ -9,6 +9,7 @@ use crate::journal::{Journal, note};
 use crate::listening::daemon_socket;
 use crate::notify::notify;
 use crate::options::{level_in, mode_in};
+use crate::reported::{Explains, Reported};
 use crate::seat::SocketSeat;
 use crate::seed::daemon_seed;
 use crate::store::{keep_private, open_store};
@@ -69,17 +70,30 @@ pub(crate) fn serve<R: Threads + Wait + Copy + Send + Drop + 'static, O: Write, 
     errors: &mut E,
 ) -> Result<(), Fault> {
     let served = read_options(rt, matches, errors)?;
+    let log = Journal::new(rt.stderr(), served.level);
     if served.store == IN_MEMORY {
         let keep = ListKeep::new(rt.alloc(), Record::new());
+        let keep = with_reports(keep, log, &served)?;
         return serve_over(rt, threads, keep, &served, output, errors);
     }
     if keep_private(rt, served.store)? {
-        let text =
-            "other users could read the store or its log: their modes are those of their owner now";
+        let text = "other users could read the store or its log: their modes are those of their owner now";
         note(errors, served.level, Level::Warn, &text);
     }
-    let keep = open_store(rt, served.store)?;
+    let keep = with_reports(open_store(rt, served.store)?, log, &served)?;
     serve_cached(rt, threads, keep, &served, output, errors)
+}
+
+/// The keeper, which says what becomes of its store, and has the seats end where that is shut.
+fn with_reports<K: Explains, L: Log + Drop>(
+    keep: K,
+    log: L,
+    served: &Served<'_>,
+) -> Result<Reported<K, L>, Fault> {
+    match Arc::try_clone(&served.is_stopping) {
+        Ok(is_stopping) => Ok(Reported::new(keep, log, is_stopping)),
+        Err(_) => Err(Failure::Memory.into()),
+    }
 }
 
 /// What the command line asks for.
@@ -197,17 +211,10 @@ fn count_objects<K: Keep>(alloc: Global, keep: &mut K, level: LevelFilter) -> Re
 /// Says that the daemon serves, on standard error and to a service manager.
 fn say_ready<E: Write>(rt: &HostRuntime, served: &Served<'_>, objects: usize, errors: &mut E) {
     let (store, socket) = (served.store, served.socket);
-    let text = format_args!(
-        "version {VERSION} serves the store {store} with {objects} objects on {socket}"
-    );
+    let text = format_args!("version {VERSION} serves the store {store} with {objects} objects on {socket}");
     note(errors, served.level, Level::Info, &text);
     if !notify(rt, "READY=1\nSTATUS=serving\n") {
-        note(
-            errors,
-            served.level,
-            Level::Warn,
-            &"NOTIFY_SOCKET cannot be used",
-        );
+        note(errors, served.level, Level::Warn, &"NOTIFY_SOCKET cannot be used");
     }
 }
 

@@ -1,0 +1,13 @@
+-- What is said of a keeper that reports what becomes of another one: what is said of that one.
+use Rattle.std.specs.Prelude.{ℕ}
+use Rattle.keep.specs.Keeping.{Terms}
+
+abbrev pub reported_terms : {K W : Type 0} → (W → K) → Terms K → Terms W
+reported_terms keep terms = record {
+  holds = λ w c. terms.holds (keep w) c;
+  may_leave = λ w left. terms.may_leave (keep w) left;
+  is_steady = λ w. terms.is_steady (keep w);
+  doubt = λ w. terms.doubt (keep w);
+  failures = λ w. terms.failures (keep w);
+  tried = λ w. terms.tried (keep w);
+}
