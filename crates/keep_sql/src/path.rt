@@ -14,9 +14,10 @@ use crate::sql_keep::SqlKeep;
 use sqlite::{Error, ErrorCode, FileFrom, FileStore, Files, Start};
 use sqlite_disk::Disk;
 use sqlite_std_file::OpenError;
-use std::fs;
+use std::fs::{self, OpenOptions};
 use std::hash::{BuildHasher, RandomState};
 use std::io::{self, ErrorKind};
+use std::os::unix::fs::OpenOptionsExt;
 use std::rt::HostRuntime;
 
 const CANNOT_OPEN: OpenFault = OpenFault::Sqlite(Error::SqliteFailure(ErrorCode::CannotOpen));
@@ -24,6 +25,9 @@ const CANNOT_OPEN: OpenFault = OpenFault::Sqlite(Error::SqliteFailure(ErrorCode:
 const NO_MEMORY: OpenFault = OpenFault::Sqlite(Error::SqliteFailure(ErrorCode::OutOfMemory));
 
 const BUSY: OpenFault = OpenFault::Sqlite(Error::SqliteFailure(ErrorCode::DatabaseBusy));
+
+/// The permission bits of a file that is made: its owner may read and write it, and nobody else.
+const OWN_MODE: u32 = 0o600;
 
 /// Whether there is no file at the path, and a log beside it that is not empty.
 fn is_log_alone(rt: &HostRuntime, path: &str) -> Result<bool, OpenFault> {
@@ -37,6 +41,23 @@ fn is_log_alone(rt: &HostRuntime, path: &str) -> Result<bool, OpenFault> {
     match fs::symlink_metadata(rt, log.as_str()) {
         Ok(found) => Ok(found.len() > 0),
         Err(_) => Ok(false),
+    }
+}
+
+/// Makes an empty file where there is none, for its owner alone. sqlite gives its log the same permission bits.
+fn make_private(rt: &HostRuntime, path: &str) -> Result<(), OpenFault> {
+    let made = OpenOptions::new()
+        .read(true)
+        .write(true)
+        .create_new(true)
+        .mode(OWN_MODE)
+        .open(rt, path);
+    match made {
+        Ok(_) => Ok(()),
+        Err(error) if error.kind() == ErrorKind::OutOfMemory => Err(NO_MEMORY),
+        // A link that leads nowhere is refused: sqlite would make the file for other users too.
+        Err(error) if error.kind() == ErrorKind::AlreadyExists && fs::metadata(rt, path).is_ok() => Ok(()),
+        Err(_) => Err(CANNOT_OPEN),
     }
 }
 
@@ -55,6 +76,7 @@ fn open_pair<S: Start>(
     if is_log_alone(rt, path)? {
         return Err(OpenFault::FileLost);
     }
+    make_private(rt, path)?;
     match sqlite_std_file::open(rt, path, start) {
         Ok(files) => Ok(files),
         Err(OpenError::OutOfMemory) => Err(NO_MEMORY),
@@ -83,7 +105,7 @@ fn unopened<S: Start>(fault: OpenFault) -> Refused<FileFrom<S>>
 }
 
 impl<S: Start> SqlKeep<FileStore<FileFrom<S>>> {
-    /// Opens the store in a file, or makes it, as `open_files` does. Nobody else may write the file and the log beside it while the
+    /// Opens the store in a file, or makes it, as `open_files` does, for its owner alone (mode 0600). Nobody else may write the file and the log beside it while the
     /// store is open; sqlite holds a lock on it. `start` says what is supposed of the file: `Wary`, that a torn write may leave any
     /// bytes, so each commit syncs twice, or `Unknown`, that it leaves each byte old or new.
     ///

@@ -2,6 +2,7 @@
 //! handle.
 
 use keep::KeepFault;
+use keep_sql::OpenFault;
 use line::LineFault;
 use std::io;
 use thiserror::Error;
@@ -31,8 +32,8 @@ pub(crate) enum Cause {
     StoreFolder(io::Error),
     #[error("sqlite refuses the store: {0}")]
     Sqlite(sqlite::Error),
-    #[error("the store has no table of a token")]
-    NoTables,
+    #[error("{0}")]
+    Opening(OpenFault),
     #[error("the row of object {0} is no token object's")]
     Object(i64),
     #[error("the row of the token's record is none, or not the only one")]

@@ -7,7 +7,7 @@ use crate::cause::Cause;
 use crate::failure::{Failure, Fault};
 use crate::store::log_of;
 use os::RangeLock;
-use sqlite::{Connection, Error, ErrorCode, FileStore, Files, Options};
+use sqlite::{Connection, FileStore, Files, Options};
 use sqlite_disk::{Disk, Memory};
 use std::alloc::Global;
 use std::fs::File;
@@ -25,8 +25,15 @@ pub(crate) fn is_busy(file: &File) -> bool {
     os::try_lock_range(file.as_raw_fd(), RangeLock::Shared, LOCK_START, LOCK_LEN) != 0
 }
 
-/// The store's file as it is once its log is copied into it. Refused where another program has the store open.
-pub(crate) fn whole_copy(rt: &HostRuntime, path: &str) -> Result<Vec<u8>, Fault> {
+/// The bytes of a store's file and of its log.
+#[derive(Drop)]
+pub(crate) struct StoreCopy {
+    db: Vec<u8>,
+    log: Vec<u8>,
+}
+
+/// Reads the store's file and its log. Refused where another program has the store open.
+pub(crate) fn read_store(rt: &HostRuntime, path: &str) -> Result<StoreCopy, Fault> {
     let mut file = match File::open(rt, path) {
         Ok(file) => file,
         Err(error) => return Err(refused(error)),
@@ -34,15 +41,15 @@ pub(crate) fn whole_copy(rt: &HostRuntime, path: &str) -> Result<Vec<u8>, Fault>
     if is_busy(&file) {
         return Err(Failure::Store.because(Cause::CopyBusy));
     }
-    let mut bytes = Vec::new(rt.alloc());
-    let read = file.read_to_end(&mut bytes);
+    let mut db = Vec::new(rt.alloc());
+    // (the lock is held while the file is open)
+    let read = file.read_to_end(&mut db);
     let log = read.and_then(|_| log_beside(rt, path));
-    let image = match log {
-        Ok(log) => image_of(rt.alloc(), &bytes, &log),
-        Err(error) => Err(refused(error)),
-    };
     drop(file);
-    image
+    match log {
+        Ok(log) => Ok(StoreCopy { db, log }),
+        Err(error) => Err(refused(error)),
+    }
 }
 
 fn refused(error: io::Error) -> Fault {
@@ -70,40 +77,38 @@ fn memory_of(alloc: Global, bytes: &[u8]) -> io::Result<Memory>
     Ok(file)
 }
 
-/// A connection to a copy of the file and its log in memory.
-pub(crate) fn connect(
-    alloc: Global,
-    bytes: &[u8],
-    log: &[u8],
-) -> Result<Connection<FileStore<Memory>>, Fault> {
-    let (Ok(log), Ok(db)) = (memory_of(alloc, log), memory_of(alloc, bytes)) else {
-        return Err(Failure::Memory.into());
-    };
-    match Connection::open_files(alloc, Files { log, db }, Options::new(0)) {
-        Ok(conn) => Ok(conn),
-        Err((error, _)) => Err(sqlite_fault(error)),
+impl StoreCopy {
+    /// The file and its log in memory, as what opens them may change them.
+    pub(crate) fn files(&self, alloc: Global) -> Result<Files<Memory>, Fault>
+        ensures { IfOk result (λ files. IsTrue (memory_is_usable files.log) × IsTrue (memory_is_usable files.db)) }
+    {
+        match (memory_of(alloc, &self.log), memory_of(alloc, &self.db)) {
+            (Ok(log), Ok(db)) => Ok(Files { log, db }),
+            _ => Err(Failure::Memory.into()),
+        }
     }
-}
 
-/// What sqlite refused of a store.
-pub(crate) fn sqlite_fault(error: Error) -> Fault {
-    match error {
-        Error::SqliteFailure(ErrorCode::OutOfMemory) => Failure::Memory.into(),
-        error => Failure::Store.because(Cause::Sqlite(error)),
+    /// A connection to them.
+    pub(crate) fn connect(&self, alloc: Global) -> Result<Connection<FileStore<Memory>>, Fault> {
+        let files = self.files(alloc)?;
+        match Connection::open_files(alloc, files, Options::new(0)) {
+            Ok(conn) => Ok(conn),
+            Err((error, _)) => Err(error.into()),
+        }
     }
-}
 
-/// The file once the log is copied into it.
-fn image_of(alloc: Global, bytes: &[u8], log: &[u8]) -> Result<Vec<u8>, Fault> {
-    let conn = connect(alloc, bytes, log)?;
-    match conn.close_files() {
-        Ok(files) => match Vec::from_slice(alloc, files.db.bytes()) {
-            Ok(image) => Ok(image),
-            Err(_) => Err(Failure::Memory.into()),
-        },
-        Err((error, store)) => {
-            drop(store.close());
-            Err(sqlite_fault(error))
+    /// The file once the log is copied into it.
+    pub(crate) fn image(&self, alloc: Global) -> Result<Vec<u8>, Fault> {
+        let conn = self.connect(alloc)?;
+        match conn.close_files() {
+            Ok(files) => match Vec::from_slice(alloc, files.db.bytes()) {
+                Ok(image) => Ok(image),
+                Err(_) => Err(Failure::Memory.into()),
+            },
+            Err((error, store)) => {
+                drop(store.close());
+                Err(error.into())
+            }
         }
     }
 }

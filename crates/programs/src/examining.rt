@@ -1,12 +1,11 @@
 //! What a look at a whole copy of a store finds.
 
 use crate::cause::Cause;
-use crate::copying::{connect, sqlite_fault};
+use crate::copying::StoreCopy;
 use crate::failure::{Failure, Fault};
 use attrs::Object;
 use ck_types::{AttrType, ObjectClass};
-use keep::KeepFault;
-use keep_sql::SqlKeep;
+use keep_sql::{SqlKeep, store_options};
 use sqlite::types::ValueRef;
 use sqlite::{Connection, Error, FileStore, Row};
 use sqlite_disk::Memory;
@@ -28,7 +27,7 @@ pub(crate) struct Findings {
     pub(crate) keys: u64,
     /// Rows of objects that are no token object's.
     pub(crate) damaged: u64,
-    first_damage: Option<Cause>,
+    first_fault: Option<Fault>,
 }
 
 impl Findings {
@@ -39,21 +38,21 @@ impl Findings {
             data: 0,
             keys: 0,
             damaged: 0,
-            first_damage: None,
+            first_fault: None,
         }
     }
 
     /// Whether the store is one that the daemon opens, and else the first of what is damaged.
     pub(crate) fn verdict(&self) -> Result<(), Fault> {
-        match self.first_damage {
+        match self.first_fault {
             None => Ok(()),
-            Some(cause) => Err(Failure::Store.because(cause)),
+            Some(fault) => Err(fault),
         }
     }
 
-    fn add_damage(&mut self, cause: Cause) {
-        if self.first_damage.is_none() {
-            self.first_damage = Some(cause);
+    fn add_fault(&mut self, fault: Fault) {
+        if self.first_fault.is_none() {
+            self.first_fault = Some(fault);
         }
     }
 
@@ -70,7 +69,7 @@ impl Findings {
             }
             _ => {
                 self.damaged = self.damaged.saturating_add(1);
-                self.add_damage(Cause::Object(id));
+                self.add_fault(Failure::Store.because(Cause::Object(id)));
             }
         }
     }
@@ -114,7 +113,7 @@ fn look_through(
 ) -> Result<(), Error> {
     let record = conn.query_all("SELECT body FROM record", &[])?;
     if !has_record(&record) {
-        found.add_damage(Cause::Record);
+        found.add_fault(Failure::Store.because(Cause::Record));
     }
     let rows = conn.query_all("SELECT id, body FROM objects ORDER BY id", &[])?;
     for row in &rows {
@@ -123,36 +122,30 @@ fn look_through(
     Ok(())
 }
 
-/// Whether the daemon would open the store.
-fn opens(alloc: Global, conn: Connection<FileStore<Memory>>) -> Result<(), KeepFault> {
-    match SqlKeep::from_connection(alloc, conn) {
+/// Whether the daemon would open the store: its own opening of a copy in memory says it.
+fn opens(alloc: Global, copy: &StoreCopy) -> Result<(), Fault> {
+    let files = copy.files(alloc)?;
+    match SqlKeep::open_files(alloc, files, store_options(0)) {
         Ok(keep) => {
             drop(keep);
             Ok(())
         }
-        Err((fault, conn)) => {
-            drop(conn);
-            Err(fault)
-        }
+        Err(refused) => Err(refused.fault.into()),
     }
 }
 
-/// Looks through a store's file, into which its log was copied. Whether it is a token's is what the daemon's own open says of it.
-pub(crate) fn examine(alloc: Global, image: &[u8]) -> Result<Findings, Fault> {
-    let mut conn = connect(alloc, image, &[])?;
-    let mut found = Findings::new(image);
-    match look_through(alloc, &mut conn, &mut found) {
-        Ok(()) => {}
-        Err(Error::SqlInputError(_)) => {
-            found.add_damage(Cause::NoTables);
-            return Ok(found);
+/// Looks through a copy of a store's files.
+pub(crate) fn examine(alloc: Global, copy: &StoreCopy) -> Result<Findings, Fault> {
+    let mut conn = copy.connect(alloc)?;
+    let mut found = Findings::new(&copy.image(alloc)?);
+    if let Err(error) = look_through(alloc, &mut conn, &mut found) {
+        // What has no such tables is said below.
+        if !matches!(error, Error::SqlInputError(_)) {
+            return Err(error.into());
         }
-        Err(error) => return Err(sqlite_fault(error)),
     }
-    match opens(alloc, conn) {
-        Ok(()) => {}
-        Err(KeepFault::Memory) => return Err(Failure::Memory.into()),
-        Err(fault) => found.add_damage(Cause::Keeper(fault)),
+    if let Err(fault) = opens(alloc, copy) {
+        found.add_fault(fault);
     }
     Ok(found)
 }

@@ -6,13 +6,15 @@ ghost use Rattle.programs.specs.Statuses.{status_of, IsStatus};
 use crate::cause::Cause;
 use hall::HallFault;
 use keep::KeepFault;
+use keep_sql::OpenFault;
 use line::LineFault;
+use sqlite::{Error, ErrorCode};
 use std::io::Write;
-use thiserror::Error;
+use thiserror::Error as AsError;
 use wire::WireFault;
 
 /// Why a run failed. Its text stands on the output for errors.
-#[derive(Clone, Copy, Debug, PartialEq, Eq, Error)]
+#[derive(Clone, Copy, Debug, PartialEq, Eq, AsError)]
 pub(crate) enum Failure {
     #[error("the command line is refused")]
     CommandLine,
@@ -123,6 +125,28 @@ impl From<KeepFault> for Fault {
         match fault {
             KeepFault::Memory => Failure::Memory.into(),
             _ => Failure::Store.because(Cause::Keeper(fault)),
+        }
+    }
+}
+
+/// Of the opening of a store.
+impl From<OpenFault> for Fault {
+    fn from(fault: OpenFault) -> Fault {
+        match fault {
+            OpenFault::Keeper(fault) => fault.into(),
+            OpenFault::Sqlite(error) => error.into(),
+            _ => Failure::Store.because(Cause::Opening(fault)),
+        }
+    }
+}
+
+/// Of sqlite, about the store.
+impl From<Error> for Fault {
+    fn from(error: Error) -> Fault {
+        match error {
+            Error::SqliteFailure(ErrorCode::OutOfMemory) => Failure::Memory.into(),
+            Error::SqliteFailure(ErrorCode::DatabaseBusy) => Failure::Store.because(Cause::StoreBusy),
+            _ => Failure::Store.because(Cause::Sqlite(error)),
         }
     }
 }

@@ -70,6 +70,14 @@ impl<K: Explains, L: Log> Reported<K, L> {
         }
     }
 
+    /// The keeper behind it.
+    pub fn into_keep(self) -> K
+        ensures { result ≡ self.keep }
+    {
+        let Reported { keep, .. } = self;
+        keep
+    }
+
     /// Says a failure of the device, and answers the fault.
     fn report(&mut self, fault: KeepFault) -> KeepFault
         ensures fault { result ≡ fault }

@@ -12,7 +12,7 @@ use crate::options::{level_in, mode_in};
 use crate::reported::{Explains, Reported};
 use crate::seat::SocketSeat;
 use crate::seed::daemon_seed;
-use crate::store::{keep_private, open_store};
+use crate::store::{FileKeep, keep_private, open_store};
 use cache::Cached;
 use clap::ArgMatches;
 use hall::{Gate, Seat, Token, hold};
@@ -74,14 +74,33 @@ pub(crate) fn serve<R: Threads + Wait + Copy + Send + Drop + 'static, O: Write, 
     if served.store == IN_MEMORY {
         let keep = ListKeep::new(rt.alloc(), Record::new());
         let keep = with_reports(keep, log, &served)?;
-        return serve_over(rt, threads, keep, &served, output, errors);
+        return serve_over(rt, threads, keep, &served, output, errors).map(|_| ());
     }
+    let keep = with_reports(open_private(rt, &served, errors)?, log, &served)?;
+    let keep = serve_cached(rt, threads, keep, &served, output, errors)?;
+    close_store(keep.into_keep())
+}
+
+/// Opens the store, and keeps it from other users.
+fn open_private<E: Write>(
+    rt: &HostRuntime,
+    served: &Served<'_>,
+    errors: &mut E,
+) -> Result<FileKeep, Fault> {
+    let keep = open_store(rt, served.store)?;
     if keep_private(rt, served.store)? {
         let text = "other users could read the store or its log: their modes are those of their owner now";
         note(errors, served.level, Level::Warn, &text);
     }
-    let keep = with_reports(open_store(rt, served.store)?, log, &served)?;
-    serve_cached(rt, threads, keep, &served, output, errors)
+    Ok(keep)
+}
+
+/// Closes a store at a clean end: its log is copied into its file.
+fn close_store(keep: FileKeep) -> Result<(), Fault> {
+    match keep.close().close() {
+        Ok(()) => Ok(()),
+        Err(error) => Err(error.into()),
+    }
 }
 
 /// The keeper, which says what becomes of its store, and has the seats end where that is shut.
@@ -151,7 +170,7 @@ fn token_over<K: Keep>(alloc: Global, keep: K) -> Result<Token<K>, Fault> {
     }
 }
 
-/// Serves a token over a keeper behind a cache.
+/// Serves a token over a keeper behind a cache, and gives the keeper back at a clean end.
 fn serve_cached<K: Keep, R: Threads + Wait + Copy + Send + Drop + 'static, O: Write, E: Write>(
     rt: &HostRuntime,
     threads: R,
@@ -159,15 +178,18 @@ fn serve_cached<K: Keep, R: Threads + Wait + Copy + Send + Drop + 'static, O: Wr
     served: &Served<'_>,
     output: &mut O,
     errors: &mut E,
-) -> Result<(), Fault> {
+) -> Result<K, Fault> {
     let capacity = NonZeroUsize::new(CAPACITY).ok_or(Failure::Memory)?;
     match Cached::new(rt.alloc(), keep, capacity) {
-        Ok(keep) => serve_over(rt, threads, keep, served, output, errors),
+        Ok(keep) => {
+            let keep = serve_over(rt, threads, keep, served, output, errors)?;
+            Ok(keep.into_keep())
+        }
         Err((fault, _)) => Err(fault.into()),
     }
 }
 
-/// Serves a token over a keeper.
+/// Serves a token over a keeper, and gives the keeper back at a clean end.
 fn serve_over<K: Keep, R: Threads + Wait + Copy + Send + Drop + 'static, O: Write, E: Write>(
     rt: &HostRuntime,
     threads: R,
@@ -175,7 +197,7 @@ fn serve_over<K: Keep, R: Threads + Wait + Copy + Send + Drop + 'static, O: Writ
     served: &Served<'_>,
     output: &mut O,
     errors: &mut E,
-) -> Result<(), Fault> {
+) -> Result<K, Fault> {
     let alloc = rt.alloc();
     let objects = count_objects(alloc, &mut keep, served.level)?;
     let token = token_over(alloc, keep)?;
@@ -186,9 +208,8 @@ fn serve_over<K: Keep, R: Threads + Wait + Copy + Send + Drop + 'static, O: Writ
     say_ready(rt, served, objects, errors);
     match hold(threads, alloc, token, seats, &gate) {
         Ok(held) => {
-            let ended = seats_ended(&held.seats, served);
-            drop(held);
-            ended
+            seats_ended(&held.seats, served)?;
+            Ok(held.token.into_keep())
         }
         Err((fault, token)) => {
             drop(token);

@@ -1,7 +1,7 @@
 //! `tokend check` and `tokend backup`: a store that no daemon has open is looked through, or copied whole.
 
 use crate::cause::Cause;
-use crate::copying::whole_copy;
+use crate::copying::read_store;
 use crate::examining::{Findings, examine};
 use crate::failure::{Failure, Fault};
 use clap::ArgMatches;
@@ -20,8 +20,7 @@ pub(crate) fn check<O: Write>(
     output: &mut O,
 ) -> Result<(), Fault> {
     let store = matches.get_str("store").ok_or(Failure::Store)?;
-    let image = whole_copy(rt, store)?;
-    let found = examine(rt.alloc(), &image)?;
+    let found = examine(rt.alloc(), &read_store(rt, store)?)?;
     match print(&found, output) {
         Ok(()) => found.verdict(),
         Err(error) => Err(Failure::Line.because(Cause::Output(error))),
@@ -43,9 +42,9 @@ fn print<O: Write>(found: &Findings, output: &mut O) -> io::Result<()> {
 pub(crate) fn backup(rt: &HostRuntime, matches: &ArgMatches<'_>) -> Result<(), Fault> {
     let store = matches.get_str("store").ok_or(Failure::Store)?;
     let to = matches.get_str("to").ok_or(Failure::Copy)?;
-    let image = whole_copy(rt, store)?;
-    examine(rt.alloc(), &image)?.verdict()?;
-    match write_new(rt, to, &image) {
+    let copy = read_store(rt, store)?;
+    examine(rt.alloc(), &copy)?.verdict()?;
+    match write_new(rt, to, &copy.image(rt.alloc())?) {
         Ok(()) => Ok(()),
         Err(error) => Err(Failure::Copy.because(Cause::CopyFile(error))),
     }
