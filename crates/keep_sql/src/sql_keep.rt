@@ -1,6 +1,6 @@
 //! The keeper.
 
-ghost use Rattle.std.specs.Prelude.{◌≡◌, ◌+◌, ◌≤◌, IfOk, IfErr, IsTrue};
+ghost use Rattle.std.specs.Prelude.{◌≡◌, ◌+◌, ◌≤◌, false, IfOk, IfErr, IsTrue};
 ghost use Rattle.sqlite.specs.State.{HasCleanDisk};
 ghost use Rattle.sqlite.specs.Held.{state};
 ghost use Rattle.pin_record.specs.Records.{new_record};
@@ -143,6 +143,7 @@ impl<S: Alter + Drop> SqlKeep<S> {
         ensures same { Stays ⟦<SqlKeep<S> as Keep>⟧.terms self.old self.new }
         ensures counts { Counted ⟦<SqlKeep<S> as Keep>⟧.terms self.old self.new 0 0 }
         ensures failures { self.new.failures ≡ self.old.failures }
+        ensures shut { IsTrue result → HasCleanDisk (state S.Store self.new.conn) → (state S.Store self.old.conn).is_open ≡ false }
     {
         let found = ensure_open(&mut self.conn, "SELECT 1");
         matches!(found, Err(Error::SqliteFailure(ErrorCode::Closed)))

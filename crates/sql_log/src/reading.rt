@@ -2,6 +2,7 @@
 
 ghost use Rattle.std.specs.Prelude.{◌≡◌, ◌≤◌, length, IsTrue, IfOk, OnOk};
 ghost use Rattle.sqlite_wal.specs.Reads.{IsClean, OnlyReads};
+ghost use Rattle.sql_log.specs.Bytes.{IsAlike};
 
 use sqlite_disk::Disk;
 use std::alloc::Global;
@@ -23,8 +24,7 @@ pub fn bytes_of<D: Disk>(alloc: Global, disk: &mut D) -> io::Result<Vec<u8>>
 
 /// How many bytes two texts begin with alike.
 fn alike(a: &[u8], b: &[u8]) -> usize
-    ensures first { result ≤ length a.now }
-    ensures second { result ≤ length b.now }
+    ensures same { IsAlike result a.now b.now }
 {
     let most = a.len().min(b.len());
     for at in 0..most {
@@ -35,19 +35,29 @@ fn alike(a: &[u8], b: &[u8]) -> usize
     most
 }
 
+/// Writes what stands behind a place, and cuts the file to the length of the bytes.
+fn write_from<D: Disk>(disk: &mut D, same: usize, bytes: &[u8]) -> io::Result<()>
+    requires usable { IsTrue (D.Disk.is_usable disk.old) }
+    requires within { same ≤ length bytes.now }
+    requires alike { IsClean D.Disk disk.old → IsAlike same (D.Disk.seen disk.old) bytes.now }
+    ensures bytes { OnOk result (IsClean D.Disk disk.new → D.Disk.seen disk.new ≡ bytes.now) }
+{
+    if same < bytes.len() {
+        disk.write_at(same, &bytes[same..])?;
+    }
+    disk.set_len(bytes.len())?;
+    disk.sync()
+}
+
 /// Gives a file these bytes again, and syncs. What it begins with alike is not written.
 pub fn put_back<D: Disk>(alloc: Global, disk: &mut D, bytes: &[u8]) -> io::Result<()>
     requires { IsTrue (D.Disk.is_usable disk.old) }
-    ensures len { OnOk result (IsClean D.Disk disk.new → length (D.Disk.seen disk.new) ≡ length bytes.now) }
+    ensures bytes { OnOk result (IsClean D.Disk disk.new → D.Disk.seen disk.new ≡ bytes.now) }
 {
     let now = bytes_of(alloc, disk)?;
     let same = alike(now.as_slice(), bytes);
     if same == now.len() && same == bytes.len() {
         return Ok(());
     }
-    if same < bytes.len() {
-        disk.write_at(same, &bytes[same..])?;
-    }
-    disk.set_len(bytes.len())?;
-    disk.sync()
+    write_from(disk, same, bytes)
 }

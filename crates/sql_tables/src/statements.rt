@@ -2,9 +2,11 @@
 //!
 //! Each is sent only where the connection was found open: of a connection that is shut sqlite says nothing.
 
-ghost use Rattle.std.specs.Prelude.{◌≡◌, ◌+◌, ◌<◌, ◌≤◌, ◌^◌, false, true, ℕ, List, pos, IfOk, OnOk, OnErr, IsTrue};
+ghost use Rattle.std.specs.Prelude.{◌≡◌, ◌+◌, ◌<◌, ◌≤◌, ◌^◌, false, true, ℕ, List, pos, IfOk, IfErr, OnOk, OnErr, IsTrue};
 ghost use Rattle.std.specs.Prelude.{codes, [], ◌∷◌};
 ghost use Rattle.sqlite.specs.declared.types.Value.TheVariants.{Blob, Int};
+ghost use Rattle.sqlite.specs.declared.error.Error.TheVariants.{SqliteFailure};
+ghost use Rattle.sqlite.specs.declared.error.ErrorCode.TheVariants.{Closed};
 ghost use Rattle.sqlite.specs.State.{HasCleanDisk, Executes, QueriesRow, Survives, CommitsBy, CommitsShowing};
 ghost use Rattle.sqlite.specs.Held.{state};
 ghost use Rattle.table_statements.specs.Bodies.{Bodies, after_reset, greatest_id, with_body, with_body_at, with_record, without_body};
@@ -75,11 +77,12 @@ fn replace_row<S: Alter>(conn: &mut Connection<S>, id: u64, bytes: &[u8]) -> Res
     replace_by(conn, id, bytes)
 }
 
-/// Prepares a statement that is not run: an error where the connection is shut, or where sqlite refuses the
-/// text. It writes nothing.
+/// Prepares a statement that is not run: an error where the connection is shut, which is `Closed` or want of
+/// memory, or where sqlite refuses the text. It writes nothing.
 pub fn ensure_open<S: Alter>(conn: &mut Connection<S>, sql: &str) -> Result<(), Error>
     ensures kept { Unwritten (state S.Store conn.old) (state S.Store conn.new) }
     ensures open { OnOk result (IsReady (state S.Store conn.new)) }
+    ensures shut { HasCleanDisk (state S.Store conn.new) → IfErr result (λ e. e ≡ SqliteFailure Closed → (state S.Store conn.old).is_open ≡ false) }
     ensures mode { conn.old.in_transaction ≡ false → conn.new.in_transaction ≡ false }
 {
     conn.prepare(sql)?;
