@@ -6,9 +6,10 @@
 makes a small store with the program TOKEND, and then starts it on copies of which a bit is flipped, a file is cut, or a file is gone.
 Every STEP-th bit is flipped, and every STEP-th length is a cut (1: each; without it 199). A start has to end with status 3 and leave
 both files byte for byte, or the store has to be the whole one, the one at its last checkpoint where the log was touched, or the one
-before its last commits. It prints how many of how many were which, and ends with status 1 where one was anything else.
+before its last commits. It prints how many of how many were which, and ends with status 1 where one was anything else. As many starts
+run side by side as there are processors, each in a folder of its own.
 """
-import os, shutil, socket, struct, subprocess, sys, tempfile, time
+import concurrent.futures, itertools, os, shutil, socket, struct, subprocess, sys, tempfile, threading
 
 
 def n(value):
@@ -31,7 +32,7 @@ class Token:
         if os.path.exists(self.path):
             os.remove(self.path)
         self.process = subprocess.Popen(
-            [program, "serve", "--store", os.path.join(folder, "token.db"), "--socket", self.path, "--seed-file", os.path.join(folder, "seed")],
+            [program, "serve", "--store", os.path.join(folder, "token.db"), "--socket", self.path],
             stdin=subprocess.DEVNULL, stdout=subprocess.PIPE, stderr=subprocess.PIPE)
         self.is_ready = self.process.stdout.readline() == b"ready\n"
         if self.is_ready:
@@ -147,9 +148,10 @@ def cuts(data, step):
 def main():
     program = os.path.abspath(sys.argv[1])
     step = int(sys.argv[2]) if len(sys.argv) > 2 else 199
-    folder = tempfile.mkdtemp()
-    with open(os.path.join(folder, "seed"), "wb") as file:
-        file.write(os.urandom(32))
+    room = tempfile.mkdtemp()
+    folder = os.path.join(room, "first")
+    os.mkdir(folder)
+    pool, own = concurrent.futures.ThreadPoolExecutor(os.cpu_count()), threading.local()
     states = []
     for values in ([b"one", b"two"], [b"three", b"four", b"five"]):
         token = Token(program, folder)
@@ -163,13 +165,22 @@ def main():
     later = states[4:-1]
     db, log = files(folder)
     print("database file %d bytes, log %d bytes" % (len(db), len(log)))
-    bad = 0
+    bad = tried = 0
+
+    def try_one(change):
+        if not hasattr(own, "folder"):
+            own.folder = tempfile.mkdtemp(dir=room)
+        return change[0], start(program, own.folder, *change[1])
+
+    def outcomes(changes):
+        # (some at a time, since each is a copy of both files)
+        while some := list(itertools.islice(changes, 500)):
+            yield from pool.map(try_one, some)
 
     def run(name, changes, is_log):
-        nonlocal bad
+        nonlocal bad, tried
         counts = {}
-        for what, (a, b) in changes:
-            found = start(program, folder, a, b)
+        for what, found in outcomes(iter(changes)):
             if found == "refused":
                 kind = "refused, unchanged"
             elif isinstance(found, int):
@@ -186,6 +197,7 @@ def main():
                 bad += 1
                 print("%s, %s: %s" % (name, what, kind))
             counts[kind] = counts.get(kind, 0) + 1
+            tried += 1
         print("%s: %d starts: %s" % (name, sum(counts.values()), ", ".join("%d %s" % (counts[k], k) for k in sorted(counts))))
 
     run("flips of the file", ((w, (d, log)) for w, d in flips(db, step)), False)
@@ -206,7 +218,8 @@ def main():
     except ImportError:
         print("another program's file: not tried, since there is no sqlite3 here")
     run("a text", [("whole", (b"no database at all\n" * 40, None))], False)
-    shutil.rmtree(folder)
+    shutil.rmtree(room)
+    print("%d passed, %d failed" % (tried - bad, bad))
     return 1 if bad else 0
 
 
