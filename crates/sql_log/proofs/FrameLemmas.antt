@@ -1,6 +1,6 @@
 -- Where frames stand.
-use Rattle.std.proofs.Common.{◌≡◌, ◌≢◌, ℕ, zero, suc, ◌+◌, ◌-◌, ◌*◌, ◌/◌, ◌<◌, ◌≤◌, List, length, take, drop, refl, sym, subst, ap, ◌∙◌, ap₂, arith}
-use Rattle.std.proofs.Math.Nat.{suc-mul, div-mul-le_self, mul-le-mul_right}
+use Rattle.std.proofs.Common.{◌≡◌, ◌≢◌, inl, inr, ℕ, zero, suc, ◌+◌, ◌-◌, ◌*◌, ◌/◌, ◌<◌, ◌≤◌, List, length, take, drop, refl, sym, subst, ap, ap₂, arith}
+use Rattle.std.proofs.Math.Nat.{eq-or-lt_of_le, suc-mul, div-mul-le_self, mul-le-mul_right}
 use Rattle.sqlite_wal.specs.Format.{IsFrame, part, stored_sum}
 use Rattle.sqlite_wal.specs.Recovery.{Passes, frame, frame_at, frames_len, header, sum_before}
 use Rattle.sql_log.specs.Damage.{PassesUnder}
@@ -42,6 +42,13 @@ frame_before size (suc at) len is within =
 
 pub passes_of : (log : List ℕ) (size at : ℕ) → Passes size log at → PassesUnder (take 32 log) size log at
 passes_of log size at it = record { within = it.within; passes = subst (λ (h : List ℕ). IsFrame h (sum_before size log at) (frame size log at)) (sym (head_is log)) it.passes }
+
+-- one more frame passes
+pub passes_up_to : (log : List ℕ) (size at : ℕ) → ((i : ℕ) → i < at → Passes size log i) → PassesUnder (take 32 log) size log at → (i : ℕ) → i < at + 1 → Passes size log i
+passes_up_to log size at before it i low = elim (eq-or-lt_of_le {n = i} {m = at} (omega (arith, low))) [
+  | inl is ↦ subst (λ (j : ℕ). Passes size log j) (sym is) (record { within = it.within; passes = subst (λ (h : List ℕ). IsFrame h (sum_before size log at) (frame size log at)) (head_is log) it.passes })
+  | inr less ↦ before i less
+]
 
 -- a frame that is one of those for which the log has the bytes
 pub inside : (log : List ℕ) (size at : ℕ) → 32 ≤ length log → at < (length log - 32) / (24 + size) → frame_at size at + (24 + size) ≤ length log

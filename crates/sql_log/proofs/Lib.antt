@@ -1,3 +1,4 @@
+pub mod BrokenLemmas
 pub mod FrameLemmas
 pub mod RunLemmas
 pub mod Written

@@ -1,5 +1,5 @@
 -- A file that was written from a place on, and cut.
-use Rattle.std.proofs.Common.{◌≡◌, ◌⊎◌, inl, inr, ℕ, ◌+◌, ◌-◌, ◌<◌, ◌≤◌, max, min, List, length, take, drop, slice_index, sym, subst, ap, ◌∙◌, arith}
+use Rattle.std.proofs.Common.{◌≡◌, inl, inr, ℕ, ◌+◌, ◌-◌, ◌<◌, ◌≤◌, List, length, take, drop, slice_index, sym, subst, ap, ◌∙◌, arith}
 use Rattle.std.proofs.lemmas.List.{ext_get_or, get_or-drop, length-drop, take_all}
 use Rattle.std.proofs.lemmas.Bool.{cases_lt}
 use Rattle.sqlite_disk.specs.Disk.{Cut, Holds, Torn}
@@ -12,10 +12,10 @@ all_alike a b n it first second = ext_get_or 0 a b (sym first ∙ second) (λ i 
 pub cut_is : (bytes old new : List ℕ) (same : ℕ) → IsAlike same old bytes → length bytes ≤ same → Cut (length bytes) old new → length new ≡ length bytes → new ≡ bytes
 cut_is bytes old new same it all cut len =
     ext_get_or 0 new bytes len (λ i low.
-      let few : i < length bytes = omega (arith, low, len) in
-      let near : i < same = omega (arith, few, all) in
-      let f = it.first in
-      cut.below i (omega (arith, near, f)) few ∙ it.each i near)
+    let few : i < length bytes = omega (arith, low, len) in
+    let near : i < same = omega (arith, few, all) in
+    let f = it.first in
+    cut.below i (omega (arith, near, f)) few ∙ it.each i near)
 
 -- what a slice to the end is
 rest_is : (bytes : List ℕ) (same : ℕ) → take (length bytes - same) (drop same bytes) ≡ drop same bytes

@@ -1,5 +1,5 @@
 -- Damage in a log that no power cut leaves.
-use Rattle.std.specs.Prelude.{◌≡◌, ◌≢◌, ◌⊎◌, ℕ, ◌+◌, ◌<◌, ◌≤◌, List, length, slice_index}
+use Rattle.std.specs.Prelude.{◌≢◌, ◌⊎◌, ℕ, ◌+◌, ◌-◌, ◌/◌, ◌<◌, ◌≤◌, ◌==◌, Bool, min, if◌then◌else◌, List, length, slice_index}
 use Rattle.sqlite_wal.specs.Format.{IsFrame, IsSigned, be32, commit_size}
 use Rattle.sqlite_wal.specs.Recovery.{Image, IsBegun, Passes, frame, frame_at, header, sum_before}
 
@@ -44,6 +44,33 @@ pub record IsBroken (size : ℕ) (log : List ℕ) : Type 0 where
   pub bad : ℕ
   pub fails : ¬ Passes size log bad
   pub behind : HasTwoCommits (header log) size log (bad + 1) ⊎ HasTwoCommits (header log) size log (bad + 2)
+
+-- for how many frames the log has the bytes
+abbrev pub frame_count : ℕ → List ℕ → ℕ
+frame_count size log = (length log - 32) / (24 + size)
+
+-- a frame's gate is shut: the first byte of its salt is 0, or 1 where the header's is 0
+abbrev pub is_shut : ℕ → List ℕ → ℕ → Bool
+is_shut size log at = slice_index (frame size log at) 8 == (if slice_index log 16 == 0 then 1 else 0)
+
+-- How far frames behind a bad one are looked at. A transaction that has written 2,000 pages goes to the log in parts behind one shut
+-- gate. Each part ends in a frame that commits.
+abbrev pub end_behind : ℕ → List ℕ → ℕ → ℕ
+end_behind size log bad = if is_shut size log bad then min (frame_count size log) (bad + 2000) else frame_count size log
+
+-- two frames that commit, in a run that begins at one frame, and the second before another
+abbrev pub IsFollowed : ℕ → List ℕ → ℕ → ℕ → Type 0
+IsFollowed size log from end = (it : HasTwoCommits (header log) size log from) × (it.two < end)
+
+-- Frame `bad` is the first that fails its test, and two that commit follow it as far as frames are looked at. A log of more than
+-- 4,294,901,760 frames is none of these.
+pub record IsPlainlyBroken (size : ℕ) (log : List ℕ) : Type 0 where
+  pub bad : ℕ
+  pub earlier : (i : ℕ) → i < bad → Passes size log i
+  pub fails : ¬ Passes size log bad
+  pub there : bad < frame_count size log
+  pub few : frame_count size log ≤ 4294901760
+  pub behind : IsFollowed size log (bad + 1) (end_behind size log bad) ⊎ IsFollowed size log (bad + 2) (end_behind size log bad)
 
 -- under some header, a run from the first frame on, or the second, has one that commits
 pub record HasAnyCommit (size : ℕ) (log : List ℕ) : Type 0 where

@@ -1,8 +1,9 @@
 //! Damage in a log that no power cut leaves.
 
-ghost use Rattle.std.specs.Prelude.{◌≡◌, ◌⊎◌, ◌+◌, ◌-◌, ◌*◌, ◌^◌, ◌<◌, ◌≤◌, ◌↔◌, length, true, IsTrue, IfSome};
-ghost use Rattle.sqlite_wal.specs.Recovery.{Passes, frame_at};
-ghost use Rattle.sql_log.specs.Damage.{HasAnyCommit, HasCommit, HasTwoCommits, IsBroken, IsDamaged};
+ghost use Rattle.std.specs.Prelude.{◌≡◌, ◌⊎◌, ◌+◌, ◌-◌, ◌*◌, ◌^◌, ◌<◌, ◌≤◌, ◌↔◌, ℕ, length, true, IsTrue, IfSome, IsNone};
+ghost use Rattle.sqlite_wal.specs.Format.{IsSigned, be32};
+ghost use Rattle.sqlite_wal.specs.Recovery.{Passes, frame_at, header};
+ghost use Rattle.sql_log.specs.Damage.{HasAnyCommit, HasCommit, HasTwoCommits, IsBroken, IsDamaged, IsPlainlyBroken, is_shut as is_shut_gate};
 
 use crate::format::{FRAME_HEADER_LEN, HEADER_LEN, is_signed, number_at};
 use crate::frames::{commits_at, frame_of, passes_under};
@@ -22,8 +23,11 @@ fn commits_in_run(head: &[u8], log: &[u8], size: usize, from: usize, end: usize)
     requires head { length head.now ≡ 32 }
     requires number { end ≤ 2 ^ 32 }
     requires size { size ≤ 65536 }
+    ensures most { result ≤ 2 }
     ensures one { 1 ≤ result → HasCommit head.now size log.now from }
     ensures two { 2 ≤ result → HasTwoCommits head.now size log.now from }
+    ensures none { result ≡ 0 → (it : HasCommit head.now size log.now from) → it.one < end → ⊥ }
+    ensures few { result ≤ 1 → (it : HasTwoCommits head.now size log.now from) → it.two < end → ⊥ }
 {
     let mut count = 0;
     for at in from..end {
@@ -46,6 +50,8 @@ fn first_bad(log: &[u8], size: usize, end: usize) -> Option<usize>
     requires number { end ≤ 2 ^ 32 }
     requires size { size ≤ 65536 }
     ensures bad { IfSome result (λ at. at < end × ¬ Passes size log.now at) }
+    ensures earlier { IfSome result (λ at. (i : ℕ) → i < at → Passes size log.now i) }
+    ensures none { IsNone result → (i : ℕ) → i < end → Passes size log.now i }
 {
     for at in 0..end {
         if !passes_under(&log[..HEADER_LEN], log, size, at) {
@@ -60,6 +66,7 @@ fn is_shut(log: &[u8], size: usize, at: usize) -> bool
     requires within { frame_at size at + (24 + size) ≤ length log.now }
     requires number { at < 2 ^ 32 }
     requires size { size ≤ 65536 }
+    ensures { result ≡ is_shut_gate size log.now at }
 {
     let gate = frame_of(log, size, at)[8];
     let shut = if log[16] == 0 { 1 } else { 0 };
@@ -70,7 +77,8 @@ fn is_shut(log: &[u8], size: usize, at: usize) -> bool
 fn is_broken(log: &[u8], size: usize) -> bool
     requires head { 32 ≤ length log.now }
     requires size { size ≤ 65536 }
-    ensures { IsTrue result → IsBroken size log.now }
+    ensures sound { IsTrue result → IsBroken size log.now }
+    ensures found { IsPlainlyBroken size log.now → IsTrue result }
 {
     let frames = (log.len() - HEADER_LEN) / (FRAME_HEADER_LEN + size);
     if frames > MOST_FRAMES {
@@ -124,10 +132,13 @@ fn has_commit(head: &[u8], log: &[u8], frames: usize) -> bool
         || commits_in_run(head, log, PAGE_SIZE, 1, frames) > 0
 }
 
-/// Whether commits stand in a log behind damage that no power cut leaves: two commits behind a frame that fails SQLite's test, or one
-/// behind a header that fails it and does not begin with 0. The page size is the header's, or 4096 where that is damaged.
+/// Whether commits stand in a log behind damage that no power cut leaves. Those are two commits behind a frame that fails SQLite's
+/// test, or one behind a header that fails it and does not begin with 0. The page size is the header's, or 4096 where that is damaged.
+/// Where the header passes and names pages of at most 65,536 bytes, two commits behind the first bad frame are always found. How far
+/// frames are looked at, `IsPlainlyBroken` says.
 pub fn has_commits_behind(log: &[u8]) -> bool
-    ensures { IsTrue result → IsDamaged log.now }
+    ensures sound { IsTrue result → IsDamaged log.now }
+    ensures found { IsSigned (header log.now) → be32 (header log.now) 8 ≤ 65536 → IsPlainlyBroken (be32 (header log.now) 8) log.now → IsTrue result }
 {
     if log.len() < HEADER_LEN + FRAME_HEADER_LEN {
         return false;

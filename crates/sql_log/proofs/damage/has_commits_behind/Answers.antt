@@ -1,7 +1,7 @@
-use Rattle.std.proofs.Common.{sym, ◌≡◌, ◌≤◌, inl, inr, length, take, arith, rules, subst, ◌∙◌, ap, false, true, IsTrue, List}
+use Rattle.std.proofs.Common.{sym, inl, inr, arith, subst, ◌∙◌, ap, false, IsTrue, List}
 use Rattle.std.proofs.lemmas.List.{length-take-le}
 use Rattle.sqlite_wal.specs.Format.{be32, IsSigned}
-use Rattle.sql_log.specs.Damage.{IsBroken}
+use Rattle.sql_log.specs.Damage.{IsBroken, IsPlainlyBroken}
 use Rattle.sql_log.proofs.FrameLemmas.{head_is}
 use Rattle.sql_log.proofs.damage.has_commits_behind.Goals as goal
 
@@ -11,12 +11,27 @@ slice_bounds-head-end c = sym (length-take-le 32 c.args.log.now (omega (arith, c
 pub is_signed-requires : goal.is_signed-requires
 is_signed-requires c = length-take-le 32 c.args.log.now (omega (arith, c.if-log.false))
 
-pub returns-then-size-le65536 : goal.returns-then-size-le65536
-returns-then-size-le65536 c = λ is. inl (subst (λ n. IsBroken n c.args.log.now) (c.number_at-size.ensures ∙ ap (λ (h : List _). be32 h 8) (head_is c.args.log.now)) (c.is_broken.ensures is))
+pub returns-then-size-le65536-clause-sound : goal.returns-then-size-le65536-clause-sound
+returns-then-size-le65536-clause-sound c = λ is. inl (subst (λ n. IsBroken n c.args.log.now) (c.number_at-size.ensures ∙ ap (λ (h : List _). be32 h 8) (head_is c.args.log.now)) (c.is_broken.ensures.sound is))
 
-pub returns-then-log-ne0 : goal.returns-then-log-ne0
-returns-then-log-ne0 c = λ is. inr (record {
+pub returns-then-log-ne0-clause-sound : goal.returns-then-log-ne0-clause-sound
+returns-then-log-ne0-clause-sound c = λ is. inr (record {
   unsigned = λ signed. let h : IsTrue false = c.if-is_signed.ensures.1 (subst IsSigned (sym (head_is c.args.log.now)) signed) in absurd (cc);
   shown = c.if-log-ne0.true;
   behind = c.is_beheaded.ensures is;
 })
+
+pub returns-then-size-le65536-clause-found : goal.returns-then-size-le65536-clause-found
+returns-then-size-le65536-clause-found c = λ _ _ it. c.is_broken.ensures.found (subst (λ n. IsPlainlyBroken n c.args.log.now) (sym (c.number_at-size.ensures ∙ ap (λ (h : List _). be32 h 8) (head_is c.args.log.now))) it)
+
+pub returns-else-size-le65536-clause-found : goal.returns-else-size-le65536-clause-found
+returns-else-size-le65536-clause-found c = λ _ few _.
+    let size = c.number_at-size.ensures ∙ ap (λ (h : List _). be32 h 8) (head_is c.args.log.now) in
+    let much = c.if-size-le65536.false in
+    absurd (omega (arith, size, few, much))
+
+pub returns-then-log-ne0-clause-found : goal.returns-then-log-ne0-clause-found
+returns-then-log-ne0-clause-found c = λ signed _ _. let h : IsTrue false = c.if-is_signed.ensures.1 (subst IsSigned (sym (head_is c.args.log.now)) signed) in absurd (cc)
+
+pub returns-else-log-ne0-clause-found : goal.returns-else-log-ne0-clause-found
+returns-else-log-ne0-clause-found c = λ signed _ _. let h : IsTrue false = c.if-is_signed.ensures.1 (subst IsSigned (sym (head_is c.args.log.now)) signed) in absurd (cc)

@@ -1,4 +1,4 @@
-use Rattle.std.proofs.Common.{sym, ◌≡◌, length, take, arith}
+use Rattle.std.proofs.Common.{sym, arith}
 use Rattle.std.proofs.lemmas.List.{length-take-le}
 use Rattle.sql_log.proofs.damage.header_with.Goals as goal
 

@@ -1,4 +1,4 @@
-use Rattle.std.proofs.Common.{rules, arith, ◌≡◌, length, sym, refl, ◌∙◌, eq-eqb, eqb-true}
+use Rattle.std.proofs.Common.{rules, sym, refl, ◌∙◌, eq-eqb, eqb-true}
 use Rattle.std.proofs.lemmas.Bool.{and_parts, and_from}
 use Rattle.sql_log.proofs.FrameLemmas.{head_is}
 use Rattle.sql_log.proofs.first.is_begun.Goals as goal

@@ -1,4 +1,4 @@
-use Rattle.std.proofs.Common.{rules, arith, ◌≡◌, ◌<◌, ◌⊎◌, inl, inr, length, sym, refl, ◌∙◌, true, false, Bool, not, IsTrue, subst}
+use Rattle.std.proofs.Common.{rules, arith, ◌≡◌, inl, inr, sym, refl, true, false, Bool, not, IsTrue, subst}
 use Rattle.sqlite_wal.specs.Format.{IsSigned}
 use Rattle.sql_log.proofs.FrameLemmas.{head_is}
 use Rattle.sql_log.proofs.first.is_unwritten.Goals as goal

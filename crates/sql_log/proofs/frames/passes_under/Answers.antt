@@ -1,4 +1,4 @@
-use Rattle.std.proofs.Common.{sym, ◌∙◌, ap, ◌≤◌, length, take, rules, arith, ◌≡◌, subst₂}
+use Rattle.std.proofs.Common.{sym, rules, subst₂}
 use Rattle.sqlite_wal.specs.Format.{IsFrame}
 use Rattle.sql_log.proofs.frames.passes_under.Goals as goal
 

@@ -1,4 +1,4 @@
-use Rattle.std.proofs.Common.{sym, ◌∙◌, ap, ◌≤◌, length, take, rules, arith, ◌≡◌}
+use Rattle.std.proofs.Common.{sym, ◌∙◌, ap, arith}
 use Rattle.std.proofs.lemmas.List.{length-take-le}
 use Rattle.sqlite_wal.specs.Format.{stored_sum}
 use Rattle.sql_log.proofs.FrameLemmas.{header_fits, first_sum, later_sum, frame_before}

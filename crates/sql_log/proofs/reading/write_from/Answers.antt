@@ -1,4 +1,4 @@
-use Rattle.std.proofs.Common.{◌≡◌, ◌∙◌, IsTrue, length, Result, Ok, Err, OnOk, subst}
+use Rattle.std.proofs.Common.{◌∙◌, IsTrue, length, Result, Ok, Err, OnOk, subst}
 use Rattle.sqlite_disk.specs.Disk.{Cut}
 use Rattle.sql_log.proofs.Written.{cut_is, written_is}
 use Rattle.sql_log.proofs.reading.write_from.Goals.{then-same-bytes+in_ok-write_at, else-same-bytes}
@@ -9,15 +9,17 @@ on_ok (Ok x) it = it
 on_ok (Err e) it = tt
 
 pub returns : goal.returns
-returns g c = record { bytes = on_ok c.sync.result (λ clean.
-    let shown = c.sync.ensures.seen in
-    let before = c.set_len.ensures.clean (c.sync.ensures.clean clean) in
-    let len = c.in_ok-set_len.ensures.len in
-    elim c.if-same-bytes.branch [
-      | then-same-bytes+in_ok-write_at w ↦
-          let alike = c.requires.alike (w.write_at.ensures.clean (subst (λ d. IsTrue (g.D.Disk.is_clean d)) w.disk-is before)) in
-          shown ∙ written_is c.args.bytes.now _ _ _ c.args.same alike w.if-same-bytes.true w.write_at.ensures.others w.in_ok-write_at.ensures.written (subst (λ d. Cut (length c.args.bytes.now) (g.D.Disk.seen d) (g.D.Disk.seen c.set_len.new.self)) w.disk-is c.set_len.ensures.others) len
-      | else-same-bytes w ↦
-          let alike = c.requires.alike (subst (λ d. IsTrue (g.D.Disk.is_clean d)) w.disk-is before) in
-          shown ∙ cut_is c.args.bytes.now _ _ c.args.same alike w.if-same-bytes.false (subst (λ d. Cut (length c.args.bytes.now) (g.D.Disk.seen d) (g.D.Disk.seen c.set_len.new.self)) w.disk-is c.set_len.ensures.others) len
-    ]) }
+returns g c = record {
+  bytes = on_ok c.sync.result (λ clean.
+      let shown = c.sync.ensures.seen in
+      let before = c.set_len.ensures.clean (c.sync.ensures.clean clean) in
+      let len = c.in_ok-set_len.ensures.len in
+      elim c.if-same-bytes.branch [
+        | then-same-bytes+in_ok-write_at w ↦
+            let alike = c.requires.alike (w.write_at.ensures.clean (subst (λ d. IsTrue (g.D.Disk.is_clean d)) w.disk-is before)) in
+            shown ∙ written_is c.args.bytes.now _ _ _ c.args.same alike w.if-same-bytes.true w.write_at.ensures.others w.in_ok-write_at.ensures.written (subst (λ d. Cut (length c.args.bytes.now) (g.D.Disk.seen d) (g.D.Disk.seen c.set_len.new.self)) w.disk-is c.set_len.ensures.others) len
+        | else-same-bytes w ↦
+            let alike = c.requires.alike (subst (λ d. IsTrue (g.D.Disk.is_clean d)) w.disk-is before) in
+            shown ∙ cut_is c.args.bytes.now _ _ c.args.same alike w.if-same-bytes.false (subst (λ d. Cut (length c.args.bytes.now) (g.D.Disk.seen d) (g.D.Disk.seen c.set_len.new.self)) w.disk-is c.set_len.ensures.others) len
+      ]);
+}
