@@ -57,7 +57,7 @@ pub struct Reported<K, L> {
     has_failed: bool,
 }
 
-impl<K: Explains, L: Log> Reported<K, L> {
+impl<K: Explains, L: Log + Drop> Reported<K, L> {
     /// The keeper, which sets `is_stopping` where its store is shut.
     pub fn new(keep: K, log: L, is_stopping: Arc<AtomicBool, Global>) -> Reported<K, L>
         ensures { result.keep ≡ keep }
