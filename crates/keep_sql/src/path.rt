@@ -56,7 +56,8 @@ fn make_private(rt: &HostRuntime, path: &str) -> Result<(), OpenFault> {
         Ok(_) => Ok(()),
         Err(error) if error.kind() == ErrorKind::OutOfMemory => Err(NO_MEMORY),
         // A link that leads nowhere is refused: sqlite would make the file for other users too.
-        Err(error) if error.kind() == ErrorKind::AlreadyExists && fs::metadata(rt, path).is_ok() => Ok(()),
+        Err(error) if error.kind() == ErrorKind::AlreadyExists && fs::metadata(rt, path).is_ok() =>
+            Ok(()),
         Err(_) => Err(CANNOT_OPEN),
     }
 }

@@ -85,15 +85,18 @@ fn expect_refusal<R: Threads + Wait + Copy + Send + Drop + 'static>(
     (status, output, failure, because): (u8, &[u8], &str, &str),
 ) -> Result<(), Fail> {
     let errors = format!(in rt.alloc(); "tokend: {failure}\ntokend: because {because}\n")?;
-    expect_run(rt, threads, words, input, (status, output, errors.as_bytes()))
+    expect_run(
+        rt,
+        threads,
+        words,
+        input,
+        (status, output, errors.as_bytes()),
+    )
 }
 
 /// A frame that is cut, and lengths above the limit, and what is said of each.
 const ENDINGS: &[(&[u8], &str)] = &[
-    (
-        b"\x00\x00\x00\x12\x00",
-        "the input ends within a frame",
-    ),
+    (b"\x00\x00\x00\x12\x00", "the input ends within a frame"),
     (b"\x00\x10\x00\x01", "a frame is too long"),
     (b"\xff\xff\xff\xff", "a frame is too long"),
 ];
@@ -103,7 +106,13 @@ fn a_line_that_ends_badly_has_its_status_and_text(rt: HostRuntime) -> Result<(),
     for (ending, because) in ENDINGS {
         let mut input = Vec::from_slice(rt.alloc(), OPEN_SESSION)?;
         input.extend_from_slice(ending)?;
-        expect_refusal(&rt, rt, &["stdio"], &input, (7, SESSION_ONE, "the line ended badly", *because))?;
+        expect_refusal(
+            &rt,
+            rt,
+            &["stdio"],
+            &input,
+            (7, SESSION_ONE, "the line ended badly", *because),
+        )?;
     }
     Ok(())
 }
@@ -267,5 +276,11 @@ fn a_call_is_sent_as_a_frame(rt: HostRuntime) -> Result<(), Fail> {
 fn a_socket_that_is_not_there_has_its_status_and_text(rt: HostRuntime) -> Result<(), Fail> {
     let words = ["p11call", "--socket", "/nowhere/tokend"];
     let because = "--socket cannot be used: No such file or directory (os error 2)";
-    expect_refusal(&rt, rt, &words, b"", (4, b"", "cannot use the socket", because))
+    expect_refusal(
+        &rt,
+        rt,
+        &words,
+        b"",
+        (4, b"", "cannot use the socket", because),
+    )
 }

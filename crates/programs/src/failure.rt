@@ -145,7 +145,9 @@ impl From<Error> for Fault {
     fn from(error: Error) -> Fault {
         match error {
             Error::SqliteFailure(ErrorCode::OutOfMemory) => Failure::Memory.into(),
-            Error::SqliteFailure(ErrorCode::DatabaseBusy) => Failure::Store.because(Cause::StoreBusy),
+            Error::SqliteFailure(ErrorCode::DatabaseBusy) => Failure::Store.because(
+                Cause::StoreBusy,
+            ),
             _ => Failure::Store.because(Cause::Sqlite(error)),
         }
     }

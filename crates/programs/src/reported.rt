@@ -4,11 +4,11 @@ ghost use Rattle.std.specs.Prelude.{◌≡◌};
 ghost use Rattle.keep.specs.Keeping.{Counted, Stays};
 
 use attrs::Object;
+use ck_types::UserType;
 use keep::{Keep, KeepFault, ListKeep};
 use keep_sql::SqlKeep;
 use log::{Log, error, warn};
 use pin_record::Record;
-use ck_types::UserType;
 use sqlite::{Alter, Error};
 use std::alloc::Global;
 use std::sync::Arc;

@@ -89,7 +89,8 @@ fn open_private<E: Write>(
 ) -> Result<FileKeep, Fault> {
     let keep = open_store(rt, served.store)?;
     if keep_private(rt, served.store)? {
-        let text = "other users could read the store or its log: their modes are those of their owner now";
+        let text =
+            "other users could read the store or its log: their modes are those of their owner now";
         note(errors, served.level, Level::Warn, &text);
     }
     Ok(keep)
@@ -232,10 +233,17 @@ fn count_objects<K: Keep>(alloc: Global, keep: &mut K, level: LevelFilter) -> Re
 /// Says that the daemon serves, on standard error and to a service manager.
 fn say_ready<E: Write>(rt: &HostRuntime, served: &Served<'_>, objects: usize, errors: &mut E) {
     let (store, socket) = (served.store, served.socket);
-    let text = format_args!("version {VERSION} serves the store {store} with {objects} objects on {socket}");
+    let text = format_args!(
+        "version {VERSION} serves the store {store} with {objects} objects on {socket}"
+    );
     note(errors, served.level, Level::Info, &text);
     if !notify(rt, "READY=1\nSTATUS=serving\n") {
-        note(errors, served.level, Level::Warn, &"NOTIFY_SOCKET cannot be used");
+        note(
+            errors,
+            served.level,
+            Level::Warn,
+            &"NOTIFY_SOCKET cannot be used",
+        );
     }
 }
 

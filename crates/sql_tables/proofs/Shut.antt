@@ -19,15 +19,15 @@ of_cause old new Unstorable is it = absurd it
 pub shut_if_closed : (old new : State) (sql : List ℕ) (e : Error) → ((params : Row) → IsNotRun old new sql params e) → e ≡ SqliteFailure Closed → old.is_open ≡ false
 unfolding IsNotRun
 shut_if_closed old new sql e it is = elim (it []) [
-    | inl miss ↦ elim miss.0 [
-        | inl fault ↦ absurd (let f = fault.2 in cc)
-        | inr other ↦ elim other.2 [
-            | inl several ↦ absurd (let f = several.1 in cc)
-            | inr rest ↦ elim rest [
-                | inl params ↦ absurd (let f = params.1 in cc)
-                | inr clock ↦ absurd (let f = clock.1 in cc)
-              ]
-          ]
+  | inl miss ↦ elim miss.0 [
+    | inl fault ↦ absurd (let f = fault.2 in cc)
+    | inr other ↦ elim other.2 [
+      | inl several ↦ absurd (let f = several.1 in cc)
+      | inr rest ↦ elim rest [
+        | inl params ↦ absurd (let f = params.1 in cc)
+        | inr clock ↦ absurd (let f = clock.1 in cc)
       ]
-    | inr fails ↦ of_cause old new fails.0 (sym fails.1 ∙ is) fails.2
+    ]
   ]
+  | inr fails ↦ of_cause old new fails.0 (sym fails.1 ∙ is) fails.2
+]

@@ -142,7 +142,12 @@ pub(super) fn expect(
 }
 
 /// Sees how a run ended, and what it wrote.
-pub(super) fn expect_ended(ended: &Ended, status: u8, output: &[u8], errors: &[u8]) -> Result<(), Fail> {
+pub(super) fn expect_ended(
+    ended: &Ended,
+    status: u8,
+    output: &[u8],
+    errors: &[u8],
+) -> Result<(), Fail> {
     if has_ended_so(ended, status, output, errors) {
         Ok(())
     } else {
@@ -191,7 +196,13 @@ fn a_store_in_a_file_stays(rt: HostRuntime) -> Result<(), Fail> {
     let daemon = start(&rt, rt, "stays.store", "stays.sock", "stays.seed")?;
     expect(&rt, "stays.sock", NEW_OBJECT, NEW_OBJECT_REPLIES)?;
     let second = serve(&rt, rt, "stays.store", "second.sock", "stays.seed")?;
-    expect_refusal(&rt, second, 3, "cannot open the store", "another program has the store open")?;
+    expect_refusal(
+        &rt,
+        second,
+        3,
+        "cannot open the store",
+        "another program has the store open",
+    )?;
     let third = serve(&rt, rt, ":memory:", "stays.sock", "stays.seed")?;
     expect_refusal(&rt, third, 4, "cannot use the socket", TAKEN)?;
     for _ in 0..2 {
@@ -215,7 +226,13 @@ fn a_daemon_is_refused_for_its_first_fault(rt: HostRuntime) -> Result<(), Fail> 
     fs::write(&rt, "no.store", b"no store of a token")?;
     let nowhere = "/nowhere/tokend";
     let seed = serve(&rt, rt, "no.store", nowhere, "short.seed")?;
-    expect_refusal(&rt, seed, 5, "bad input", "--seed-file has fewer than 32 bytes")?;
+    expect_refusal(
+        &rt,
+        seed,
+        5,
+        "bad input",
+        "--seed-file has fewer than 32 bytes",
+    )?;
     let seed = serve(&rt, rt, "no.store", nowhere, nowhere)?;
     let missing = "--seed-file cannot be read: No such file or directory (os error 2)";
     expect_refusal(&rt, seed, 5, "bad input", missing)?;

@@ -1,8 +1,8 @@
 //! What an operator asks for and is told: modes, lines on standard error, a look through a store, a copy of it.
 
 use super::daemon::{
-    NEW_OBJECT, NEW_OBJECT_REPLIES, SEARCH, SEARCH_REPLIES, clear, expect, expect_end, expect_ended,
-    expect_refusal, start,
+    NEW_OBJECT, NEW_OBJECT_REPLIES, SEARCH, SEARCH_REPLIES, clear, expect, expect_end,
+    expect_ended, expect_refusal, start,
 };
 use super::run;
 use std::fs;
@@ -29,7 +29,15 @@ fn mode_of(rt: &HostRuntime, path: &str) -> Result<u32, Fail> {
 #[test]
 fn a_mode_is_an_octal_number_up_to_777(rt: HostRuntime) -> Result<(), Fail> {
     for text in ["1000", "8", "rw", ""] {
-        let words = ["serve", "--store", ":memory:", "--socket", "m.sock", "--socket-mode", text];
+        let words = [
+            "serve",
+            "--store",
+            ":memory:",
+            "--socket",
+            "m.sock",
+            "--socket-mode",
+            text,
+        ];
         let ended = run(&rt, rt, &words, b"")?;
         let because = "--socket-mode is not a number of up to 777 in octal digits";
         expect_refusal(&rt, ended, 2, "the command line is refused", because)?;
@@ -42,8 +50,15 @@ fn a_socket_has_the_mode_that_is_asked_for(rt: HostRuntime) -> Result<(), Fail> 
     for (text, mode) in [("640", 0o640), ("0600", 0o600), ("7", 0o007)] {
         clear(&rt, &["mode.sock"]);
         let words = [
-            "serve", "--store", ":memory:", "--socket", "mode.sock", "--socket-mode", text,
-            "--connections", "0",
+            "serve",
+            "--store",
+            ":memory:",
+            "--socket",
+            "mode.sock",
+            "--socket-mode",
+            text,
+            "--connections",
+            "0",
         ];
         let ended = run(&rt, rt, &words, b"")?;
         expect_ended(&ended, 0, b"ready\n", b"")?;
@@ -56,18 +71,29 @@ fn a_socket_has_the_mode_that_is_asked_for(rt: HostRuntime) -> Result<(), Fail> 
 
 #[test]
 fn what_is_logged_goes_by_the_level(rt: HostRuntime) -> Result<(), Fail> {
-    let started: &[u8] = b"<6>tokend: version 0.1.0 serves the store :memory: with 0 objects on log.sock\n";
+    let started: &[u8] =
+        b"<6>tokend: version 0.1.0 serves the store :memory: with 0 objects on log.sock\n";
     let nothing: &[u8] = b"";
     for (level, said) in [("off", nothing), ("warn", nothing), ("info", started)] {
         clear(&rt, &["log.sock"]);
         let words = [
-            "serve", "--store", ":memory:", "--socket", "log.sock", "--log", level, "--connections", "0",
+            "serve",
+            "--store",
+            ":memory:",
+            "--socket",
+            "log.sock",
+            "--log",
+            level,
+            "--connections",
+            "0",
         ];
         let ended = run(&rt, rt, &words, b"")?;
         expect_ended(&ended, 0, b"ready\n", said)?;
     }
     clear(&rt, &["log.sock"]);
-    let words = ["serve", "--store", ":memory:", "--socket", "log.sock", "--log", "loud"];
+    let words = [
+        "serve", "--store", ":memory:", "--socket", "log.sock", "--log", "loud",
+    ];
     let ended = run(&rt, rt, &words, b"")?;
     assert_eq!(rt; ended.status, 2);
     Ok(())
@@ -77,7 +103,13 @@ fn what_is_logged_goes_by_the_level(rt: HostRuntime) -> Result<(), Fail> {
 fn a_store_that_others_could_read_is_narrowed_and_said(rt: HostRuntime) -> Result<(), Fail> {
     clear(&rt, SHARED);
     let words = [
-        "serve", "--store", "shared.store", "--socket", "shared.sock", "--connections", "0",
+        "serve",
+        "--store",
+        "shared.store",
+        "--socket",
+        "shared.sock",
+        "--connections",
+        "0",
     ];
     let made = run(&rt, rt, &words, b"")?;
     expect_ended(&made, 0, b"ready\n", b"")?;
@@ -85,7 +117,8 @@ fn a_store_that_others_could_read_is_narrowed_and_said(rt: HostRuntime) -> Resul
     assert_eq!(rt; found, 0o600);
     fs::set_permissions(&rt, "shared.store", Permissions::from_mode(0o664))?;
     let again = run(&rt, rt, &words, b"")?;
-    let said: &[u8] = b"<4>tokend: other users could read the store or its log: their modes are those of their owner now\n";
+    let said: &[u8] =
+        b"<4>tokend: other users could read the store or its log: their modes are those of their owner now\n";
     expect_ended(&again, 0, b"ready\n", said)?;
     let found = mode_of(&rt, "shared.store")?;
     assert_eq!(rt; found, 0o600);
@@ -94,14 +127,16 @@ fn a_store_that_others_could_read_is_narrowed_and_said(rt: HostRuntime) -> Resul
 }
 
 /// What a look through a store with one data object prints.
-const ONE_OBJECT: &[u8] = b"format: 2\npage sums: no\ndata objects: 1\nsecret keys: 0\nrows that are no token object's: 0\n";
+const ONE_OBJECT: &[u8] =
+    b"format: 2\npage sums: no\ndata objects: 1\nsecret keys: 0\nrows that are no token object's: 0\n";
 
 #[test]
 fn a_store_is_looked_through_and_copied_whole(rt: HostRuntime) -> Result<(), Fail> {
     clear(&rt, COPIED);
     let daemon = start(&rt, rt, "copied.store", "copied.sock", "copied.seed")?;
     expect(&rt, "copied.sock", NEW_OBJECT, NEW_OBJECT_REPLIES)?;
-    let busy = "a daemon or another program has the store open: stop it first (systemctl stop tokend), and start it again afterwards";
+    let busy =
+        "a daemon or another program has the store open: stop it first (systemctl stop tokend), and start it again afterwards";
     let ended = run(&rt, rt, &["check", "--store", "copied.store"], b"")?;
     expect_refusal(&rt, ended, 3, "cannot open the store", busy)?;
     for _ in 0..3 {

@@ -104,7 +104,10 @@ fn is_whole(
             is_kept: false,
         };
         let (_files, fault) = store_in(alloc, files, frames, &mut kept)?;
-        assert!(rt; kept.is_kept, "log {log}, db {db}, ending {ending}: {fault:?}");
+        assert!(rt;
+            kept.is_kept,
+            "log {log}, db {db}, ending {ending}: {fault:?}"
+        );
     }
     Ok(made.changes == CHANGES.len())
 }

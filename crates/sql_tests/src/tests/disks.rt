@@ -90,10 +90,7 @@ pub(super) fn store_in<D: Disk + Drop, W: OverStore>(
     let mut options = store_options(1);
     options.checkpoint_frames = frames;
     match SqlKeep::open_files(alloc, files, options) {
-        Ok(keep) => Ok((
-            work.over(alloc, keep)?.close().into_store().close(),
-            None,
-        )),
+        Ok(keep) => Ok((work.over(alloc, keep)?.close().into_store().close(), None)),
         Err(refused) => given_back(refused),
     }
 }
@@ -127,12 +124,7 @@ pub(super) fn files_of(alloc: Global, log: &[u8], db: &[u8]) -> Result<Files<Mem
 }
 
 /// What was written, where every other sector of 512 bytes is as it was synced.
-fn torn(
-    alloc: Global,
-    synced: &[u8],
-    written: &[u8],
-    kept: usize,
-) -> Result<Vec<u8>, AllocError> {
+fn torn(alloc: Global, synced: &[u8], written: &[u8], kept: usize) -> Result<Vec<u8>, AllocError> {
     let mut bytes = Vec::new(alloc);
     for (at, byte) in written.iter().enumerate() {
         let old = synced.get(at).copied().unwrap_or(0);

@@ -81,7 +81,15 @@ fn state_of<K: Keep>(alloc: Global, keep: &mut K) -> Result<State, KeepFault> {
 /// The store after all changes, of which the first are in the database file and the others in the log.
 fn made(alloc: Global) -> Result<Stored, Fail> {
     let files = files_of(alloc, &[], &[])?;
-    let (files, _) = store_in(alloc, files, 64, &mut Making { from: 0, to: COPIED })?;
+    let (files, _) = store_in(
+        alloc,
+        files,
+        64,
+        &mut Making {
+            from: 0,
+            to: COPIED,
+        },
+    )?;
     let (files, _) = store_in(
         alloc,
         files,
@@ -220,7 +228,9 @@ fn a_flipped_bit_of_the_database_file_is_found_out(rt: HostRuntime) -> Result<()
 }
 
 #[test]
-fn a_flipped_bit_of_the_log_brings_back_no_more_than_its_last_commits(rt: HostRuntime) -> Result<(), Fail> {
+fn a_flipped_bit_of_the_log_brings_back_no_more_than_its_last_commits(
+    rt: HostRuntime,
+) -> Result<(), Fail> {
     let alloc = rt.alloc();
     let states = states(alloc)?;
     let stored = made(alloc)?;
@@ -270,10 +280,22 @@ fn a_file_that_is_gone_is_missed(rt: HostRuntime) -> Result<(), Fail> {
     let alloc = rt.alloc();
     let states = states(alloc)?;
     let stored = made(alloc)?;
-    assert_eq!(rt; found_in(alloc, &states, &stored.log, &stored.db)?, Found::Has(CHANGES.len()));
-    assert_eq!(rt; found_in(alloc, &states, &[], &stored.db)?, Found::Has(COPIED));
-    assert_eq!(rt; found_in(alloc, &states, &stored.log, &[])?, Found::Refused(OpenFault::FileLost));
-    assert_eq!(rt; found_in(alloc, &states, &stored.log, b"S")?, Found::Refused(OpenFault::FileLost));
+    assert_eq!(rt;
+        found_in(alloc, &states, &stored.log, &stored.db)?,
+        Found::Has(CHANGES.len())
+    );
+    assert_eq!(rt;
+        found_in(alloc, &states, &[], &stored.db)?,
+        Found::Has(COPIED)
+    );
+    assert_eq!(rt;
+        found_in(alloc, &states, &stored.log, &[])?,
+        Found::Refused(OpenFault::FileLost)
+    );
+    assert_eq!(rt;
+        found_in(alloc, &states, &stored.log, b"S")?,
+        Found::Refused(OpenFault::FileLost)
+    );
     assert_eq!(rt; found_in(alloc, &states, &[], &[])?, Found::Has(0));
     Ok(())
 }

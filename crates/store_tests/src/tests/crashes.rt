@@ -72,7 +72,10 @@ fn expect_whole(
     for (ending, files) in endings(alloc, files)?.into_iter().enumerate() {
         let found = what_lasts(alloc, files, frames)?;
         if states.get(told.0) != Some(&found) && states.get(next) != Some(&found) {
-            return Err(Fail::new(format_args!("{stop:?}, ending {ending}: {} rows were told, and another store was found", told.0)));
+            return Err(Fail::new(format_args!(
+                "{stop:?}, ending {ending}: {} rows were told, and another store was found",
+                told.0
+            )));
         }
     }
     Ok(told.0)

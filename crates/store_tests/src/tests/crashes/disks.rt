@@ -42,12 +42,7 @@ fn files_of(alloc: Global, log: &[u8], db: &[u8]) -> Result<Files<Memory>, Fail>
 }
 
 /// What was written, where every other sector of 512 bytes is as it was synced.
-fn torn(
-    alloc: Global,
-    synced: &[u8],
-    written: &[u8],
-    kept: usize,
-) -> Result<Vec<u8>, AllocError> {
+fn torn(alloc: Global, synced: &[u8], written: &[u8], kept: usize) -> Result<Vec<u8>, AllocError> {
     let mut bytes = Vec::new(alloc);
     for (at, byte) in written.iter().enumerate() {
         let old = synced.get(at).copied().unwrap_or(0);
