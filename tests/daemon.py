@@ -516,12 +516,33 @@ def a_store_is_looked_through_and_left_as_it_is(folder):
     see(not os.path.exists(os.path.join(folder, "none")), "it was made")
 
 
+PAGE_LEN, SUM_LEN = 4096, 8
+
+
+def page_sum(page):
+    """The sum at a page's end, as SQLite's cksumvfs has it."""
+    words = struct.unpack(f"<{(PAGE_LEN - SUM_LEN) // 4}I", page[:-SUM_LEN])
+    first = second = 0
+    for even, odd in zip(words[::2], words[1::2]):
+        first = (first + even + second) % 2**32
+        second = (second + odd + first) % 2**32
+    return struct.pack("<II", first, second)
+
+
 def damage(folder, statement):
-    """Changes a store by another program, and copies its log into it."""
-    with contextlib.closing(sqlite3.connect(os.path.join(folder, "token.db"))) as it:
+    """Changes a store by another program, copies its log into it, and gives its pages the sums that are theirs then."""
+    path = os.path.join(folder, "token.db")
+    with contextlib.closing(sqlite3.connect(path)) as it:
         it.execute(statement)
         it.commit()
         it.execute("PRAGMA wal_checkpoint(TRUNCATE)")
+    pages = bytearray(contents(path)[0])
+    see(pages[20] == SUM_LEN, "a new store has no sums")
+    for start in range(0, len(pages), PAGE_LEN):
+        end = start + PAGE_LEN
+        pages[end - SUM_LEN:end] = page_sum(bytes(pages[start:end]))
+    with open(path, "wb") as it:
+        it.write(pages)
 
 
 @check
@@ -533,8 +554,6 @@ def a_damaged_body_is_named_by_its_id(folder):
         for it in os.listdir(folder):
             os.remove(os.path.join(folder, it))
         filled(folder)
-        if b"page sums: yes" in ran(folder, "check", "--store", "token.db")[1]:
-            raise Skipped("sqlite3 spoils the sums of pages")
         damage(folder, statement)
         path = os.path.join(folder, "token.db")
         before = contents(path)

@@ -5,7 +5,8 @@ use crate::copying::StoreCopy;
 use crate::failure::{Failure, Fault};
 use attrs::Object;
 use ck_types::{AttrType, ObjectClass};
-use keep_sql::{SqlKeep, store_options};
+use keep::KeepFault;
+use keep_sql::{OpenFault, SqlKeep, store_options};
 use sqlite::types::ValueRef;
 use sqlite::{Connection, Error, FileStore, Row};
 use sqlite_disk::Memory;
@@ -123,29 +124,35 @@ fn look_through(
 }
 
 /// Whether the daemon would open the store: its own opening of a copy in memory says it.
-fn opens(alloc: Global, copy: &StoreCopy) -> Result<(), Fault> {
-    let files = copy.files(alloc)?;
+fn opens(alloc: Global, copy: &StoreCopy) -> Result<(), OpenFault> {
+    let Ok(files) = copy.files(alloc) else {
+        return Err(OpenFault::Keeper(KeepFault::Memory));
+    };
     match SqlKeep::open_files(alloc, files, store_options(0)) {
         Ok(keep) => {
             drop(keep);
             Ok(())
         }
-        Err(refused) => Err(refused.fault.into()),
+        Err(refused) => Err(refused.fault),
     }
 }
 
-/// Looks through a copy of a store's files.
+/// Looks through a copy of a store's files. An empty store, which the daemon would make a new one of, is none.
 pub(crate) fn examine(alloc: Global, copy: &StoreCopy) -> Result<Findings, Fault> {
     let mut conn = copy.connect(alloc)?;
     let mut found = Findings::new(&copy.image(alloc)?);
-    if let Err(error) = look_through(alloc, &mut conn, &mut found) {
-        // What has no such tables is said below.
-        if !matches!(error, Error::SqlInputError(_)) {
-            return Err(error.into());
-        }
+    let looked = look_through(alloc, &mut conn, &mut found);
+    drop(conn);
+    let opened = opens(alloc, copy);
+    let has_reason = !matches!(opened, Ok(()) | Err(OpenFault::Keeper(KeepFault::Damaged)));
+    match looked {
+        Ok(()) => {}
+        Err(Error::SqlInputError(_)) if has_reason => {}
+        Err(Error::SqlInputError(_)) => found.add_fault(OpenFault::NoTables.into()),
+        Err(error) => return Err(error.into()),
     }
-    if let Err(fault) = opens(alloc, copy) {
-        found.add_fault(fault);
+    if let Err(fault) = opened {
+        found.add_fault(fault.into());
     }
     Ok(found)
 }

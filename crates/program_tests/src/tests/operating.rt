@@ -128,7 +128,7 @@ fn a_store_that_others_could_read_is_narrowed_and_said(rt: HostRuntime) -> Resul
 
 /// What a look through a store with one data object prints.
 const ONE_OBJECT: &[u8] =
-    b"format: 2\npage sums: no\ndata objects: 1\nsecret keys: 0\nrows that are no token object's: 0\n";
+    b"format: 2\npage sums: yes\ndata objects: 1\nsecret keys: 0\nrows that are no token object's: 0\n";
 
 #[test]
 fn a_store_is_looked_through_and_copied_whole(rt: HostRuntime) -> Result<(), Fail> {
