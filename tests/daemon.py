@@ -616,7 +616,7 @@ def a_full_disk_is_said_and_writes_go_on_when_there_is_room(folder):
                 while True:
                     os.write(filler, bytes(4096))
             os.close(filler)
-            codes = {client.ask(data_object(bytes(30_000)))[0] for _ in range(5)}
+            codes = {client.ask(data_object(bytes(1000)))[0] for _ in range(5)}
             see(codes == {DEVICE_ERROR}, codes)
             said = daemon.errors(b"full")
             see(said.startswith(b"<3>tokend: ") and b"full" in said and said.count(b"\n") == 1, said)

@@ -8,7 +8,7 @@ use keep::KeepFault;
 use keep_sql::{OpenFault, SqlKeep};
 use sqlite::{Error, ErrorCode, FileFrom, FileStore};
 use sqlite_disk::Wary;
-use std::fs::{OpenOptions, Permissions};
+use std::fs::{File, OpenOptions, Permissions};
 use std::os::unix::fs::{OpenOptionsExt, PermissionsExt};
 use std::{fs, io};
 
@@ -89,10 +89,20 @@ fn why_damaged(rt: &HostRuntime, path: &str) -> Fault {
     }
 }
 
+/// Opens the file, or makes an empty one where there is nothing at the path.
+fn open_or_make(rt: &HostRuntime, path: &str) -> io::Result<File> {
+    let is_there = fs::symlink_metadata(rt, path).is_ok();
+    OpenOptions::new()
+        .read(true)
+        .write(true)
+        .create_new(!is_there)
+        .mode(OWN_MODE)
+        .open(rt, path)
+}
+
 /// Why the system lets sqlite open no file there.
 fn why_shut_out(rt: &HostRuntime, path: &str) -> Fault {
-    let opened = OpenOptions::new().read(true).write(true).open(rt, path);
-    match opened {
+    match open_or_make(rt, path) {
         Err(error) => refused(error),
         Ok(file) => {
             if is_busy(&file) {
