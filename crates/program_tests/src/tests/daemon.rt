@@ -238,8 +238,8 @@ fn a_daemon_is_refused_for_its_first_fault(rt: HostRuntime) -> Result<(), Fail> 
     expect_refusal(&rt, seed, 5, "bad input", missing)?;
     fs::write(&rt, "faults.seed", &[0u8; 32])?;
     let store = serve(&rt, rt, "no.store", nowhere, "faults.seed")?;
-    let malformed = "sqlite refuses the store: database disk image is malformed";
-    expect_refusal(&rt, store, 3, "cannot open the store", malformed)?;
+    let no_database = "sqlite refuses the store: file is not a database that obeys its schema";
+    expect_refusal(&rt, store, 3, "cannot open the store", no_database)?;
     let socket = serve(&rt, rt, ":memory:", nowhere, "faults.seed")?;
     let missing = "--socket cannot be used: No such file or directory (os error 2)";
     expect_refusal(&rt, socket, 4, "cannot use the socket", missing)?;
