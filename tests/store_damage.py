@@ -1,12 +1,12 @@
 #!/usr/bin/env python3
 """What `tokend serve` makes of a store that is damaged, cut or gone.
 
-    store_damage.py TOKEND [STEP]
+    store_damage.py TOKEND [STEP [STEP_OF_LOG]]
 
 makes a small store with the program TOKEND, and then starts it on copies of which a bit is flipped, a file is cut, or a file is gone.
-Every STEP-th bit is flipped, and every STEP-th length is a cut (1: each; without it 199). A start has to end with status 3 and leave
-both files byte for byte, or the store has to be the whole one, the one at its last checkpoint where the log was touched, or the one
-before its last commits. It prints how many of how many were which, and ends with status 1 where one was anything else. As many starts
+Every STEP-th bit of the file is flipped, and every STEP-th length of it is a cut (1: each; without it 199), and of the log every
+STEP_OF_LOG-th (without it as of the file). A start has to end with status 3 and leave both files byte for byte. Or the store has to be
+the whole one, the one at its last checkpoint where the log was touched, or the one before its last commits. It prints how many of how many were which, and ends with status 1 where one was anything else. As many starts
 run side by side as there are processors, each in a folder of its own.
 """
 import concurrent.futures, itertools, os, shutil, socket, struct, subprocess, sys, tempfile, threading
@@ -148,6 +148,7 @@ def cuts(data, step):
 def main():
     program = os.path.abspath(sys.argv[1])
     step = int(sys.argv[2]) if len(sys.argv) > 2 else 199
+    step_of_log = int(sys.argv[3]) if len(sys.argv) > 3 else step
     room = tempfile.mkdtemp()
     folder = os.path.join(room, "first")
     os.mkdir(folder)
@@ -198,12 +199,12 @@ def main():
                 print("%s, %s: %s" % (name, what, kind))
             counts[kind] = counts.get(kind, 0) + 1
             tried += 1
-        print("%s: %d starts: %s" % (name, sum(counts.values()), ", ".join("%d %s" % (counts[k], k) for k in sorted(counts))))
+        print("%s: %d starts: %s" % (name, sum(counts.values()), ", ".join("%d %s" % (counts[k], k) for k in sorted(counts))), flush=True)
 
     run("flips of the file", ((w, (d, log)) for w, d in flips(db, step)), False)
-    run("flips of the log", ((w, (db, d)) for w, d in flips(log, step)), True)
+    run("flips of the log", ((w, (db, d)) for w, d in flips(log, step_of_log)), True)
     run("cuts of the file", ((w, (d, log)) for w, d in cuts(db, step)), False)
-    run("cuts of the log", ((w, (db, d)) for w, d in cuts(log, step)), True)
+    run("cuts of the log", ((w, (db, d)) for w, d in cuts(log, step_of_log)), True)
     run("the file gone", [("gone", (None, log))], False)
     run("the log gone", [("gone", (db, None))], True)
     other = os.path.join(folder, "other.db")
