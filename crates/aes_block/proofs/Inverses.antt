@@ -68,7 +68,7 @@ module _ (w : List ℕ) (n : ℕ) (keys : (r : ℕ) → r ≤ n → IsBlock (rou
       IsBlock-inverse_last_round (round_key w 0) (inverse_state_after w n c (n - 1)) (keys 0 (omega arith))
       (IsBlock-inverse_state_after c (n - 1) (omega arith) hc)
 
-  -- from an enciphered block back: after i rounds the state is the one before MixColumns of the round n - i
+  -- from an encrypted block back: after i rounds the state is the one before MixColumns of the round n - i
   passed : (p : List ℕ) (i : ℕ) → i < n → IsBlock p → inverse_state_after w n (cipher w n p) i
       ≡ shifted (state_after w p (n - suc i))
   unfolding inverse_state_after cipher last_round shifted state_after
@@ -94,7 +94,7 @@ module _ (w : List ℕ) (n : ℕ) (keys : (r : ℕ) → r ≤ n → IsBlock (rou
       (unshifted-shifted (add_round_key p (round_key w 0)) (IsBlock-add_round_key p (round_key w 0) hp (keys 0 (omega arith))))
       ∙ added-twice p (round_key w 0) hp (keys 0 (omega arith))
 
-  -- from a deciphered block forward: after r rounds the state is the one that the inverse rounds came from
+  -- from a decrypted block forward: after r rounds the state is the one that the inverse rounds came from
   passed_back : (c : List ℕ) (r : ℕ) → r < n → IsBlock c → shifted (state_after w (inverse_cipher w n c) r)
       ≡ inverse_state_after w n c (n - suc r)
   unfolding state_after inverse_state_after inverse_cipher inverse_last_round unshifted

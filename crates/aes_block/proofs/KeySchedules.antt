@@ -6,7 +6,7 @@ use Rattle.std.proofs.lemmas.List.Elements.{All-take, All-drop}
 use Rattle.fips_197.specs.Bytes.{AreBytes, IsBlock, xor_bytes}
 use Rattle.fips_197.specs.Cipher.{substitute_bytes, round_key}
 use Rattle.fips_197.specs.KeyExpansion.{IsKeyLength, IsKey, word_count, round_count, word, rotate_word, power_of_x, round_constant, expansion_term, expanded_words, key_expansion}
-use Rattle.fips_197.specs.Encipher.{enciphered_block}
+use Rattle.fips_197.specs.Encrypt.{encrypted_block}
 use Rattle.fips_197.proofs.FieldLaws.{product-lt}
 use Rattle.fips_197.proofs.Blocks.{AreBytes-at, AreBytes-four, AreBytes-append, AreBytes-xor_bytes, length-xor_bytes}
 use Rattle.aes_block.proofs.Steps.{AreBytes-substitute_bytes, length-substitute_bytes}
@@ -185,9 +185,9 @@ IsBlock-round_key key r h le =
       bytes = All-take (λ b. b < 256) 16 (drop (16 * r) w) (All-drop (λ b. b < 256) (16 * r) w all.bytes);
     }
 
--- a block is enciphered to a block
-pub IsBlock-enciphered_block : (key block : List ℕ) → IsKey key → IsBlock block → IsBlock (enciphered_block key block)
-unfolding enciphered_block
-IsBlock-enciphered_block key block hk hb =
+-- a block is encrypted to a block
+pub IsBlock-encrypted_block : (key block : List ℕ) → IsKey key → IsBlock block → IsBlock (encrypted_block key block)
+unfolding encrypted_block
+IsBlock-encrypted_block key block hk hb =
     IsBlock-cipher (key_expansion key) (round_count key) (λ r le. IsBlock-round_key key r hk le)
     (omega (arith, round_count-bounds key hk.size)) block hb

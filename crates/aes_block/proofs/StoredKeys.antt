@@ -6,7 +6,7 @@ use Rattle.fips_197.specs.Bytes.{IsBlock}
 use Rattle.fips_197.specs.Cipher.{add_round_key, round, last_round, round_key, state_after, cipher}
 use Rattle.fips_197.specs.KeyExpansion.{IsKeyLength, IsKey, word_count, round_count, key_expansion}
 use Rattle.fips_197.specs.InverseCipher.{inverse_mix_columns}
-use Rattle.fips_197.specs.Encipher.{enciphered_block}
+use Rattle.fips_197.specs.Encrypt.{encrypted_block}
 use Rattle.aes_block.specs.Words.{words_bytes}
 use Rattle.aes_block.specs.StoredKey.{key_bytes, IsExpanded}
 use Rattle.aes_block.specs.declared.Key.TheInside.{Inside}
@@ -57,10 +57,10 @@ IsBlock-stored k r h le =
     subst IsBlock (sym (same_round_key (words_bytes k.schedule) (key_expansion (key_bytes k)) k.rounds r h.schedule le))
     (IsBlock-round_key (key_bytes k) r (IsKey-stored k h) (omega (arith, h.rounds)))
 
-pub enciphered-stored : (k : Inside) (b : List ℕ) → IsExpanded k → cipher (words_bytes k.schedule) k.rounds b
-    ≡ enciphered_block (key_bytes k) b
-unfolding enciphered_block
-enciphered-stored k b h =
+pub encrypted-stored : (k : Inside) (b : List ℕ) → IsExpanded k → cipher (words_bytes k.schedule) k.rounds b
+    ≡ encrypted_block (key_bytes k) b
+unfolding encrypted_block
+encrypted-stored k b h =
     same_cipher (words_bytes k.schedule) (key_expansion (key_bytes k)) b k.rounds h.schedule
     ∙ ap (λ n. cipher (key_expansion (key_bytes k)) n b) h.rounds
 

@@ -29,7 +29,7 @@ fn round_key(schedule: &Schedule, r: usize) -> State
 
 /// The cipher (FIPS 197, 5.1) in so many rounds.
 #[inline(always)]
-pub(crate) fn encipher(schedule: &Schedule, rounds: usize, state: State) -> State
+pub(crate) fn encrypt(schedule: &Schedule, rounds: usize, state: State) -> State
     requires low { 1 ≤ rounds }
     requires high { rounds < 15 }
     ensures { state_bytes result ≡ cipher (words_bytes schedule.now) rounds (state_bytes state) }
@@ -43,12 +43,7 @@ pub(crate) fn encipher(schedule: &Schedule, rounds: usize, state: State) -> Stat
 
 /// The equivalent inverse cipher (5.3.5) in so many rounds. `inverse` has the round keys of those
 /// that mix columns.
-pub(crate) fn decipher(
-    schedule: &Schedule,
-    inverse: &Schedule,
-    rounds: usize,
-    block: Block,
-) -> Block
+pub(crate) fn decrypt(schedule: &Schedule, inverse: &Schedule, rounds: usize, block: Block) -> Block
     requires low { 1 ≤ rounds }
     requires high { rounds < 15 }
     requires inverse { (r : ℕ) → 1 ≤ r → r < rounds

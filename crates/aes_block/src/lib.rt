@@ -16,13 +16,13 @@
 //! - `Key::new` gives a key exactly where it is given 16, 24 or 32 bytes, and the key is those
 //!   bytes.
 //! - `encipher` is the cipher as `fips_197` writes it down from the standard. Each entry of each table is the
-//!   definition's. `encipher_number` is the same cipher on the bytes of a number, the highest first.
-//! - `decipher` gives the block that is enciphered to the one given, and no other block is.
+//!   definition's. `encrypt_number` is the same cipher on the bytes of a number, the highest first.
+//! - `decipher` gives the block that is encrypted to the one given, and no other block is.
 //! - `xor_blocks` is the exclusive or, byte by byte, and `block_at` a whole block of a text.
 //! - No call takes memory, and none can fail but `Key::new`, for the length.
 //!
 //! `proofs/` shows besides that each word of the key schedule is the standard's sum of earlier ones (`KeySchedules`). A
-//! proof above may cite `IsBlock-enciphered_block` (`KeySchedules`) and what is known of a text's blocks (`TextBlocks`).
+//! proof above may cite `IsBlock-encrypted_block` (`KeySchedules`) and what is known of a text's blocks (`TextBlocks`).
 //!
 //! The time that a call takes depends on secrets: the cipher reads tables at places that depend
 //! on the key and the block, and so whoever shares the processor's cache may learn of both. A key
@@ -42,7 +42,7 @@ ghost use Rattle.std.specs.Prelude.{◌≡◌, ℕ, ◌+◌, ◌/◌, ◌↔◌,
 ghost use Rattle.std.specs.Int.{w128, to_be_bytes};
 ghost use Rattle.fips_197.specs.Bytes.{IsBlock, xor_bytes};
 ghost use Rattle.fips_197.specs.KeyExpansion.{IsKey, IsKeyLength};
-ghost use Rattle.fips_197.specs.Encipher.{enciphered_block};
+ghost use Rattle.fips_197.specs.Encrypt.{encrypted_block};
 
 use key_expansion::Schedule;
 use state::State;
@@ -55,7 +55,7 @@ pub const BLOCK_SIZE: usize = 16;
 /// A block: the 16 bytes that the cipher takes and gives (FIPS 197, 3.1).
 pub type Block = [u8; BLOCK_SIZE];
 
-/// A key of 128, 192 or 256 bits, expanded for enciphering and deciphering. Contracts see it as the
+/// A key of 128, 192 or 256 bits, expanded for encrypting and decrypting. Contracts see it as the
 /// list of its bytes.
 #[derive(Drop)]
 pub struct Key {
@@ -111,34 +111,34 @@ impl Key {
         4 * (self.rounds - 6)
     }
 
-    /// The block that `block` is enciphered to (FIPS 197, 5.1).
+    /// The block that `block` is encrypted to (FIPS 197, 5.1).
     pub fn encipher(&self, block: Block) -> Block
-        ensures value { result ≡ enciphered_block self.now block }
+        ensures value { result ≡ encrypted_block self.now block }
 
         // What the types say, as facts on lists.
         ensures blocks { IsBlock block × IsBlock result }
     {
-        cipher::encipher(&self.schedule, self.rounds, State::from_block(block)).to_block()
+        cipher::encrypt(&self.schedule, self.rounds, State::from_block(block)).to_block()
     }
 
-    /// The block that `number` is enciphered to, as a number: in both the highest byte is the first
-    /// of the block's 16 (5.1). A counter is enciphered so, with no bytes made of it.
+    /// The block that `number` is encrypted to, as a number: in both the highest byte is the first
+    /// of the block's 16 (5.1). A counter is encrypted so, with no bytes made of it.
     #[inline(always)]
-    pub fn encipher_number(&self, number: u128) -> u128
-        ensures { to_be_bytes w128 result ≡ enciphered_block self.now (to_be_bytes w128 number) }
+    pub fn encrypt_number(&self, number: u128) -> u128
+        ensures { to_be_bytes w128 result ≡ encrypted_block self.now (to_be_bytes w128 number) }
     {
-        cipher::encipher(&self.schedule, self.rounds, State::from_number(number)).to_number()
+        cipher::encrypt(&self.schedule, self.rounds, State::from_number(number)).to_number()
     }
 
-    /// The block that is enciphered to `block` (FIPS 197, 5.3): there is one, and one only.
+    /// The block that is encrypted to `block` (FIPS 197, 5.3): there is one, and one only.
     pub fn decipher(&self, block: Block) -> Block
-        ensures back { enciphered_block self.now result ≡ block }
-        ensures only { (x : List ℕ) → IsBlock x → enciphered_block self.now x ≡ block → x ≡ result }
+        ensures back { encrypted_block self.now result ≡ block }
+        ensures only { (x : List ℕ) → IsBlock x → encrypted_block self.now x ≡ block → x ≡ result }
 
         // What the types say, as facts on lists.
         ensures blocks { IsBlock block × IsBlock result }
     {
-        cipher::decipher(&self.schedule, &self.inverse_schedule, self.rounds, block)
+        cipher::decrypt(&self.schedule, &self.inverse_schedule, self.rounds, block)
     }
 }
 

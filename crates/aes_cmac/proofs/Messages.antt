@@ -4,7 +4,7 @@ use Rattle.std.proofs.lemmas.Bool.{ne_eqb, cases_eq}
 use Rattle.std.proofs.lemmas.List.{append_assoc, take_all, take_more, take-append-le, drop_more, drop-append-le, drop-drop, drop-set, drop-replicate, length-drop, length-take-le, set_at}
 use Rattle.fips_197.specs.Bytes.{xor_bytes}
 use Rattle.aes_block.specs.Texts.{block_of}
-use Rattle.fips_197.specs.Encipher.{enciphered_block}
+use Rattle.fips_197.specs.Encrypt.{encrypted_block}
 use Rattle.aes_cmac.specs.Cmac.{first_subkey, second_subkey, count_before_last, last_block, chained}
 
 -- a message of one block
@@ -31,15 +31,15 @@ pub chained-append : (key message more : List ℕ) (i : ℕ) → 16 * i ≤ leng
 unfolding chained
 chained-append key message more zero le = refl
 chained-append key message more (suc i) le =
-    λ t. enciphered_block key (xor_bytes (chained-append key message more i (omega arith) t) (block_of-append message more i (omega arith) t))
+    λ t. encrypted_block key (xor_bytes (chained-append key message more i (omega arith) t) (block_of-append message more i (omega arith) t))
 
 -- a block further, behind q blocks
 pub chained-next : (key message text before : List ℕ) (q i : ℕ) → text ≡ drop (16 * q) message → before ≡ chained key message (q + i)
-    → enciphered_block key (xor_bytes before (block_of text i)) ≡ chained key message (q + (i + 1))
+    → encrypted_block key (xor_bytes before (block_of text i)) ≡ chained key message (q + (i + 1))
 unfolding chained
 chained-next key message text before q i behind is =
     let next : suc (q + i) ≡ q + (i + 1) = omega arith in
-    (λ t. enciphered_block key (xor_bytes (is t) ((ap (λ l. block_of l i) behind ∙ block_of-drop message q i) t)))
+    (λ t. encrypted_block key (xor_bytes (is t) ((ap (λ l. block_of l i) behind ∙ block_of-drop message q i) t)))
     ∙ ap (chained key message) next
 
 -- the blocks before the last, as the code counts them

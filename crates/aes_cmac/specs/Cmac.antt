@@ -4,7 +4,7 @@ use Rattle.std.specs.Prelude.{ℕ, zero, suc, ◌+◌, ◌-◌, ◌*◌, ◌/◌
 use Rattle.std.specs.Int.{w128, from_be_bytes, to_be_bytes}
 use Rattle.fips_197.specs.Bytes.{xor_bytes}
 use Rattle.aes_block.specs.Texts.{block_of}
-use Rattle.fips_197.specs.Encipher.{enciphered_block}
+use Rattle.fips_197.specs.Encrypt.{encrypted_block}
 
 -- ---- the subkeys (6.1)
 
@@ -21,7 +21,7 @@ doubled block =
 
 -- K1, from L = CIPH_K(0^128) (steps 1 and 2)
 unfoldable pub first_subkey : List ℕ → List ℕ
-first_subkey key = doubled (enciphered_block key (replicate 16 0))
+first_subkey key = doubled (encrypted_block key (replicate 16 0))
 
 -- K2 (step 3)
 unfoldable pub second_subkey : List ℕ → List ℕ
@@ -47,10 +47,10 @@ last_block key rest =
 -- C_i for the blocks before the last (step 3): C_0 is 0^128, and C_i is CIPH_K(C_(i-1) ⊕ M_i) (steps 5 and 6)
 unfoldable pub chained : List ℕ → List ℕ → ℕ → List ℕ
 chained key message zero = replicate 16 0
-chained key message (suc i) = enciphered_block key (xor_bytes (chained key message i) (block_of message i))
+chained key message (suc i) = encrypted_block key (xor_bytes (chained key message i) (block_of message i))
 
 -- T = C_n (steps 6 and 7, with Tlen = 128)
 unfoldable pub cmac : List ℕ → List ℕ → List ℕ
 cmac key message =
     let before = count_before_last message in
-    enciphered_block key (xor_bytes (chained key message before) (last_block key (drop (16 * before) message)))
+    encrypted_block key (xor_bytes (chained key message before) (last_block key (drop (16 * before) message)))

@@ -19,7 +19,7 @@ fn bit_padded(bytes: &[u8]) -> Block
     block
 }
 
-/// The last block that is enciphered, of the bytes of a message behind the other blocks.
+/// The last block that is encrypted, of the bytes of a message behind the other blocks.
 pub(crate) fn last_block(key: &Key, rest: &[u8]) -> Block
     requires { length rest.now ≤ 16 }
     ensures { result ≡ last_block key.now rest.now }

@@ -14,7 +14,7 @@
 //! Proved, for every key and every message: the code is that of `specs/Cmac.antt`, which writes the
 //! standard down, over the block cipher of `aes_block`. `cmac` takes no memory and cannot fail.
 //!
-//! `chained_on` and `code_of_end` are its two parts, for a message that comes in pieces: the blocks
+//! `chained_on` and `tag_of_end` are its two parts, for a message that comes in parts: the blocks
 //! before the last, as many at a time as there are, and then the last one.
 //!
 //! The time that it takes depends on secrets, as that of `aes_block`.
@@ -29,13 +29,13 @@ ghost use Rattle.aes_cmac.specs.Cmac.{count_before_last, chained, cmac};
 use aes_block::{BLOCK_SIZE, Block, Key, block_at, xor_blocks};
 use last_block::last_block;
 
-/// The code of a message of any length (SP 800-38B, 6.2), in 16 bytes.
+/// The tag of a message of any length (SP 800-38B, 6.2), in 16 bytes.
 pub fn cmac(key: &Key, message: &[u8]) -> [u8; 16]
     ensures { result ≡ cmac key.now message.now }
 {
     let before = message.len().saturating_sub(1) / BLOCK_SIZE;
     let chain = chained_on(key, [0; BLOCK_SIZE], message, before);
-    code_of_end(key, chain, &message[BLOCK_SIZE * before..])
+    tag_of_end(key, chain, &message[BLOCK_SIZE * before..])
 }
 
 /// C_(q + n) of a message's blocks before the last (6.2, steps 5 and 6), from C_q and the message's
@@ -52,9 +52,9 @@ pub fn chained_on(key: &Key, chain: Block, text: &[u8], blocks: usize) -> Block
     chained
 }
 
-/// The code of a message of n blocks (6.2, steps 4 and 6), from C_(n - 1), which its blocks before
+/// The tag of a message of n blocks (6.2, steps 4 and 6), from C_(n - 1), which its blocks before
 /// the last are chained to, and the bytes behind these blocks, at most 16.
-pub fn code_of_end(key: &Key, chain: Block, rest: &[u8]) -> [u8; 16]
+pub fn tag_of_end(key: &Key, chain: Block, rest: &[u8]) -> [u8; 16]
     requires { length rest.now ≤ 16 }
     ensures { (message : List ℕ) → chain ≡ chained key.now message (count_before_last message)
         → rest.now ≡ drop (16 * count_before_last message) message → result ≡ cmac key.now message }

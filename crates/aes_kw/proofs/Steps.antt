@@ -3,10 +3,10 @@ use Rattle.std.proofs.Common.{◌≡◌, ◌≢◌, ℕ, ◌+◌, ◌-◌, ◌*�
 use Rattle.std.specs.Int.{w64, to_be_bytes}
 use Rattle.std.proofs.lemmas.Bool.{cases_eq}
 use Rattle.fips_197.specs.Bytes.{AreBytes, IsBlock, xor_bytes}
-use Rattle.fips_197.specs.Encipher.{enciphered_block}
+use Rattle.fips_197.specs.Encrypt.{encrypted_block}
 use Rattle.fips_197.specs.KeyExpansion.{IsKey}
 use Rattle.fips_197.proofs.Blocks.{length-xor_bytes, xor_bytes-twice, AreBytes-xor_bytes}
-use Rattle.aes_block.proofs.KeySchedules.{IsBlock-enciphered_block}
+use Rattle.aes_block.proofs.KeySchedules.{IsBlock-encrypted_block}
 use Rattle.aes_kw.specs.KeyWrap.{half, with_half, step}
 use Rattle.aes_kw.proofs.Rows.{length-half, AreBytes-half, half-first, half-second, halves-block, IsBlock-halves, length-with_half, AreBytes-with_half, half-with_same, half-with_other, same_rows}
 use Rattle.aes_kw.proofs.Numbers.{AreBytes-to_be_bytes}
@@ -52,9 +52,9 @@ module _ (row : List ℕ) (n i : ℕ) (size : length row ≡ 8 * n + 8) (low : 1
 -- ---- a step, for registers of n halves behind A, under a key
 
 module _ (key : List ℕ) (n t : ℕ) (some : 1 ≤ n) where
-  -- the step back undoes the step: d is what A with t added, and R[i], are deciphered to
+  -- the step back undoes the step: d is what A with t added, and R[i], are decrypted to
   pub step-back : (s d check : List ℕ) → length s ≡ 8 * n + 8 → length d ≡ 16 → check ≡ xor_bytes (half s 0) (to_be_bytes w64 t)
-      → enciphered_block key d ≡ check ++ half s ((t - 1) % n + 1)
+      → encrypted_block key d ≡ check ++ half s ((t - 1) % n + 1)
       → step key n t (with_half (with_half s 0 (half d 0)) ((t - 1) % n + 1) (half d 1)) ≡ s
   unfolding step
   step-back s d check size sd check_is is =
@@ -69,7 +69,7 @@ module _ (key : List ℕ) (n t : ℕ) (some : 1 ≤ n) where
       let block : half before 0 ++ half before i ≡ d =
       (λ u. half-with_two_first s n i size bounds.0 bounds.1 (half d 0) (half d 1) d0 d1 u
       ++ half-with_two_same s n i size bounds.0 bounds.1 (half d 0) (half d 1) d0 d1 u) ∙ halves-block d sd in
-      let b : enciphered_block key (half before 0 ++ half before i) ≡ check ++ half s i = ap (enciphered_block key) block ∙ is in
+      let b : encrypted_block key (half before 0 ++ half before i) ≡ check ++ half s i = ap (encrypted_block key) block ∙ is in
       let first : xor_bytes (half (check ++ half s i) 0) (to_be_bytes w64 t) ≡ half s 0 =
       ap (λ l. xor_bytes l (to_be_bytes w64 t)) (half-first check (half s i) sc ∙ check_is)
       ∙ xor_bytes-twice (half s 0) (to_be_bytes w64 t) s0 in
@@ -81,31 +81,31 @@ module _ (key : List ℕ) (n t : ℕ) (some : 1 ≤ n) where
       (λ j nz ni. half-with_two_other s n i size bounds.0 bounds.1 (half d 0) (half d 1) d0 d1 j nz ni)
 
   module _ (is_key : IsKey key) (x : List ℕ) (bytes : AreBytes x) (size : length x ≡ 8 * n + 8) where
-    -- what a step enciphers, and what that is enciphered to
+    -- what a step encrypts, and what that is encrypted to
     pub IsBlock-step : IsBlock (half x 0 ++ half x ((t - 1) % n + 1))
     IsBlock-step =
         let bounds = index-bounds n t some in
         IsBlock-halves (half x 0) (half x ((t - 1) % n + 1)) (length-half x 0 (omega arith)) (length-half x ((t - 1) % n + 1) (omega arith))
         (AreBytes-half x 0 bytes) (AreBytes-half x ((t - 1) % n + 1) bytes)
 
-    IsBlock-enciphered : IsBlock (enciphered_block key (half x 0 ++ half x ((t - 1) % n + 1)))
-    IsBlock-enciphered = IsBlock-enciphered_block key (half x 0 ++ half x ((t - 1) % n + 1)) is_key IsBlock-step
+    IsBlock-encrypted : IsBlock (encrypted_block key (half x 0 ++ half x ((t - 1) % n + 1)))
+    IsBlock-encrypted = IsBlock-encrypted_block key (half x 0 ++ half x ((t - 1) % n + 1)) is_key IsBlock-step
 
-    -- what a step enciphers to, and the A and the register that it makes
+    -- what a step encrypts to, and the A and the register that it makes
     abbrev index : ℕ
     index = (t - 1) % n + 1
 
     abbrev after : List ℕ
-    after = enciphered_block key (half x 0 ++ half x index)
+    after = encrypted_block key (half x 0 ++ half x index)
 
     abbrev check_after : List ℕ
     check_after = xor_bytes (half after 0) (to_be_bytes w64 t)
 
     length-first : length (half after 0) ≡ 8
-    length-first = let is_block : IsBlock after = IsBlock-enciphered in length-half after 0 (omega (arith, is_block.size))
+    length-first = let is_block : IsBlock after = IsBlock-encrypted in length-half after 0 (omega (arith, is_block.size))
 
     length-second : length (half after 1) ≡ 8
-    length-second = let is_block : IsBlock after = IsBlock-enciphered in length-half after 1 (omega (arith, is_block.size))
+    length-second = let is_block : IsBlock after = IsBlock-encrypted in length-half after 1 (omega (arith, is_block.size))
 
     length-check : length check_after ≡ 8
     length-check = length-xor_bytes (half after 0) (to_be_bytes w64 t) length-first ∙ length-first
@@ -117,19 +117,19 @@ module _ (key : List ℕ) (n t : ℕ) (some : 1 ≤ n) where
     pub AreBytes-step : AreBytes (step key n t x)
     unfolding step
     AreBytes-step =
-        let is_block : IsBlock after = IsBlock-enciphered in
+        let is_block : IsBlock after = IsBlock-encrypted in
         AreBytes-with_half (with_half x 0 check_after) index (half after 1)
         (AreBytes-with_half x 0 check_after bytes
         (AreBytes-xor_bytes (half after 0) (to_be_bytes w64 t) length-first (AreBytes-half after 0 is_block.bytes) (AreBytes-to_be_bytes t)))
         (AreBytes-half after 1 is_block.bytes)
 
-    -- from registers after a step: what the step enciphered, to what
+    -- from registers after a step: what the step encrypted, to what
     pub step-block : (s check : List ℕ) → step key n t x ≡ s → check ≡ xor_bytes (half s 0) (to_be_bytes w64 t)
-        → enciphered_block key (half x 0 ++ half x ((t - 1) % n + 1)) ≡ check ++ half s ((t - 1) % n + 1)
+        → encrypted_block key (half x 0 ++ half x ((t - 1) % n + 1)) ≡ check ++ half s ((t - 1) % n + 1)
     unfolding step
     step-block s check is check_is =
         let bounds = index-bounds n t some in
-        let is_block : IsBlock after = IsBlock-enciphered in
+        let is_block : IsBlock after = IsBlock-encrypted in
         let first : half s 0 ≡ check_after = ap (λ r. half r 0) (sym is) ∙ half-with_two_first x n index size bounds.0 bounds.1 check_after (half after 1) length-check length-second in
         let same : half s index ≡ half after 1 = ap (λ r. half r index) (sym is) ∙ half-with_two_same x n index size bounds.0 bounds.1 check_after (half after 1) length-check length-second in
         let added : check ≡ half after 0 =

@@ -3,7 +3,7 @@
 use Rattle.std.specs.Prelude.{◌≡◌, ℕ, zero, suc, ◌+◌, ◌-◌, ◌*◌, ◌/◌, ◌%◌, ◌≤◌, List, ◌++◌, length, take, drop, replicate}
 use Rattle.std.specs.Int.{w64, to_be_bytes}
 use Rattle.fips_197.specs.Bytes.{AreBytes, xor_bytes}
-use Rattle.fips_197.specs.Encipher.{enciphered_block}
+use Rattle.fips_197.specs.Encrypt.{encrypted_block}
 
 -- half i of a row of halves, which have 8 bytes. Of a block, half 0 is MSB(64, B) and half 1 LSB(64, B)
 unfoldable pub half : List ℕ → ℕ → List ℕ
@@ -18,7 +18,7 @@ with_half row i x = take (8 * i) row ++ (x ++ drop (8 * i + 8) row)
 unfoldable pub step : List ℕ → ℕ → ℕ → List ℕ → List ℕ
 step key n t registers =
     let i = (t - 1) % n + 1 in
-    let b = enciphered_block key (half registers 0 ++ half registers i) in
+    let b = encrypted_block key (half registers 0 ++ half registers i) in
     with_half (with_half registers 0 (xor_bytes (half b 0) (to_be_bytes w64 t))) i (half b 1)
 
 -- the registers after the first t steps

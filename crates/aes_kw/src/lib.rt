@@ -19,11 +19,11 @@
 //! - `unwrap` gives the value whose wrapping the bytes are.
 //! - `LenRange` comes exactly where the length is none of a value, or of a wrapping. `BadCheck`
 //!   comes only where the bytes are the wrapping of no value. But for these there is only
-//!   `Memory`, for a growth refused.
+//!   `Memory`, for an allocation refused.
 //!
 //! `proofs/Only.antt` shows that no two values have one wrapping.
 //!
-//! Each call makes one growth. The time that it takes depends on secrets, as that of `aes_block`.
+//! Each call makes one allocation. The time that it takes depends on secrets, as that of `aes_block`.
 #![tactic(auto)]
 
 mod fault;

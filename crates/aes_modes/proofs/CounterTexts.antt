@@ -4,11 +4,11 @@ use Rattle.std.specs.Int.Bits.{xor_assoc, xor_zero_r, xor_self}
 use Rattle.std.proofs.lemmas.List.{take_all, length-take}
 use Rattle.fips_197.specs.Bytes.{IsBlock, xor_bytes}
 use Rattle.fips_197.specs.KeyExpansion.{IsKey}
-use Rattle.aes_block.proofs.KeySchedules.{IsBlock-enciphered_block}
+use Rattle.aes_block.proofs.KeySchedules.{IsBlock-encrypted_block}
 use Rattle.aes_block.specs.Texts.{block_of}
 use Rattle.aes_modes.specs.Blocks.{first_blocks, blocks_begun}
 use Rattle.aes_modes.specs.Counter.{counter_block}
-use Rattle.aes_modes.specs.Modes.{output_block, ctr_block, ctr_blocks, ctr_enciphered}
+use Rattle.aes_modes.specs.Modes.{output_block, ctr_block, ctr_blocks, ctr_encrypted}
 use Rattle.aes_block.proofs.TextBlocks.{AreBytes-bytes_high_first}
 use Rattle.aes_modes.proofs.Texts.{length-block_of, first_blocks-more, first_blocks-alike, first_blocks-text, block_of-first_blocks, length-first_blocks-alike, block_of-append}
 
@@ -44,7 +44,7 @@ IsBlock-counter_block m start i = record { size = refl; bytes = AreBytes-bytes_h
 pub IsBlock-output_block : (key : List ℕ) (m : ℕ) (start : List ℕ) (i : ℕ) → IsKey key → IsBlock (output_block key m start i)
 unfolding output_block
 IsBlock-output_block key m start i is_key =
-    IsBlock-enciphered_block key (counter_block m start i) is_key (IsBlock-counter_block m start i)
+    IsBlock-encrypted_block key (counter_block m start i) is_key (IsBlock-counter_block m start i)
 
 pub length-block_of-le : (text : List ℕ) (i : ℕ) → length (block_of text i) ≤ 16
 unfolding block_of
@@ -57,18 +57,18 @@ module _ (key : List ℕ) (m : ℕ) (start : List ℕ) where
   ctr_blocks-more text out output i before is =
       (λ t. before t ++ xor_bytes (block_of text i) (is t)) ∙ sym (first_blocks-more (λ j. xor_bytes (block_of text j) (output_block key m start j)) i)
 
-  -- a whole block is enciphered alike whatever follows it
+  -- a whole block is encrypted alike whatever follows it
   pub ctr_block-append : (xs ys : List ℕ) (i : ℕ) → 16 * i + 16 ≤ length xs → ctr_block key m start (xs ++ ys) i ≡ ctr_block key m start xs i
   unfolding ctr_block
   ctr_block-append xs ys i le = ap (λ b. xor_bytes b (output_block key m start i)) (block_of-append xs ys i le)
 
   -- the last block, which is shorter
-  pub ctr_enciphered-last : (text out rest output last : List ℕ) → out ≡ ctr_blocks key m start text (length text / 16)
+  pub ctr_encrypted-last : (text out rest output last : List ℕ) → out ≡ ctr_blocks key m start text (length text / 16)
       → rest ≡ block_of text (length text / 16) → length rest ≡ length text % 16 → 0 < length rest
       → output ≡ output_block key m start (length text / 16) → length output ≡ 16
       → last ≡ xor_bytes (rest ++ replicate (16 - length rest) 0) output
-      → out ++ take (length rest) last ≡ ctr_enciphered key m start text
-  ctr_enciphered-last text out rest output last before rest_is size some output_is whole last_is =
+      → out ++ take (length rest) last ≡ ctr_encrypted key m start text
+  ctr_encrypted-last text out rest output last before rest_is size some output_is whole last_is =
       let n : ℕ = length text / 16 in
       let count : n + 1 ≡ blocks_begun text = omega arith in
       ap (λ l. out ++ take (length rest) l) last_is
@@ -77,8 +77,8 @@ module _ (key : List ℕ) (m : ℕ) (start : List ℕ) where
       ∙ ctr_blocks-more text out output n before output_is
       ∙ ap (ctr_blocks key m start text) count
 
-  pub ctr_enciphered-whole : (text : List ℕ) → length text % 16 ≡ 0 → ctr_blocks key m start text (length text / 16) ≡ ctr_enciphered key m start text
-  ctr_enciphered-whole text whole =
+  pub ctr_encrypted-whole : (text : List ℕ) → length text % 16 ≡ 0 → ctr_blocks key m start text (length text / 16) ≡ ctr_encrypted key m start text
+  ctr_encrypted-whole text whole =
       let count : length text / 16 ≡ blocks_begun text = omega arith in ap (ctr_blocks key m start text) count
 
   -- each of whose output blocks is a block
@@ -89,30 +89,30 @@ module _ (key : List ℕ) (m : ℕ) (start : List ℕ) where
         let o = blocks i in
         length-xor_short (block_of text i) (output_block key m start i) (omega (arith, length-block_of-le text i, o.size))
 
-    block_of-ctr : (text : List ℕ) (i : ℕ) → i < blocks_begun text → block_of (ctr_enciphered key m start text) i ≡ ctr_block key m start text i
+    block_of-ctr : (text : List ℕ) (i : ℕ) → i < blocks_begun text → block_of (ctr_encrypted key m start text) i ≡ ctr_block key m start text i
     block_of-ctr text i lt =
         block_of-first_blocks (ctr_block key m start text) (blocks_begun text) i
         (λ j below. length-ctr_block text j ∙ length-block_of text j (omega arith))
         (λ j below. omega (arith, length-ctr_block text j, length-block_of-le text j)) lt
 
-    pub length-ctr_enciphered : (text : List ℕ) → length (ctr_enciphered key m start text) ≡ length text
-    length-ctr_enciphered text =
+    pub length-ctr_encrypted : (text : List ℕ) → length (ctr_encrypted key m start text) ≡ length text
+    length-ctr_encrypted text =
         length-first_blocks-alike (ctr_block key m start text) (block_of text) (blocks_begun text) (λ i lt. length-ctr_block text i)
         ∙ ap length (first_blocks-text text (blocks_begun text) ∙ take_all (16 * blocks_begun text) text (omega arith))
 
     -- CTR twice is the text again
     ctr_block-twice : (text : List ℕ) (i : ℕ) → i < blocks_begun text
-        → ctr_block key m start (ctr_enciphered key m start text) i ≡ block_of text i
+        → ctr_block key m start (ctr_encrypted key m start text) i ≡ block_of text i
     unfolding ctr_block
     ctr_block-twice text i lt =
         let o = blocks i in
         ap (λ b. xor_bytes b (output_block key m start i)) (block_of-ctr text i lt)
         ∙ xor_short-twice (block_of text i) (output_block key m start i) (omega (arith, length-block_of-le text i, o.size))
 
-    pub ctr_enciphered-twice : (text : List ℕ) → ctr_enciphered key m start (ctr_enciphered key m start text) ≡ text
-    ctr_enciphered-twice text =
-        let out : List ℕ = ctr_enciphered key m start text in
-        let count : blocks_begun out ≡ blocks_begun text = ap (λ l. (l + 15) / 16) (length-ctr_enciphered text) in
+    pub ctr_encrypted-twice : (text : List ℕ) → ctr_encrypted key m start (ctr_encrypted key m start text) ≡ text
+    ctr_encrypted-twice text =
+        let out : List ℕ = ctr_encrypted key m start text in
+        let count : blocks_begun out ≡ blocks_begun text = ap (λ l. (l + 15) / 16) (length-ctr_encrypted text) in
         ap (first_blocks (ctr_block key m start out)) count
         ∙ first_blocks-alike (ctr_block key m start out) (block_of text) (blocks_begun text) (ctr_block-twice text)
         ∙ first_blocks-text text (blocks_begun text) ∙ take_all (16 * blocks_begun text) text (omega arith)

@@ -1,4 +1,4 @@
--- No two texts are enciphered to one.
+-- No two texts are encrypted to one.
 use Rattle.std.proofs.Common.{◌≡◌, ℕ, zero, suc, ◌+◌, ◌*◌, ◌/◌, ◌<◌, ◌≤◌, List, length, drop, ap, refl, sym, ◌∙◌, arith}
 use Rattle.std.proofs.lemmas.List.{take_all}
 use Rattle.std.proofs.lemmas.List.Elements.{All-take, All-drop}
@@ -6,13 +6,13 @@ use Rattle.fips_197.specs.Bytes.{AreBytes, IsBlock, xor_bytes}
 use Rattle.fips_197.specs.Cipher.{round_key}
 use Rattle.fips_197.specs.InverseCipher.{inverse_cipher}
 use Rattle.fips_197.specs.KeyExpansion.{IsKey, key_expansion, round_count}
-use Rattle.fips_197.specs.Encipher.{enciphered_block}
+use Rattle.fips_197.specs.Encrypt.{encrypted_block}
 use Rattle.fips_197.proofs.Blocks.{xor_bytes-twice, IsBlock-xor_bytes}
-use Rattle.aes_block.proofs.KeySchedules.{round_count-bounds, IsBlock-round_key, IsBlock-enciphered_block}
+use Rattle.aes_block.proofs.KeySchedules.{round_count-bounds, IsBlock-round_key, IsBlock-encrypted_block}
 use Rattle.aes_block.proofs.Inverses.{inverse_cipher-cipher}
 use Rattle.aes_block.specs.Texts.{block_of}
 use Rattle.aes_modes.specs.Blocks.{first_blocks, IsWhole}
-use Rattle.aes_modes.specs.Modes.{ecb_block, ecb_enciphered, chained, cbc_block, cbc_enciphered, cbc_pad_enciphered}
+use Rattle.aes_modes.specs.Modes.{ecb_block, ecb_encrypted, chained, cbc_block, cbc_encrypted, cbc_pad_encrypted}
 use Rattle.aes_modes.specs.Padding.{padded}
 use Rattle.aes_modes.proofs.Paddings.{AreBytes-padded, IsWhole-padded, length-padded-blocks, padded-only}
 use Rattle.aes_modes.proofs.Texts.{length-block_of, length-first_blocks, block_of-first_blocks, first_blocks-alike, first_blocks-text}
@@ -25,10 +25,10 @@ IsBlock-block_of text i bytes le = record {
 }
 
 module _ (key : List ℕ) (is_key : IsKey key) where
-  -- two blocks that are enciphered to one are one
-  pub enciphered_block-only : (x y : List ℕ) → IsBlock x → IsBlock y → enciphered_block key x ≡ enciphered_block key y → x ≡ y
-  unfolding enciphered_block
-  enciphered_block-only x y hx hy same =
+  -- two blocks that are encrypted to one are one
+  pub encrypted_block-only : (x y : List ℕ) → IsBlock x → IsBlock y → encrypted_block key x ≡ encrypted_block key y → x ≡ y
+  unfolding encrypted_block
+  encrypted_block-only x y hx hy same =
       let w : List ℕ = key_expansion key in
       let n : ℕ = round_count key in
       let keys : (r : ℕ) → r ≤ n → IsBlock (round_key w r) = λ r le. IsBlock-round_key key r is_key le in
@@ -47,7 +47,7 @@ module _ (key : List ℕ) (is_key : IsKey key) where
   length-ecb_block : (x : List ℕ) (i : ℕ) → AreBytes x → i < length x / 16 → length (ecb_block key x i) ≡ 16
   unfolding ecb_block
   length-ecb_block x i bytes lt =
-      let block = IsBlock-enciphered_block key (block_of x i) is_key (IsBlock-block_of x i bytes (omega arith)) in
+      let block = IsBlock-encrypted_block key (block_of x i) is_key (IsBlock-block_of x i bytes (omega arith)) in
       block.size
 
   -- blocks of 16 bytes, n of them and m of them, that are one text
@@ -61,33 +61,33 @@ module _ (key : List ℕ) (is_key : IsKey key) where
             ∙ block_of-first_blocks g m i (λ j below. hg j (omega arith)) (λ j below. omega (arith, hg j below)) (omega arith),
       )
 
-  pub ecb_enciphered-only : (x y : List ℕ) → AreBytes x → AreBytes y → IsWhole x → IsWhole y
-      → ecb_enciphered key x ≡ ecb_enciphered key y → x ≡ y
+  pub ecb_encrypted-only : (x y : List ℕ) → AreBytes x → AreBytes y → IsWhole x → IsWhole y
+      → ecb_encrypted key x ≡ ecb_encrypted key y → x ≡ y
   unfolding ecb_block
-  ecb_enciphered-only x y bx by wx wy same =
+  ecb_encrypted-only x y bx by wx wy same =
       let each = same_blocks (ecb_block key x) (ecb_block key y) (length x / 16) (length y / 16)
       (λ i lt. length-ecb_block x i bx lt) (λ i lt. length-ecb_block y i by lt) same in
       same_texts x y wx wy each.0
-      (λ i lt. enciphered_block-only (block_of x i) (block_of y i)
+      (λ i lt. encrypted_block-only (block_of x i) (block_of y i)
       (IsBlock-block_of x i bx (omega arith)) (IsBlock-block_of y i by (omega (arith, each.0))) (each.1 i lt))
 
   pub IsBlock-chained : (iv x : List ℕ) (n : ℕ) → IsBlock iv → AreBytes x → 16 * n ≤ length x → IsBlock (chained key iv x n)
   unfolding chained
   IsBlock-chained iv x zero hi bytes le = hi
   IsBlock-chained iv x (suc n) hi bytes le =
-      IsBlock-enciphered_block key (xor_bytes (block_of x n) (chained key iv x n)) is_key
+      IsBlock-encrypted_block key (xor_bytes (block_of x n) (chained key iv x n)) is_key
       (IsBlock-xor_bytes (block_of x n) (chained key iv x n) (IsBlock-block_of x n bytes (omega arith))
       (IsBlock-chained iv x n hi bytes (omega arith)))
 
-  -- sums of a block and one block before that are enciphered to one
+  -- sums of a block and one block before that are encrypted to one
   same_sums : (x a y b : List ℕ) → IsBlock x → IsBlock a → IsBlock y → IsBlock b → a ≡ b
-      → enciphered_block key (xor_bytes x a) ≡ enciphered_block key (xor_bytes y b) → x ≡ y
+      → encrypted_block key (xor_bytes x a) ≡ encrypted_block key (xor_bytes y b) → x ≡ y
   same_sums x a y b hx ha hy hb before same =
-      let sums = enciphered_block-only (xor_bytes x a) (xor_bytes y b) (IsBlock-xor_bytes x a hx ha) (IsBlock-xor_bytes y b hy hb) same in
+      let sums = encrypted_block-only (xor_bytes x a) (xor_bytes y b) (IsBlock-xor_bytes x a hx ha) (IsBlock-xor_bytes y b hy hb) same in
       sym (xor_bytes-twice x a (hx.size ∙ sym ha.size)) ∙ (λ t. xor_bytes (sums t) (before t)) ∙ xor_bytes-twice y b (hy.size ∙ sym hb.size)
 
   each_step : (iv x y : List ℕ) (i : ℕ) → chained key iv x (suc i) ≡ chained key iv y (suc i)
-      → enciphered_block key (xor_bytes (block_of x i) (chained key iv x i)) ≡ enciphered_block key (xor_bytes (block_of y i) (chained key iv y i))
+      → encrypted_block key (xor_bytes (block_of x i) (chained key iv x i)) ≡ encrypted_block key (xor_bytes (block_of y i) (chained key iv y i))
   unfolding chained
   each_step iv x y i same = same
 
@@ -97,9 +97,9 @@ module _ (key : List ℕ) (is_key : IsKey key) where
   chained-alike iv x y n zero same le = refl
   chained-alike iv x y n (suc i) same le = same i (omega arith)
 
-  pub cbc_enciphered-only : (iv x y : List ℕ) → IsBlock iv → AreBytes x → AreBytes y → IsWhole x → IsWhole y
-      → cbc_enciphered key iv x ≡ cbc_enciphered key iv y → x ≡ y
-  cbc_enciphered-only iv x y hi bx by wx wy same =
+  pub cbc_encrypted-only : (iv x y : List ℕ) → IsBlock iv → AreBytes x → AreBytes y → IsWhole x → IsWhole y
+      → cbc_encrypted key iv x ≡ cbc_encrypted key iv y → x ≡ y
+  cbc_encrypted-only iv x y hi bx by wx wy same =
       let each = same_blocks (cbc_block key iv x) (cbc_block key iv y) (length x / 16) (length y / 16)
       (λ i lt. let h = IsBlock-chained iv x (suc i) hi bx (omega arith) in h.size)
       (λ i lt. let h = IsBlock-chained iv y (suc i) hi by (omega arith) in h.size) same in
@@ -114,21 +114,21 @@ module _ (key : List ℕ) (is_key : IsKey key) where
 
   -- ---- lengths
 
-  pub length-ecb_enciphered : (x : List ℕ) → AreBytes x → IsWhole x → length (ecb_enciphered key x) ≡ length x
-  length-ecb_enciphered x bytes whole =
+  pub length-ecb_encrypted : (x : List ℕ) → AreBytes x → IsWhole x → length (ecb_encrypted key x) ≡ length x
+  length-ecb_encrypted x bytes whole =
       length-first_blocks (ecb_block key x) (length x / 16) (λ i lt. length-ecb_block x i bytes lt) ∙ omega (arith, whole)
 
-  pub length-cbc_enciphered : (iv x : List ℕ) → IsBlock iv → AreBytes x → IsWhole x → length (cbc_enciphered key iv x) ≡ length x
-  length-cbc_enciphered iv x hi bytes whole =
+  pub length-cbc_encrypted : (iv x : List ℕ) → IsBlock iv → AreBytes x → IsWhole x → length (cbc_encrypted key iv x) ≡ length x
+  length-cbc_encrypted iv x hi bytes whole =
       length-first_blocks (cbc_block key iv x) (length x / 16)
       (λ i lt. let h = IsBlock-chained iv x (suc i) hi bytes (omega arith) in h.size) ∙ omega (arith, whole)
 
-  pub length-cbc_pad_enciphered : (iv x : List ℕ) → IsBlock iv → AreBytes x → length (cbc_pad_enciphered key iv x) ≡ 16 * (length x / 16 + 1)
-  length-cbc_pad_enciphered iv x hi bytes =
-      length-cbc_enciphered iv (padded x) hi (AreBytes-padded x bytes) (IsWhole-padded x) ∙ length-padded-blocks x
+  pub length-cbc_pad_encrypted : (iv x : List ℕ) → IsBlock iv → AreBytes x → length (cbc_pad_encrypted key iv x) ≡ 16 * (length x / 16 + 1)
+  length-cbc_pad_encrypted iv x hi bytes =
+      length-cbc_encrypted iv (padded x) hi (AreBytes-padded x bytes) (IsWhole-padded x) ∙ length-padded-blocks x
 
-  pub cbc_pad_enciphered-only : (iv x y : List ℕ) → IsBlock iv → AreBytes x → AreBytes y
-      → cbc_pad_enciphered key iv x ≡ cbc_pad_enciphered key iv y → x ≡ y
-  cbc_pad_enciphered-only iv x y hi bx by same =
+  pub cbc_pad_encrypted-only : (iv x y : List ℕ) → IsBlock iv → AreBytes x → AreBytes y
+      → cbc_pad_encrypted key iv x ≡ cbc_pad_encrypted key iv y → x ≡ y
+  cbc_pad_encrypted-only iv x y hi bx by same =
       padded-only x y
-      (cbc_enciphered-only iv (padded x) (padded y) hi (AreBytes-padded x bx) (AreBytes-padded y by) (IsWhole-padded x) (IsWhole-padded y) same)
+      (cbc_encrypted-only iv (padded x) (padded y) hi (AreBytes-padded x bx) (AreBytes-padded y by) (IsWhole-padded x) (IsWhole-padded y) same)

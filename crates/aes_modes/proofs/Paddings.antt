@@ -3,10 +3,10 @@ use Rattle.std.proofs.Common.{◌≡◌, ℕ, ◌+◌, ◌-◌, ◌*◌, ◌/◌
 use Rattle.std.proofs.lemmas.List.{take_at, get_or-append_right, get_or-replicate, take-append-drop, same_lists, get_or-drop, get_or_default, length-drop, length-take-le, length-replicate}
 use Rattle.std.proofs.lemmas.List.Elements.{All-append, All-from_get_or}
 use Rattle.fips_197.specs.Bytes.{AreBytes, xor_bytes}
-use Rattle.fips_197.specs.Encipher.{enciphered_block}
+use Rattle.fips_197.specs.Encrypt.{encrypted_block}
 use Rattle.aes_block.specs.Texts.{block_of}
 use Rattle.aes_modes.specs.Blocks.{IsWhole}
-use Rattle.aes_modes.specs.Modes.{chained, cbc_block, cbc_blocks, cbc_pad_enciphered}
+use Rattle.aes_modes.specs.Modes.{chained, cbc_block, cbc_blocks, cbc_pad_encrypted}
 use Rattle.aes_modes.specs.Padding.{pad_count, padded}
 use Rattle.aes_modes.proofs.Texts.{block_of-rest, block_of-behind, first_blocks-append}
 use Rattle.aes_modes.proofs.Chains.{chained-append, chained-more, cbc_block-append, cbc_blocks-more}
@@ -111,8 +111,8 @@ whole_chained key iv text n le = chained-append key iv text (replicate (pad_coun
 -- a padded text under CBC: the whole blocks of the text, and the last block
 pub cbc_pad-blocks : (key iv text : List ℕ)
     → cbc_blocks key iv text (length text / 16)
-    ++ enciphered_block key (xor_bytes (block_of (padded text) (length text / 16)) (chained key iv text (length text / 16)))
-    ≡ cbc_pad_enciphered key iv text
+    ++ encrypted_block key (xor_bytes (block_of (padded text) (length text / 16)) (chained key iv text (length text / 16)))
+    ≡ cbc_pad_encrypted key iv text
 cbc_pad-blocks key iv text =
     let n : ℕ = length text / 16 in
     let count : length (padded text) / 16 ≡ n + 1 = omega (arith, length-padded-blocks text) in

@@ -121,12 +121,12 @@ block_of-first_blocks f (suc n) i whole last lt =
 -- A mode, as the function of a text and a block number that gives a block of the cipher text. A block
 -- depends on the text up to that block alone.
 module _ (mode : List ℕ → ℕ → List ℕ) (local : (xs ys : List ℕ) (i : ℕ) → 16 * i + 16 ≤ length xs → mode (xs ++ ys) i ≡ mode xs i) where
-  -- so whole blocks are enciphered alike whatever follows them
+  -- so whole blocks are encrypted alike whatever follows them
   pub first_blocks-append : (xs ys : List ℕ) (n : ℕ) → 16 * n ≤ length xs → first_blocks (mode (xs ++ ys)) n ≡ first_blocks (mode xs) n
   first_blocks-append xs ys n le =
       first_blocks-alike (mode (xs ++ ys)) (mode xs) n (λ i lt. local xs ys i (omega arith))
 
-  -- deciphering, a block further
+  -- decrypting, a block further
   pub back-more : (text out p : List ℕ) (i : ℕ) → length out ≡ 16 * i → first_blocks (mode out) i ≡ take (16 * i) text
       → mode (out ++ p) i ≡ block_of text i → first_blocks (mode (out ++ p)) (i + 1) ≡ take (16 * (i + 1)) text
   back-more text out p i size before last =

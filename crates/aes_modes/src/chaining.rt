@@ -3,7 +3,7 @@
 ghost use Rattle.std.specs.Prelude.{◌≡◌, ◌≢◌, ℕ, ◌⊎◌, ◌+◌, ◌*◌, ◌%◌, ◌/◌, ◌↔◌, ◌++◌, List, length, IfOk, IfErr, IsErrOf};
 ghost use Rattle.fips_197.specs.Bytes.{AreBytes};
 ghost use Rattle.aes_modes.specs.Blocks.{IsWhole};
-ghost use Rattle.aes_modes.specs.Modes.{chained, cbc_blocks, cbc_enciphered};
+ghost use Rattle.aes_modes.specs.Modes.{chained, cbc_blocks, cbc_encrypted};
 ghost use Rattle.aes_modes.specs.Directions.{IsTurned};
 
 use crate::blocks::{is_key, push_number, xor_number};
@@ -11,8 +11,8 @@ use crate::{Direction, ModeFault};
 use aes_block::{BLOCK_SIZE, Block, Key, are_bytes, block_at, xor_blocks};
 use std::alloc::{AllocError, Global};
 
-/// Adds the text's whole blocks, enciphered, to `out`, and gives what the next block is added to.
-pub(crate) fn encipher_blocks(
+/// Adds the text's whole blocks, encrypted, to `out`, and gives what the next block is added to.
+pub(crate) fn encrypt_blocks(
     out: &mut Vec<u8>,
     key: &Key,
     iv: Block,
@@ -27,24 +27,24 @@ pub(crate) fn encipher_blocks(
     are_bytes(&iv);
     let mut before = u128::from_be_bytes(iv);
     'turns: for i in 0..text.len() / BLOCK_SIZE {
-        before = key.encipher_number(xor_number(block_at(text, i), before));
+        before = key.encrypt_number(xor_number(block_at(text, i), before));
         push_number(out, before)?;
     }
     Ok(before.to_be_bytes())
 }
 
-fn enciphered(alloc: Global, key: &Key, iv: Block, text: &[u8]) -> Result<Vec<u8>, AllocError>
+fn encrypted(alloc: Global, key: &Key, iv: Block, text: &[u8]) -> Result<Vec<u8>, AllocError>
     requires { IsWhole text.now }
     ensures length { IfOk result (λ out. length out.items ≡ length text.now) }
-    ensures value { IfOk result (λ out. out.items ≡ cbc_enciphered key.now iv text.now) }
+    ensures value { IfOk result (λ out. out.items ≡ cbc_encrypted key.now iv text.now) }
 {
     let mut out = Vec::with_capacity(alloc, text.len())?;
-    encipher_blocks(&mut out, key, iv, text)?;
+    encrypt_blocks(&mut out, key, iv, text)?;
     Ok(out)
 }
 
-/// The text of whole blocks that is enciphered to `text`.
-pub(crate) fn deciphered(
+/// The text of whole blocks that is encrypted to `text`.
+pub(crate) fn decrypted(
     alloc: Global,
     key: &Key,
     iv: Block,
@@ -52,9 +52,9 @@ pub(crate) fn deciphered(
 ) -> Result<Vec<u8>, AllocError>
     requires { IsWhole text.now }
     ensures length { IfOk result (λ out. length out.items ≡ length text.now) }
-    ensures value { IfOk result (λ out. cbc_enciphered key.now iv out.items ≡ text.now) }
+    ensures value { IfOk result (λ out. cbc_encrypted key.now iv out.items ≡ text.now) }
     ensures only { IfOk result (λ out. (x : List ℕ) → AreBytes x → IsWhole x
-        → cbc_enciphered key.now iv x ≡ text.now → x ≡ out.items) }
+        → cbc_encrypted key.now iv x ≡ text.now → x ≡ out.items) }
 {
     is_key(key);
     are_bytes(&iv);
@@ -81,9 +81,9 @@ pub fn cbc(
     text: &[u8],
 ) -> Result<Vec<u8>, ModeFault>
     ensures length { IfOk result (λ out. length out.items ≡ length text.now) }
-    ensures value { IfOk result (λ out. IsTurned direction (cbc_enciphered key.now iv) text.now out.items) }
+    ensures value { IfOk result (λ out. IsTurned direction (cbc_encrypted key.now iv) text.now out.items) }
     ensures only { IfOk result (λ out. (x : List ℕ) → AreBytes x → IsWhole x
-        → IsTurned direction (cbc_enciphered key.now iv) text.now x → x ≡ out.items) }
+        → IsTurned direction (cbc_encrypted key.now iv) text.now x → x ≡ out.items) }
     ensures len_range { IsErrOf result ModeFault.LenRange ↔ (length text.now % 16 ≢ 0) }
     ensures faults { IfErr result (λ fault. (fault ≡ ModeFault.LenRange) ⊎ (fault ≡ ModeFault.Memory)) }
 {
@@ -91,7 +91,7 @@ pub fn cbc(
         return Err(ModeFault::LenRange);
     }
     match direction {
-        Direction::Encipher => Ok(enciphered(alloc, key, iv, text)?),
-        Direction::Decipher => Ok(deciphered(alloc, key, iv, text)?),
+        Direction::Encrypt => Ok(encrypted(alloc, key, iv, text)?),
+        Direction::Decrypt => Ok(decrypted(alloc, key, iv, text)?),
     }
 }

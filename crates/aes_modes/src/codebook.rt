@@ -3,7 +3,7 @@
 ghost use Rattle.std.specs.Prelude.{◌≡◌, ◌≢◌, ℕ, ◌⊎◌, ◌%◌, ◌↔◌, List, length, IfOk, IfErr, IsErrOf};
 ghost use Rattle.fips_197.specs.Bytes.{AreBytes};
 ghost use Rattle.aes_modes.specs.Blocks.{IsWhole};
-ghost use Rattle.aes_modes.specs.Modes.{ecb_enciphered};
+ghost use Rattle.aes_modes.specs.Modes.{ecb_encrypted};
 ghost use Rattle.aes_modes.specs.Directions.{IsTurned};
 
 use crate::blocks::is_key;
@@ -11,10 +11,10 @@ use crate::{Direction, ModeFault};
 use aes_block::{BLOCK_SIZE, Key, are_bytes, block_at};
 use std::alloc::{AllocError, Global};
 
-fn enciphered(alloc: Global, key: &Key, text: &[u8]) -> Result<Vec<u8>, AllocError>
+fn encrypted(alloc: Global, key: &Key, text: &[u8]) -> Result<Vec<u8>, AllocError>
     requires { IsWhole text.now }
     ensures length { IfOk result (λ out. length out.items ≡ length text.now) }
-    ensures value { IfOk result (λ out. out.items ≡ ecb_enciphered key.now text.now) }
+    ensures value { IfOk result (λ out. out.items ≡ ecb_encrypted key.now text.now) }
 {
     let mut out = Vec::with_capacity(alloc, text.len())?;
     'turns: for i in 0..text.len() / BLOCK_SIZE {
@@ -23,12 +23,12 @@ fn enciphered(alloc: Global, key: &Key, text: &[u8]) -> Result<Vec<u8>, AllocErr
     Ok(out)
 }
 
-fn deciphered(alloc: Global, key: &Key, text: &[u8]) -> Result<Vec<u8>, AllocError>
+fn decrypted(alloc: Global, key: &Key, text: &[u8]) -> Result<Vec<u8>, AllocError>
     requires { IsWhole text.now }
     ensures length { IfOk result (λ out. length out.items ≡ length text.now) }
-    ensures value { IfOk result (λ out. ecb_enciphered key.now out.items ≡ text.now) }
+    ensures value { IfOk result (λ out. ecb_encrypted key.now out.items ≡ text.now) }
     ensures only { IfOk result (λ out. (x : List ℕ) → AreBytes x → IsWhole x
-        → ecb_enciphered key.now x ≡ text.now → x ≡ out.items) }
+        → ecb_encrypted key.now x ≡ text.now → x ≡ out.items) }
 {
     is_key(key);
     let mut out = Vec::with_capacity(alloc, text.len())?;
@@ -49,9 +49,9 @@ pub fn ecb(
     text: &[u8],
 ) -> Result<Vec<u8>, ModeFault>
     ensures length { IfOk result (λ out. length out.items ≡ length text.now) }
-    ensures value { IfOk result (λ out. IsTurned direction (ecb_enciphered key.now) text.now out.items) }
+    ensures value { IfOk result (λ out. IsTurned direction (ecb_encrypted key.now) text.now out.items) }
     ensures only { IfOk result (λ out. (x : List ℕ) → AreBytes x → IsWhole x
-        → IsTurned direction (ecb_enciphered key.now) text.now x → x ≡ out.items) }
+        → IsTurned direction (ecb_encrypted key.now) text.now x → x ≡ out.items) }
     ensures len_range { IsErrOf result ModeFault.LenRange ↔ (length text.now % 16 ≢ 0) }
     ensures faults { IfErr result (λ fault. (fault ≡ ModeFault.LenRange) ⊎ (fault ≡ ModeFault.Memory)) }
 {
@@ -59,7 +59,7 @@ pub fn ecb(
         return Err(ModeFault::LenRange);
     }
     match direction {
-        Direction::Encipher => Ok(enciphered(alloc, key, text)?),
-        Direction::Decipher => Ok(deciphered(alloc, key, text)?),
+        Direction::Encrypt => Ok(encrypted(alloc, key, text)?),
+        Direction::Decrypt => Ok(decrypted(alloc, key, text)?),
     }
 }

@@ -3,7 +3,7 @@
 ghost use Rattle.std.specs.Prelude.{◌≡◌, ℕ, ◌⊎◌, ◌+◌, ◌^◌, ◌<◌, ◌≤◌, ◌↔◌, List, length, IfOk, IfErr, IsErrOf};
 ghost use Rattle.aes_modes.specs.Blocks.{blocks_begun};
 ghost use Rattle.aes_modes.specs.Counter.{counter_start};
-ghost use Rattle.aes_modes.specs.Modes.{ctr_enciphered};
+ghost use Rattle.aes_modes.specs.Modes.{ctr_encrypted};
 ghost use Rattle.aes_modes.specs.Directions.{IsTurned};
 
 use crate::blocks::{filled_block, is_key, push_number, rest_of, xor_number};
@@ -12,8 +12,8 @@ use crate::{CounterBits, Direction, ModeFault};
 use aes_block::{BLOCK_SIZE, Block, Key, block_at};
 use std::alloc::{AllocError, Global};
 
-/// The text enciphered, where each of its blocks has a counter.
-fn enciphered(
+/// The text encrypted, where each of its blocks has a counter.
+fn encrypted(
     alloc: Global,
     key: &Key,
     bits: CounterBits,
@@ -22,20 +22,20 @@ fn enciphered(
 ) -> Result<Vec<u8>, AllocError>
     requires bits { bits ≤ 128 }
     requires counters { counter_start bits start + blocks_begun text.now ≤ 2 ^ bits }
-    ensures { IfOk result (λ out. out.items ≡ ctr_enciphered key.now bits start text.now) }
+    ensures { IfOk result (λ out. out.items ≡ ctr_encrypted key.now bits start text.now) }
 {
     let first = u128::from_be_bytes(start);
     let whole = text.len() / BLOCK_SIZE;
     let mut out = Vec::with_capacity(alloc, text.len())?;
     'turns: for i in 0..whole {
-        let output = key.encipher_number(first + i as u128);
+        let output = key.encrypt_number(first + i as u128);
         push_number(&mut out, xor_number(block_at(text, i), output))?;
     }
     let rest = rest_of(text);
     if rest.is_empty() {
         return Ok(out);
     }
-    let output = key.encipher_number(first + whole as u128);
+    let output = key.encrypt_number(first + whole as u128);
     let last = xor_number(filled_block(rest, 0), output).to_be_bytes();
     out.extend_from_slice(&last[..rest.len()])?;
     Ok(out)
@@ -57,9 +57,9 @@ pub fn ctr(
 ) -> Result<Vec<u8>, ModeFault>
     ensures length { IfOk result (λ out. length out.items ≡ length text.now) }
     ensures value { IfOk result (λ out.
-        IsTurned direction (ctr_enciphered key.now bits start) text.now out.items) }
+        IsTurned direction (ctr_encrypted key.now bits start) text.now out.items) }
     ensures only { IfOk result (λ out. (x : List ℕ)
-        → IsTurned direction (ctr_enciphered key.now bits start) text.now x → x ≡ out.items) }
+        → IsTurned direction (ctr_encrypted key.now bits start) text.now x → x ≡ out.items) }
     ensures counter_end { IsErrOf result ModeFault.CounterEnd
         ↔ (2 ^ bits < counter_start bits start + blocks_begun text.now) }
     ensures faults { IfErr result (λ fault. (fault ≡ ModeFault.CounterEnd) ⊎ (fault ≡ ModeFault.Memory)) }
@@ -69,6 +69,6 @@ pub fn ctr(
         return Err(ModeFault::CounterEnd);
     }
     match direction {
-        Direction::Encipher | Direction::Decipher => Ok(enciphered(alloc, key, bits, start, text)?),
+        Direction::Encrypt | Direction::Decrypt => Ok(encrypted(alloc, key, bits, start, text)?),
     }
 }

@@ -2,7 +2,7 @@
 #[derive(Clone, Copy, Debug, PartialEq, Eq)]
 pub enum Direction {
     /// From a plain text to the cipher text.
-    Encipher,
+    Encrypt,
     /// From a cipher text to the plain text.
-    Decipher,
+    Decrypt,
 }

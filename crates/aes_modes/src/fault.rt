@@ -1,4 +1,4 @@
-//! Why a text is not enciphered or deciphered.
+//! Why a text is not encrypted or decrypted.
 
 ghost use Rattle.std.specs.Prelude.{◌≡◌};
 ghost use Rattle.aes_modes.specs.declared.fault.ModeFault.TheVariants.{Memory};
@@ -11,7 +11,7 @@ pub enum ModeFault {
     /// The mode takes texts of whole blocks, and the text is none.
     #[error("not a length that the mode takes")]
     LenRange = 1,
-    /// The text deciphered does not end with a padding.
+    /// The text decrypted does not end with a padding.
     #[error("no padding at the end")]
     BadPad = 2,
     /// The text has more blocks than there are counters.

@@ -9,32 +9,32 @@
 //!     return Ok(());
 //! };
 //! let iv = [7; 16];
-//! let enciphered = cbc_pad(alloc, &key, Direction::Encipher, iv, b"any length")?;
-//! let text = cbc_pad(alloc, &key, Direction::Decipher, iv, &enciphered)?;
+//! let encrypted = cbc_pad(alloc, &key, Direction::Encrypt, iv, b"any length")?;
+//! let text = cbc_pad(alloc, &key, Direction::Decrypt, iv, &encrypted)?;
 //! assert_eq!(rt; text.as_slice(), b"any length");
 //!
 //! let Some(bits) = CounterBits::new(32) else {
 //!     return Ok(());
 //! };
-//! let enciphered = ctr(alloc, &key, Direction::Encipher, bits, [0; 16], b"any length")?;
+//! let encrypted = ctr(alloc, &key, Direction::Encrypt, bits, [0; 16], b"any length")?;
 //! ```
 //!
 //! Proved, for every key, text and parameter:
 //!
-//! - Enciphering gives what `specs/Modes.antt` writes down from the standard, block by block.
-//!   Deciphering gives the text that is enciphered to the one given, and there is no other.
+//! - Encrypting gives what `specs/Modes.antt` writes down from the standard, block by block.
+//!   Decrypting gives the text that is encrypted to the one given, and there is no other.
 //! - `LenRange` comes exactly where a mode of whole blocks is given another length, and
 //!   `CounterEnd` exactly where counter blocks would repeat. `BadPad` comes only where no text is
-//!   enciphered to the one given. But for these there is only `Memory`, for a growth refused.
+//!   encrypted to the one given. But for these there is only `Memory`, for an allocation refused.
 //!
-//! A proof above may cite of the definitions, from `proofs/`: no two texts are enciphered to one,
+//! A proof above may cite of the definitions, from `proofs/`: no two texts are encrypted to one,
 //! and how long they become (`Only`), CTR twice is the text again (`CounterTexts`), and the first
-//! blocks of a text are enciphered alike whatever follows, and the further ones from the block
+//! blocks of a text are encrypted alike whatever follows, and the further ones from the block
 //! before (`Texts`, `Chains`).
 //!
-//! `filled_block`, `xor_number`, `push_number` and `unpadded_len` are for a crate that works in pieces.
+//! `filled_block`, `xor_number`, `push_number` and `unpadded_len` are for a crate that works in parts.
 //!
-//! Each call makes one growth, of the length that it gives. The time that it takes depends on
+//! Each call makes one allocation, of the length that it gives. The time that it takes depends on
 //! secrets, as that of `aes_block`. Nothing here is authenticated.
 #![tactic(auto)]
 

@@ -3,7 +3,7 @@
 ghost use Rattle.std.specs.Prelude.{◌≡◌, ◌≢◌, ℕ, ◌⊎◌, ◌%◌, ◌<◌, ◌↔◌, List, length, take, IfOk, IfErr, IfSome, IsNone, IsErrOf};
 ghost use Rattle.fips_197.specs.Bytes.{AreBytes};
 ghost use Rattle.aes_modes.specs.Blocks.{IsWhole};
-ghost use Rattle.aes_modes.specs.Modes.{cbc_pad_enciphered};
+ghost use Rattle.aes_modes.specs.Modes.{cbc_pad_encrypted};
 ghost use Rattle.aes_modes.specs.Padding.{padded};
 ghost use Rattle.aes_modes.specs.Directions.{IsTurned};
 
@@ -34,32 +34,32 @@ pub fn unpadded_len(text: &[u8]) -> Option<usize>
     Some(start)
 }
 
-fn enciphered(alloc: Global, key: &Key, iv: Block, text: &[u8]) -> Result<Vec<u8>, AllocError>
-    ensures { IfOk result (λ out. out.items ≡ cbc_pad_enciphered key.now iv text.now) }
+fn encrypted(alloc: Global, key: &Key, iv: Block, text: &[u8]) -> Result<Vec<u8>, AllocError>
+    ensures { IfOk result (λ out. out.items ≡ cbc_pad_encrypted key.now iv text.now) }
 {
     let rest = rest_of(text);
     let count = BLOCK_SIZE - rest.len();
     let mut out = Vec::with_capacity(alloc, text.len().saturating_add(count))?;
-    let before = chaining::encipher_blocks(&mut out, key, iv, text)?;
+    let before = chaining::encrypt_blocks(&mut out, key, iv, text)?;
     let last = filled_block(rest, count as u8);
     out.extend_from_slice(&key.encipher(xor_blocks(last, before)))?;
     Ok(out)
 }
 
-fn deciphered(alloc: Global, key: &Key, iv: Block, text: &[u8]) -> Result<Vec<u8>, ModeFault>
-    ensures value { IfOk result (λ out. cbc_pad_enciphered key.now iv out.items ≡ text.now) }
+fn decrypted(alloc: Global, key: &Key, iv: Block, text: &[u8]) -> Result<Vec<u8>, ModeFault>
+    ensures value { IfOk result (λ out. cbc_pad_encrypted key.now iv out.items ≡ text.now) }
     ensures only { IfOk result (λ out. (x : List ℕ) → AreBytes x
-        → cbc_pad_enciphered key.now iv x ≡ text.now → x ≡ out.items) }
+        → cbc_pad_encrypted key.now iv x ≡ text.now → x ≡ out.items) }
     ensures len_range { IsErrOf result ModeFault.LenRange
         ↔ ((length text.now ≡ 0) ⊎ (length text.now % 16 ≢ 0)) }
     ensures bad_pad { IsErrOf result ModeFault.BadPad
-        → (x : List ℕ) → AreBytes x → cbc_pad_enciphered key.now iv x ≢ text.now }
+        → (x : List ℕ) → AreBytes x → cbc_pad_encrypted key.now iv x ≢ text.now }
     ensures faults { IfErr result (λ fault. fault ≢ ModeFault.CounterEnd) }
 {
     if text.is_empty() || text.len() % BLOCK_SIZE != 0 {
         return Err(ModeFault::LenRange);
     }
-    let mut out = chaining::deciphered(alloc, key, iv, text)?;
+    let mut out = chaining::decrypted(alloc, key, iv, text)?;
     let Some(len) = unpadded_len(&out) else {
         return Err(ModeFault::BadPad);
     };
@@ -67,12 +67,12 @@ fn deciphered(alloc: Global, key: &Key, iv: Block, text: &[u8]) -> Result<Vec<u8
     Ok(out)
 }
 
-/// A text of any length under CBC with padding: enciphering pads it with 1 to 16 bytes, each of
-/// which is their number, to whole blocks (RFC 5652, 6.3), and deciphering takes the padding off.
+/// A text of any length under CBC with padding: encrypting pads it with 1 to 16 bytes, each of
+/// which is their number, to whole blocks (RFC 5652, 6.3), and decrypting takes the padding off.
 ///
-/// Enciphering fails only with `Memory`, where the result gets no memory. Deciphering can fail so
+/// Encrypting fails only with `Memory`, where the result gets no memory. Decrypting can fail so
 /// too, with `LenRange` where the length is 0 or no multiple of 16, and with `BadPad` where no
-/// text is enciphered to `text`.
+/// text is encrypted to `text`.
 pub fn cbc_pad(
     alloc: Global,
     key: &Key,
@@ -81,18 +81,18 @@ pub fn cbc_pad(
     text: &[u8],
 ) -> Result<Vec<u8>, ModeFault>
     ensures value { IfOk result (λ out.
-        IsTurned direction (cbc_pad_enciphered key.now iv) text.now out.items) }
+        IsTurned direction (cbc_pad_encrypted key.now iv) text.now out.items) }
     ensures only { IfOk result (λ out. (x : List ℕ) → AreBytes x
-        → IsTurned direction (cbc_pad_enciphered key.now iv) text.now x → x ≡ out.items) }
+        → IsTurned direction (cbc_pad_encrypted key.now iv) text.now x → x ≡ out.items) }
     ensures len_range { IsErrOf result ModeFault.LenRange
-        ↔ ((direction ≡ Direction.Decipher) × ((length text.now ≡ 0) ⊎ (length text.now % 16 ≢ 0))) }
-    ensures bad_pad_direction { IsErrOf result ModeFault.BadPad → direction ≡ Direction.Decipher }
+        ↔ ((direction ≡ Direction.Decrypt) × ((length text.now ≡ 0) ⊎ (length text.now % 16 ≢ 0))) }
+    ensures bad_pad_direction { IsErrOf result ModeFault.BadPad → direction ≡ Direction.Decrypt }
     ensures bad_pad { IsErrOf result ModeFault.BadPad
-        → (x : List ℕ) → AreBytes x → cbc_pad_enciphered key.now iv x ≢ text.now }
+        → (x : List ℕ) → AreBytes x → cbc_pad_encrypted key.now iv x ≢ text.now }
     ensures faults { IfErr result (λ fault. fault ≢ ModeFault.CounterEnd) }
 {
     match direction {
-        Direction::Encipher => Ok(enciphered(alloc, key, iv, text)?),
-        Direction::Decipher => deciphered(alloc, key, iv, text),
+        Direction::Encrypt => Ok(encrypted(alloc, key, iv, text)?),
+        Direction::Decrypt => decrypted(alloc, key, iv, text),
     }
 }

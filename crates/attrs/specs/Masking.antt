@@ -19,7 +19,7 @@ abbrev pub is_masked : List Entry → Bool
 is_masked es = is_secret_key (class_of es) && (flag es attr.Sensitive || not (flag es attr.Extractable))
 
 abbrev pub without : AttrType → List Entry → List Entry
-without t es = filter (λ e. not (e.number == attr_type_number t)) es
+without t es = filter (λ e. not (e.attr_type == attr_type_number t)) es
 
 -- what may be seen: CKA_VALUE_LEN stays
 abbrev pub mask : List Entry → List Entry

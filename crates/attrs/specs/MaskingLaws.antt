@@ -13,34 +13,34 @@ pub attribute-without : (t : AttrType) (es : List Entry) (n : ℕ) → n ≢ att
 attribute-without t [] n other = refl
 attribute-without t (e ∷ es) n other =
     let rest = attribute-without t es n other in
-    let step : (b : Bool) → eqb e.number (attr_type_number t) ≡ b → attribute (cond (not b) (e ∷ without t es) (without t es)) n ≡ attribute (e ∷ es) n =
-    λ b. elim b as (λ c. eqb e.number (attr_type_number t) ≡ c → attribute (cond (not c) (e ∷ without t es) (without t es)) n ≡ attribute (e ∷ es) n) [
-      | true ↦ λ h. let differs : eqb e.number n ≡ false = ne_eqb e.number n (λ same. other (sym same ∙ eqb-true e.number (attr_type_number t) h)) in rest ∙ sym (ap (λ (c : Bool). cond c (Some e.value) (attribute es n)) differs)
-      | false ↦ λ h. ap (λ (o : Option (List ℕ)). cond (eqb e.number n) (Some e.value) o) rest
+    let step : (b : Bool) → eqb e.attr_type (attr_type_number t) ≡ b → attribute (cond (not b) (e ∷ without t es) (without t es)) n ≡ attribute (e ∷ es) n =
+    λ b. elim b as (λ c. eqb e.attr_type (attr_type_number t) ≡ c → attribute (cond (not c) (e ∷ without t es) (without t es)) n ≡ attribute (e ∷ es) n) [
+      | true ↦ λ h. let differs : eqb e.attr_type n ≡ false = ne_eqb e.attr_type n (λ same. other (sym same ∙ eqb-true e.attr_type (attr_type_number t) h)) in rest ∙ sym (ap (λ (c : Bool). cond c (Some e.value) (attribute es n)) differs)
+      | false ↦ λ h. ap (λ (o : Option (List ℕ)). cond (eqb e.attr_type n) (Some e.value) o) rest
     ] in
-    step (eqb e.number (attr_type_number t)) refl
+    step (eqb e.attr_type (attr_type_number t)) refl
 
 without-none : (t : AttrType) (es : List Entry) → attribute (without t es) (attr_type_number t) ≡ None
 without-none t [] = refl
 without-none t (e ∷ es) =
     let rest = without-none t es in
-    let step : (b : Bool) → eqb e.number (attr_type_number t) ≡ b → attribute (cond (not b) (e ∷ without t es) (without t es)) (attr_type_number t) ≡ None =
-    λ b. elim b as (λ c. eqb e.number (attr_type_number t) ≡ c → attribute (cond (not c) (e ∷ without t es) (without t es)) (attr_type_number t) ≡ None) [
+    let step : (b : Bool) → eqb e.attr_type (attr_type_number t) ≡ b → attribute (cond (not b) (e ∷ without t es) (without t es)) (attr_type_number t) ≡ None =
+    λ b. elim b as (λ c. eqb e.attr_type (attr_type_number t) ≡ c → attribute (cond (not c) (e ∷ without t es) (without t es)) (attr_type_number t) ≡ None) [
       | true ↦ λ h. rest
       | false ↦ λ h. ap (λ (c : Bool). cond c (Some e.value) (attribute (without t es) (attr_type_number t))) h ∙ rest
     ] in
-    step (eqb e.number (attr_type_number t)) refl
+    step (eqb e.attr_type (attr_type_number t)) refl
 
 without-without : (t : AttrType) (es : List Entry) → without t (without t es) ≡ without t es
 without-without t [] = refl
 without-without t (e ∷ es) =
     let rest = without-without t es in
-    let step : (b : Bool) → eqb e.number (attr_type_number t) ≡ b → without t (cond (not b) (e ∷ without t es) (without t es)) ≡ cond (not b) (e ∷ without t es) (without t es) =
-    λ b. elim b as (λ c. eqb e.number (attr_type_number t) ≡ c → without t (cond (not c) (e ∷ without t es) (without t es)) ≡ cond (not c) (e ∷ without t es) (without t es)) [
+    let step : (b : Bool) → eqb e.attr_type (attr_type_number t) ≡ b → without t (cond (not b) (e ∷ without t es) (without t es)) ≡ cond (not b) (e ∷ without t es) (without t es) =
+    λ b. elim b as (λ c. eqb e.attr_type (attr_type_number t) ≡ c → without t (cond (not c) (e ∷ without t es) (without t es)) ≡ cond (not c) (e ∷ without t es) (without t es)) [
       | true ↦ λ h. rest
       | false ↦ λ h. ap (λ (c : Bool). cond (not c) (e ∷ without t (without t es)) (without t (without t es))) h ∙ ap (λ (xs : List Entry). e ∷ xs) rest
     ] in
-    step (eqb e.number (attr_type_number t)) refl
+    step (eqb e.attr_type (attr_type_number t)) refl
 
 -- mask leaves each other attribute
 pub attribute-mask : (es : List Entry) (n : ℕ) → n ≢ attr_type_number attr.Value → attribute (mask es) n ≡ attribute es n

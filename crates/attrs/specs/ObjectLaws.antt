@@ -82,7 +82,7 @@ form_small Bytes bytes e = leb-true (length bytes) 1024 e
 
 -- an attribute of an object is small
 pub record IsSmall (e : Entry) : Type 0 where
-  pub number_small : e.number ≤ 1000
+  pub number_small : e.attr_type ≤ 1000
   pub value_small : length e.value ≤ 1024
 
 pub fits_rows-small : (rs : List AttributeRow) (es : List Entry) → fits_rows rs es ≡ true → AllByRecursion IsSmall es × (length es ≡ length rs)
@@ -90,9 +90,9 @@ fits_rows-small [] [] e = (tt, refl)
 fits_rows-small [] (x ∷ es) e = absurd cc
 fits_rows-small (r ∷ rs) [] e = absurd cc
 fits_rows-small (r ∷ rs) (x ∷ es) e =
-    let a = and_parts (eqb x.number (row_number r) && has_form r.form x.value) (fits_rows rs es) e in
-    let b = and_parts (eqb x.number (row_number r)) (has_form r.form x.value) a.0 in
-    let n : x.number ≡ row_number r = eqb-true x.number (row_number r) b.0 in
+    let a = and_parts (eqb x.attr_type (row_number r) && has_form r.form x.value) (fits_rows rs es) e in
+    let b = and_parts (eqb x.attr_type (row_number r)) (has_form r.form x.value) a.0 in
+    let n : x.attr_type ≡ row_number r = eqb-true x.attr_type (row_number r) b.0 in
     let rest = fits_rows-small rs es a.1 in
     ((record { number_small = rw n (attr_type_number-small r.attribute); value_small = form_small r.form x.value b.1 }, rest.0), omega (arith, rest.1))
 
@@ -136,15 +136,15 @@ fits_rows-held [] [] n e held none = cc
 fits_rows-held [] (x ∷ es) n e held none = cc
 fits_rows-held (r ∷ rs) [] n e held none = cc
 fits_rows-held (r ∷ rs) (x ∷ es) n e held none =
-    let a = and_parts (eqb x.number (row_number r) && has_form r.form x.value) (fits_rows rs es) e in
-    let b = and_parts (eqb x.number (row_number r)) (has_form r.form x.value) a.0 in
-    let same : eqb (row_number r) n ≡ eqb x.number n = ap (λ (m : ℕ). eqb m n) (sym (eqb-true x.number (row_number r) b.0)) in
-    let step : (t : Bool) → eqb x.number n ≡ t → (t || list_any (λ r. eqb (row_number r) n) rs) ≡ true → cond t (Some x.value) (attribute es n) ≡ None → ⊥ =
-    λ t. elim t as (λ u. eqb x.number n ≡ u → (u || list_any (λ r. eqb (row_number r) n) rs) ≡ true → cond u (Some x.value) (attribute es n) ≡ None → ⊥) [
+    let a = and_parts (eqb x.attr_type (row_number r) && has_form r.form x.value) (fits_rows rs es) e in
+    let b = and_parts (eqb x.attr_type (row_number r)) (has_form r.form x.value) a.0 in
+    let same : eqb (row_number r) n ≡ eqb x.attr_type n = ap (λ (m : ℕ). eqb m n) (sym (eqb-true x.attr_type (row_number r) b.0)) in
+    let step : (t : Bool) → eqb x.attr_type n ≡ t → (t || list_any (λ r. eqb (row_number r) n) rs) ≡ true → cond t (Some x.value) (attribute es n) ≡ None → ⊥ =
+    λ t. elim t as (λ u. eqb x.attr_type n ≡ u → (u || list_any (λ r. eqb (row_number r) n) rs) ≡ true → cond u (Some x.value) (attribute es n) ≡ None → ⊥) [
       | true ↦ λ h k m. cc
       | false ↦ λ h k m. fits_rows-held rs es n a.1 k m
     ] in
-    step (eqb x.number n) refl (subst (λ (t : Bool). (t || list_any (λ r. eqb (row_number r) n) rs) ≡ true) same held) none
+    step (eqb x.attr_type n) refl (subst (λ (t : Bool). (t || list_any (λ r. eqb (row_number r) n) rs) ≡ true) same held) none
 
 value_in_rows : (c : ObjectClass) → list_any (λ r. eqb (row_number r) (attr_type_number attr.Value)) (rows_of c) ≡ true
 unfolding attribute_table

@@ -17,7 +17,7 @@ use Rattle.attrs.specs.Table.{row_number, rows_of}
 -- The value of an attribute type, in an object or in a template: that of the first entry of the type.
 abbrev pub attribute : List Entry → ℕ → Option (List ℕ)
 attribute [] n = None
-attribute (e ∷ es) n = if e.number == n then Some e.value else attribute es n
+attribute (e ∷ es) n = if e.attr_type == n then Some e.value else attribute es n
 
 abbrev pub attribute_of : List Entry → AttrType → Option (List ℕ)
 attribute_of es t = attribute es (attr_type_number t)
@@ -71,7 +71,7 @@ abbrev pub fits_rows : List AttributeRow → List Entry → Bool
 fits_rows [] [] = true
 fits_rows [] (e ∷ es) = false
 fits_rows (r ∷ rs) [] = false
-fits_rows (r ∷ rs) (e ∷ es) = ((e.number == row_number r) && has_form r.form e.value) && fits_rows rs es
+fits_rows (r ∷ rs) (e ∷ es) = ((e.attr_type == row_number r) && has_form r.form e.value) && fits_rows rs es
 
 -- a value with one of the key type's lengths, and that length as a number
 abbrev pub is_key_value : Option KeyType → Option (List ℕ) → Option ℕ → Bool

@@ -22,15 +22,15 @@ has_new_flags o = flag o attr.Trusted || flag o attr.WrapWithTrusted
 -- an attribute is put where it stands by number
 abbrev pub placed : Entry → List Entry → List Entry
 placed e [] = e ∷ []
-placed e (x ∷ xs) = if nat_lt e.number x.number then e ∷ x ∷ xs else x ∷ placed e xs
+placed e (x ∷ xs) = if nat_lt e.attr_type x.attr_type then e ∷ x ∷ xs else x ∷ placed e xs
 
 -- and so many stand before it
-abbrev pub place_in : List Entry → ℕ → ℕ
-place_in [] n = 0
-place_in (x ∷ xs) n = if nat_lt n x.number then 0 else place_in xs n + 1
+abbrev pub index_in : List Entry → ℕ → ℕ
+index_in [] n = 0
+index_in (x ∷ xs) n = if nat_lt n x.attr_type then 0 else index_in xs n + 1
 
 abbrev pub false_of : AttrType → Entry
-false_of t = record { number = attr_type_number t; value = 0 ∷ [] }
+false_of t = record { attr_type = attr_type_number t; value = 0 ∷ [] }
 
 -- a key gets both attributes
 abbrev pub renewed_of : Option ObjectClass → List Entry → List Entry

@@ -23,7 +23,7 @@ use Rattle.attrs.specs.Masking.{without}
 use Rattle.attrs.specs.MaskingLaws.{attribute-without}
 use Rattle.attrs.specs.Stored.{stored_entries, if_object, Decodes}
 use Rattle.attrs.specs.StoredLaws.{IsBytes-rest, if_object_some, small_fit, stored_entries_canonical}
-use Rattle.attrs.specs.OldStored.{old_form, has_new_flags, placed, place_in, false_of, renewed_of, renewed, if_renewed, object_old_stored}
+use Rattle.attrs.specs.OldStored.{old_form, has_new_flags, placed, index_in, false_of, renewed_of, renewed, if_renewed, object_old_stored}
 
 insert-by : (e x : Entry) (xs rest : List Entry) (n : ℕ) (b : Bool) → insert xs n e ≡ rest → insert (x ∷ xs) (cond b 0 (n + 1)) e ≡ cond b (e ∷ x ∷ xs) (x ∷ rest)
 insert-by e x xs rest n true is = refl
@@ -31,23 +31,23 @@ insert-by e x xs rest n false is =
     let one : suc n ≡ n + 1 = omega arith in
     subst (λ m. insert (x ∷ xs) m e ≡ x ∷ rest) one (ap (λ ys. x ∷ ys) is)
 
-pub insert-placed : (e : Entry) (es : List Entry) → insert es (place_in es e.number) e ≡ placed e es
+pub insert-placed : (e : Entry) (es : List Entry) → insert es (index_in es e.attr_type) e ≡ placed e es
 insert-placed e [] = refl
-insert-placed e (x ∷ xs) = insert-by e x xs (placed e xs) (place_in xs e.number) (ltb e.number x.number) (insert-placed e xs)
+insert-placed e (x ∷ xs) = insert-by e x xs (placed e xs) (index_in xs e.attr_type) (ltb e.attr_type x.attr_type) (insert-placed e xs)
 
 -- ---- rising numbers
 
 abbrev all_after : ℕ → List Entry → Bool
 all_after n [] = true
-all_after n (x ∷ xs) = ltb n x.number && all_after n xs
+all_after n (x ∷ xs) = ltb n x.attr_type && all_after n xs
 
 abbrev is_rising : List Entry → Bool
 is_rising [] = true
-is_rising (x ∷ xs) = all_after x.number xs && is_rising xs
+is_rising (x ∷ xs) = all_after x.attr_type xs && is_rising xs
 
 abbrev lacks : ℕ → List Entry → Bool
 lacks n [] = true
-lacks n (x ∷ xs) = not (eqb x.number n) && lacks n xs
+lacks n (x ∷ xs) = not (eqb x.attr_type n) && lacks n xs
 
 abbrev rows_after : ℕ → List AttributeRow → Bool
 rows_after n [] = true
@@ -78,33 +78,33 @@ fits_rows-after n [] [] e after = refl
 fits_rows-after n [] (x ∷ es) e after = absurd cc
 fits_rows-after n (r ∷ rs) [] e after = refl
 fits_rows-after n (r ∷ rs) (x ∷ es) e after =
-    let a = and_parts (eqb x.number (row_number r) && has_form r.form x.value) (fits_rows rs es) e in
-    let b = and_parts (eqb x.number (row_number r)) (has_form r.form x.value) a.0 in
-    let is : x.number ≡ row_number r = eqb-true x.number (row_number r) b.0 in
+    let a = and_parts (eqb x.attr_type (row_number r) && has_form r.form x.value) (fits_rows rs es) e in
+    let b = and_parts (eqb x.attr_type (row_number r)) (has_form r.form x.value) a.0 in
+    let is : x.attr_type ≡ row_number r = eqb-true x.attr_type (row_number r) b.0 in
     let h = and_parts (ltb n (row_number r)) (rows_after n rs) after in
-    both (ltb n x.number) (all_after n es) (ap (ltb n) is ∙ h.0) (fits_rows-after n rs es a.1 h.1)
+    both (ltb n x.attr_type) (all_after n es) (ap (ltb n) is ∙ h.0) (fits_rows-after n rs es a.1 h.1)
 
 fits_rows-rise : (rs : List AttributeRow) (es : List Entry) → fits_rows rs es ≡ true → rows_rise rs ≡ true → is_rising es ≡ true
 fits_rows-rise [] [] e rise = refl
 fits_rows-rise [] (x ∷ es) e rise = absurd cc
 fits_rows-rise (r ∷ rs) [] e rise = refl
 fits_rows-rise (r ∷ rs) (x ∷ es) e rise =
-    let a = and_parts (eqb x.number (row_number r) && has_form r.form x.value) (fits_rows rs es) e in
-    let b = and_parts (eqb x.number (row_number r)) (has_form r.form x.value) a.0 in
-    let is : x.number ≡ row_number r = eqb-true x.number (row_number r) b.0 in
+    let a = and_parts (eqb x.attr_type (row_number r) && has_form r.form x.value) (fits_rows rs es) e in
+    let b = and_parts (eqb x.attr_type (row_number r)) (has_form r.form x.value) a.0 in
+    let is : x.attr_type ≡ row_number r = eqb-true x.attr_type (row_number r) b.0 in
     let h = and_parts (rows_after (row_number r) rs) (rows_rise rs) rise in
-    both (all_after x.number es) (is_rising es) (ap (λ n. all_after n es) is ∙ fits_rows-after (row_number r) rs es a.1 h.0) (fits_rows-rise rs es a.1 h.1)
+    both (all_after x.attr_type es) (is_rising es) (ap (λ n. all_after n es) is ∙ fits_rows-after (row_number r) rs es a.1 h.0) (fits_rows-rise rs es a.1 h.1)
 
 fits_rows-lacks : (n : ℕ) (rs : List AttributeRow) (es : List Entry) → fits_rows rs es ≡ true → rows_lack n rs ≡ true → lacks n es ≡ true
 fits_rows-lacks n [] [] e lack = refl
 fits_rows-lacks n [] (x ∷ es) e lack = absurd cc
 fits_rows-lacks n (r ∷ rs) [] e lack = refl
 fits_rows-lacks n (r ∷ rs) (x ∷ es) e lack =
-    let a = and_parts (eqb x.number (row_number r) && has_form r.form x.value) (fits_rows rs es) e in
-    let b = and_parts (eqb x.number (row_number r)) (has_form r.form x.value) a.0 in
-    let is : x.number ≡ row_number r = eqb-true x.number (row_number r) b.0 in
+    let a = and_parts (eqb x.attr_type (row_number r) && has_form r.form x.value) (fits_rows rs es) e in
+    let b = and_parts (eqb x.attr_type (row_number r)) (has_form r.form x.value) a.0 in
+    let is : x.attr_type ≡ row_number r = eqb-true x.attr_type (row_number r) b.0 in
     let h = and_parts (not (eqb (row_number r) n)) (rows_lack n rs) lack in
-    both (not (eqb x.number n)) (lacks n es) (ap (λ k. not (eqb k n)) is ∙ h.0) (fits_rows-lacks n rs es a.1 h.1)
+    both (not (eqb x.attr_type n)) (lacks n es) (ap (λ k. not (eqb k n)) is ∙ h.0) (fits_rows-lacks n rs es a.1 h.1)
 
 -- ---- attributes that stand before all others, or are not there
 
@@ -117,28 +117,28 @@ after-other n m before = let h = ltb-true n m before in ne_eqb m n (λ same. abs
 without-after : (t : AttrType) (es : List Entry) → all_after (attr_type_number t) es ≡ true → without t es ≡ es
 without-after t [] after = refl
 without-after t (x ∷ xs) after =
-    let h = and_parts (ltb (attr_type_number t) x.number) (all_after (attr_type_number t) xs) after in
+    let h = and_parts (ltb (attr_type_number t) x.attr_type) (all_after (attr_type_number t) xs) after in
     let rest = without-after t xs h.1 in
-    rw (after-other (attr_type_number t) x.number h.0, rest) refl
+    rw (after-other (attr_type_number t) x.attr_type h.0, rest) refl
 
 without-lacks : (t : AttrType) (es : List Entry) → lacks (attr_type_number t) es ≡ true → without t es ≡ es
 without-lacks t [] lack = refl
 without-lacks t (x ∷ xs) lack =
-    let h = and_parts (not (eqb x.number (attr_type_number t))) (lacks (attr_type_number t) xs) lack in
+    let h = and_parts (not (eqb x.attr_type (attr_type_number t))) (lacks (attr_type_number t) xs) lack in
     let rest = without-lacks t xs h.1 in
     rw (h.0, rest) refl
 
 lacks-after : (n : ℕ) (es : List Entry) → all_after n es ≡ true → lacks n es ≡ true
 lacks-after n [] after = refl
 lacks-after n (x ∷ xs) after =
-    let h = and_parts (ltb n x.number) (all_after n xs) after in
-    both (not (eqb x.number n)) (lacks n xs) (ap not (after-other n x.number h.0)) (lacks-after n xs h.1)
+    let h = and_parts (ltb n x.attr_type) (all_after n xs) after in
+    both (not (eqb x.attr_type n)) (lacks n xs) (ap not (after-other n x.attr_type h.0)) (lacks-after n xs h.1)
 
 attribute-lacks : (n : ℕ) (es : List Entry) → lacks n es ≡ true → attribute es n ≡ None
 attribute-lacks n [] lack = refl
 attribute-lacks n (x ∷ xs) lack =
-    let h = and_parts (not (eqb x.number n)) (lacks n xs) lack in
-    step (eqb x.number n) h.0 (attribute-lacks n xs h.1) where
+    let h = and_parts (not (eqb x.attr_type n)) (lacks n xs) lack in
+    step (eqb x.attr_type n) h.0 (attribute-lacks n xs h.1) where
       step : (b : Bool) → not b ≡ true → attribute xs n ≡ None → cond b (Some x.value) (attribute xs n) ≡ None
       step true other rest = absurd cc
       step false other rest = rest
@@ -147,10 +147,10 @@ attribute-lacks n (x ∷ xs) lack =
 attribute-above : (m n : ℕ) (v : List ℕ) (es : List Entry) → all_after m es ≡ true → attribute es n ≡ Some v → m < n
 attribute-above m n v [] after is = absurd cc
 attribute-above m n v (x ∷ xs) after is =
-    let h = and_parts (ltb m x.number) (all_after m xs) after in
-    step (eqb x.number n) refl (attribute-above m n v xs h.1) h.0 is where
-      step : (b : Bool) → eqb x.number n ≡ b → (attribute xs n ≡ Some v → m < n) → ltb m x.number ≡ true → cond b (Some x.value) (attribute xs n) ≡ Some v → m < n
-      step true same rest before is = subst (λ k. m < k) (eqb-true x.number n same) (ltb-true m x.number before)
+    let h = and_parts (ltb m x.attr_type) (all_after m xs) after in
+    step (eqb x.attr_type n) refl (attribute-above m n v xs h.1) h.0 is where
+      step : (b : Bool) → eqb x.attr_type n ≡ b → (attribute xs n ≡ Some v → m < n) → ltb m x.attr_type ≡ true → cond b (Some x.value) (attribute xs n) ≡ Some v → m < n
+      step true same rest before is = subst (λ k. m < k) (eqb-true x.attr_type n same) (ltb-true m x.attr_type before)
       step false other rest before is = rest is
 
 -- ---- an attribute put in its place
@@ -161,102 +161,102 @@ not-before n m less = grind (arith, nat_tests, less)
 some-value : (x y : List ℕ) → Some x ≡ Some y → x ≡ y
 some-value x y is = cc
 
-entry-is : (x : Entry) (n : ℕ) (v : List ℕ) → x.number ≡ n → x.value ≡ v → record { number = n; value = v } ≡ x
-entry-is x n v same value i = record { number = sym same i; value = sym value i }
+entry-is : (x : Entry) (n : ℕ) (v : List ℕ) → x.attr_type ≡ n → x.value ≡ v → record { attr_type = n; value = v } ≡ x
+entry-is x n v same value i = record { attr_type = sym same i; value = sym value i }
 
-placed-after : (e : Entry) (es : List Entry) → all_after e.number es ≡ true → placed e es ≡ e ∷ es
+placed-after : (e : Entry) (es : List Entry) → all_after e.attr_type es ≡ true → placed e es ≡ e ∷ es
 placed-after e [] after = refl
 placed-after e (x ∷ xs) after =
-    let h = and_parts (ltb e.number x.number) (all_after e.number xs) after in
+    let h = and_parts (ltb e.attr_type x.attr_type) (all_after e.attr_type xs) after in
     rw (h.0) refl
 
 -- it takes the place that it was taken from
-placed-without : (t : AttrType) (v : List ℕ) (es : List Entry) → is_rising es ≡ true → attribute es (attr_type_number t) ≡ Some v → placed (record { number = attr_type_number t; value = v }) (without t es) ≡ es
+placed-without : (t : AttrType) (v : List ℕ) (es : List Entry) → is_rising es ≡ true → attribute es (attr_type_number t) ≡ Some v → placed (record { attr_type = attr_type_number t; value = v }) (without t es) ≡ es
 placed-without t v [] rise is = absurd cc
 placed-without t v (x ∷ xs) rise is =
     let n = attr_type_number t in
-    let h = and_parts (all_after x.number xs) (is_rising xs) rise in
-    step (eqb x.number n) refl h.0 (placed-without t v xs h.1) is where
-      own : (same : x.number ≡ attr_type_number t) → all_after x.number xs ≡ true → Some x.value ≡ Some v → placed (record { number = attr_type_number t; value = v }) (without t xs) ≡ x ∷ xs
+    let h = and_parts (all_after x.attr_type xs) (is_rising xs) rise in
+    step (eqb x.attr_type n) refl h.0 (placed-without t v xs h.1) is where
+      own : (same : x.attr_type ≡ attr_type_number t) → all_after x.attr_type xs ≡ true → Some x.value ≡ Some v → placed (record { attr_type = attr_type_number t; value = v }) (without t xs) ≡ x ∷ xs
       own same after is =
           let after : all_after (attr_type_number t) xs ≡ true = subst (λ k. all_after k xs ≡ true) same after in
           let value : x.value ≡ v = some-value x.value v is in
-          ap (λ ys. placed (record { number = attr_type_number t; value = v }) ys) (without-after t xs after) ∙ placed-after (record { number = attr_type_number t; value = v }) xs after ∙ ap (λ e. e ∷ xs) (entry-is x (attr_type_number t) v same value)
+          ap (λ ys. placed (record { attr_type = attr_type_number t; value = v }) ys) (without-after t xs after) ∙ placed-after (record { attr_type = attr_type_number t; value = v }) xs after ∙ ap (λ e. e ∷ xs) (entry-is x (attr_type_number t) v same value)
 
-      step : (b : Bool) → eqb x.number (attr_type_number t) ≡ b → all_after x.number xs ≡ true → (attribute xs (attr_type_number t) ≡ Some v → placed (record { number = attr_type_number t; value = v }) (without t xs) ≡ xs) → cond b (Some x.value) (attribute xs (attr_type_number t)) ≡ Some v → placed (record { number = attr_type_number t; value = v }) (cond (not b) (x ∷ without t xs) (without t xs)) ≡ x ∷ xs
-      step true same after rest is = own (eqb-true x.number (attr_type_number t) same) after is
+      step : (b : Bool) → eqb x.attr_type (attr_type_number t) ≡ b → all_after x.attr_type xs ≡ true → (attribute xs (attr_type_number t) ≡ Some v → placed (record { attr_type = attr_type_number t; value = v }) (without t xs) ≡ xs) → cond b (Some x.value) (attribute xs (attr_type_number t)) ≡ Some v → placed (record { attr_type = attr_type_number t; value = v }) (cond (not b) (x ∷ without t xs) (without t xs)) ≡ x ∷ xs
+      step true same after rest is = own (eqb-true x.attr_type (attr_type_number t) same) after is
       step false other after rest is =
-          let above = attribute-above x.number (attr_type_number t) v xs after is in
-          let not_before : ltb (attr_type_number t) x.number ≡ false = not-before (attr_type_number t) x.number above in
+          let above = attribute-above x.attr_type (attr_type_number t) v xs after is in
+          let not_before : ltb (attr_type_number t) x.attr_type ≡ false = not-before (attr_type_number t) x.attr_type above in
           rw (not_before) (ap (λ ys. x ∷ ys) (rest is))
 
 -- and without it the others are as they were
-without-placed : (t : AttrType) (v : List ℕ) (es : List Entry) → without t (placed (record { number = attr_type_number t; value = v }) es) ≡ without t es
+without-placed : (t : AttrType) (v : List ℕ) (es : List Entry) → without t (placed (record { attr_type = attr_type_number t; value = v }) es) ≡ without t es
 without-placed t v [] = rw (eqb-same (attr_type_number t)) refl
-without-placed t v (x ∷ xs) = step (ltb (attr_type_number t) x.number) (without-placed t v xs) where
-  step : (b : Bool) → without t (placed (record { number = attr_type_number t; value = v }) xs) ≡ without t xs → without t (cond b (record { number = attr_type_number t; value = v } ∷ x ∷ xs) (x ∷ placed (record { number = attr_type_number t; value = v }) xs)) ≡ without t (x ∷ xs)
+without-placed t v (x ∷ xs) = step (ltb (attr_type_number t) x.attr_type) (without-placed t v xs) where
+  step : (b : Bool) → without t (placed (record { attr_type = attr_type_number t; value = v }) xs) ≡ without t xs → without t (cond b (record { attr_type = attr_type_number t; value = v } ∷ x ∷ xs) (x ∷ placed (record { attr_type = attr_type_number t; value = v }) xs)) ≡ without t (x ∷ xs)
   step true rest = rw (eqb-same (attr_type_number t)) refl
-  step false rest = ap (λ ys. cond (not (eqb x.number (attr_type_number t))) (x ∷ ys) ys) rest
+  step false rest = ap (λ ys. cond (not (eqb x.attr_type (attr_type_number t))) (x ∷ ys) ys) rest
 
-after-placed : (m : ℕ) (e : Entry) (es : List Entry) → all_after m (placed e es) ≡ true → (all_after m es ≡ true) × (ltb m e.number ≡ true)
-after-placed m e [] after = (refl, (and_parts (ltb m e.number) true after).0)
-after-placed m e (x ∷ xs) after = step (ltb e.number x.number) (after-placed m e xs) after where
-  step : (b : Bool) → (all_after m (placed e xs) ≡ true → (all_after m xs ≡ true) × (ltb m e.number ≡ true)) → all_after m (cond b (e ∷ x ∷ xs) (x ∷ placed e xs)) ≡ true → (all_after m (x ∷ xs) ≡ true) × (ltb m e.number ≡ true)
-  step true rest after = let h = and_parts (ltb m e.number) (all_after m (x ∷ xs)) after in (h.1, h.0)
+after-placed : (m : ℕ) (e : Entry) (es : List Entry) → all_after m (placed e es) ≡ true → (all_after m es ≡ true) × (ltb m e.attr_type ≡ true)
+after-placed m e [] after = (refl, (and_parts (ltb m e.attr_type) true after).0)
+after-placed m e (x ∷ xs) after = step (ltb e.attr_type x.attr_type) (after-placed m e xs) after where
+  step : (b : Bool) → (all_after m (placed e xs) ≡ true → (all_after m xs ≡ true) × (ltb m e.attr_type ≡ true)) → all_after m (cond b (e ∷ x ∷ xs) (x ∷ placed e xs)) ≡ true → (all_after m (x ∷ xs) ≡ true) × (ltb m e.attr_type ≡ true)
+  step true rest after = let h = and_parts (ltb m e.attr_type) (all_after m (x ∷ xs)) after in (h.1, h.0)
   step false rest after =
-      let h = and_parts (ltb m x.number) (all_after m (placed e xs)) after in
+      let h = and_parts (ltb m x.attr_type) (all_after m (placed e xs)) after in
       let r = rest h.1 in
-      (both (ltb m x.number) (all_after m xs) h.0 r.0, r.1)
+      (both (ltb m x.attr_type) (all_after m xs) h.0 r.0, r.1)
 
 -- where all numbers rise with it, they rise without it, and none is its own
-rising-placed : (e : Entry) (es : List Entry) → is_rising (placed e es) ≡ true → (is_rising es ≡ true) × (lacks e.number es ≡ true)
+rising-placed : (e : Entry) (es : List Entry) → is_rising (placed e es) ≡ true → (is_rising es ≡ true) × (lacks e.attr_type es ≡ true)
 rising-placed e [] rise = (refl, refl)
-rising-placed e (x ∷ xs) rise = step (ltb e.number x.number) (rising-placed e xs) rise where
-  step : (b : Bool) → (is_rising (placed e xs) ≡ true → (is_rising xs ≡ true) × (lacks e.number xs ≡ true)) → is_rising (cond b (e ∷ x ∷ xs) (x ∷ placed e xs)) ≡ true → (is_rising (x ∷ xs) ≡ true) × (lacks e.number (x ∷ xs) ≡ true)
-  step true rest rise = let h = and_parts (all_after e.number (x ∷ xs)) (is_rising (x ∷ xs)) rise in (h.1, lacks-after e.number (x ∷ xs) h.0)
+rising-placed e (x ∷ xs) rise = step (ltb e.attr_type x.attr_type) (rising-placed e xs) rise where
+  step : (b : Bool) → (is_rising (placed e xs) ≡ true → (is_rising xs ≡ true) × (lacks e.attr_type xs ≡ true)) → is_rising (cond b (e ∷ x ∷ xs) (x ∷ placed e xs)) ≡ true → (is_rising (x ∷ xs) ≡ true) × (lacks e.attr_type (x ∷ xs) ≡ true)
+  step true rest rise = let h = and_parts (all_after e.attr_type (x ∷ xs)) (is_rising (x ∷ xs)) rise in (h.1, lacks-after e.attr_type (x ∷ xs) h.0)
   step false rest rise =
-      let h = and_parts (all_after x.number (placed e xs)) (is_rising (placed e xs)) rise in
-      let a = after-placed x.number e xs h.0 in
+      let h = and_parts (all_after x.attr_type (placed e xs)) (is_rising (placed e xs)) rise in
+      let a = after-placed x.attr_type e xs h.0 in
       let r = rest h.1 in
-      let less = ltb-true x.number e.number a.1 in
-      (both (all_after x.number xs) (is_rising xs) a.0 r.0, both (not (eqb x.number e.number)) (lacks e.number xs) (ap not (ne_eqb x.number e.number (λ same. absurd (omega (arith, less, same))))) r.1)
+      let less = ltb-true x.attr_type e.attr_type a.1 in
+      (both (all_after x.attr_type xs) (is_rising xs) a.0 r.0, both (not (eqb x.attr_type e.attr_type)) (lacks e.attr_type xs) (ap not (ne_eqb x.attr_type e.attr_type (λ same. absurd (omega (arith, less, same))))) r.1)
 
-attribute-placed : (e : Entry) (es : List Entry) (m : ℕ) → e.number ≢ m → attribute (placed e es) m ≡ attribute es m
-attribute-placed e [] m other = rw (ne_eqb e.number m other) refl
-attribute-placed e (x ∷ xs) m other = step (ltb e.number x.number) (attribute-placed e xs m other) where
+attribute-placed : (e : Entry) (es : List Entry) (m : ℕ) → e.attr_type ≢ m → attribute (placed e es) m ≡ attribute es m
+attribute-placed e [] m other = rw (ne_eqb e.attr_type m other) refl
+attribute-placed e (x ∷ xs) m other = step (ltb e.attr_type x.attr_type) (attribute-placed e xs m other) where
   step : (b : Bool) → attribute (placed e xs) m ≡ attribute xs m → attribute (cond b (e ∷ x ∷ xs) (x ∷ placed e xs)) m ≡ attribute (x ∷ xs) m
-  step true rest = rw (ne_eqb e.number m other) refl
-  step false rest = ap (λ o. cond (eqb x.number m) (Some x.value) o) rest
+  step true rest = rw (ne_eqb e.attr_type m other) refl
+  step false rest = ap (λ o. cond (eqb x.attr_type m) (Some x.value) o) rest
 
 not-true : (b : Bool) → not b ≡ true → b ≡ false
 not-true true is = absurd cc
 not-true false is = refl
 
-attribute-placed-own : (e : Entry) (es : List Entry) → lacks e.number es ≡ true → attribute (placed e es) e.number ≡ Some e.value
-attribute-placed-own e [] lack = rw (eqb-same e.number) refl
+attribute-placed-own : (e : Entry) (es : List Entry) → lacks e.attr_type es ≡ true → attribute (placed e es) e.attr_type ≡ Some e.value
+attribute-placed-own e [] lack = rw (eqb-same e.attr_type) refl
 attribute-placed-own e (x ∷ xs) lack =
-    let h = and_parts (not (eqb x.number e.number)) (lacks e.number xs) lack in
-    step (ltb e.number x.number) (not-true (eqb x.number e.number) h.0) (attribute-placed-own e xs h.1) where
-      step : (b : Bool) → eqb x.number e.number ≡ false → attribute (placed e xs) e.number ≡ Some e.value → attribute (cond b (e ∷ x ∷ xs) (x ∷ placed e xs)) e.number ≡ Some e.value
-      step true other rest = rw (eqb-same e.number) refl
+    let h = and_parts (not (eqb x.attr_type e.attr_type)) (lacks e.attr_type xs) lack in
+    step (ltb e.attr_type x.attr_type) (not-true (eqb x.attr_type e.attr_type) h.0) (attribute-placed-own e xs h.1) where
+      step : (b : Bool) → eqb x.attr_type e.attr_type ≡ false → attribute (placed e xs) e.attr_type ≡ Some e.value → attribute (cond b (e ∷ x ∷ xs) (x ∷ placed e xs)) e.attr_type ≡ Some e.value
+      step true other rest = rw (eqb-same e.attr_type) refl
       step false other rest = rw (other) rest
 
 after-without : (m : ℕ) (t : AttrType) (es : List Entry) → all_after m es ≡ true → all_after m (without t es) ≡ true
 after-without m t [] after = refl
 after-without m t (x ∷ xs) after =
-    let h = and_parts (ltb m x.number) (all_after m xs) after in
-    step (not (eqb x.number (attr_type_number t))) h.0 (after-without m t xs h.1) where
-      step : (b : Bool) → ltb m x.number ≡ true → all_after m (without t xs) ≡ true → all_after m (cond b (x ∷ without t xs) (without t xs)) ≡ true
-      step true before rest = both (ltb m x.number) (all_after m (without t xs)) before rest
+    let h = and_parts (ltb m x.attr_type) (all_after m xs) after in
+    step (not (eqb x.attr_type (attr_type_number t))) h.0 (after-without m t xs h.1) where
+      step : (b : Bool) → ltb m x.attr_type ≡ true → all_after m (without t xs) ≡ true → all_after m (cond b (x ∷ without t xs) (without t xs)) ≡ true
+      step true before rest = both (ltb m x.attr_type) (all_after m (without t xs)) before rest
       step false before rest = rest
 
 rising-without : (t : AttrType) (es : List Entry) → is_rising es ≡ true → is_rising (without t es) ≡ true
 rising-without t [] rise = refl
 rising-without t (x ∷ xs) rise =
-    let h = and_parts (all_after x.number xs) (is_rising xs) rise in
-    step (not (eqb x.number (attr_type_number t))) (after-without x.number t xs h.0) (rising-without t xs h.1) where
-      step : (b : Bool) → all_after x.number (without t xs) ≡ true → is_rising (without t xs) ≡ true → is_rising (cond b (x ∷ without t xs) (without t xs)) ≡ true
-      step true after rest = both (all_after x.number (without t xs)) (is_rising (without t xs)) after rest
+    let h = and_parts (all_after x.attr_type xs) (is_rising xs) rise in
+    step (not (eqb x.attr_type (attr_type_number t))) (after-without x.attr_type t xs h.0) (rising-without t xs h.1) where
+      step : (b : Bool) → all_after x.attr_type (without t xs) ≡ true → is_rising (without t xs) ≡ true → is_rising (cond b (x ∷ without t xs) (without t xs)) ≡ true
+      step true after rest = both (all_after x.attr_type (without t xs)) (is_rising (without t xs)) after rest
       step false after rest = rest
 
 -- ---- what the rows say of an attribute
@@ -270,10 +270,10 @@ fits_rows-form : (rs : List AttributeRow) (es : List Entry) (n : ℕ) (f : Form)
 fits_rows-form [] es n f e first = absurd cc
 fits_rows-form (r ∷ rs) [] n f e first = absurd cc
 fits_rows-form (r ∷ rs) (x ∷ es) n f e first =
-    let a = and_parts (eqb x.number (row_number r) && has_form r.form x.value) (fits_rows rs es) e in
-    let b = and_parts (eqb x.number (row_number r)) (has_form r.form x.value) a.0 in
-    let same : eqb (row_number r) n ≡ eqb x.number n = ap (λ (m : ℕ). eqb m n) (sym (eqb-true x.number (row_number r) b.0)) in
-    step (eqb x.number n) (fits_rows-form rs es n f a.1) b.1 (subst (λ (c : Bool). cond c (Some r.form) (first_form rs n) ≡ Some f) same first) where
+    let a = and_parts (eqb x.attr_type (row_number r) && has_form r.form x.value) (fits_rows rs es) e in
+    let b = and_parts (eqb x.attr_type (row_number r)) (has_form r.form x.value) a.0 in
+    let same : eqb (row_number r) n ≡ eqb x.attr_type n = ap (λ (m : ℕ). eqb m n) (sym (eqb-true x.attr_type (row_number r) b.0)) in
+    step (eqb x.attr_type n) (fits_rows-form rs es n f a.1) b.1 (subst (λ (c : Bool). cond c (Some r.form) (first_form rs n) ≡ Some f) same first) where
       own : (g : Form) → has_form g x.value ≡ true → Some g ≡ Some f → has_form f x.value ≡ true
       own g fits is = subst (λ o. form_of o x.value ≡ true) is fits
 
@@ -328,7 +328,7 @@ class_of-stripped : (o : List Entry) → class_of (stripped o) ≡ class_of o
 class_of-stripped o =
     ap (λ (v : Option (List ℕ)). class_at (number_of v)) (attribute-without attr.Trusted (without attr.WrapWithTrusted o) (attr_type_number attr.Class) (λ e. absurd (omega (arith, e))) ∙ attribute-without attr.WrapWithTrusted o (attr_type_number attr.Class) (λ e. absurd (omega (arith, e))))
 
-class_of-placed : (e : Entry) (es : List Entry) → e.number ≢ attr_type_number attr.Class → class_of (placed e es) ≡ class_of es
+class_of-placed : (e : Entry) (es : List Entry) → e.attr_type ≢ attr_type_number attr.Class → class_of (placed e es) ≡ class_of es
 class_of-placed e es other = ap (λ (v : Option (List ℕ)). class_at (number_of v)) (attribute-placed e es (attr_type_number attr.Class) other)
 
 -- data have neither attribute
@@ -360,7 +360,7 @@ renewed-stripped o SecretKey is rows old = ap (λ c. renewed_of c (stripped o)) 
 
 small-without : (t : AttrType) (es : List Entry) → AllByRecursion IsSmall es → AllByRecursion IsSmall (without t es) × (length (without t es) ≤ length es)
 small-without t [] small = (tt, omega arith)
-small-without t (x ∷ xs) small = step (not (eqb x.number (attr_type_number t))) (small-without t xs small.1) where
+small-without t (x ∷ xs) small = step (not (eqb x.attr_type (attr_type_number t))) (small-without t xs small.1) where
   step : (b : Bool) → AllByRecursion IsSmall (without t xs) × (length (without t xs) ≤ length xs) → AllByRecursion IsSmall (cond b (x ∷ without t xs) (without t xs)) × (length (cond b (x ∷ without t xs) (without t xs)) ≤ suc (length xs))
   step true rest = ((small.0, rest.0), omega (arith, rest.1))
   step false rest = (rest.0, omega (arith, rest.1))

@@ -9,7 +9,7 @@ use Rattle.std.proofs.lemmas.Slice.Eq.{bytes_eq-Decides, slice_eq-Decides}
 use Rattle.ck_types.specs.declared.entry.Entry.{Entry}
 
 abbrev pub same_entry : Entry → Entry → Bool
-same_entry e f = (e.number == f.number) && bytes_eq e.value f.value
+same_entry e f = (e.attr_type == f.attr_type) && bytes_eq e.value f.value
 
 abbrev pub same_object : List Entry → List Entry → Bool
 same_object x y = pointwise same_entry x y
@@ -18,10 +18,10 @@ same_object x y = pointwise same_entry x y
 
 same_entry-Decides : (e f : Entry) → Decides (same_entry e f) (e ≡ f)
 same_entry-Decides e f =
-    Decides-like {P = (e.number ≡ f.number) × (e.value ≡ f.value)} {Q = e ≡ f} (same_entry e f)
-    (λ p i. record { number = p.0 i; value = p.1 i })
-    (λ p. (ap (λ (x : Entry). x.number) p, ap (λ (x : Entry). x.value) p))
-    (Decides-and (e.number == f.number) (bytes_eq e.value f.value) (Decides-eqb e.number f.number) (bytes_eq-Decides e.value f.value))
+    Decides-like {P = (e.attr_type ≡ f.attr_type) × (e.value ≡ f.value)} {Q = e ≡ f} (same_entry e f)
+    (λ p i. record { attr_type = p.0 i; value = p.1 i })
+    (λ p. (ap (λ (x : Entry). x.attr_type) p, ap (λ (x : Entry). x.value) p))
+    (Decides-and (e.attr_type == f.attr_type) (bytes_eq e.value f.value) (Decides-eqb e.attr_type f.attr_type) (bytes_eq-Decides e.value f.value))
 
 pub same_object-Decides : (x y : List Entry) → Decides (same_object x y) (x ≡ y)
 same_object-Decides x y = slice_eq-Decides {E = same_entry} same_entry-Decides x y (same_object x y) refl

@@ -8,7 +8,7 @@ use Rattle.attrs.specs.declared.fault.DecodeFault.TheVariants as faults
 use Rattle.attrs.specs.Objects.{is_object}
 
 abbrev pub stored_entry : Format Entry
-stored_entry = mapped (pair number32 byte_string) (λ p. record { number = p.0; value = p.1 }) (λ e. (e.number, e.value))
+stored_entry = mapped (pair number32 byte_string) (λ p. record { attr_type = p.0; value = p.1 }) (λ e. (e.attr_type, e.value))
 
 abbrev pub stored_entries : Format (List Entry)
 stored_entries = counted number16 stored_entry

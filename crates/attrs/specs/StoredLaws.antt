@@ -17,7 +17,7 @@ use Rattle.attrs.specs.Stored.{stored_entry, stored_entries, stored_form, object
 
 stored_entry_canonical : IsCanonical stored_entry
 stored_entry_canonical =
-    mapped_canonical (pair number32 byte_string) (λ p. record { number = p.0; value = p.1 }) (λ e. (e.number, e.value)) (λ x. refl) (λ y. refl)
+    mapped_canonical (pair number32 byte_string) (λ p. record { attr_type = p.0; value = p.1 }) (λ e. (e.attr_type, e.value)) (λ x. refl) (λ y. refl)
     (pair_canonical number32 byte_string number32_canonical byte_string_canonical)
 
 pub stored_entries_canonical : IsCanonical stored_entries

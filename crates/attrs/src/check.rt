@@ -41,7 +41,7 @@ pub fn find_attribute(entries: &[Entry], number: u64) -> Option<&[u8]>
     let [entry, others @ ..] = entries else {
         return None;
     };
-    if entry.number == number {
+    if entry.attr_type == number {
         return Some(entry.value.as_slice());
     }
     find_attribute(others, number)
@@ -105,7 +105,7 @@ fn fits(class: ObjectClass, rows: &[AttributeRow], entries: &[Entry]) -> bool
     let [entry, entries @ ..] = entries else {
         return false;
     };
-    entry.number == row.attribute.number()
+    entry.attr_type == row.attribute.number()
         && fits_form(row.form, entry.value.as_slice())
         && fits(class, rows, entries)
 }

@@ -4,7 +4,7 @@ ghost use Rattle.std.specs.Prelude.{◌≡◌, ◌≤◌, IfOk, Some, List, fals
 ghost use Rattle.ck_types.specs.declared.entry.Entry.{Entry as AnEntry};
 ghost use Rattle.attrs.specs.Objects.{IsObject};
 ghost use Rattle.attrs.specs.Stored.{Decodes};
-ghost use Rattle.attrs.specs.OldStored.{false_of, has_new_flags, object_old_stored, old_form, place_in, placed, renewed};
+ghost use Rattle.attrs.specs.OldStored.{false_of, has_new_flags, object_old_stored, old_form, index_in, placed, renewed};
 
 use crate::check::class_in;
 use crate::fault::DecodeFault;
@@ -17,17 +17,17 @@ use std::alloc::{AllocError, Global};
 const FORMAT: u8 = 1;
 
 /// Where an attribute with this number stands.
-fn place_of(entries: &[Entry], number: u64) -> usize
-    ensures place { result ≡ place_in entries.now number }
+fn index_of(entries: &[Entry], number: u64) -> usize
+    ensures index { result ≡ index_in entries.now number }
     ensures within { result ≤ length entries.now }
 {
     match entries {
         [] => 0,
         [entry, rest @ ..] => {
-            if number < entry.number {
+            if number < entry.attr_type {
                 0
             } else {
-                1 + place_of(rest, number)
+                1 + index_of(rest, number)
             }
         }
     }
@@ -42,8 +42,14 @@ fn with_false(
 {
     let number = attribute.number();
     let value = Bytes::from_slice(alloc, &[0])?;
-    let place = place_of(entries.as_slice(), number);
-    entries.insert(place, Entry { number, value })?;
+    let index = index_of(entries.as_slice(), number);
+    entries.insert(
+        index,
+        Entry {
+            attr_type: number,
+            value,
+        },
+    )?;
     Ok(entries)
 }
 

@@ -22,7 +22,7 @@ fn decode_entry(alloc: Global, bytes: &[u8]) -> Result<(Entry, &[u8]), CodecFaul
     let (number, rest) = decode_u32(bytes)?;
     let (value, rest) = Bytes::decode(alloc, rest)?;
     let entry = Entry {
-        number: u64::from(number),
+        attr_type: u64::from(number),
         value,
     };
     Ok((entry, rest))
@@ -85,11 +85,11 @@ pub fn decode(alloc: Global, bytes: &[u8]) -> Result<Object, DecodeFault>
 }
 
 fn encode_entry(out: &mut Vec<u8>, entry: &Entry) -> Result<(), AllocError>
-    requires number { entry.now.number < 2 ^ 32 }
+    requires number { entry.now.attr_type < 2 ^ 32 }
     requires value { length entry.now.value < 2 ^ 32 }
     ensures { OnOk result (out.new.items ≡ out.old.items ++ stored_entry.encode entry.now) }
 {
-    out.extend_from_slice(&(entry.number as u32).to_be_bytes())?;
+    out.extend_from_slice(&(entry.attr_type as u32).to_be_bytes())?;
     out.extend_from_slice(&(entry.value.len() as u32).to_be_bytes())?;
     out.extend_from_slice(entry.value.as_slice())?;
     Ok(())

@@ -1,7 +1,7 @@
 // A run of the token over events of two applications.
 
 ghost use Rattle.std.specs.Prelude.{All, IfOk};
-ghost use Rattle.token_model.specs.Events.{HasRandom};
+ghost use Rattle.model_worlds.specs.Events.{HasRandom};
 
 use crate::calls::failed;
 use crate::run::{Run, Unit};

@@ -1,4 +1,4 @@
-// Frames of C_Encrypt through a line, in pieces, beside the cipher alone.
+// Frames of C_Encrypt through a line, in parts, beside the cipher alone.
 
 ghost use Rattle.std.specs.Prelude.{None, Some};
 
@@ -80,7 +80,7 @@ pub(crate) fn template(alloc: Global) -> io::Result<Template> {
         (AttrType::Private, &[0][..]),
     ] {
         template.push(Entry {
-            number: attribute.number(),
+            attr_type: attribute.number(),
             value: Bytes::from_slice(alloc, value)?,
         })?;
     }
@@ -99,7 +99,7 @@ fn add_init(alloc: Global, stream: &mut Vec<u8>) -> io::Result<()> {
     let init = Call::EncryptInit {
         session: SESSION,
         mechanism: Some(Mechanism {
-            number: MechType::AesEcb.number(),
+            mech_type: MechType::AesEcb.number(),
             parameter: Bytes::new(alloc),
         }),
         key: OBJECT,
@@ -111,7 +111,7 @@ fn add_encrypt(alloc: Global, stream: &mut Vec<u8>, text: &[u8]) -> io::Result<(
     let encrypt = Call::Encrypt {
         session: SESSION,
         data: Bytes::from_slice(alloc, text)?,
-        room: Some(text.len() as u64),
+        buffer_len: Some(text.len() as u64),
     };
     add(alloc, stream, encrypt)
 }
@@ -149,7 +149,7 @@ fn serve_new<R: Read, W: Write>(
     }
 }
 
-/// So many texts, each by C_EncryptInit and C_Encrypt, read in pieces of no more than `most` bytes.
+/// So many texts, each by C_EncryptInit and C_Encrypt, read in parts of no more than `most` bytes.
 pub(crate) fn frames(
     rt: &impl CpuClock,
     alloc: Global,
@@ -194,7 +194,7 @@ pub(crate) fn cipher(
     let mut last = 0;
     let start = rt.thread_cpu_time()?;
     for _ in 0..count {
-        let Ok(out) = ecb(alloc, &key, Direction::Encipher, &text) else {
+        let Ok(out) = ecb(alloc, &key, Direction::Encrypt, &text) else {
             return Err(failed());
         };
         last = out.last().copied().unwrap_or(0);

@@ -4,16 +4,16 @@
 //! With no argument it works, for each key length, on 64 MiB or a million keys a row, and prints
 //! nanoseconds of processor time for a block or a key, and millions of bytes or keys a second:
 //!
-//! - blocks apart: a text of 64 KiB, enciphered over and over, whose blocks do not depend on one
+//! - blocks apart: a text of 64 KiB, encrypted over and over, whose blocks do not depend on one
 //!   another;
-//! - a chain: each block is what the one before was enciphered to, so that none begins before
+//! - a chain: each block is what the one before was encrypted to, so that none begins before
 //!   that is done;
 //! - keys that are made and kept, and keys that are made for one block each;
 //! - a text of 64,000 bytes, a thousand times, under each mode and code.
 //!
 //! After them stand HMAC-SHA-256 over such texts, 10,000 rounds of PBKDF2, logins and logouts of a user beside as many
 //! derivations alone, C_GetAttributeValue among 100, 10,000 and 100,000 token objects, of a hundred of them and of each, searches
-//! by label over 1,000 and 10,000 token objects, frames of C_Encrypt through a line in pieces of 4,096 and of 16 bytes beside the
+//! by label over 1,000 and 10,000 token objects, frames of C_Encrypt through a line in parts of 4,096 and of 16 bytes beside the
 //! cipher alone, and 100,000 events of two applications in one run of the token.
 //!
 //! With the argument `small` it works on 64 KiB, 4,096 keys, one text or 100 rounds a row, and
@@ -94,10 +94,10 @@ const SMALL: Scale = Scale {
 
 /// What is done to texts under each key length.
 const WORKS: &[Work] = &[
-    Work::Ecb(Direction::Encipher),
-    Work::Ecb(Direction::Decipher),
-    Work::Cbc(Direction::Encipher),
-    Work::Cbc(Direction::Decipher),
+    Work::Ecb(Direction::Encrypt),
+    Work::Ecb(Direction::Decrypt),
+    Work::Cbc(Direction::Encrypt),
+    Work::Cbc(Direction::Decrypt),
     Work::Ctr,
     Work::Cmac,
 ];

@@ -1,4 +1,4 @@
-// Data enciphered and deciphered through a token, in pieces beside single calls, and what memory it takes.
+// Data encrypted and decrypted through a token, in parts beside single calls, and what memory it takes.
 
 use crate::calls::{SESSION, failed, new_token, open, reply_to, succeeds};
 use crate::frames::template;
@@ -40,22 +40,22 @@ enum Way {
 
 const CBC: Cipher = Cipher {
     mechanism: MechType::AesCbc,
-    direction: Direction::Encipher,
+    direction: Direction::Encrypt,
 };
 
 const CBC_BACK: Cipher = Cipher {
     mechanism: MechType::AesCbc,
-    direction: Direction::Decipher,
+    direction: Direction::Decrypt,
 };
 
 const CTR: Cipher = Cipher {
     mechanism: MechType::AesCtr,
-    direction: Direction::Encipher,
+    direction: Direction::Encrypt,
 };
 
 const CTR_BACK: Cipher = Cipher {
     mechanism: MechType::AesCtr,
-    direction: Direction::Decipher,
+    direction: Direction::Decrypt,
 };
 
 /// The rows: what is done, how data is given, and its length.
@@ -118,7 +118,7 @@ impl Cipher {
             _ => block,
         };
         Ok(Mechanism {
-            number: self.mechanism.number(),
+            mech_type: self.mechanism.number(),
             parameter: Bytes::from_slice(alloc, parameter)?,
         })
     }
@@ -126,12 +126,12 @@ impl Cipher {
     fn init(self, alloc: Global) -> io::Result<Call> {
         let mechanism = Some(self.mechanism(alloc)?);
         Ok(match self.direction {
-            Direction::Encipher => Call::EncryptInit {
+            Direction::Encrypt => Call::EncryptInit {
                 session: SESSION,
                 mechanism,
                 key: OBJECT,
             },
-            Direction::Decipher => Call::DecryptInit {
+            Direction::Decrypt => Call::DecryptInit {
                 session: SESSION,
                 mechanism,
                 key: OBJECT,
@@ -139,32 +139,32 @@ impl Cipher {
         })
     }
 
-    fn single(self, data: Bytes, room: Option<u64>) -> Call {
+    fn single(self, data: Bytes, buffer_len: Option<u64>) -> Call {
         match self.direction {
-            Direction::Encipher => Call::Encrypt {
+            Direction::Encrypt => Call::Encrypt {
                 session: SESSION,
                 data,
-                room,
+                buffer_len,
             },
-            Direction::Decipher => Call::Decrypt {
+            Direction::Decrypt => Call::Decrypt {
                 session: SESSION,
                 encrypted_data: data,
-                room,
+                buffer_len,
             },
         }
     }
 
-    fn update(self, data: Bytes, room: Option<u64>) -> Call {
+    fn update(self, data: Bytes, buffer_len: Option<u64>) -> Call {
         match self.direction {
-            Direction::Encipher => Call::EncryptUpdate {
+            Direction::Encrypt => Call::EncryptUpdate {
                 session: SESSION,
                 part: data,
-                room,
+                buffer_len,
             },
-            Direction::Decipher => Call::DecryptUpdate {
+            Direction::Decrypt => Call::DecryptUpdate {
                 session: SESSION,
                 encrypted_part: data,
-                room,
+                buffer_len,
             },
         }
     }
@@ -182,16 +182,16 @@ impl Cipher {
         way: Way,
         text: &[u8],
     ) -> io::Result<(u64, u8)> {
-        let room = Some(text.len() as u64);
+        let buffer_len = Some(text.len() as u64);
         match way {
             Way::Piece => {
                 let part = Bytes::from_slice(alloc, text)?;
-                given_by(alloc, token, self.update(part, room))
+                given_by(alloc, token, self.update(part, buffer_len))
             }
             Way::Call => {
                 self.begin(alloc, token)?;
                 let data = Bytes::from_slice(alloc, text)?;
-                given_by(alloc, token, self.single(data, room))
+                given_by(alloc, token, self.single(data, buffer_len))
             }
         }
     }

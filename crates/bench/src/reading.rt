@@ -24,7 +24,7 @@ fn add(
     value: &[u8],
 ) -> Result<(), AllocError> {
     template.push(Entry {
-        number: attribute.number(),
+        attr_type: attribute.number(),
         value: Bytes::from_slice(alloc, value)?,
     })?;
     Ok(())
@@ -46,8 +46,8 @@ pub(crate) fn new_object(alloc: Global, label: &[u8]) -> Result<Call, AllocError
 fn label_of(alloc: Global, object: u64) -> Result<Call, AllocError> {
     let mut query = Query::new(alloc);
     query.push(AttributeQuery {
-        number: AttrType::Label.number(),
-        room: Some(64),
+        attr_type: AttrType::Label.number(),
+        buffer_len: Some(64),
     })?;
     Ok(Call::GetAttributeValue {
         session: SESSION,

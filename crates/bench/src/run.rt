@@ -81,8 +81,8 @@ pub(crate) fn blocks_apart(
     let start = rt.thread_cpu_time()?;
     for _ in 0..batches {
         for block in text.iter_mut() {
-            let enciphered = key.encipher(*block);
-            *block = enciphered;
+            let encrypted = key.encipher(*block);
+            *block = encrypted;
         }
     }
     let time = rt.thread_cpu_time()?.saturating_sub(start);
@@ -90,7 +90,7 @@ pub(crate) fn blocks_apart(
         .iter()
         .fold([0; 16], |sum, block| xor_blocks(sum, *block));
     Ok(Run {
-        what: "encipher blocks apart",
+        what: "encrypt blocks apart",
         unit: Unit::Block,
         count: batches.saturating_mul(BATCH),
         sum,
@@ -98,7 +98,7 @@ pub(crate) fn blocks_apart(
     })
 }
 
-/// Blocks each of which is what the one before was enciphered to.
+/// Blocks each of which is what the one before was encrypted to.
 pub(crate) fn chain(rt: &impl CpuClock, size: usize, batches: u32) -> io::Result<Run> {
     let key = key_of(&KEY, size)?;
     let count = batches.saturating_mul(BATCH);
@@ -108,7 +108,7 @@ pub(crate) fn chain(rt: &impl CpuClock, size: usize, batches: u32) -> io::Result
         block = key.encipher(block);
     }
     Ok(Run {
-        what: "encipher a chain",
+        what: "encrypt a chain",
         unit: Unit::Block,
         count,
         sum: block,
@@ -116,7 +116,7 @@ pub(crate) fn chain(rt: &impl CpuClock, size: usize, batches: u32) -> io::Result
     })
 }
 
-/// Blocks each of which is what the one before was deciphered to.
+/// Blocks each of which is what the one before was decrypted to.
 pub(crate) fn chain_back(rt: &impl CpuClock, size: usize, batches: u32) -> io::Result<Run> {
     let key = key_of(&KEY, size)?;
     let count = batches.saturating_mul(BATCH);
@@ -126,7 +126,7 @@ pub(crate) fn chain_back(rt: &impl CpuClock, size: usize, batches: u32) -> io::R
         block = key.decipher(block);
     }
     Ok(Run {
-        what: "decipher a chain",
+        what: "decrypt a chain",
         unit: Unit::Block,
         count,
         sum: block,
@@ -165,7 +165,7 @@ pub(crate) fn keys_kept(
     })
 }
 
-/// Keys that encipher one block each, which the next key is made of.
+/// Keys that encrypt one block each, which the next key is made of.
 pub(crate) fn keys_for_a_block(rt: &impl CpuClock, size: usize, batches: u32) -> io::Result<Run> {
     let count = batches.saturating_mul(BATCH);
     let mut bytes = KEY;
@@ -176,7 +176,7 @@ pub(crate) fn keys_for_a_block(rt: &impl CpuClock, size: usize, batches: u32) ->
         block = key_of(&bytes, size)?.encipher(block);
     }
     Ok(Run {
-        what: "Key::new and one encipher",
+        what: "Key::new and one encrypt",
         unit: Unit::Key,
         count,
         sum: block,

@@ -19,7 +19,7 @@ const OTHER: &[u8] = b"other";
 fn by_label(alloc: Global) -> Result<Template, AllocError> {
     let mut template = Template::new(alloc);
     template.push(Entry {
-        number: AttrType::Label.number(),
+        attr_type: AttrType::Label.number(),
         value: Bytes::from_slice(alloc, WANTED)?,
     })?;
     Ok(template)

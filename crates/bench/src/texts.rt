@@ -28,10 +28,10 @@ pub(crate) enum Work {
 impl Work {
     fn name(self) -> &'static str {
         match self {
-            Work::Ecb(Direction::Encipher) => "ECB encipher",
-            Work::Ecb(Direction::Decipher) => "ECB decipher",
-            Work::Cbc(Direction::Encipher) => "CBC encipher",
-            Work::Cbc(Direction::Decipher) => "CBC decipher",
+            Work::Ecb(Direction::Encrypt) => "ECB encrypt",
+            Work::Ecb(Direction::Decrypt) => "ECB decrypt",
+            Work::Cbc(Direction::Encrypt) => "CBC encrypt",
+            Work::Cbc(Direction::Decrypt) => "CBC decrypt",
             Work::Ctr => "CTR",
             Work::Cmac => "CMAC",
             Work::Hmac => "HMAC-SHA-256",
@@ -70,7 +70,7 @@ fn done(alloc: Global, work: Work, key: &Key, bits: CounterBits, text: &[u8]) ->
             Ok(last_block(&out))
         }
         Work::Ctr => {
-            let out = ctr(alloc, key, Direction::Encipher, bits, START, text).map_err(error_of)?;
+            let out = ctr(alloc, key, Direction::Encrypt, bits, START, text).map_err(error_of)?;
             Ok(last_block(&out))
         }
         Work::Cmac => Ok(cmac(key, text)),

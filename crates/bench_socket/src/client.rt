@@ -119,7 +119,7 @@ pub(crate) fn new_key(alloc: Global, is_of_token: bool) -> io::Result<Vec<u8>> {
         (AttrType::Token, &[u8::from(is_of_token)][..]),
     ] {
         template.push(Entry {
-            number: attribute.number(),
+            attr_type: attribute.number(),
             value: Bytes::from_slice(alloc, value)?,
         })?;
     }
@@ -149,7 +149,7 @@ pub(crate) fn session_info(alloc: Global) -> io::Result<Vec<Vec<u8>>> {
 /// The frame of C_EncryptInit, by a mechanism with a parameter.
 fn encrypt_init(alloc: Global, mechanism: MechType, parameter: &[u8]) -> io::Result<Vec<u8>> {
     let mechanism = Mechanism {
-        number: mechanism.number(),
+        mech_type: mechanism.number(),
         parameter: Bytes::from_slice(alloc, parameter)?,
     };
     let call = Call::EncryptInit {
@@ -166,7 +166,7 @@ fn encrypt(alloc: Global, text_len: usize) -> io::Result<Vec<u8>> {
     let call = Call::Encrypt {
         session: SESSION,
         data: Bytes::from_slice(alloc, &text)?,
-        room: Some(ROOM as u64),
+        buffer_len: Some(ROOM as u64),
     };
     frame(alloc, call)
 }

@@ -19,11 +19,11 @@ use Rattle.ck_calls.specs.declared.reply.Output.TheVariants.{Length, Data}
 -- ---- what calls pass
 
 -- the length of a caller's buffer, or none
-abbrev pub room : Format (Option ℕ)
-room = optional number64
+abbrev pub buffer_len : Format (Option ℕ)
+buffer_len = optional number64
 
-pub room_canonical : IsCanonical room
-room_canonical = optional_canonical number64 number64_canonical
+pub buffer_len_canonical : IsCanonical buffer_len
+buffer_len_canonical = optional_canonical number64 number64_canonical
 
 -- up to 32 entries
 abbrev pub template : Format (List Entry)
@@ -34,11 +34,11 @@ template_canonical = list_below_canonical 33 entry entry_canonical
 
 -- a mechanism's number and its parameter
 abbrev pub mechanism : Format Mechanism
-mechanism = mapped (pair number64 byte_string) (λ p. record { number = p.0; parameter = p.1 }) (λ m. (m.number, m.parameter))
+mechanism = mapped (pair number64 byte_string) (λ p. record { mech_type = p.0; parameter = p.1 }) (λ m. (m.mech_type, m.parameter))
 
 pub mechanism_canonical : IsCanonical mechanism
 mechanism_canonical =
-    mapped_canonical (pair number64 byte_string) (λ p. record { number = p.0; parameter = p.1 }) (λ m. (m.number, m.parameter)) (λ x. refl) (λ y. refl)
+    mapped_canonical (pair number64 byte_string) (λ p. record { mech_type = p.0; parameter = p.1 }) (λ m. (m.mech_type, m.parameter)) (λ x. refl) (λ y. refl)
     (pair_canonical number64 byte_string number64_canonical byte_string_canonical)
 
 abbrev pub optional_mechanism : Format (Option Mechanism)
@@ -49,12 +49,12 @@ optional_mechanism_canonical = optional_canonical mechanism mechanism_canonical
 
 -- an attribute's type and the length of the buffer for it
 abbrev pub attribute_query : Format AttributeQuery
-attribute_query = mapped (pair number64 room) (λ p. record { number = p.0; room = p.1 }) (λ a. (a.number, a.room))
+attribute_query = mapped (pair number64 buffer_len) (λ p. record { attr_type = p.0; buffer_len = p.1 }) (λ a. (a.attr_type, a.buffer_len))
 
 pub attribute_query_canonical : IsCanonical attribute_query
 attribute_query_canonical =
-    mapped_canonical (pair number64 room) (λ p. record { number = p.0; room = p.1 }) (λ a. (a.number, a.room)) (λ x. refl) (λ y. refl)
-    (pair_canonical number64 room number64_canonical room_canonical)
+    mapped_canonical (pair number64 buffer_len) (λ p. record { attr_type = p.0; buffer_len = p.1 }) (λ a. (a.attr_type, a.buffer_len)) (λ x. refl) (λ y. refl)
+    (pair_canonical number64 buffer_len number64_canonical buffer_len_canonical)
 
 -- up to 32 of them
 abbrev pub query : Format (List AttributeQuery)

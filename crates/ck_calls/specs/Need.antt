@@ -16,7 +16,7 @@ value_len_of value = if length value == 8 then (if nat_le (from_be_bytes w64 val
 
 -- the key length that the first CKA_VALUE_LEN asks for
 abbrev pub value_len_in : List Entry → ℕ
-value_len_in template = unwrap_or (option_map (λ entry. value_len_of entry.value) (find (λ entry. entry.number == attr_type_number ValueLen) template)) 0
+value_len_in template = unwrap_or (option_map (λ entry. value_len_of entry.value) (find (λ entry. entry.attr_type == attr_type_number ValueLen) template)) 0
 
 abbrev pub random_bytes : Call → ℕ
 random_bytes (calls.CreateObject session template) = 16

@@ -4,7 +4,7 @@ use crate::fields::{Mechanism, Query};
 use ck_types::{Bytes, Template};
 
 /// A call of an application, with what it passes (PKCS #11 v3.1, 5). Numbers stand as they came, since
-/// a caller may pass what the standard or this token does not know. `room` is the length of the
+/// a caller may pass what the standard or this token does not know. `buffer_len` is the length of the
 /// caller's buffer, and none where it asks for the length alone (5.2). A call has no `Debug`, since it
 /// may hold PINs and values of keys.
 #[derive(Drop)]
@@ -123,18 +123,18 @@ pub enum Call {
     Encrypt {
         session: u64,
         data: Bytes,
-        room: Option<u64>,
+        buffer_len: Option<u64>,
     },
     /// C_EncryptUpdate (5.8).
     EncryptUpdate {
         session: u64,
         part: Bytes,
-        room: Option<u64>,
+        buffer_len: Option<u64>,
     },
     /// C_EncryptFinal (5.8).
     EncryptFinal {
         session: u64,
-        room: Option<u64>,
+        buffer_len: Option<u64>,
     },
     /// C_DecryptInit (5.10).
     DecryptInit {
@@ -146,18 +146,18 @@ pub enum Call {
     Decrypt {
         session: u64,
         encrypted_data: Bytes,
-        room: Option<u64>,
+        buffer_len: Option<u64>,
     },
     /// C_DecryptUpdate (5.10).
     DecryptUpdate {
         session: u64,
         encrypted_part: Bytes,
-        room: Option<u64>,
+        buffer_len: Option<u64>,
     },
     /// C_DecryptFinal (5.10).
     DecryptFinal {
         session: u64,
-        room: Option<u64>,
+        buffer_len: Option<u64>,
     },
     /// C_SignInit (5.13).
     SignInit {
@@ -169,7 +169,7 @@ pub enum Call {
     Sign {
         session: u64,
         data: Bytes,
-        room: Option<u64>,
+        buffer_len: Option<u64>,
     },
     /// C_SignUpdate (5.13).
     SignUpdate {
@@ -179,7 +179,7 @@ pub enum Call {
     /// C_SignFinal (5.13).
     SignFinal {
         session: u64,
-        room: Option<u64>,
+        buffer_len: Option<u64>,
     },
     /// C_VerifyInit (5.15).
     VerifyInit {
@@ -215,7 +215,7 @@ pub enum Call {
         mechanism: Mechanism,
         wrapping_key: u64,
         key: u64,
-        room: Option<u64>,
+        buffer_len: Option<u64>,
     },
     /// C_UnwrapKey (5.18).
     UnwrapKey {

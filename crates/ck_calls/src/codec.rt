@@ -34,11 +34,17 @@ impl Codec for Mechanism {
     fn decode(alloc: Global, bytes: &[u8]) -> Result<(Mechanism, &[u8]), CodecFault> {
         let (number, rest) = u64::decode(alloc, bytes)?;
         let (parameter, rest) = Bytes::decode(alloc, rest)?;
-        Ok((Mechanism { number, parameter }, rest))
+        Ok((
+            Mechanism {
+                mech_type: number,
+                parameter,
+            },
+            rest,
+        ))
     }
 
     fn encode(&self, out: &mut Vec<u8>) -> Result<(), CodecFault> {
-        self.number.encode(out)?;
+        self.mech_type.encode(out)?;
         self.parameter.encode(out)
     }
 }
@@ -50,13 +56,19 @@ impl Codec for AttributeQuery {
 
     fn decode(alloc: Global, bytes: &[u8]) -> Result<(AttributeQuery, &[u8]), CodecFault> {
         let (number, rest) = u64::decode(alloc, bytes)?;
-        let (room, rest) = Option::<u64>::decode(alloc, rest)?;
-        Ok((AttributeQuery { number, room }, rest))
+        let (buffer_len, rest) = Option::<u64>::decode(alloc, rest)?;
+        Ok((
+            AttributeQuery {
+                attr_type: number,
+                buffer_len,
+            },
+            rest,
+        ))
     }
 
     fn encode(&self, out: &mut Vec<u8>) -> Result<(), CodecFault> {
-        self.number.encode(out)?;
-        self.room.encode(out)
+        self.attr_type.encode(out)?;
+        self.buffer_len.encode(out)
     }
 }
 

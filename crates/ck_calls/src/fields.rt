@@ -6,7 +6,7 @@ use ck_types::{Bytes, Items};
 /// since a caller may pass one that is unknown here.
 #[derive(Debug, Drop, PartialEq)]
 pub struct Mechanism {
-    pub number: u64,
+    pub mech_type: u64,
     pub parameter: Bytes,
 }
 
@@ -14,8 +14,8 @@ pub struct Mechanism {
 /// alone is asked for (PKCS #11 v3.1, 5.7, C_GetAttributeValue).
 #[derive(Clone, Copy, Debug, PartialEq, Eq)]
 pub struct AttributeQuery {
-    pub number: u64,
-    pub room: Option<u64>,
+    pub attr_type: u64,
+    pub buffer_len: Option<u64>,
 }
 
 /// Attributes that are asked for, in the order of the call.

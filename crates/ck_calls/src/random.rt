@@ -32,7 +32,7 @@ fn value_len_in(template: &[Entry]) -> usize
 {
     template
         .iter()
-        .find(|entry| entry.number == VALUE_LEN)
+        .find(|entry| entry.attr_type == VALUE_LEN)
         .map(|entry| value_len_of(entry.value.as_slice()))
         .unwrap_or(0)
 }

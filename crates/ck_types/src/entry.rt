@@ -9,7 +9,7 @@ pub type Bytes = Items<u8>;
 /// The type is a number, since a caller may give one that is unknown here.
 #[derive(Debug, Drop, Clone, PartialEq, Eq)]
 pub struct Entry {
-    pub number: u64,
+    pub attr_type: u64,
     pub value: Bytes,
 }
 

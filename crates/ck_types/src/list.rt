@@ -96,11 +96,17 @@ impl Codec for Entry {
     fn decode(alloc: Global, bytes: &[u8]) -> Result<(Entry, &[u8]), CodecFault> {
         let (number, rest) = u64::decode(alloc, bytes)?;
         let (value, rest) = Bytes::decode(alloc, rest)?;
-        Ok((Entry { number, value }, rest))
+        Ok((
+            Entry {
+                attr_type: number,
+                value,
+            },
+            rest,
+        ))
     }
 
     fn encode(&self, out: &mut Vec<u8>) -> Result<(), CodecFault> {
-        self.number.encode(out)?;
+        self.attr_type.encode(out)?;
         self.value.encode(out)
     }
 }

@@ -6,7 +6,7 @@ use Rattle.ck_types.specs.declared.entry.Entry.{Entry}
 use Rattle.attrs.specs.Objects.{flag}
 use Rattle.guard.specs.Access.{is_user_in}
 use Rattle.ck_types.specs.declared.attr_type.AttrType.TheVariants.{Private}
-use Rattle.lists.specs.Places.{updated_where}
+use Rattle.lists.specs.Indexes.{updated_where}
 use Rattle.mech.specs.declared.job.Job.{Job}
 use Rattle.handles.specs.Handles.{HandleTable, no_handles, public_handles}
 use Rattle.sessions.specs.Sessions.{SessionTable, no_sessions, without_session, logged_out}
@@ -14,7 +14,7 @@ use Rattle.desk.specs.declared.own_object.OwnObject.{OwnObject}
 use Rattle.ops.specs.Operations.{Operations, no_operations}
 
 -- One application's sessions with their operations and its login, its session objects in the order of their
--- creation, its handles of token objects, the pending question, and the number of the next one. Of memory it
+-- creation, its handles of token objects, the pending call, and the number of the next one. Of memory it
 -- tells how many session objects fit with no allocation.
 pub record DeskState : Type 0 where
   pub sessions : SessionTable Operations

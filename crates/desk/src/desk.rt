@@ -131,7 +131,7 @@ impl Desk {
         self.sessions.is_read_write(session)
     }
 
-    /// Opens a session (C_OpenSession). It fails only for want of memory, and then nothing changes.
+    /// Opens a session (C_OpenSession). It fails only if an allocation fails, and then nothing changes.
     pub fn open_session(&mut self, read_write: bool) -> Result<u64, AllocError>
         requires numbers { self.old.sessions.next_number < 2 ^ 63 }
         requires room { length self.old.sessions.sessions < 64 }
@@ -182,14 +182,14 @@ impl Desk {
         self.handles.retire_private();
     }
 
-    /// The operation at a place of a session that enciphers or deciphers.
+    /// The operation at a place of a session that encrypts or decrypts.
     pub fn operation(&self, session: u64, place: Place) -> Option<&Stream>
         ensures { option_map operation_of (option_copied result) ≡ operation_in (session_at self.now.sessions.sessions session) place }
     {
         self.sessions.work(session)?.get(place)
     }
 
-    /// Begins an operation that enciphers or deciphers at a place of a session, goes on with it, or ends the one that is there. Without such a session
+    /// Begins an operation that encrypts or decrypts at a place of a session, goes on with it, or ends the one that is there. Without such a session
     /// nothing changes.
     pub fn set_operation(&mut self, session: u64, place: Place, operation: Option<Stream>)
         ensures { self.new ≡ record self.old { sessions = with_operation self.old.sessions session place (option_map operation_of operation) } }
@@ -248,7 +248,7 @@ impl Desk {
         self.own.len() >= SESSION_OBJECT_LIMIT
     }
 
-    /// Adds a session object, and gives its handle. It fails only for want of memory, and then the desk
+    /// Adds a session object, and gives its handle. It fails only if an allocation fails, and then the desk
     /// is as it was.
     pub fn add_own(&mut self, session: u64, object: Object) -> Result<u64, AllocError>
         requires { self.old.handles.next_number < 2 ^ 63 }
@@ -316,7 +316,7 @@ impl Desk {
         self.handles.next_number()
     }
 
-    /// Makes room for so many more handles of token objects. It fails only for want of memory.
+    /// Makes room for so many more handles of token objects. It fails only if an allocation fails.
     pub fn reserve_handles(&mut self, additional: usize) -> Result<(), AllocError>
         ensures room { OnOk result (HasRoomFor self.new.handles additional) }
         ensures same { SameDesk self.old self.new }
@@ -359,7 +359,7 @@ impl Desk {
         self.next_question += 1;
     }
 
-    /// The pending question.
+    /// The pending call.
     pub fn question(&self) -> Option<&Question>
         ensures { option_copied result ≡ self.now.question }
     {
@@ -389,7 +389,7 @@ fn remove_handle(own: &mut Vec<OwnObject>, handle: u64)
     own.retain(|e| e.handle != handle);
 }
 
-fn place_of_handle(own: &[OwnObject], handle: u64) -> Option<usize>
+fn index_of_handle(own: &[OwnObject], handle: u64) -> Option<usize>
     ensures { result ≡ position (λ e. e.handle == handle) own.now }
 {
     own.iter().position(|e| e.handle == handle)
@@ -399,7 +399,7 @@ fn replace_object(own: &mut Vec<OwnObject>, handle: u64, object: Object)
     ensures items { own.new.items ≡ replaced_own own.old.items handle object }
     ensures capacity { vec_capacity own.new ≡ vec_capacity own.old }
 {
-    if let Some(place) = place_of_handle(own, handle) {
+    if let Some(place) = index_of_handle(own, handle) {
         own[place].object = object;
     }
 }

@@ -1,5 +1,5 @@
 //! One application's part of a token: its sessions with their operations, its login, its session
-//! objects, its handles of token objects, and the pending question.
+//! objects, its handles of token objects, and the pending call.
 //!
 //! A desk knows nothing of the token objects but their ids and which of them are private, and nothing of
 //! other applications. It has a handle of a private one only where the user is logged in. What its

@@ -7,7 +7,7 @@ use mech::Job;
 use std::marker::Model;
 use std::snapshot::Snapshot;
 
-/// The pending question: its number, and the function and session of the call that asked it. Its
+/// The pending call: its number, and the function and session of the call that asked it. Its
 /// job is for contracts alone, and takes no bytes.
 #[derive(Drop)]
 pub struct Question {

@@ -12,7 +12,7 @@ has_value (Some value) wanted = bytes_eq value wanted
 
 -- the object has the attribute, may show it, and the bytes are equal
 abbrev pub entry_matches : List Entry → Entry → Bool
-entry_matches object e = reveals object e.number && has_value (attribute object e.number) e.value
+entry_matches object e = reveals object e.attr_type && has_value (attribute object e.attr_type) e.value
 
 abbrev pub template_matches : List Entry → List Entry → Bool
 template_matches template object = list_all (entry_matches object) template

@@ -11,10 +11,10 @@ use guard::reveals_number;
 fn matches_entry(entry: &Entry, object: &Object) -> bool
     ensures { result ≡ entry_matches object.now entry.now }
 {
-    if !reveals_number(object, entry.number) {
+    if !reveals_number(object, entry.attr_type) {
         return false;
     }
-    match find_attribute(object.entries(), entry.number) {
+    match find_attribute(object.entries(), entry.attr_type) {
         Some(value) => value == entry.value.as_slice(),
         None => false,
     }

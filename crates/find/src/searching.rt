@@ -11,7 +11,7 @@ use std::alloc::AllocError;
 /// Takes an object into what a search has found so far, as the last: its note stands for it. An object that the template
 /// doesn't match is left out. The result is the same for what may be seen of the object.
 ///
-/// It fails only for want of memory, and then the list is as it was.
+/// It fails only if an allocation fails, and then the list is as it was.
 pub fn search<T: Copy>(
     template: &Template,
     object: &Object,

@@ -1,5 +1,5 @@
--- The equivalent inverse cipher (FIPS 197, 5.3.5), which the code that deciphers follows. What
--- deciphering means is said without it, by the cipher alone.
+-- The equivalent inverse cipher (FIPS 197, 5.3.5), which the code that decrypts follows. What
+-- decrypting means is said without it, by the cipher alone.
 use Rattle.std.specs.Prelude.{ℕ, zero, suc, ◌+◌, ◌-◌, ◌%◌, List, [], ◌∷◌, map}
 use Rattle.fips_197.specs.SBox.{inverse_s_box}
 use Rattle.fips_197.specs.State.{byte_at, state}

@@ -6,4 +6,4 @@ pub mod WordPolynomial
 pub mod Cipher
 pub mod KeyExpansion
 pub mod InverseCipher
-pub mod Encipher
+pub mod Encrypt

@@ -3,17 +3,17 @@ use Rattle.std.proofs.Common.{◌≡◌, ◌≢◌, ℕ, zero, suc, ◌+◌, ◌
 use Rattle.std.specs.List.{slice_get}
 use Rattle.ck_calls.specs.declared.reply.Reply.{Reply as ReplyType}
 use Rattle.crossbeam_channel.specs.Claims.{view}
-use Rattle.token_store.specs.declared.out.Out.{Out}
-use Rattle.channels.specs.Lists.{of, last}
-use Rattle.channels.specs.Inward.{seats_of, taken_of, ended_of, IsTaking, SentInAll}
-use Rattle.channels.specs.Outward.{given_of, got_of}
-use Rattle.channels.specs.declared.inward.InwardView.{InwardView}
-use Rattle.channels.specs.declared.inward.InwardView.TheVariants.{Taking, Sending, Spent}
-use Rattle.channels.specs.declared.outward.OutwardView.{OutwardView}
-use Rattle.channels.specs.declared.messages.Event.{Event}
-use Rattle.channels.specs.declared.messages.Event.TheVariants.{Call, Finish, Gone}
-use Rattle.channels.specs.declared.inbox.Inbox.{Inbox}
-use Rattle.channels.specs.declared.outbox.Outbox.{Outbox}
+use Rattle.serve_base.specs.declared.out.Out.{Out}
+use Rattle.hall_channels.specs.Lists.{of, last}
+use Rattle.hall_channels.specs.Inward.{seats_of, taken_of, ended_of, IsTaking, SentInAll}
+use Rattle.hall_channels.specs.Outward.{given_of, got_of}
+use Rattle.hall_channels.specs.declared.inward.InwardView.{InwardView}
+use Rattle.hall_channels.specs.declared.inward.InwardView.TheVariants.{Taking, Sending, Spent}
+use Rattle.hall_channels.specs.declared.outward.OutwardView.{OutwardView}
+use Rattle.hall_channels.specs.declared.messages.Event.{Event}
+use Rattle.hall_channels.specs.declared.messages.Event.TheVariants.{Call, Finish, Gone}
+use Rattle.hall_channels.specs.declared.inbox.Inbox.{Inbox}
+use Rattle.hall_channels.specs.declared.outbox.Outbox.{Outbox}
 use Rattle.hall.specs.declared.seats.SeatEvent.{SeatEvent}
 use Rattle.hall.specs.Exchanges.{Exchange, events, answers, listed, pending, Suits, AllSuit, Answered, Unanswered, IsProper}
 use Rattle.hall.specs.SeatEvents.{asked_in, heard_in}

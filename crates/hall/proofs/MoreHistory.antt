@@ -8,18 +8,18 @@ use Rattle.crossbeam_channel.specs.Claims.{view}
 use Rattle.crossbeam_channel.specs.Ends.{sends_on}
 use Rattle.lists.proofs.ListLemmas.{map-push}
 use Rattle.mech.specs.declared.job.Job.{Job}
-use Rattle.token_model.specs.Worlds.{World, Move, Goes, Refuses, event_of, happens, after, replies}
-use Rattle.token_model.proofs.Told.{is_told}
-use Rattle.token_model.proofs.Tries.{sound-run}
-use Rattle.token_model.specs.Traces.{NotSetApart}
-use Rattle.token_store.specs.declared.out.Out.{Out}
+use Rattle.model_worlds.specs.Worlds.{World, Move, Goes, Refuses, event_of, happens, after, replies}
+use Rattle.model_worlds.proofs.Told.{is_told}
+use Rattle.model_worlds.proofs.Tries.{sound-run}
+use Rattle.model_worlds.specs.Traces.{NoResourceError}
+use Rattle.serve_base.specs.declared.out.Out.{Out}
 use Rattle.token.specs.States.{HasJobs, asked_by, jobs_of, AccountsFor, IsRun, Lasting, LeftAfter, LeftBy}
 use Rattle.token.proofs.States.{accounts-more, accounts-none, after-append, left-append, left-more}
-use Rattle.channels.specs.Lists.{of, last}
-use Rattle.channels.specs.Outward.{given_of}
-use Rattle.channels.specs.declared.messages.Event.{Event}
-use Rattle.channels.specs.declared.outbox.Outbox.{Outbox}
-use Rattle.channels.proofs.Rows.{of-append, of-one, of-other}
+use Rattle.hall_channels.specs.Lists.{of, last}
+use Rattle.hall_channels.specs.Outward.{given_of}
+use Rattle.hall_channels.specs.declared.messages.Event.{Event}
+use Rattle.hall_channels.specs.declared.outbox.Outbox.{Outbox}
+use Rattle.hall_channels.proofs.Rows.{of-append, of-one, of-other}
 use Rattle.hall.specs.Exchanges.{Exchange, app_of, answers, asks, listed, pending, Suits, Follows, IsProper}
 use Rattle.hall.specs.Histories.{Allowed, AllProper, Counts, HasServed, History, HistorySuits, IsHistory, RunSoFar, Takes, Tells, Unfolds, as_event, model_events, move_in, moved_by, moves_in, own_job, replies_in, taken_in, told_by, told_in, waiting}
 use Rattle.hall.specs.Outboxes.{OutboxesGave, SameOutboxes}
@@ -124,7 +124,7 @@ history_is showing prior left w ts settled so =
         shows = so.shows;
         jobs = no_jobs (after w (moves_in ts)) so.out so.jobs (λ app. so.waits app ∙ ap (own_job app) (settled (app % 4)));
         leaves = so.leaves;
-        private = λ app none. is_told app w (moves_in ts) (subst (λ l. NotSetApart app l) replied none);
+        private = λ app none. is_told app w (moves_in ts) (subst (λ l. NoResourceError app l) replied none);
         tries = λ s sound. sound-run s w (moves_in ts) sound;
       };
       moves = refl;

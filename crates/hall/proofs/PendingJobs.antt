@@ -7,20 +7,20 @@ use Rattle.ck_calls.specs.declared.call.Call.{Call as CallType}
 use Rattle.ck_calls.specs.declared.reply.Reply.{Reply as ReplyType}
 use Rattle.mech.specs.declared.job.Job.{Job}
 use Rattle.mech.specs.declared.done.Done.{Done}
-use Rattle.views.specs.declared.fault.Fault.{Fault}
-use Rattle.views.specs.Answering.{Replies, Asks}
-use Rattle.views.specs.Refusals.{set_apart, apart}
-use Rattle.token_model.specs.declared.event.Event.{Event as ModelEvent}
-use Rattle.token_model.specs.declared.event.Event.TheVariants.{Call as ModelCall, Finish as ModelFinish, Gone as ModelGone}
-use Rattle.token_model.specs.Worlds.{World, Move, Goes, Refuses, event_of, called, says_called, answer_at, goes, told, happens, reply_to}
-use Rattle.token_store.specs.declared.out.Out.{Out}
-use Rattle.token_store.specs.declared.out.Out.TheVariants.{Reply, Ask}
-use Rattle.token_store.specs.Shown.{question_of, said_of}
+use Rattle.model_views.specs.declared.fault.Fault.{Fault}
+use Rattle.model_views.specs.Answering.{Replies, Asks}
+use Rattle.model_views.specs.Refusals.{resource_error, resource_error_in}
+use Rattle.model_worlds.specs.declared.event.Event.{Event as ModelEvent}
+use Rattle.model_worlds.specs.declared.event.Event.TheVariants.{Call as ModelCall, Finish as ModelFinish, Gone as ModelGone}
+use Rattle.model_worlds.specs.Worlds.{World, Move, Goes, Refuses, event_of, called, says_called, answer_at, goes, told, happens, reply_to}
+use Rattle.serve_base.specs.declared.out.Out.{Out}
+use Rattle.serve_base.specs.declared.out.Out.TheVariants.{Reply, Ask}
+use Rattle.serve_base.specs.Shown.{question_of, said_of}
 use Rattle.token.specs.States.{HasJobs, IsOpen, TakesJob, jobs_of, moved, IsStep, Lasting, LeavesBy, LeftBy, call_change}
 use Rattle.token.proofs.States.{open_is, step_reply, step_ask, step_finish, step_gone}
-use Rattle.channels.specs.declared.messages.AppCall.{AppCall}
-use Rattle.channels.specs.declared.messages.Event.{Event}
-use Rattle.channels.specs.declared.messages.Event.TheVariants.{Call, Finish, Gone}
+use Rattle.hall_channels.specs.declared.messages.AppCall.{AppCall}
+use Rattle.hall_channels.specs.declared.messages.Event.{Event}
+use Rattle.hall_channels.specs.declared.messages.Event.TheVariants.{Call, Finish, Gone}
 use Rattle.hall.specs.Exchanges.{Exchange, app_of, asks, pending, Follows}
 use Rattle.hall.specs.Histories.{Allowed, Tells, TellsResult, Takes, as_event, moved_by, own_job, told_by, waiting}
 
@@ -32,7 +32,7 @@ event_moved event (Some fault) = refl
 
 pub event_moved_by : (event : ModelEvent) (answer : Option Out) → event_of (moved_by event answer) ≡ event
 event_moved_by event None = refl
-event_moved_by event (Some out) = event_moved event (apart (said_of out))
+event_moved_by event (Some out) = event_moved event (resource_error_in (said_of out))
 
 -- a call by the answer is the event by the answer
 pub called_is : (w : World) (app : ℕ) (call : CallType) (words : Vec ℕ) (fault : Option Fault) → called w app call words.items fault ≡ happens w (moved (ModelCall app call words) fault)
@@ -54,7 +54,7 @@ result_is w app job (Reply r) t = t.1
 result_is w app job (Ask j) t = absurd t
 
 pub tells_is : (w : World) (event : Event) (answer : Option Out) → Tells w event answer → reply_to w (moved_by (as_event event) answer) ≡ told_by (app_of event) answer
-tells_is w (Call c) (Some (Reply r)) t = reply_is w c.app c.call c.words r (set_apart r) t.0
+tells_is w (Call c) (Some (Reply r)) t = reply_is w c.app c.call c.words r (resource_error r) t.0
 tells_is w (Call c) (Some (Ask j)) t = ap (told c.app) (sym t.0)
 tells_is w (Call c) None t = absurd t
 tells_is w (Finish app d) (Some out) t = result_is w app d.job.value out t
@@ -140,7 +140,7 @@ jobs_after w out h p (Call c) (Some (Reply r)) f owns t =
     let m : Move = moved_by (as_event (Call c)) (Some (Reply r)) in
     let none : Option Lasting → Type 0 = λ l. ⊥ in
     let st : IsStep (λ v. v ≡ happens w m) none none w (ModelCall c.app c.call c.words) ((c.app, r) ∷ []) out =
-    step_reply w out h c.app (λ v. v ≡ happens w m) none none c.call c.words r t.0 (called_is w c.app c.call c.words (set_apart r)) (λ l x. absurd x) in
+    step_reply w out h c.app (λ v. v ≡ happens w m) none none c.call c.words r t.0 (called_is w c.app c.call c.words (resource_error r)) (λ l x. absurd x) in
     subst (λ v. HasJobs v out) st.shows st.jobs
 jobs_after w out h p (Call c) (Some (Ask j)) f owns t =
     let m : Move = moved_by (as_event (Call c)) (Some (Ask j)) in

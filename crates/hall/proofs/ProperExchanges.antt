@@ -5,15 +5,15 @@ use Rattle.ck_calls.specs.declared.reply.Reply.{Reply as ReplyType}
 use Rattle.crossbeam_channel.specs.Claims.{view}
 use Rattle.mech.specs.declared.job.Job.{Job}
 use Rattle.mech.specs.declared.done.Done.{Done}
-use Rattle.token_store.specs.declared.out.Out.{Out}
-use Rattle.token_store.specs.declared.out.Out.TheVariants.{Reply, Ask}
-use Rattle.channels.specs.Lists.{last}
-use Rattle.channels.specs.Inward.{sent_of}
-use Rattle.channels.specs.Outward.{got_of}
-use Rattle.channels.specs.declared.messages.AppCall.{AppCall}
-use Rattle.channels.specs.declared.messages.Event.{Event}
-use Rattle.channels.specs.declared.messages.Event.TheVariants.{Call, Finish, Gone}
-use Rattle.channels.specs.declared.port.Port.{Port}
+use Rattle.serve_base.specs.declared.out.Out.{Out}
+use Rattle.serve_base.specs.declared.out.Out.TheVariants.{Reply, Ask}
+use Rattle.hall_channels.specs.Lists.{last}
+use Rattle.hall_channels.specs.Inward.{sent_of}
+use Rattle.hall_channels.specs.Outward.{got_of}
+use Rattle.hall_channels.specs.declared.messages.AppCall.{AppCall}
+use Rattle.hall_channels.specs.declared.messages.Event.{Event}
+use Rattle.hall_channels.specs.declared.messages.Event.TheVariants.{Call, Finish, Gone}
+use Rattle.hall_channels.specs.declared.port.Port.{Port}
 use Rattle.hall.specs.declared.seats.SeatEvent.{SeatEvent}
 use Rattle.hall.specs.declared.seats.SeatEvent.TheVariants.{Call as SeatCall, Gone as SeatGone}
 use Rattle.hall.specs.Exchanges.{Exchange, app_of, events, answers, listed, pending, Suits, AllSuit, Follows, gone_by, IsThere, IsProper}

@@ -1,11 +1,11 @@
 -- What one seat does: events, each with what it was answered.
 use Rattle.std.specs.Prelude.{◌≡◌, ◌≢◌, ℕ, ◌%◌, List, [], ◌∷◌, ◌++◌, Option, Some, None}
 use Rattle.mech.specs.declared.job.Job.{Job}
-use Rattle.token_store.specs.declared.out.Out.{Out}
-use Rattle.token_store.specs.declared.out.Out.TheVariants.{Reply, Ask}
-use Rattle.channels.specs.Lists.{last}
-use Rattle.channels.specs.declared.messages.Event.{Event}
-use Rattle.channels.specs.declared.messages.Event.TheVariants.{Call, Finish, Gone}
+use Rattle.serve_base.specs.declared.out.Out.{Out}
+use Rattle.serve_base.specs.declared.out.Out.TheVariants.{Reply, Ask}
+use Rattle.hall_channels.specs.Lists.{last}
+use Rattle.hall_channels.specs.declared.messages.Event.{Event}
+use Rattle.hall_channels.specs.declared.messages.Event.TheVariants.{Call, Finish, Gone}
 
 abbrev pub Exchange : Type 0
 Exchange = Event × Option Out

@@ -1,20 +1,20 @@
 -- What is known when all seats have ended.
 use Rattle.std.specs.Prelude.{◌≡◌, ℕ, ◌<◌, ◌≤◌, List, [], ◌∷◌, ◌++◌, length, Option, None}
 use Rattle.ck_calls.specs.declared.reply.Reply.{Reply}
-use Rattle.token_model.specs.Worlds.{World}
+use Rattle.model_worlds.specs.Worlds.{World}
 use Rattle.token.specs.States.{HasJobs, Lasting}
 use Rattle.crossbeam_channel.specs.Claims.{view}
 use Rattle.crossbeam_channel.specs.Ends.{sends_on, receives_on}
-use Rattle.token_store.specs.declared.out.Out.{Out}
-use Rattle.channels.specs.Lists.{of, last}
-use Rattle.channels.specs.Inward.{sent_of, taken_of, ended_of}
-use Rattle.channels.specs.Outward.{got_of, given_of}
-use Rattle.channels.specs.declared.messages.Event.{Event}
-use Rattle.channels.specs.declared.inward.InwardView.{InwardView}
-use Rattle.channels.specs.declared.outward.OutwardView.{OutwardView}
-use Rattle.channels.specs.declared.inbox.Inbox.{Inbox}
-use Rattle.channels.specs.declared.outbox.Outbox.{Outbox}
-use Rattle.channels.specs.declared.port.Port.{Port}
+use Rattle.serve_base.specs.declared.out.Out.{Out}
+use Rattle.hall_channels.specs.Lists.{of, last}
+use Rattle.hall_channels.specs.Inward.{sent_of, taken_of, ended_of}
+use Rattle.hall_channels.specs.Outward.{got_of, given_of}
+use Rattle.hall_channels.specs.declared.messages.Event.{Event}
+use Rattle.hall_channels.specs.declared.inward.InwardView.{InwardView}
+use Rattle.hall_channels.specs.declared.outward.OutwardView.{OutwardView}
+use Rattle.hall_channels.specs.declared.inbox.Inbox.{Inbox}
+use Rattle.hall_channels.specs.declared.outbox.Outbox.{Outbox}
+use Rattle.hall_channels.specs.declared.port.Port.{Port}
 use Rattle.hall.specs.SeatEvents.{asked_in, heard_in}
 use Rattle.hall.specs.Exchanges.{Exchange, IsProper, AllSuit, events, answers, pending}
 use Rattle.hall.specs.Histories.{History, AllProper, Counts, IsHistory, replies_in, taken_in, told_in}

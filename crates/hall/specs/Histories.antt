@@ -3,17 +3,17 @@
 use Rattle.std.specs.Prelude.{◌≡◌, ◌==◌, if◌then◌else◌, ℕ, ◌%◌, ◌≤◌, List, [], ◌∷◌, ◌++◌, map, Option, Some, None}
 use Rattle.ck_calls.specs.declared.reply.Reply.{Reply as ReplyType}
 use Rattle.mech.specs.declared.job.Job.{Job}
-use Rattle.views.specs.Refusals.{apart}
-use Rattle.token_model.specs.declared.event.Event.{Event as ModelEvent}
-use Rattle.token_model.specs.declared.event.Event.TheVariants.{Call as ModelCall, Finish as ModelFinish, Gone as ModelGone}
-use Rattle.token_model.specs.Worlds.{World, Move, Goes, says_called, reply_to, happens, after}
-use Rattle.token_store.specs.declared.out.Out.{Out}
-use Rattle.token_store.specs.declared.out.Out.TheVariants.{Reply, Ask}
-use Rattle.token_store.specs.Shown.{IsFor, said_of}
+use Rattle.model_views.specs.Refusals.{resource_error_in}
+use Rattle.model_worlds.specs.declared.event.Event.{Event as ModelEvent}
+use Rattle.model_worlds.specs.declared.event.Event.TheVariants.{Call as ModelCall, Finish as ModelFinish, Gone as ModelGone}
+use Rattle.model_worlds.specs.Worlds.{World, Move, Goes, says_called, reply_to, happens, after}
+use Rattle.serve_base.specs.declared.out.Out.{Out}
+use Rattle.serve_base.specs.declared.out.Out.TheVariants.{Reply, Ask}
+use Rattle.serve_base.specs.Shown.{IsFor, said_of}
 use Rattle.token.specs.States.{HasJobs, IsOpen, jobs_of, moved, AccountsFor, IsRun, Lasting, LeftAfter, LeftBy}
-use Rattle.channels.specs.Lists.{of, last}
-use Rattle.channels.specs.declared.messages.Event.{Event}
-use Rattle.channels.specs.declared.messages.Event.TheVariants.{Call, Finish, Gone}
+use Rattle.hall_channels.specs.Lists.{of, last}
+use Rattle.hall_channels.specs.declared.messages.Event.{Event}
+use Rattle.hall_channels.specs.declared.messages.Event.TheVariants.{Call, Finish, Gone}
 use Rattle.hall.specs.Exchanges.{Exchange, IsProper, Suits, app_of, pending}
 
 abbrev pub History : Type 0
@@ -42,10 +42,10 @@ as_event (Gone app) = ModelGone app
 abbrev pub model_events : History → List ModelEvent
 model_events xs = map (λ x. as_event x.1.0) xs
 
--- how it took place: as the model says, or refused by a fault set apart, which is read off the answer
+-- how it took place: as the model says, or refused by a resource error, which is read off the answer
 abbrev pub moved_by : ModelEvent → Option Out → Move
 moved_by event None = Goes event
-moved_by event (Some out) = moved event (apart (said_of out))
+moved_by event (Some out) = moved event (resource_error_in (said_of out))
 
 abbrev pub move_in : Exchange → Move
 move_in x = moved_by (as_event x.0) x.1
@@ -67,13 +67,13 @@ told_in [] = []
 told_in (x ∷ xs) = told_by (app_of x.1.0) x.1.1 ++ told_in xs
 
 -- What is answered to an event is what the model says there; a job is the application's, and a result is of the job of
--- its pending question.
+-- its pending call.
 abbrev pub TellsResult : World → ℕ → Job → Out → Type 0
-TellsResult w app job (Reply reply) = IsOpen w app job × (reply_to w (moved (ModelFinish app) (apart (said_of (Reply reply)))) ≡ (app, reply) ∷ [])
+TellsResult w app job (Reply reply) = IsOpen w app job × (reply_to w (moved (ModelFinish app) (resource_error_in (said_of (Reply reply)))) ≡ (app, reply) ∷ [])
 TellsResult w app job (Ask other) = ⊥
 
 abbrev pub Tells : World → Event → Option Out → Type 0
-Tells w (Call c) (Some out) = (said_of out ≡ says_called w c.app c.call c.words.items (apart (said_of out))) × IsFor c.app out
+Tells w (Call c) (Some out) = (said_of out ≡ says_called w c.app c.call c.words.items (resource_error_in (said_of out))) × IsFor c.app out
 Tells w (Finish app done) (Some out) = TellsResult w app done.job.value out
 Tells w (Gone app) None = Unit {0}
 Tells w (Call c) None = ⊥
@@ -92,7 +92,7 @@ pub record Takes (showing : World → Type 0) (prior left : Option Lasting → T
   pub shows : showing (happens w (moved_by (as_event event) answer))
   pub leaves : (l : Option Lasting) → left l → LeftBy prior w (moved_by (as_event event) answer) l
 
--- what an event needs: a result, that it is of the job of the pending question
+-- what an event needs: a result, that it is of the job of the pending call
 abbrev pub Allowed : World → Event → Type 0
 Allowed w (Call c) = Unit {0}
 Allowed w (Finish app done) = IsOpen w app done.job.value
@@ -133,7 +133,7 @@ pub record HasServed {T : Type 0} (doubt failures : T → ℕ) (shows : T → Wo
   pub runs : doubt new ≡ 0 → (w : World) → shows old w → HasJobs w [] → AllProper history → RunSoFar (shows new) (leaves old) (leaves new) w history
 
 -- A whole history from the world: each event was answered as the model says at its place, and all is a run of the token's
--- (`IsRun`), after which no question is pending. So each application that met no refusal set apart was told what its own
+-- (`IsRun`), after which no question is pending. So each application that met no resource error was told what its own
 -- trace tells.
 pub record IsHistory (showing : World → Type 0) (prior left : Option Lasting → Type 0) (w : World) (history : History) : Type 0 where
   pub unfolds : Unfolds w history

@@ -2,9 +2,9 @@
 use Rattle.std.specs.Prelude.{◌≡◌, ℕ, List, Option, Some, map, slice_get}
 use Rattle.crossbeam_channel.specs.Claims.{view}
 use Rattle.crossbeam_channel.specs.Ends.{sends_on}
-use Rattle.channels.specs.Lists.{of}
-use Rattle.channels.specs.Outward.{given_of}
-use Rattle.channels.specs.declared.outbox.Outbox.{Outbox}
+use Rattle.hall_channels.specs.Lists.{of}
+use Rattle.hall_channels.specs.Outward.{given_of}
+use Rattle.hall_channels.specs.declared.outbox.Outbox.{Outbox}
 use Rattle.hall.specs.Exchanges.{answers}
 use Rattle.hall.specs.Histories.{History}
 

@@ -2,12 +2,12 @@
 use Rattle.std.specs.Prelude.{◌≡◌, ℕ, List, ◌++◌, Option, None}
 use Rattle.ck_calls.specs.declared.reply.Reply.{Reply}
 use Rattle.crossbeam_channel.specs.Claims.{view}
-use Rattle.channels.specs.Lists.{last}
-use Rattle.channels.specs.Inward.{sent_of}
-use Rattle.channels.specs.Outward.{got_of}
-use Rattle.channels.specs.declared.inward.InwardView.{InwardView}
-use Rattle.channels.specs.declared.outward.OutwardView.{OutwardView}
-use Rattle.channels.specs.declared.port.Port.{Port}
+use Rattle.hall_channels.specs.Lists.{last}
+use Rattle.hall_channels.specs.Inward.{sent_of}
+use Rattle.hall_channels.specs.Outward.{got_of}
+use Rattle.hall_channels.specs.declared.inward.InwardView.{InwardView}
+use Rattle.hall_channels.specs.declared.outward.OutwardView.{OutwardView}
+use Rattle.hall_channels.specs.declared.port.Port.{Port}
 use Rattle.hall.specs.declared.seats.SeatEvent.{SeatEvent}
 use Rattle.hall.specs.SeatEvents.{asked_in, heard_in}
 use Rattle.hall.specs.Exchanges.{Exchange, IsProper, AllSuit, gone_by, pending, events, answers}

@@ -3,10 +3,10 @@ use Rattle.std.specs.Prelude.{◌≡◌, ℕ, ◌⊎◌, List, [], ◌∷◌, �
 use Rattle.ck_calls.specs.declared.reply.Reply.{Reply}
 use Rattle.mech.specs.declared.job.Job.{Job}
 use Rattle.mech.specs.declared.done.Done.{Done}
-use Rattle.token_store.specs.declared.out.Out.{Out}
-use Rattle.token_store.specs.declared.out.Out.TheVariants.{Reply as OutReply, Ask}
-use Rattle.channels.specs.declared.messages.Event.{Event}
-use Rattle.channels.specs.declared.messages.Event.TheVariants.{Call, Finish, Gone}
+use Rattle.serve_base.specs.declared.out.Out.{Out}
+use Rattle.serve_base.specs.declared.out.Out.TheVariants.{Reply as OutReply, Ask}
+use Rattle.hall_channels.specs.declared.messages.Event.{Event}
+use Rattle.hall_channels.specs.declared.messages.Event.TheVariants.{Call, Finish, Gone}
 use Rattle.hall.specs.Exchanges.{Exchange, app_of}
 use Rattle.hall.specs.declared.seats.SeatEvent.{SeatEvent}
 use Rattle.hall.specs.declared.seats.SeatEvent.TheVariants.{Call as SeatCall, Gone as SeatGone}

@@ -3,19 +3,19 @@
 ghost use Rattle.std.specs.Prelude.{◌≡◌, ◌<◌, ◌≤◌, [], ℕ, length};
 ghost use Rattle.crossbeam_channel.specs.Claims.{view};
 ghost use Rattle.crossbeam_channel.specs.Ends.{sends_on, receives_on};
-ghost use Rattle.channels.specs.Lists.{of};
-ghost use Rattle.channels.specs.Inward.{seats_of, taken_of, ended_of};
-ghost use Rattle.channels.specs.Outward.{given_of};
+ghost use Rattle.hall_channels.specs.Lists.{of};
+ghost use Rattle.hall_channels.specs.Inward.{seats_of, taken_of, ended_of};
+ghost use Rattle.hall_channels.specs.Outward.{given_of};
 ghost use Rattle.hall.specs.Held.{HasEnded, IsKnown, Ready};
 
 use crate::seat_thread::{Joined, SeatThread, join_seat};
 use crate::seats::Seat;
-use channels::inbox::Inbox;
-use channels::inward::InwardView;
-use channels::messages::{Inward, Outward};
-use channels::outbox::Outbox;
-use channels::outward::OutwardView;
 use crossbeam_channel::Pass;
+use hall_channels::inbox::Inbox;
+use hall_channels::inward::InwardView;
+use hall_channels::messages::{Inward, Outward};
+use hall_channels::outbox::Outbox;
+use hall_channels::outward::OutwardView;
 use std::sync::Wait;
 use std::thread::Threads;
 

@@ -4,8 +4,8 @@ ghost use Rattle.std.specs.Prelude.{◌≡◌, ◌∷◌, [], IfOk, IfErr};
 ghost use Rattle.crossbeam_channel.specs.Claims.{view};
 ghost use Rattle.crossbeam_channel.specs.Ends.{sends_on, receives_on};
 ghost use Rattle.token.specs.States.{Shows, MayLeave};
-ghost use Rattle.channels.specs.Inward.{seats_of, taken_of, ended_of};
-ghost use Rattle.channels.specs.Outward.{given_of};
+ghost use Rattle.hall_channels.specs.Inward.{seats_of, taken_of, ended_of};
+ghost use Rattle.hall_channels.specs.Outward.{given_of};
 ghost use Rattle.hall.specs.Held.{Ready, WereHeld};
 
 use crate::closing::{Closed, Passes, close_all, wait_for_ever};
@@ -16,8 +16,8 @@ use crate::seat_thread::SeatThread;
 use crate::seats::{Gate, Seat};
 use crate::serving::serve_seats;
 use crate::starting::start_all;
-use channels::inbox::Inbox;
-use channels::outbox::Outbox;
+use hall_channels::inbox::Inbox;
+use hall_channels::outbox::Outbox;
 use keep::Keep;
 use std::alloc::Global;
 use std::sync::{Arc, Wait};
@@ -132,7 +132,7 @@ pub(crate) fn hold_machine<
 /// in the calling thread; the seats' threads run its jobs, each of which passes the gate first. What each seat got is pinned
 /// where no question is pending, as of a new token or of one that was held.
 ///
-/// It may wait, as long as a seat or the gate does. It allocates the channels and the threads. A growth that is refused is
+/// It may wait, as long as a seat or the gate does. It allocates the channels and the threads. An allocation that is refused is
 /// `HallFault::Memory`, and a thread that is not started `HallFault::Thread`; the seats are dropped then.
 pub fn hold<
     K: Keep,

@@ -40,9 +40,9 @@ mod serving;
 mod starting;
 mod token_machine;
 
-pub use channels::messages::AppCall;
 pub use closing::Passes;
 pub use fault::HallFault;
+pub use hall_channels::messages::AppCall;
 pub use holding::{Held, hold, hold_with};
 pub use machine::Machine;
 pub use seats::{Gate, Seat, SeatEvent};

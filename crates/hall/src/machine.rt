@@ -1,14 +1,14 @@
 //! What takes one event after the other.
 
 ghost use Rattle.std.specs.Prelude.{◌≡◌, ℕ, [], Some, None, Option};
-ghost use Rattle.channels.specs.declared.messages.Event.TheVariants.{Call as CallEvent, Finish as FinishEvent, Gone as GoneEvent};
-ghost use Rattle.token_store.specs.declared.out.Out.TheVariants.{Reply as OutReply};
-ghost use Rattle.token_model.specs.Worlds.{World};
+ghost use Rattle.hall_channels.specs.declared.messages.Event.TheVariants.{Call as CallEvent, Finish as FinishEvent, Gone as GoneEvent};
+ghost use Rattle.serve_base.specs.declared.out.Out.TheVariants.{Reply as OutReply};
+ghost use Rattle.model_worlds.specs.Worlds.{World};
 ghost use Rattle.token.specs.States.{IsOpen, Lasting};
 ghost use Rattle.hall.specs.Histories.{Counts, Takes, replies_in, told_out};
 
-use channels::messages::AppCall;
 use ck_calls::Reply;
+use hall_channels::messages::AppCall;
 use std::alloc::Global;
 use token::{Done, Out};
 

@@ -3,13 +3,13 @@
 ghost use Rattle.std.specs.Prelude.{◌≡◌, ◌+◌, [], IfOk};
 ghost use Rattle.crossbeam_channel.specs.Claims.{view};
 ghost use Rattle.crossbeam_channel.specs.Ends.{sends_on};
-ghost use Rattle.channels.specs.Inward.{seats_of, taken_of, ended_of};
-ghost use Rattle.channels.specs.Outward.{given_of};
+ghost use Rattle.hall_channels.specs.Inward.{seats_of, taken_of, ended_of};
+ghost use Rattle.hall_channels.specs.Outward.{given_of};
 ghost use Rattle.hall.specs.Held.{IsPortOf};
 
-use channels::inbox::Inbox;
-use channels::outbox::Outbox;
-use channels::port::Port;
+use hall_channels::inbox::Inbox;
+use hall_channels::outbox::Outbox;
+use hall_channels::port::Port;
 use std::alloc::{AllocError, Global};
 
 /// All ends of the channels.
@@ -38,7 +38,7 @@ fn open_seat(alloc: Global, inbox: &mut Inbox, seat: u64) -> Result<(Outbox, Por
     let (inward, inward_pass) = inbox.add_seat()?;
     let port = Port {
         seat,
-        letter: None,
+        message: None,
         inward,
         inward_pass,
         outward,

@@ -3,11 +3,11 @@
 ghost use Rattle.std.specs.Prelude.{◌≡◌, ◌∷◌, [], ◌++◌, ℕ, List, IsTrue, IfSome, Some};
 ghost use Rattle.crossbeam_channel.specs.Claims.{view};
 ghost use Rattle.mech.specs.declared.done.Done.{Done as DoneType};
-ghost use Rattle.token_store.specs.declared.out.Out.TheVariants.{Reply as OutReply};
-ghost use Rattle.channels.specs.Inward.{sent_of};
-ghost use Rattle.channels.specs.Outward.{got_of};
-ghost use Rattle.channels.specs.Same.{SamePort};
-ghost use Rattle.channels.specs.declared.messages.Event.TheVariants.{Finish, Gone};
+ghost use Rattle.serve_base.specs.declared.out.Out.TheVariants.{Reply as OutReply};
+ghost use Rattle.hall_channels.specs.Inward.{sent_of};
+ghost use Rattle.hall_channels.specs.Outward.{got_of};
+ghost use Rattle.hall_channels.specs.Same.{SamePort};
+ghost use Rattle.hall_channels.specs.declared.messages.Event.TheVariants.{Finish, Gone};
 ghost use Rattle.hall.specs.SeatEvents.{heard_in, IsReady, IsTurn};
 ghost use Rattle.hall.specs.Exchanges.{Exchange};
 ghost use Rattle.hall.specs.SeatDoings.{Did, PortDid};
@@ -15,9 +15,9 @@ ghost use Rattle.hall.specs.Tells.{Grows};
 ghost use Rattle.hall.specs.declared.seats.SeatEvent.TheVariants.{Call as SeatCall};
 
 use crate::seats::{Gate, Seat, SeatEvent};
-use channels::messages::{AppCall, Event, Letter};
-use channels::port::Port;
 use ck_calls::Reply;
+use hall_channels::messages::{AppCall, Event, Message};
+use hall_channels::port::Port;
 use std::alloc::Global;
 use std::sync::Wait;
 use token::{Job, Out};
@@ -39,12 +39,12 @@ fn answer<R: Wait>(rt: &R, port: &mut Port) -> Option<Out>
     ensures got { IfSome result (λ o. got_of (view port.new.outward_pass) ≡ got_of (view port.old.outward_pass) ++ o ∷ []) }
 {
     match port.get(rt)? {
-        Letter::Answer(out) => Some(out),
-        Letter::Event(event) => {
+        Message::Answer(out) => Some(out),
+        Message::Event(event) => {
             drop(event);
             None
         }
-        Letter::Empty => None,
+        Message::Empty => None,
     }
 }
 

@@ -5,8 +5,8 @@ ghost use Rattle.ck_calls.specs.declared.reply.Reply.{Reply as ReplyType};
 ghost use Rattle.hall.specs.Tells.{Adds};
 ghost use Rattle.hall.specs.SeatEvents.{seat_app, Notes, IsReady};
 
-use channels::messages::AppCall;
 use ck_calls::Reply;
+use hall_channels::messages::AppCall;
 
 /// What a seat puts before the token of itself.
 #[derive(Drop)]

@@ -3,35 +3,35 @@
 ghost use Rattle.std.specs.Prelude.{◌≡◌, ◌++◌, [], ◌∷◌, Option, List, ℕ, IsTrue, IfSome};
 ghost use Rattle.crossbeam_channel.specs.Claims.{view};
 ghost use Rattle.crossbeam_channel.specs.Ends.{sends_on};
-ghost use Rattle.token_model.specs.Worlds.{World};
-ghost use Rattle.token_store.specs.declared.out.Out.{Out as OutType};
-ghost use Rattle.channels.specs.Letters.{event_of};
-ghost use Rattle.channels.specs.Inward.{seats_of, taken_of, ended_of};
-ghost use Rattle.channels.specs.Outward.{given_of};
+ghost use Rattle.model_worlds.specs.Worlds.{World};
+ghost use Rattle.serve_base.specs.declared.out.Out.{Out as OutType};
+ghost use Rattle.hall_channels.specs.MessageContents.{event_of};
+ghost use Rattle.hall_channels.specs.Inward.{seats_of, taken_of, ended_of};
+ghost use Rattle.hall_channels.specs.Outward.{given_of};
 ghost use Rattle.hall.specs.Exchanges.{Suits, app_of, listed};
 ghost use Rattle.hall.specs.Histories.{Allowed, Counts, HasServed, History, Takes, replies_in, taken_in, told_by};
 ghost use Rattle.hall.specs.Outboxes.{OutboxesGave, SameOutboxes};
 
 use crate::machine::Machine;
-use channels::inbox::Inbox;
-use channels::messages::{Event, Inward, Letter};
-use channels::outbox::Outbox;
+use hall_channels::inbox::Inbox;
+use hall_channels::messages::{Event, Inward, Message};
+use hall_channels::outbox::Outbox;
 use std::alloc::Global;
 use std::mem;
 use std::sync::Wait;
 use token::Out;
 
 /// The event of a letter, which is taken out.
-fn taken_out(letter: &mut Letter) -> Option<Event>
-    ensures { IfSome result (λ e. event_of letter.old ≡ e ∷ []) }
+fn taken_out(message: &mut Message) -> Option<Event>
+    ensures { IfSome result (λ e. event_of message.old ≡ e ∷ []) }
 {
-    match mem::replace(letter, Letter::Empty) {
-        Letter::Event(event) => Some(event),
-        Letter::Answer(out) => {
+    match mem::replace(message, Message::Empty) {
+        Message::Event(event) => Some(event),
+        Message::Answer(out) => {
             drop(out);
             None
         }
-        Letter::Empty => None,
+        Message::Empty => None,
     }
 }
 
@@ -41,7 +41,7 @@ fn serve<M: Machine, R: Wait>(
     alloc: Global,
     machine: &mut M,
     outbox: &mut Outbox,
-    letter: Box<Letter>,
+    message: Box<Message>,
     event: Event,
 ) -> bool
     ensures same { sends_on outbox.new.outward ≡ sends_on outbox.old.outward }
@@ -52,15 +52,15 @@ fn serve<M: Machine, R: Wait>(
     match event {
         Event::Call(call) => {
             let out = machine.call(alloc, call);
-            outbox.answer(rt, letter, out)
+            outbox.answer(rt, message, out)
         }
         Event::Finish { app, done } => {
             let reply = machine.finish(alloc, app, done);
-            outbox.answer(rt, letter, Out::Reply(reply))
+            outbox.answer(rt, message, Out::Reply(reply))
         }
         Event::Gone { app } => {
             machine.gone(app);
-            outbox.give_back(rt, letter)
+            outbox.give_back(rt, message)
         }
     }
 }
@@ -88,18 +88,18 @@ pub(crate) fn serve_seats<M: Machine, R: Wait>(
         match inbox.take(rt) {
             None => return false,
             Some(Inward::End { .. }) => ended += 1,
-            Some(Inward::Put { seat, mut letter }) => {
+            Some(Inward::Put { seat, mut message }) => {
                 let at = seat as usize;
                 if at >= outboxes.len() {
-                    drop(letter);
+                    drop(message);
                     return false;
                 }
-                let Some(event) = taken_out(&mut letter) else {
-                    drop(letter);
+                let Some(event) = taken_out(&mut message) else {
+                    drop(message);
                     return false;
                 };
                 let outbox = &mut outboxes[at];
-                if !serve(rt, alloc, machine, outbox, letter, event) {
+                if !serve(rt, alloc, machine, outbox, message, event) {
                     return false;
                 }
             }

@@ -4,8 +4,8 @@ ghost use Rattle.keep.specs.Keeping.{Terms};
 ghost use Rattle.token.specs.States.{Shows, MayLeave};
 
 use crate::machine::Machine;
-use channels::messages::AppCall;
 use ck_calls::Reply;
+use hall_channels::messages::AppCall;
 use keep::Keep;
 use std::alloc::Global;
 use token::{Done, Out, Token};

@@ -10,9 +10,9 @@ use Rattle.handles.specs.Handles.{object_of, number_of, AreDistinct, IsTable}
 use Rattle.lists.proofs.InOrderLemmas.{All-filter, All-weaken, PassesOnce, find-none, NumbersRise-above, NumbersRise-filter, NumbersRise-push}
 
 -- ---- numbers
-NumbersRise-next : (low next : ℕ) (hs : List Handle) → NumbersRise (λ h. h.number) low hs next → NumbersRise (λ h. h.number) low hs (next + 1)
+NumbersRise-next : (low next : ℕ) (hs : List Handle) → NumbersRise (λ h. h.handle) low hs next → NumbersRise (λ h. h.handle) low hs (next + 1)
 NumbersRise-next low next [] rising = omega (arith, rising)
-NumbersRise-next low next (h ∷ hs) rising = (rising.0, NumbersRise-next (h.number + 1) next hs rising.1)
+NumbersRise-next low next (h ∷ hs) rising = (rising.0, NumbersRise-next (h.handle + 1) next hs rising.1)
 
 -- ---- objects
 AreDistinct-filter : (test : Handle → Bool) (hs : List Handle) → AreDistinct hs → AreDistinct (filter test hs)
@@ -28,7 +28,7 @@ AreDistinct-filter test (h ∷ hs) distinct =
 pub not_there : (id : ℕ) (hs : List Handle) → number_of hs id ≡ None → AllByRecursion (λ h. eqb h.id id ≡ false) hs
 not_there id [] none = tt
 not_there id (h ∷ hs) none = elim (cases_Bool (eqb h.id id)) [
-  | inl here ↦ absurd (let found : Some h.number ≡ None = rw here at none in cc)
+  | inl here ↦ absurd (let found : Some h.handle ≡ None = rw here at none in cc)
   | inr other ↦ (other, not_there id hs (rw other at none))
 ]
 
@@ -45,13 +45,13 @@ AreDistinct-push h (x ∷ hs) new distinct =
 -- ---- tables
 pub IsTable-filter : (next : ℕ) (test : Handle → Bool) (hs : List Handle) → IsTable next hs → IsTable next (filter test hs)
 IsTable-filter next test hs table = record {
-  rising = NumbersRise-filter (λ h. h.number) 1 next test hs table.rising;
+  rising = NumbersRise-filter (λ h. h.handle) 1 next test hs table.rising;
   distinct = AreDistinct-filter test hs table.distinct;
 }
 
-pub IsTable-push : (next id : ℕ) (private : Bool) (hs : List Handle) → number_of hs id ≡ None → IsTable next hs → IsTable (next + 1) (hs ++ record { number = next; id = id; private = private } ∷ [])
+pub IsTable-push : (next id : ℕ) (private : Bool) (hs : List Handle) → number_of hs id ≡ None → IsTable next hs → IsTable (next + 1) (hs ++ record { handle = next; id = id; private = private } ∷ [])
 IsTable-push next id private hs none table = record {
-  rising = NumbersRise-push (λ h. h.number) 1 next _ hs refl table.rising;
+  rising = NumbersRise-push (λ h. h.handle) 1 next _ hs refl table.rising;
   distinct = AreDistinct-push _ hs (not_there id hs none) table.distinct;
 }
 
@@ -68,37 +68,37 @@ PassesOnce-object id (h ∷ hs) distinct =
     (λ here. All-weaken (λ x. eqb x.id h.id ≡ false) (λ x. eqb x.id id ≡ false) (λ x differs. ap (eqb x.id) (sym (eqb-true h.id id here)) ∙ differs) hs distinct.0, PassesOnce-object id hs distinct.1)
 
 -- a new handle is found
-pub number_of-push : (hs : List Handle) (h : Handle) → number_of hs h.id ≡ None → number_of (hs ++ h ∷ []) h.id ≡ Some h.number
+pub number_of-push : (hs : List Handle) (h : Handle) → number_of hs h.id ≡ None → number_of (hs ++ h ∷ []) h.id ≡ Some h.handle
 number_of-push [] h none = rw (eq-eqb h.id h.id refl) refl
 number_of-push (x ∷ hs) h none = elim (cases_Bool (eqb x.id h.id)) [
-  | inl here ↦ absurd (let found : Some x.number ≡ None = rw here at none in cc)
+  | inl here ↦ absurd (let found : Some x.handle ≡ None = rw here at none in cc)
   | inr other ↦ rw other (number_of-push hs h (rw other at none))
 ]
 
 -- ---- handles and objects match both ways
 pub number_of-object_of : (n id : ℕ) (hs : List Handle) → AreDistinct hs → object_of hs n ≡ Some id → number_of hs id ≡ Some n
 number_of-object_of n id [] distinct found = absurd (cc)
-number_of-object_of n id (h ∷ hs) distinct found = elim (cases_Bool (eqb h.number n)) [
+number_of-object_of n id (h ∷ hs) distinct found = elim (cases_Bool (eqb h.handle n)) [
   | inl here ↦
       let same : Some h.id ≡ Some id = rw here at found in
       let object : h.id ≡ id = cc in
-      rw (eq-eqb h.id id object) (ap Some (eqb-true h.number n here))
+      rw (eq-eqb h.id id object) (ap Some (eqb-true h.handle n here))
   | inr other ↦
       let later = number_of-object_of n id hs distinct.1 (rw other at found) in
-      rw (ne_eqb h.id id (λ is. absurd (let gone : number_of hs id ≡ None = ap (option_map (λ x. x.number)) (find-none (λ x. eqb x.id id) hs (subst (λ i. AllByRecursion (λ x. eqb x.id i ≡ false) hs) is distinct.0)) in let never : None ≡ Some n = sym gone ∙ later in cc))) later
+      rw (ne_eqb h.id id (λ is. absurd (let gone : number_of hs id ≡ None = ap (option_map (λ x. x.handle)) (find-none (λ x. eqb x.id id) hs (subst (λ i. AllByRecursion (λ x. eqb x.id i ≡ false) hs) is distinct.0)) in let never : None ≡ Some n = sym gone ∙ later in cc))) later
 ]
 
-pub object_of-number_of : (low next n id : ℕ) (hs : List Handle) → NumbersRise (λ h. h.number) low hs next → number_of hs id ≡ Some n → object_of hs n ≡ Some id
+pub object_of-number_of : (low next n id : ℕ) (hs : List Handle) → NumbersRise (λ h. h.handle) low hs next → number_of hs id ≡ Some n → object_of hs n ≡ Some id
 object_of-number_of low next n id [] rising found = absurd (cc)
 object_of-number_of low next n id (h ∷ hs) rising found = elim (cases_Bool (eqb h.id id)) [
   | inl here ↦
-      let same : Some h.number ≡ Some n = rw here at found in
-      let number : h.number ≡ n = cc in
-      rw (eq-eqb h.number n number) (ap Some (eqb-true h.id id here))
+      let same : Some h.handle ≡ Some n = rw here at found in
+      let handle : h.handle ≡ n = cc in
+      rw (eq-eqb h.handle n handle) (ap Some (eqb-true h.id id here))
   | inr other ↦
-      let later = object_of-number_of (h.number + 1) next n id hs rising.1 (rw other at found) in
-      let above = All-weaken (λ x. h.number + 1 ≤ x.number) (λ x. eqb x.number h.number ≡ false) (λ x high. ne_eqb x.number h.number (λ is. omega (arith, high, is))) hs (NumbersRise-above (λ x. x.number) (h.number + 1) next hs rising.1) in
-      rw (ne_eqb h.number n (λ is. absurd (let gone : object_of hs n ≡ None = ap (option_map (λ x. x.id)) (find-none (λ x. eqb x.number n) hs (subst (λ i. AllByRecursion (λ x. eqb x.number i ≡ false) hs) is above)) in let never : None ≡ Some id = sym gone ∙ later in cc))) later
+      let later = object_of-number_of (h.handle + 1) next n id hs rising.1 (rw other at found) in
+      let above = All-weaken (λ x. h.handle + 1 ≤ x.handle) (λ x. eqb x.handle h.handle ≡ false) (λ x high. ne_eqb x.handle h.handle (λ is. omega (arith, high, is))) hs (NumbersRise-above (λ x. x.handle) (h.handle + 1) next hs rising.1) in
+      rw (ne_eqb h.handle n (λ is. absurd (let gone : object_of hs n ≡ None = ap (option_map (λ x. x.id)) (find-none (λ x. eqb x.handle n) hs (subst (λ i. AllByRecursion (λ x. eqb x.handle i ≡ false) hs) is above)) in let never : None ≡ Some id = sym gone ∙ later in cc))) later
 ]
 
 pub IfSome-object_of : (next n : ℕ) (hs : List Handle) (r : Option ℕ) → IsTable next hs → r ≡ object_of hs n → IfSome r (λ id. number_of hs id ≡ Some n)

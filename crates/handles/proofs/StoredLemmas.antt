@@ -111,15 +111,15 @@ IsStored-length next hs by_id stored = ap length stored.same ∙ by_rising_id-le
 -- an object's handle is the same in both orders
 IsStored-number_of : (next id : ℕ) (hs by_id : List Handle) → IsStored next hs by_id → number_of by_id id ≡ number_of hs id
 IsStored-number_of next id hs by_id stored =
-    ap (λ xs. number_of xs id) stored.same ∙ ap (option_map (λ h. h.number)) (by_rising_id-find (λ h. eqb h.id id) hs (PassesOnce-object id hs stored.table.distinct))
+    ap (λ xs. number_of xs id) stored.same ∙ ap (option_map (λ h. h.handle)) (by_rising_id-find (λ h. eqb h.id id) hs (PassesOnce-object id hs stored.table.distinct))
 
-pub IsStored-found : (next id at : ℕ) (hs by_id : List Handle) (h : Handle) → IsStored next hs by_id → find (λ x. eqb x.id id) by_id ≡ Some (get_or by_id at h) → h ≡ get_or by_id at h → number_of hs id ≡ Some h.number
+pub IsStored-found : (next id at : ℕ) (hs by_id : List Handle) (h : Handle) → IsStored next hs by_id → find (λ x. eqb x.id id) by_id ≡ Some (get_or by_id at h) → h ≡ get_or by_id at h → number_of hs id ≡ Some h.handle
 IsStored-found next id at hs by_id h stored found is =
-    sym (IsStored-number_of next id hs by_id stored) ∙ ap (option_map (λ x. x.number)) (found ∙ ap Some (sym is))
+    sym (IsStored-number_of next id hs by_id stored) ∙ ap (option_map (λ x. x.handle)) (found ∙ ap Some (sym is))
 
 pub IsStored-absent : (next id : ℕ) (hs by_id : List Handle) → IsStored next hs by_id → find (λ x. eqb x.id id) by_id ≡ None → number_of hs id ≡ None
 IsStored-absent next id hs by_id stored absent =
-    sym (IsStored-number_of next id hs by_id stored) ∙ ap (option_map (λ x. x.number)) absent
+    sym (IsStored-number_of next id hs by_id stored) ∙ ap (option_map (λ x. x.handle)) absent
 
 pub IsStored-next : (next : ℕ) (hs by_id : List Handle) → IsStored next hs by_id → IsStored (next + 1) hs by_id
 IsStored-next next hs by_id stored = record { table = IsTable-next next hs stored.table; same = stored.same }
@@ -130,8 +130,8 @@ IsStored-filter next test hs by_id stored = record {
   same = ap (filter test) stored.same ∙ sym (by_rising_id-filter test hs);
 }
 
-pub IsStored-push : (next id : ℕ) (private : Bool) (hs by_id : List Handle) → number_of hs id ≡ None → IsStored next hs by_id → IsStored (next + 1) (hs ++ record { number = next; id = id; private = private } ∷ []) (placed (λ h. h.id) (record { number = next; id = id; private = private }) by_id)
+pub IsStored-push : (next id : ℕ) (private : Bool) (hs by_id : List Handle) → number_of hs id ≡ None → IsStored next hs by_id → IsStored (next + 1) (hs ++ record { handle = next; id = id; private = private } ∷ []) (placed (λ h. h.id) (record { handle = next; id = id; private = private }) by_id)
 IsStored-push next id private hs by_id none stored = record {
   table = IsTable-push next id private hs none stored.table;
-  same = ap (placed (λ h. h.id) (record { number = next; id = id; private = private })) stored.same ∙ sym (by_rising_id-push (record { number = next; id = id; private = private }) hs (not_there id hs none));
+  same = ap (placed (λ h. h.id) (record { handle = next; id = id; private = private })) stored.same ∙ sym (by_rising_id-push (record { handle = next; id = id; private = private }) hs (not_there id hs none));
 }

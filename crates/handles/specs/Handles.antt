@@ -18,16 +18,16 @@ no_handles = record { entries = []; next_number = 1; capacity = 0 }
 
 -- the object of a handle, and the handle of an object
 abbrev pub object_of : List Handle → ℕ → Option ℕ
-object_of hs number = option_map (λ h. h.id) (find (λ h. h.number == number) hs)
+object_of hs handle = option_map (λ h. h.id) (find (λ h. h.handle == handle) hs)
 
 abbrev pub number_of : List Handle → ℕ → Option ℕ
-number_of hs id = option_map (λ h. h.number) (find (λ h. h.id == id) hs)
+number_of hs id = option_map (λ h. h.handle) (find (λ h. h.id == id) hs)
 
 -- an object has a handle: the one that it had, or else the next
 abbrev pub with_handle : HandleTable → ℕ → Bool → HandleTable
 with_handle t id private =
     if is_some (number_of t.entries id) then t
-    else record t { entries = t.entries ++ record { number = t.next_number; id = id; private = private } ∷ []; next_number = t.next_number + 1 }
+    else record t { entries = t.entries ++ record { handle = t.next_number; id = id; private = private } ∷ []; next_number = t.next_number + 1 }
 
 -- the handles that are left when an object is gone, and when private objects are seen no more
 abbrev pub without_object : List Handle → ℕ → List Handle
@@ -48,7 +48,7 @@ AreDistinct (h ∷ hs) = AllByRecursion (λ x. x.id == h.id ≡ false) hs × Are
 -- what is true of every table: numbers count from 1 and were given once each, and each object has
 -- one handle at most
 pub record IsTable (next_number : ℕ) (hs : List Handle) : Type 0 where
-  pub rising : NumbersRise (λ h. h.number) 1 hs next_number
+  pub rising : NumbersRise (λ h. h.handle) 1 hs next_number
   pub distinct : AreDistinct hs
 
 -- these handles by rising id

@@ -24,7 +24,7 @@ ghost use Rattle.std.specs.Prelude.{◌≡◌, ◌+◌, ◌^◌, ◌<◌, ◌≤
 ghost use Rattle.std.specs.List.{insert};
 ghost use Rattle.std.specs.Vec.{vec_capacity};
 ghost use Rattle.handles.specs.Handles.{no_handles, object_of, number_of, with_handle, without_object, public_handles, HasRoomFor, IsTable};
-ghost use Rattle.lists.specs.Bisection.{KeysRise, IsPlaceOf};
+ghost use Rattle.lists.specs.Bisection.{KeysRise, IsIndexOf};
 
 use lists::NUMBER_LIMIT;
 use std::alloc::{AllocError, Global};
@@ -33,7 +33,7 @@ use std::marker::Model;
 /// A handle: its number, the id of its object, and whether that object is private (CKA_PRIVATE).
 #[derive(Clone, Copy, Debug, PartialEq, Eq)]
 pub struct Handle {
-    pub number: u64,
+    pub handle: u64,
     pub id: u64,
     pub private: bool,
 }
@@ -88,12 +88,12 @@ impl Handles {
     }
 
     /// The id of the object whose handle this is.
-    pub fn object_of(&self, number: u64) -> Option<u64>
-        ensures object { result ≡ object_of self.now.entries number }
-        ensures matched { IfSome result (λ id. number_of self.now.entries id ≡ Some number) }
+    pub fn object_of(&self, handle: u64) -> Option<u64>
+        ensures object { result ≡ object_of self.now.entries handle }
+        ensures matched { IfSome result (λ id. number_of self.now.entries id ≡ Some handle) }
         ensures table { IsTable self.now.next_number self.now.entries }
     {
-        match place_of_number(&self.entries, number) {
+        match index_of_handle(&self.entries, handle) {
             Ok(at) => Some(self.entries[at].id),
             Err(_) => None,
         }
@@ -101,17 +101,17 @@ impl Handles {
 
     /// The handle of the object with this id.
     pub fn number_of(&self, id: u64) -> Option<u64>
-        ensures number { result ≡ number_of self.now.entries id }
-        ensures matched { IfSome result (λ number. object_of self.now.entries number ≡ Some id) }
+        ensures handle { result ≡ number_of self.now.entries id }
+        ensures matched { IfSome result (λ handle. object_of self.now.entries handle ≡ Some id) }
         ensures table { IsTable self.now.next_number self.now.entries }
     {
-        match place_of_id(&self.by_id, id) {
-            Ok(at) => Some(self.by_id[at].number),
+        match index_of_id(&self.by_id, id) {
+            Ok(at) => Some(self.by_id[at].handle),
             Err(_) => None,
         }
     }
 
-    /// Makes room for so many more handles. It fails only for want of memory, and either way the
+    /// Makes room for so many more handles. It fails only if an allocation fails, and either way the
     /// handles are as they were.
     pub fn reserve(&mut self, additional: usize) -> Result<(), AllocError>
         ensures room { OnOk result (HasRoomFor self.new additional) }
@@ -129,33 +129,33 @@ impl Handles {
         requires fits { self.old.next_number + 1 < 2 ^ 64 }
         requires room { HasRoomFor self.old 1 }
         ensures given { self.new ≡ with_handle self.old id private }
-        ensures number { number_of self.new.entries id ≡ Some result }
+        ensures handle { number_of self.new.entries id ≡ Some result }
     {
-        let at = match place_of_id(&self.by_id, id) {
-            Ok(at) => return self.by_id[at].number,
+        let at = match index_of_id(&self.by_id, id) {
+            Ok(at) => return self.by_id[at].handle,
             Err(at) => at,
         };
-        let number = self.next_number;
-        let handle = Handle {
-            number,
+        let handle = self.next_number;
+        let given = Handle {
+            handle,
             id,
             private,
         };
-        self.entries.push_reserved(handle);
-        insert_reserved(&mut self.by_id, at, handle);
+        self.entries.push_reserved(given);
+        insert_reserved(&mut self.by_id, at, given);
         self.next_number += 1;
-        number
+        handle
     }
 
     /// The next number, for an object that is kept elsewhere, as a session object. No memory is taken.
     pub fn take_number(&mut self) -> u64
         requires { self.old.next_number + 1 < 2 ^ 64 }
-        ensures number { result ≡ self.old.next_number }
+        ensures handle { result ≡ self.old.next_number }
         ensures taken { self.new ≡ record self.old { next_number = self.old.next_number + 1 } }
     {
-        let number = self.next_number;
-        self.next_number = number + 1;
-        number
+        let handle = self.next_number;
+        self.next_number = handle + 1;
+        handle
     }
 
     /// Retires the handle of an object, if it has one. No memory is taken.
@@ -176,17 +176,17 @@ impl Handles {
 }
 
 /// Where the handle with this number stands among handles by rising number, or where it would go.
-fn place_of_number(handles: &[Handle], number: u64) -> Result<usize, usize>
-    requires { KeysRise (λ h. h.number) handles.now }
-    ensures { IsPlaceOf (λ h. h.number) handles.now number result }
+fn index_of_handle(handles: &[Handle], handle: u64) -> Result<usize, usize>
+    requires { KeysRise (λ h. h.handle) handles.now }
+    ensures { IsIndexOf (λ h. h.handle) handles.now handle result }
 {
-    handles.binary_search_by_key(&number, |handle| handle.number)
+    handles.binary_search_by_key(&handle, |handle| handle.handle)
 }
 
 /// Where the handle of this object stands among handles by rising id, or where it would go.
-fn place_of_id(handles: &[Handle], id: u64) -> Result<usize, usize>
+fn index_of_id(handles: &[Handle], id: u64) -> Result<usize, usize>
     requires { KeysRise (λ h. h.id) handles.now }
-    ensures { IsPlaceOf (λ h. h.id) handles.now id result }
+    ensures { IsIndexOf (λ h. h.id) handles.now id result }
 {
     handles.binary_search_by_key(&id, |handle| handle.id)
 }

@@ -30,7 +30,7 @@ outer_pad = 0x5C
 unfoldable pub padded_key : (List ℕ → List ℕ) → ℕ → ℕ → List ℕ → List ℕ
 padded_key hash block_size pad key = xor_bytes (block_key hash block_size key) (replicate block_size pad)
 
--- the code of a message under a key (4, steps 4 to 9)
+-- the tag of a message under a key (4, steps 4 to 9)
 unfoldable pub hmac : (List ℕ → List ℕ) → ℕ → List ℕ → List ℕ → List ℕ
 hmac hash block_size key message =
     hash (padded_key hash block_size outer_pad key ++ hash (padded_key hash block_size inner_pad key ++ message))

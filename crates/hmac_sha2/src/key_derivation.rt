@@ -10,8 +10,8 @@ use sha2::Sha256;
 // INT (1), the number of the first block as four bytes, the highest first (RFC 8018, section 5.2).
 const FIRST_BLOCK: [u8; 4] = [0, 0, 0, 1];
 
-// The code of a message under the key of `start`, which has taken nothing yet.
-fn code_from(start: &Hmac<Sha256>, message: &[u8]) -> [u8; 32]
+// The tag of a message under the key of `start`, which has taken nothing yet.
+fn tag_from(start: &Hmac<Sha256>, message: &[u8]) -> [u8; 32]
     ensures { (key : List ℕ) → HoldsMessage256 start.now key [] → result ≡ hmac256 key message.now }
 {
     let mut hmac = start.clone().unwrap();
@@ -34,7 +34,7 @@ pub fn pbkdf2(password: &[u8], salt: &[u8], rounds: u32) -> [u8; 32]
     let mut iterate = first.finalize();
     let mut sum = iterate;
     'rounds: for _round in 1..rounds {
-        iterate = code_from(&start, &iterate);
+        iterate = tag_from(&start, &iterate);
         xor_into(&mut sum, &iterate);
     }
     sum

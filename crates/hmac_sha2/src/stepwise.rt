@@ -21,7 +21,7 @@ fn begun<D: HashFunction>(key: &[u8], pad: u8) -> D
     D::new_with_prefix(&block[..D::BLOCK_SIZE])
 }
 
-/// HMAC (FIPS 198-1) of a message that comes in pieces, under any of the hash functions.
+/// HMAC (FIPS 198-1) of a message that comes in parts, under any of the hash functions.
 ///
 /// It keeps two hashers, one begun with the key under the inner pad and one with the key under the
 /// outer pad, and no part of the message but what a hasher keeps. A clone is the same state once
@@ -73,7 +73,7 @@ where
         self.inner.update(piece);
     }
 
-    /// The code of the message, of the length of a digest (steps 6, 8 and 9).
+    /// The tag of the message, of the length of a digest (steps 6, 8 and 9).
     pub fn finalize(self) -> D::Output
         ensures { (key message : List ℕ)
             → HoldsMessage D.holds D.hash D.BLOCK_SIZE self key message

@@ -14,12 +14,12 @@ use Rattle.sqlite.specs.Effect.{Database, IsDatabase}
 use Rattle.sqlite.proofs.Theorems.{next_run}
 use Rattle.sqlite_catalog.specs.Listing.{IsSound}
 use Rattle.keep.specs.Contents.{Contents}
-use Rattle.table_statements.specs.Tables.{token_schema}
-use Rattle.stored_contents.specs.Store.{IsStore, Stores}
-use Rattle.stored_contents.specs.Opening.{Adopts}
-use Rattle.stored_contents.specs.OpenedFile.{OpenedFile}
-use Rattle.stored_contents.specs.SqlState.{SqlState, sql_terms}
-use Rattle.stored_contents.proofs.Copies.{one_schema}
+use Rattle.sql_statements.specs.Tables.{token_schema}
+use Rattle.keep_sql_model.specs.Store.{IsStore, Stores}
+use Rattle.keep_sql_model.specs.Opening.{Adopts}
+use Rattle.keep_sql_model.specs.OpenedFile.{OpenedFile}
+use Rattle.keep_sql_model.specs.SqlState.{SqlState, sql_terms}
+use Rattle.keep_sql_model.proofs.Copies.{one_schema}
 use Rattle.keep_sql.specs.CrashThenOpen.{HoldsLeft}
 use Rattle.keep_sql.proofs.Taken.{stored_either}
 

@@ -10,16 +10,16 @@ use Rattle.pin_record.specs.Records.{TokenRecord, new_record}
 use Rattle.keep.specs.Contents.{Contents, new_contents}
 use Rattle.keep.specs.declared.keep.KeepFault.{KeepFault}
 use Rattle.keep.specs.declared.keep.KeepFault.TheVariants.{Damaged}
-use Rattle.table_statements.specs.Tables.{no_schema, token_schema}
-use Rattle.table_statements.specs.Store.{IsReady, OnlyReads, Sees, SeesTables, ShowsNow, Unwritten}
-use Rattle.stored_contents.specs.Store.{IsStore, IsAt, Holds, ReadsAs}
-use Rattle.stored_contents.specs.SqlState.{SqlState, sql_terms}
+use Rattle.sql_statements.specs.Tables.{no_schema, token_schema}
+use Rattle.sql_statements.specs.Store.{IsReady, OnlyReads, Sees, SeesTables, ShowsNow, Unwritten}
+use Rattle.keep_sql_model.specs.Store.{IsStore, IsAt, Holds, ReadsAs}
+use Rattle.keep_sql_model.specs.SqlState.{SqlState, sql_terms}
 use Rattle.keep_sql.specs.declared.taking.Found.{Found}
-use Rattle.stored_contents.specs.Formats.{HoldsEither, IsAtEither, StoresEither}
+use Rattle.keep_sql_model.specs.Formats.{HoldsEither, IsAtEither, StoresEither}
 use Rattle.keep_sql.specs.Found.{Finds, is_current}
-use Rattle.stored_contents.specs.Opening.{Adopts, AllDecode, HasOld, IsOurs, NotOpened, Opened, has_tables}
-use Rattle.stored_contents.proofs.Held.{at_again, held_on, one_contents, reads_one, reads_stay, sees_held, store_at}
-use Rattle.stored_contents.proofs.Opens.{not_both, not_none}
+use Rattle.keep_sql_model.specs.Opening.{Adopts, AllDecode, HasOld, IsOurs, NotOpened, Opened, has_tables}
+use Rattle.keep_sql_model.proofs.Held.{at_again, held_on, one_contents, reads_one, reads_stay, sees_held, store_at}
+use Rattle.keep_sql_model.proofs.Opens.{not_both, not_none}
 use Rattle.keep_sql.proofs.Taken.{either_decodes, found_decodes, has_old, none_old, same_record, stored_either}
 
 -- ---- in either format

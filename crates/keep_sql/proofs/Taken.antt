@@ -11,22 +11,22 @@ use Rattle.pin_record.proofs.StoredLaws.{record_old_stored-complete}
 use Rattle.keep.specs.Contents.{Contents, IdsRise, IsTokenObject}
 use Rattle.sql_tables.specs.declared.renewals.Renewal.{Renewal}
 use Rattle.keep_sql.specs.declared.taking.Found.{Found}
-use Rattle.table_statements.specs.Store.{HasRows, body_row}
-use Rattle.stored_contents.specs.Store.{AreObjects, Body, Stores, encoded, encoded_record, object_row, record_row}
-use Rattle.stored_contents.specs.Formats.{AreBodies, IsRecordBody, StoresEither, is_old, old_encoded, old_encoded_record}
-use Rattle.table_statements.specs.Rows.{bodies, ids_and_bodies, natural}
-use Rattle.stored_contents.specs.Rows.{ShowsEither}
-use Rattle.table_statements.specs.Bodies as tables
-use Rattle.table_statements.specs.Bodies.{Bodies}
+use Rattle.sql_statements.specs.Store.{HasRows, body_row}
+use Rattle.keep_sql_model.specs.Store.{AreObjects, Body, Stores, encoded, encoded_record, object_row, record_row}
+use Rattle.keep_sql_model.specs.Formats.{AreBodies, IsRecordBody, StoresEither, is_old, old_encoded, old_encoded_record}
+use Rattle.sql_statements.specs.Rows.{bodies, ids_and_bodies, natural}
+use Rattle.keep_sql_model.specs.Rows.{ShowsEither}
+use Rattle.sql_statements.specs.Bodies as tables
+use Rattle.sql_statements.specs.Bodies.{Bodies}
 use Rattle.sql_tables.specs.Renewed.{AreNatural, put_each, renewed}
-use Rattle.stored_contents.specs.Renewals.{IsCovered, IsOfRow, IsStoredAs}
+use Rattle.keep_sql_model.specs.Renewals.{IsCovered, IsOfRow, IsStoredAs}
 use Rattle.keep_sql.specs.Found.{Finds, has_none, is_current}
-use Rattle.stored_contents.specs.Opening.{AllDecode, HasOld}
-use Rattle.table_statements.proofs.Ids.{rising}
-use Rattle.stored_contents.proofs.Bytes.{if_new_record, if_old_record, new_is, new_record_is, old_is, old_record_is}
-use Rattle.stored_contents.proofs.Held.{record_of}
-use Rattle.stored_contents.proofs.Lifts.{rows_are, stored}
-use Rattle.stored_contents.proofs.Renewed.{all_renewed}
+use Rattle.keep_sql_model.specs.Opening.{AllDecode, HasOld}
+use Rattle.sql_statements.proofs.Ids.{rising}
+use Rattle.keep_sql_model.proofs.Bytes.{if_new_record, if_old_record, new_is, new_record_is, old_is, old_record_is}
+use Rattle.keep_sql_model.proofs.Held.{record_of}
+use Rattle.keep_sql_model.proofs.Lifts.{rows_are, stored}
+use Rattle.keep_sql_model.proofs.Renewed.{all_renewed}
 
 -- ---- what is stored in format 2 is stored in either
 

@@ -4,13 +4,13 @@ use Rattle.sqlite.specs.Tree.{Trees}
 use Rattle.sqlite.specs.State.{State}
 use Rattle.pin_record.specs.Stored.{IsRecord}
 use Rattle.keep.specs.Contents.{Contents}
-use Rattle.table_statements.specs.Bodies.{Bodies}
+use Rattle.sql_statements.specs.Bodies.{Bodies}
 use Rattle.sql_tables.specs.Renewed.{AreNatural, renewed}
-use Rattle.table_statements.specs.Rows.{ids_and_bodies}
-use Rattle.table_statements.specs.Store.{HasTables, IsAtRows}
+use Rattle.sql_statements.specs.Rows.{ids_and_bodies}
+use Rattle.sql_statements.specs.Store.{HasTables, IsAtRows}
 use Rattle.keep_sql.specs.declared.taking.Found.{Found}
-use Rattle.stored_contents.specs.Store.{IsAt, IsStore, encoded_record}
-use Rattle.stored_contents.specs.Formats.{IsAtEither}
+use Rattle.keep_sql_model.specs.Store.{IsAt, IsStore, encoded_record}
+use Rattle.keep_sql_model.specs.Formats.{IsAtEither}
 use Rattle.keep_sql.specs.Found.{Finds, is_current}
 use Rattle.keep_sql.proofs.Taken.{are_natural, current, has_rows, rows, written}
 

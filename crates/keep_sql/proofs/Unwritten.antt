@@ -3,9 +3,9 @@ use Rattle.std.proofs.Common.{◌≡◌, IsTrue, refl, sym, subst, ◌∙◌, ap
 use Rattle.sqlite.specs.State.{State, HasCleanDisk}
 use Rattle.sqlite.specs.Effect.{Database, IsDatabase}
 use Rattle.keep.specs.Contents.{Contents}
-use Rattle.table_statements.specs.Tables.{token_schema}
-use Rattle.table_statements.specs.Store.{ShowsNow, Unwritten}
-use Rattle.stored_contents.specs.Store.{Holds, IsAt, Stayed, Stores}
+use Rattle.sql_statements.specs.Tables.{token_schema}
+use Rattle.sql_statements.specs.Store.{ShowsNow, Unwritten}
+use Rattle.keep_sql_model.specs.Store.{Holds, IsAt, Stayed, Stores}
 
 at_same : (new : State) (db : Database) (c : Contents) → ShowsNow new db → db.schema ≡ token_schema → Stores db.trees c → IsDatabase db → IsAt new c
 at_same new db c shows schema stores sound = record {

@@ -8,9 +8,9 @@ use Rattle.sqlite.specs.State.{HasCleanDisk}
 use Rattle.sqlite.specs.Held.{AreDatabases}
 use Rattle.sqlite.specs.Files.{file_state, over_files}
 use Rattle.keep.specs.Contents.{Contents}
-use Rattle.stored_contents.specs.Opening.{Adopts}
-use Rattle.stored_contents.specs.OpenedFile.{OpenedFile}
-use Rattle.stored_contents.specs.SqlState.{SqlState, sql_terms}
+use Rattle.keep_sql_model.specs.Opening.{Adopts}
+use Rattle.keep_sql_model.specs.OpenedFile.{OpenedFile}
+use Rattle.keep_sql_model.specs.SqlState.{SqlState, sql_terms}
 
 -- where contents were left, the keeper holds them and no others, and a crash leaves them alone
 abbrev pub HoldsLeft : {D : Type 0} {g : Ghosts D} → SqlState (FileStore D g) → Option Contents → Type 0

@@ -3,8 +3,8 @@ use Rattle.std.specs.Prelude.{◌&&◌, not, Bool, true, false, List, [], ◌∷
 use Rattle.sqlite.specs.Tree.{Trees}
 use Rattle.sql_tables.specs.declared.renewals.Renewal.{Renewal}
 use Rattle.keep_sql.specs.declared.taking.Found.{Found}
-use Rattle.stored_contents.specs.Renewals.{FindsRecord, IsCovered, IsOfRow}
-use Rattle.table_statements.specs.Rows.{bodies, ids_and_bodies}
+use Rattle.keep_sql_model.specs.Renewals.{FindsRecord, IsCovered, IsOfRow}
+use Rattle.sql_statements.specs.Rows.{bodies, ids_and_bodies}
 
 pub record Finds (trees : Trees) (f : Found) : Type 0 where
   pub record_is : FindsRecord (bodies (trees 0)) f.token_record f.is_old

@@ -12,7 +12,7 @@ use Rattle.sqlite.specs.Files.{file_state, image_of, IsCleanLeft, IsOpened, Leav
 use Rattle.sqlite.specs.Start.{FindsIn}
 use Rattle.pin_record.specs.Records.{TokenRecord}
 use Rattle.keep.specs.declared.keep.KeepFault.{KeepFault}
-use Rattle.stored_contents.specs.Opening.{NotOpened, Opened}
+use Rattle.keep_sql_model.specs.Opening.{NotOpened, Opened}
 use Rattle.keep_sql.specs.declared.refusal.OpenFault.{OpenFault}
 use Rattle.keep_sql.specs.declared.refusal.OpenFault.TheVariants.{Keeper, NoTables}
 use Rattle.keep_sql.specs.declared.refusal.Left.{Left}

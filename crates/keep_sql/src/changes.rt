@@ -5,7 +5,7 @@ ghost use Rattle.sqlite.specs.State.{HasCleanDisk};
 ghost use Rattle.sqlite.specs.Held.{state};
 ghost use Rattle.keep.specs.Contents.{Contents, IsTokenObject, after_reset, greatest_id, ids_of as ids_in, IsSound, object_at, with_object, with_record, with_replacement, without_object};
 ghost use Rattle.keep.specs.declared.keep.KeepFault.TheVariants.{Damaged, Device};
-ghost use Rattle.stored_contents.specs.Store.{Changed, Failed, Holds, Stayed};
+ghost use Rattle.keep_sql_model.specs.Store.{Changed, Failed, Holds, Stayed};
 
 use crate::rows::{ids_of, stored_object};
 use attrs::Object;

@@ -4,7 +4,7 @@ ghost use Rattle.std.specs.Prelude.{◌≡◌, ◌≤◌, IfOk, IfErr};
 ghost use Rattle.sqlite.specs.Tree.{Trees};
 ghost use Rattle.sqlite_store.specs.FileStore.{recovers};
 ghost use Rattle.sqlite.specs.Files.{file_state};
-ghost use Rattle.stored_contents.specs.OpenedFile.{IsCopy};
+ghost use Rattle.keep_sql_model.specs.OpenedFile.{IsCopy};
 
 use sqlite::{Connection, Error, ErrorCode, FileStore};
 use sqlite_disk::Disk;

@@ -8,11 +8,11 @@ ghost use Rattle.pin_record.specs.Records.{new_record};
 ghost use Rattle.keep.specs.Contents.{Contents, new_contents};
 ghost use Rattle.keep.specs.Keeping.{Begins};
 ghost use Rattle.keep.specs.declared.keep.KeepFault.TheVariants.{Damaged};
-ghost use Rattle.table_statements.specs.Tables.{no_schema};
-ghost use Rattle.stored_contents.specs.Formats.{HoldsEither};
-ghost use Rattle.stored_contents.specs.Opening.{Adopts, Opened};
-ghost use Rattle.stored_contents.specs.OpenedFile.{OpenedFile};
-ghost use Rattle.stored_contents.specs.SqlState.{sql_terms};
+ghost use Rattle.sql_statements.specs.Tables.{no_schema};
+ghost use Rattle.keep_sql_model.specs.Formats.{HoldsEither};
+ghost use Rattle.keep_sql_model.specs.Opening.{Adopts, Opened};
+ghost use Rattle.keep_sql_model.specs.OpenedFile.{OpenedFile};
+ghost use Rattle.keep_sql_model.specs.SqlState.{sql_terms};
 ghost use Rattle.keep_sql.specs.Refusal.{Leaves, LeavesConnection};
 
 use crate::copying::copied;

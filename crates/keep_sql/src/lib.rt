@@ -17,7 +17,7 @@
 //! format 2, and so does a refusal. Format 1 is never written.
 //!
 //! Once a store is open each change is one statement, and a reset one transaction of two. What sqlite
-//! refuses, its want of memory included, is a counted `KeepFault::Device`; a body that finds no memory is
+//! refuses, its allocation failure included, is a counted `KeepFault::Device`; a body that finds no memory is
 //! `KeepFault::Memory`. After a fault the store is as it was. Each call first asks whether the connection is
 //! open: one that sqlite has shut after a fault of the disk is never written again.
 //!

@@ -9,10 +9,10 @@ ghost use Rattle.sqlite.specs.Held.{state};
 ghost use Rattle.pin_record.specs.Records.{new_record};
 ghost use Rattle.keep.specs.declared.keep.KeepFault.TheVariants.{Damaged};
 ghost use Rattle.keep.specs.Contents.{new_contents};
-ghost use Rattle.table_statements.specs.Tables.{no_schema};
-ghost use Rattle.table_statements.specs.Store.{IsReady, Sees, ShowsNow};
-ghost use Rattle.stored_contents.specs.Store.{IsAt, IsStore};
-ghost use Rattle.stored_contents.specs.Opening.{NotOpened, Opened, has_tables as has_tables_in, is_blank, is_token_table as is_one_of_two};
+ghost use Rattle.sql_statements.specs.Tables.{no_schema};
+ghost use Rattle.sql_statements.specs.Store.{IsReady, Sees, ShowsNow};
+ghost use Rattle.keep_sql_model.specs.Store.{IsAt, IsStore};
+ghost use Rattle.keep_sql_model.specs.Opening.{NotOpened, Opened, has_tables as has_tables_in, is_blank, is_token_table as is_one_of_two};
 
 use crate::taking::take_over;
 use keep::KeepFault;

@@ -5,7 +5,7 @@ ghost use Rattle.sqlite.specs.declared.error.ErrorCode.TheVariants.{CannotOpen};
 ghost use Rattle.sqlite.specs.declared.error.Error.TheVariants.{SqliteFailure};
 ghost use Rattle.sqlite_wal.specs.Files.{image_at};
 ghost use Rattle.sqlite_std_file.specs.File.{file_is_usable, IsFresh};
-ghost use Rattle.stored_contents.specs.OpenedFile.{OpenedFile};
+ghost use Rattle.keep_sql_model.specs.OpenedFile.{OpenedFile};
 ghost use Rattle.keep_sql.specs.Refusal.{Leaves};
 
 use crate::files::store_options;

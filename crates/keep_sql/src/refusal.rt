@@ -30,7 +30,7 @@ pub enum OpenFault {
 }
 
 impl OpenFault {
-    /// Whether the files were refused for what they hold, and not for want of memory or a failing disk.
+    /// Whether the files were refused for what they hold, and not because an allocation failed or a failing disk.
     pub fn is_damage(self) -> bool {
         match self {
             OpenFault::Sqlite(

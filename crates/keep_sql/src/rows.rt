@@ -9,11 +9,11 @@ ghost use Rattle.attrs.specs.declared.fault.DecodeFault.TheVariants.{Form};
 ghost use Rattle.pin_record.specs.Records.{TokenRecord};
 ghost use Rattle.keep.specs.Contents.{Contents, IsTokenObject, object_at};
 ghost use Rattle.keep.specs.declared.keep.KeepFault.TheVariants.{Damaged};
-ghost use Rattle.stored_contents.specs.Store.{Shows, encoded};
+ghost use Rattle.keep_sql_model.specs.Store.{Shows, encoded};
 ghost use Rattle.attrs.specs.OldStored.{has_new_flags};
-ghost use Rattle.stored_contents.specs.Formats.{IsRecordBody, is_old as is_old_in, old_encoded};
-ghost use Rattle.stored_contents.specs.Rows.{ShowRecordEither, ShowsEither, first_number};
-ghost use Rattle.stored_contents.specs.Renewals.{FindsRecord, IsCovered, IsNewBody, IsOfRow, IsRenewedAs, IsStoredAs, RenewsIf};
+ghost use Rattle.keep_sql_model.specs.Formats.{IsRecordBody, is_old as is_old_in, old_encoded};
+ghost use Rattle.keep_sql_model.specs.Rows.{ShowRecordEither, ShowsEither, first_number};
+ghost use Rattle.keep_sql_model.specs.Renewals.{FindsRecord, IsCovered, IsNewBody, IsOfRow, IsRenewedAs, IsStoredAs, RenewsIf};
 
 use attrs::{DecodeFault, Object};
 use ck_types::AttrType;

@@ -7,11 +7,11 @@ ghost use Rattle.pin_record.specs.Records.{new_record};
 ghost use Rattle.keep.specs.Contents.{Contents, new_contents};
 ghost use Rattle.keep.specs.declared.keep.KeepFault.TheVariants.{Device};
 ghost use Rattle.keep.specs.Keeping.{Counted, Rises, Stays};
-ghost use Rattle.table_statements.specs.Tables.{no_schema};
-ghost use Rattle.stored_contents.specs.Store.{IsAt};
-ghost use Rattle.stored_contents.specs.SqlState.{sql_terms};
-ghost use Rattle.stored_contents.specs.Formats.{HoldsEither};
-ghost use Rattle.stored_contents.specs.Opening.{Adopts, NotOpened, Opened};
+ghost use Rattle.sql_statements.specs.Tables.{no_schema};
+ghost use Rattle.keep_sql_model.specs.Store.{IsAt};
+ghost use Rattle.keep_sql_model.specs.SqlState.{sql_terms};
+ghost use Rattle.keep_sql_model.specs.Formats.{HoldsEither};
+ghost use Rattle.keep_sql_model.specs.Opening.{Adopts, NotOpened, Opened};
 
 use crate::changes;
 use crate::opening::open_store;
@@ -36,7 +36,7 @@ pub struct SqlKeep<S: Alter + Drop> {
 }
 
 impl<S: Alter + Drop> Model for SqlKeep<S> {
-    ghost use Rattle.stored_contents.specs.SqlState.{SqlState, sql_code};
+    ghost use Rattle.keep_sql_model.specs.SqlState.{SqlState, sql_code};
 
     ghost Value = { SqlState S };
 
@@ -159,8 +159,8 @@ impl<S: Alter + Drop> SqlKeep<S> {
 }
 
 impl<S: Alter + Drop> Keep for SqlKeep<S> {
-    ghost use Rattle.stored_contents.specs.Laws.{some_left};
-    ghost use Rattle.stored_contents.specs.SqlState.{sql_terms};
+    ghost use Rattle.keep_sql_model.specs.Laws.{some_left};
+    ghost use Rattle.keep_sql_model.specs.SqlState.{sql_terms};
 
     ghost terms = { sql_terms S.Store };
 

@@ -22,7 +22,7 @@ use Rattle.wire.specs.declared.fault.WireFault.TheVariants as faults
 use Rattle.wire.specs.Messages.{most, HasFrame, Writes}
 use Rattle.wire.specs.Requests.{data_fields}
 use Rattle.wire.specs.Replies.{reply_payload, Fits-reply, IsWithinLimits, HasReplyFrame}
-use Rattle.token_store.specs.Short.{IsCodeOfValues, IsShortValue, IsShort, IsShortData, IsShortCall}
+use Rattle.serve_base.specs.Short.{IsCodeOfValues, IsShortValue, IsShort, IsShortData, IsShortCall}
 use Rattle.line.specs.declared.fault.LineFault.{LineFault}
 use Rattle.line.specs.Lines.{refusal_of}
 
@@ -99,7 +99,7 @@ payload-length (replies.Random bytes) short fits = omega (arith, short)
 pub short-framed : (reply : Reply) → (IsWithinLimits reply → Fits-reply reply) → IsShort reply → HasReplyFrame reply
 short-framed reply fits short = let each = fits (within reply short) in (each, payload-length reply short each)
 
--- a writer of replies that have a frame ends by want of memory alone
+-- a writer of replies that have a frame ends by allocation failure alone
 pub no-other-fault : (reply : Reply) (fault : WireFault) → Writes (reply_payload reply) (Fits-reply reply) (Err fault) → HasReplyFrame reply → fault ≡ faults.Memory
 no-other-fault reply faults.TooLong writes has = absurd (omega (arith, writes, has.1))
 no-other-fault reply faults.Malformed writes has = absurd (writes.0 has.0)

@@ -4,10 +4,10 @@ use Rattle.std.proofs.lemmas.Bool.{cases_eq, eq-eqb, ne_eqb}
 use Rattle.rand_chacha.specs.ChaCha.{ChaCha}
 use Rattle.ck_calls.specs.declared.reply.Reply.{Reply}
 use Rattle.keep.specs.Keeping.{Terms}
-use Rattle.token_model.specs.declared.event.Event.TheVariants.{Gone}
-use Rattle.token_model.specs.Worlds.{World, goes, after}
+use Rattle.model_worlds.specs.declared.event.Event.TheVariants.{Gone}
+use Rattle.model_worlds.specs.Worlds.{World, goes, after}
 use Rattle.token.specs.States.{HasJobs, TokenState, Shows, Lasting, MayLeave, AccountsFor}
-use Rattle.token_store.specs.Stores.{StoreState}
+use Rattle.serve_base.specs.Stores.{StoreState}
 use Rattle.line.specs.Lines.{Message, Leads, LeadsAway}
 use Rattle.line.proofs.Moving.{Idle, idle, no_jobs}
 

@@ -9,8 +9,8 @@ use Rattle.keep.specs.Keeping.{Terms}
 use Rattle.wire.specs.declared.fault.WireFault.{WireFault}
 use Rattle.wire.specs.declared.fault.WireFault.TheVariants as faults
 use Rattle.wire.specs.Messages.{Reads}
-use Rattle.views.specs.Refusals.{set_apart}
-use Rattle.token_model.specs.Worlds.{World, after}
+use Rattle.model_views.specs.Refusals.{resource_error}
+use Rattle.model_worlds.specs.Worlds.{World, after}
 use Rattle.token.specs.States.{HasJobs, TokenState, Shows, MayLeave, AccountsFor}
 use Rattle.token.proofs.States.{accounts-none, accounts-more, accounts-plain}
 use Rattle.line.specs.declared.fault.LineFault.{LineFault}
@@ -42,7 +42,7 @@ answers-append (Err fault ∷ ms) ns t u e = ap (λ rs. refusal_of fault ∷ rs)
 
 -- ---- a token
 
-plain-refusal : (fault : WireFault) → set_apart (refusal_of fault) ≡ None
+plain-refusal : (fault : WireFault) → resource_error (refusal_of fault) ≡ None
 plain-refusal faults.UnknownFunction = refl
 plain-refusal faults.Malformed = refl
 plain-refusal faults.TooLong = refl

@@ -6,17 +6,17 @@ use Rattle.std.proofs.lemmas.Bool.{cases_eq, eq-eqb, ne_eqb}
 use Rattle.std.proofs.lemmas.List.{append-nil}
 use Rattle.ck_calls.specs.declared.call.Call.{Call as CallType}
 use Rattle.ck_calls.specs.declared.reply.Reply.{Reply}
-use Rattle.views.specs.declared.fault.Fault.{Fault}
-use Rattle.token_model.specs.declared.event.Event.TheVariants.{Call, Finish}
-use Rattle.token_store.specs.declared.out.Out.TheVariants.{Reply as OutReply}
-use Rattle.views.specs.Views.{Question}
-use Rattle.views.specs.Answering.{Said, Replies, Asks}
-use Rattle.views.specs.Refusals.{set_apart}
-use Rattle.token_model.specs.Worlds.{World, value_of, Move, Goes, Refuses, event_of, reveal_to_call, reveal_to_task, answer_at, result_at, change_for, called, says_called, told, refused, finish_refused, finished, happens, reply_to, after, replies}
+use Rattle.model_views.specs.declared.fault.Fault.{Fault}
+use Rattle.model_worlds.specs.declared.event.Event.TheVariants.{Call, Finish}
+use Rattle.serve_base.specs.declared.out.Out.TheVariants.{Reply as OutReply}
+use Rattle.model_views.specs.Views.{Question}
+use Rattle.model_views.specs.Answering.{Said, Replies, Asks}
+use Rattle.model_views.specs.Refusals.{resource_error}
+use Rattle.model_worlds.specs.Worlds.{World, value_of, Move, Goes, Refuses, event_of, reveal_to_call, reveal_to_task, answer_at, result_at, change_for, called, says_called, told, refused, finish_refused, finished, happens, reply_to, after, replies}
 use Rattle.token.specs.States.{move_of, moved, HasJobs, Lasting, LeavesBy, LeftBy, LeftAfter, call_change}
 use Rattle.line.specs.Lines.{Act, Calls, Finishes, act_of, Moved}
-use Rattle.answers.proofs.Proper.{over-result}
-use Rattle.token_model.proofs.Tries.{seen-question}
+use Rattle.model_answers.proofs.Proper.{over-result}
+use Rattle.model_worlds.proofs.Tries.{seen-question}
 use Rattle.line.proofs.Questions.{left_by, leaves-answer}
 
 -- ---- no question is pending
@@ -116,9 +116,9 @@ module _ (w : World) (i : Idle w) (app : ℕ) (call : CallType) (random : Vec �
   Done = (app, Calls call random.items) ∷ (app, Finishes) ∷ []
 
   -- that is answered
-  pub moved-reply : (r : Reply) → Replies r ≡ says_called w app call random.items (set_apart r) → showing (called w app call random.items (set_apart r))
-      → ((l : Option Lasting) → left l → LeavesBy prior (call_change w app call random.items) answered (set_apart r) l) → Moved showing prior left w Done ((app, r) ∷ [])
-  moved-reply r says sh l = both (set_apart r) says sh l where
+  pub moved-reply : (r : Reply) → Replies r ≡ says_called w app call random.items (resource_error r) → showing (called w app call random.items (resource_error r))
+      → ((l : Option Lasting) → left l → LeavesBy prior (call_change w app call random.items) answered (resource_error r) l) → Moved showing prior left w Done ((app, r) ∷ [])
+  moved-reply r says sh l = both (resource_error r) says sh l where
     both : (o : Option Fault) → Replies r ≡ says_called w app call random.items o → showing (called w app call random.items o)
         → ((l : Option Lasting) → left l → LeavesBy prior (call_change w app call random.items) answered o l) → Moved showing prior left w Done ((app, r) ∷ [])
     both None is s l =
@@ -149,7 +149,7 @@ module _ (w : World) (i : Idle w) (app : ℕ) (call : CallType) (random : Vec �
       → Moved showing prior left w Done ((app, r) ∷ [])
   moved-ask mid r q says tells sh l k =
       let out : (answered.views app).question ≡ Some q = own (Asks q) says in
-      both (set_apart r) out (tells out) (sh out) (k out) where
+      both (resource_error r) out (tells out) (sh out) (k out) where
         both : (o : Option Fault) → (answered.views app).question ≡ Some q → reply_to answered (moved (Finish app) o) ≡ (app, r) ∷ [] → showing (happens answered (moved (Finish app) o))
             → ((l : Option Lasting) → left l → LeftBy mid answered (moved (Finish app) o) l) → Moved showing prior left w Done ((app, r) ∷ [])
         both None out t s k = record {

@@ -1,11 +1,11 @@
 -- The question of an application, over every answer: the token's laws of its answers.
 use Rattle.std.proofs.Common.{◌≡◌, ℕ, List, Option, Some}
 use Rattle.ck_calls.specs.declared.call.Call.{Call}
-use Rattle.views.specs.Views.{View, Question}
-use Rattle.views.specs.Answering.{Said, Replies, Asks, Reveal}
-use Rattle.answers.specs.Answers.{answer}
-use Rattle.views.proofs.Blind.{Leaves}
-use Rattle.answers.proofs.Proper.{leaves-answer as token_leaves}
+use Rattle.model_views.specs.Views.{View, Question}
+use Rattle.model_views.specs.Answering.{Said, Replies, Asks, Reveal}
+use Rattle.model_answers.specs.Answers.{answer}
+use Rattle.model_views.proofs.Blind.{Leaves}
+use Rattle.model_answers.proofs.Proper.{leaves-answer as token_leaves}
 
 -- a reply leaves the question as it was, and a question that is asked is pending
 abbrev pub left_by : Said → Option Question → Option Question

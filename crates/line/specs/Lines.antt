@@ -12,9 +12,9 @@ use Rattle.keep.specs.Keeping.{Terms}
 use Rattle.wire.specs.declared.fault.WireFault.{WireFault}
 use Rattle.wire.specs.declared.fault.WireFault.TheVariants as faults
 use Rattle.wire.specs.Messages.{call_in}
-use Rattle.token_model.specs.declared.event.Event.{Event}
-use Rattle.token_model.specs.declared.event.Event.TheVariants.{Call, Finish, Gone}
-use Rattle.token_model.specs.Worlds.{World, Move, event_of, goes, after, replies}
+use Rattle.model_worlds.specs.declared.event.Event.{Event}
+use Rattle.model_worlds.specs.declared.event.Event.TheVariants.{Call, Finish, Gone}
+use Rattle.model_worlds.specs.Worlds.{World, Move, event_of, goes, after, replies}
 use Rattle.token.specs.States.{HasJobs, TokenState, Shows, Lasting, MayLeave, LeftAfter, AccountsFor}
 use Rattle.line.specs.Words.{taken}
 
@@ -79,7 +79,7 @@ answers (Err fault ∷ ms) told = refusal_of fault ∷ answers ms told
 
 -- ---- runs
 
--- From w these acts took place, each as it goes or refused by a fault set apart, and this was told. The token shows the
+-- From w these acts took place, each as it goes or refused by a resource error, and this was told. The token shows the
 -- world after them, no question is pending, and a crash leaves the changes that were acknowledged, and perhaps one that
 -- was tried since, whole. What each application is told and sees of it follows from the moves by the token's laws.
 pub record Moved (showing : World → Type 0) (prior left : Option Lasting → Type 0) (w : World) (done : List (ℕ × Act)) (told : List (ℕ × Reply)) : Type 0 where

@@ -1,7 +1,7 @@
 //! One line: the frames of a reader, answered in order to a writer.
 //!
 //! - `Words` are the random bytes of one application: the words of ChaCha20 under the operator's seed,
-//!   whose stream number is the application's. `take` gives the next of them, and for want of memory
+//!   whose stream number is the application's. `take` gives the next of them, and because an allocation failed
 //!   leaves them where they were.
 //! - `Watched` wraps a reader or a writer and counts its failures.
 //! - `serve_one` answers the frames of a reader, each as soon as it is whole, until the reader ends or

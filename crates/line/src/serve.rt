@@ -3,9 +3,9 @@
 ghost use Rattle.std.specs.Prelude.{◌≡◌, ◌==◌, ◌≤◌, ◌∷◌, [], ℕ, IfErr, IfOk, OnOk, false, length};
 ghost use Rattle.std.specs.Io.KnownBytes.{Appends, Keeps};
 ghost use Rattle.ck_calls.specs.Need.{random_bytes};
-ghost use Rattle.token_model.specs.Worlds.{World};
+ghost use Rattle.model_worlds.specs.Worlds.{World};
 ghost use Rattle.token.specs.States.{HasJobs, Shows, AccountsFor, MayLeave};
-ghost use Rattle.token_store.specs.Short.{IsShort, IsShortCall};
+ghost use Rattle.serve_base.specs.Short.{IsShort, IsShortCall};
 ghost use Rattle.wire.specs.Messages.{call_in};
 ghost use Rattle.wire.specs.Replies.{HasReplyFrame};
 ghost use Rattle.line.specs.declared.fault.LineFault.TheVariants.{Memory};

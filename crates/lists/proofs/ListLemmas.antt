@@ -5,7 +5,7 @@ use Rattle.std.specs.Prelude.{find, filter, ◌||◌}
 use Rattle.std.specs.Option.{option_map}
 use Rattle.std.specs.List.{remove, list_any, AllByRecursion}
 use Rattle.std.proofs.lemmas.List.Elements.{filter-append}
-use Rattle.lists.specs.Places.{first_place, kept_place}
+use Rattle.lists.specs.Indexes.{first_index, kept_index}
 
 pub map-push : {A B : Type 0} (f : A → B) (xs : List A) (x : A) → map f (xs ++ x ∷ []) ≡ map f xs ++ f x ∷ []
 map-push f [] x = refl
@@ -140,37 +140,37 @@ All-push P (y ∷ xs) x all last = (all.0, All-push P xs x all.1 last)
 
 -- ---- places
 
-pub place-map : {A B : Type 0} (t : B → Bool) (f : A → B) (xs : List A) → first_place t (map f xs) ≡ first_place (λ x. t (f x)) xs
-place-map t f [] = refl
-place-map t f (x ∷ xs) = ap (λ r. cond (t (f x)) (Some 0) (option_map suc r)) (place-map t f xs)
+pub index-map : {A B : Type 0} (t : B → Bool) (f : A → B) (xs : List A) → first_index t (map f xs) ≡ first_index (λ x. t (f x)) xs
+index-map t f [] = refl
+index-map t f (x ∷ xs) = ap (λ r. cond (t (f x)) (Some 0) (option_map suc r)) (index-map t f xs)
 
-pub place-same : {A : Type 0} (t u : A → Bool) (xs : List A) → ((x : A) → t x ≡ u x) → first_place t xs ≡ first_place u xs
-place-same t u [] same = refl
-place-same t u (x ∷ xs) same = ap (λ b. cond b (Some 0) (option_map suc (first_place t xs))) (same x) ∙ ap (λ r. cond (u x) (Some 0) (option_map suc r)) (place-same t u xs same)
+pub index-same : {A : Type 0} (t u : A → Bool) (xs : List A) → ((x : A) → t x ≡ u x) → first_index t xs ≡ first_index u xs
+index-same t u [] same = refl
+index-same t u (x ∷ xs) same = ap (λ b. cond b (Some 0) (option_map suc (first_index t xs))) (same x) ∙ ap (λ r. cond (u x) (Some 0) (option_map suc r)) (index-same t u xs same)
 
-pub place-none : {A : Type 0} (t : A → Bool) (xs : List A) → find t xs ≡ None → first_place t xs ≡ None
-place-none t [] none = refl
-place-none t (x ∷ xs) none = step (t x) none (place-none t xs) where
-  step : (b : Bool) → cond b (Some x) (find t xs) ≡ None → (find t xs ≡ None → first_place t xs ≡ None) → cond b (Some 0) (option_map suc (first_place t xs)) ≡ None
+pub index-none : {A : Type 0} (t : A → Bool) (xs : List A) → find t xs ≡ None → first_index t xs ≡ None
+index-none t [] none = refl
+index-none t (x ∷ xs) none = step (t x) none (index-none t xs) where
+  step : (b : Bool) → cond b (Some x) (find t xs) ≡ None → (find t xs ≡ None → first_index t xs ≡ None) → cond b (Some 0) (option_map suc (first_index t xs)) ≡ None
   step true h k = cc
   step false h k = ap (option_map suc) (k h)
 
-pub place-some : {A : Type 0} (t : A → Bool) (xs : List A) (y : A) → find t xs ≡ Some y → (p : ℕ) × (first_place t xs ≡ Some p)
-place-some t [] y some = let k : None ≡ Some y = some in cc
-place-some t (x ∷ xs) y some = step (t x) some (place-some t xs y) where
-  step : (b : Bool) → cond b (Some x) (find t xs) ≡ Some y → (find t xs ≡ Some y → (p : ℕ) × (first_place t xs ≡ Some p)) → (p : ℕ) × (cond b (Some 0) (option_map suc (first_place t xs)) ≡ Some p)
+pub index-some : {A : Type 0} (t : A → Bool) (xs : List A) (y : A) → find t xs ≡ Some y → (p : ℕ) × (first_index t xs ≡ Some p)
+index-some t [] y some = let k : None ≡ Some y = some in cc
+index-some t (x ∷ xs) y some = step (t x) some (index-some t xs y) where
+  step : (b : Bool) → cond b (Some x) (find t xs) ≡ Some y → (find t xs ≡ Some y → (p : ℕ) × (first_index t xs ≡ Some p)) → (p : ℕ) × (cond b (Some 0) (option_map suc (first_index t xs)) ≡ Some p)
   step true h k = (0, refl)
   step false h k = let r = k h in (suc r.0, ap (option_map suc) r.1)
 
-pub kept-hidden : {A : Type 0} (t : A → Bool) (x : A) (xs : List A) (q : ℕ) → t x ≡ false → kept_place t (x ∷ xs) q ≡ suc (kept_place t xs q)
+pub kept-hidden : {A : Type 0} (t : A → Bool) (x : A) (xs : List A) (q : ℕ) → t x ≡ false → kept_index t (x ∷ xs) q ≡ suc (kept_index t xs q)
 kept-hidden t x xs zero e = rw e refl
 kept-hidden t x xs (suc q) e = rw e refl
 
-pub kept-seen : {A : Type 0} (t : A → Bool) (x : A) (xs : List A) (q : ℕ) → t x ≡ true → kept_place t (x ∷ xs) (suc q) ≡ suc (kept_place t xs q)
+pub kept-seen : {A : Type 0} (t : A → Bool) (x : A) (xs : List A) (q : ℕ) → t x ≡ true → kept_index t (x ∷ xs) (suc q) ≡ suc (kept_index t xs q)
 kept-seen t x xs q e = rw e refl
 
 -- what is taken out at a place that is kept is taken out of the part
-pub filter-kept : {A : Type 0} (t : A → Bool) (xs : List A) (q : ℕ) → filter t (remove xs (kept_place t xs q)) ≡ remove (filter t xs) q
+pub filter-kept : {A : Type 0} (t : A → Bool) (xs : List A) (q : ℕ) → filter t (remove xs (kept_index t xs q)) ≡ remove (filter t xs) q
 filter-kept t [] zero = refl
 filter-kept t [] (suc q) = refl
 filter-kept t (x ∷ xs) zero = elim (cases_Bool (t x)) [
@@ -182,7 +182,7 @@ filter-kept t (x ∷ xs) (suc q) = elim (cases_Bool (t x)) [
   | inr e ↦ ap (λ n. filter t (remove (x ∷ xs) n)) (kept-hidden t x xs (suc q) e) ∙ (rw e (filter-kept t xs (suc q)))
 ]
 
-pub kept_place-map : {A B : Type 0} (s : B → Bool) (f : A → B) (xs : List A) (q : ℕ) → kept_place s (map f xs) q ≡ kept_place (λ x. s (f x)) xs q
-kept_place-map s f [] q = refl
-kept_place-map s f (x ∷ xs) zero = ap (λ r. cond (s (f x)) 0 (suc r)) (kept_place-map s f xs zero)
-kept_place-map s f (x ∷ xs) (suc q) = ap suc (kept_place-map s f xs (cond (s (f x)) q (suc q)))
+pub kept_index-map : {A B : Type 0} (s : B → Bool) (f : A → B) (xs : List A) (q : ℕ) → kept_index s (map f xs) q ≡ kept_index (λ x. s (f x)) xs q
+kept_index-map s f [] q = refl
+kept_index-map s f (x ∷ xs) zero = ap (λ r. cond (s (f x)) 0 (suc r)) (kept_index-map s f xs zero)
+kept_index-map s f (x ∷ xs) (suc q) = ap suc (kept_index-map s f xs (cond (s (f x)) q (suc q)))

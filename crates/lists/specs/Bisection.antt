@@ -10,6 +10,6 @@ module _ {E : Type 0} (key : E → ℕ) where
   KeysRise (h ∷ hs) = AllByRecursion (λ x. key h < key x) hs × KeysRise hs
 
   -- where the element with a key stands, or else where one with that key goes
-  abbrev pub IsPlaceOf : List E → ℕ → Result ℕ ℕ → Type 0
-  IsPlaceOf hs k (Ok at) = (at < length hs) × ((d : E) → find (λ h. key h == k) hs ≡ Some (slice_index_or hs at d))
-  IsPlaceOf hs k (Err at) = (at ≤ length hs) × (find (λ h. key h == k) hs ≡ None) × ((h : E) → key h ≡ k → placed key h hs ≡ insert hs at h)
+  abbrev pub IsIndexOf : List E → ℕ → Result ℕ ℕ → Type 0
+  IsIndexOf hs k (Ok at) = (at < length hs) × ((d : E) → find (λ h. key h == k) hs ≡ Some (slice_index_or hs at d))
+  IsIndexOf hs k (Err at) = (at ≤ length hs) × (find (λ h. key h == k) hs ≡ None) × ((h : E) → key h ≡ k → placed key h hs ≡ insert hs at h)

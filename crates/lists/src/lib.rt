@@ -1,7 +1,7 @@
 //! Lists: definitions and lemmas that several crates cite, and the limit of numbers that rise.
 //!
 //! `specs/InOrder.antt` is the list of the entries of a slab by the rising numbers that they carry, whatever slot
-//! each stands in, so that a contract speaks of a list and no slot. `specs/Places.antt` counts places in a list and
+//! each stands in, so that a contract speaks of a list and no slot. `specs/Indexes.antt` counts places in a list and
 //! among those of its elements that are seen. `proofs/` says what putting in, taking out and writing an element
 //! does to each.
 #![tactic(auto)]

@@ -1,2 +1,2 @@
-pub mod CodeLengths
+pub mod TagLengths
 pub mod CmacLaw

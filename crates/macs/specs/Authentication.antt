@@ -1,4 +1,4 @@
--- The authentication of a message in pieces, as contracts see it (PKCS #11 v3.1, 5.13 and 5.15).
+-- The authentication of a message in parts, as contracts see it (PKCS #11 v3.1, 5.13 and 5.15).
 use Rattle.std.specs.Prelude.{ℕ, List, [], ◌++◌}
 use Rattle.macs.specs.declared.mechanism.Mechanism.{Mechanism}
 

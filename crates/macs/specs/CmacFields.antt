@@ -1,4 +1,4 @@
--- The fields of a CMAC of a message in pieces.
+-- The fields of a CMAC of a message in parts.
 use Rattle.std.specs.Prelude.{◌≡◌, ◌+◌, ◌*◌, ◌≤◌, length, take, drop}
 use Rattle.aes_cmac.specs.Cmac.{count_before_last, chained}
 use Rattle.macs.specs.KeyedMessage.{KeyedMessage}

@@ -1,6 +1,6 @@
 pub mod KeyedMessage
 pub mod Authentication
-pub mod Codes
+pub mod Tags
 pub mod CmacFields
 pub mod States
 pub mod MacFields

@@ -1,4 +1,4 @@
--- The fields of a message in pieces.
+-- The fields of a message in parts.
 use Rattle.std.specs.Prelude.{◌≡◌, ◌==◌, not, length}
 use Rattle.macs.specs.Authentication.{Authentication}
 use Rattle.macs.specs.States.{authentication}

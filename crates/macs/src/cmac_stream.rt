@@ -1,4 +1,4 @@
-//! CMAC with AES of a message in pieces (SP 800-38B).
+//! CMAC with AES of a message in parts (SP 800-38B).
 
 ghost use Rattle.std.specs.Prelude.{◌≡◌, ◌+◌, ◌*◌, ◌%◌, ◌≤◌, length};
 ghost use Rattle.fips_197.specs.KeyExpansion.{IsKey};
@@ -6,11 +6,11 @@ ghost use Rattle.aes_cmac.specs.Cmac.{count_before_last, cmac};
 ghost use Rattle.macs.specs.KeyedMessage.{empty_message, longer_message};
 
 use aes_block::{BLOCK_SIZE, Block, Key};
-use aes_cmac::{chained_on, code_of_end};
-use noted::Noted;
+use aes_cmac::{chained_on, tag_of_end};
+use noted::GhostBytes;
 use std::marker::Model;
 
-/// A CMAC of a message in pieces. It keeps what the blocks before the last are chained to, and the
+/// A CMAC of a message in parts. It keeps what the blocks before the last are chained to, and the
 /// last one, which is known for that only at the end.
 #[derive(Drop)]
 pub(crate) struct CmacStream {
@@ -18,7 +18,7 @@ pub(crate) struct CmacStream {
     chain: Block,
     last: Block,
     last_len: usize,
-    taken: Noted,
+    taken: GhostBytes,
 }
 
 impl Model for CmacStream {
@@ -43,7 +43,7 @@ impl CmacStream {
             chain: [0; BLOCK_SIZE],
             last: [0; BLOCK_SIZE],
             last_len: 0,
-            taken: Noted::new(),
+            taken: GhostBytes::new(),
         }
     }
 
@@ -106,10 +106,10 @@ impl CmacStream {
         self.taken.push(bytes);
     }
 
-    /// The code of the message.
-    pub(crate) fn code(&self) -> Block
+    /// The tag of the message.
+    pub(crate) fn tag(&self) -> Block
         ensures { result ≡ cmac self.now.key self.now.taken }
     {
-        code_of_end(&self.key, self.chain, &self.last[..self.last_len])
+        tag_of_end(&self.key, self.chain, &self.last[..self.last_len])
     }
 }

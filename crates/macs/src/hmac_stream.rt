@@ -1,20 +1,20 @@
-//! HMAC of a message in pieces (FIPS 198-1).
+//! HMAC of a message in parts (FIPS 198-1).
 
 ghost use Rattle.std.specs.Prelude.{◌≡◌};
 ghost use Rattle.hmac_sha2.specs.Hmac.{hmac};
 ghost use Rattle.macs.specs.KeyedMessage.{empty_message, longer_message};
 
 use hmac_sha2::{HashFunction, Hmac};
-use noted::Noted;
+use noted::GhostBytes;
 use std::marker::Model;
 
-/// An HMAC of a message in pieces under any of the hash functions. It keeps the states of two
+/// An HMAC of a message in parts under any of the hash functions. It keeps the states of two
 /// hashers, and neither key nor message.
 #[derive(Drop)]
 pub(crate) struct HmacStream<D: HashFunction> {
     hmac: Hmac<D>,
-    key: Noted,
-    taken: Noted,
+    key: GhostBytes,
+    taken: GhostBytes,
 }
 
 impl<D: HashFunction> Model for HmacStream<D> {
@@ -37,12 +37,12 @@ where
     pub(crate) fn new(key: &[u8]) -> HmacStream<D>
         ensures { result ≡ empty_message key.now }
     {
-        let mut noted = Noted::new();
+        let mut noted = GhostBytes::new();
         noted.push(key);
         HmacStream {
             hmac: Hmac::new(key),
             key: noted,
-            taken: Noted::new(),
+            taken: GhostBytes::new(),
         }
     }
 
@@ -65,8 +65,8 @@ where
         self.taken.push(piece);
     }
 
-    /// The code of the message.
-    pub(crate) fn code(&self) -> D::Output
+    /// The tag of the message.
+    pub(crate) fn tag(&self) -> D::Output
         ensures { D.bytes result ≡ hmac D.hash D.BLOCK_SIZE self.now.key self.now.taken }
     {
         self.hmac.clone().unwrap().finalize()

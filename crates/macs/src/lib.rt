@@ -1,4 +1,4 @@
-//! Message authentication codes of messages that come in pieces: CKM_AES_CMAC, CKM_SHA224_HMAC,
+//! Message authentication codes (MACs) of messages that come in parts: CKM_AES_CMAC, CKM_SHA224_HMAC,
 //! CKM_SHA256_HMAC, CKM_SHA384_HMAC and CKM_SHA512_HMAC (PKCS #11 v3.1, 5.13 and 5.15; SP 800-38B;
 //! FIPS 198-1), in memory that does not grow with the message.
 //!
@@ -10,8 +10,8 @@
 //! };
 //! mac.update(b"a piece of any length");
 //! mac.update(b"and the last one");
-//! let code = mac.code();
-//! assert_eq!(rt; code.as_slice().len(), mac.mechanism().code_len());
+//! let tag = mac.tag();
+//! assert_eq!(rt; tag.as_slice().len(), mac.mechanism().tag_len());
 //! ```
 //!
 //! Contracts see a `Mac` as one record for all mechanisms (`Authentication`): the mechanism, the key,
@@ -21,7 +21,7 @@
 //! Proved, for every mechanism, key and message, however it is cut:
 //!
 //! - There is a `Mac` exactly where the key has a length of the mechanism's.
-//! - The code is that of the whole message by the mechanism's standard (`specs/Codes.antt`, over what
+//! - The code is that of the whole message by the mechanism's standard (`specs/Tags.antt`, over what
 //!   `aes_cmac` and `hmac_sha2` write down), and has the mechanism's length.
 //! - To make a code changes nothing: a message can go on behind it.
 //! - A copy stands where the `Mac` stands, and `has_taken` tells whether it has taken a byte.
@@ -32,12 +32,12 @@
 #![tactic(auto)]
 
 mod cmac_stream;
-mod code;
 mod hmac_stream;
 mod mac;
 mod mechanism;
 mod state;
+mod tag;
 
-pub use code::{Code, LONGEST_CODE};
 pub use mac::Mac;
 pub use mechanism::Mechanism;
+pub use tag::{LONGEST_TAG, Tag};

@@ -1,14 +1,14 @@
-//! The code of a message in pieces.
+//! The tag of a message in parts.
 
 ghost use Rattle.std.specs.Prelude.{◌≡◌, ◌↔◌, ◌==◌, not, length, IsSome, IfSome};
 ghost use Rattle.macs.specs.Authentication.{begun, longer};
-ghost use Rattle.macs.specs.Codes.{IsKeyLengthOf, code_length, code_of};
+ghost use Rattle.macs.specs.Tags.{IsKeyLengthOf, tag_length, tag_of};
 
 use crate::state::State;
-use crate::{Code, Mechanism};
+use crate::{Mechanism, Tag};
 use std::marker::Model;
 
-/// A message that comes in pieces, under a mechanism and a key. Contracts see these and all of the
+/// A message that comes in parts, under a mechanism and a key. Contracts see these and all of the
 /// message that was taken.
 ///
 /// Of the message it keeps a block at most, or the states of the hash function, and whether there
@@ -54,10 +54,10 @@ impl Mac {
         }
     }
 
-    /// The mechanism, which says how long the code is that `code` will give.
+    /// The mechanism, which says how long the code is that `tag` will give.
     pub fn mechanism(&self) -> Mechanism
         ensures value { result ≡ self.now.mechanism }
-        ensures length { length (code_of self.now) ≡ code_length result }
+        ensures length { length (tag_of self.now) ≡ tag_length result }
     {
         self.state.mechanism()
     }
@@ -80,12 +80,12 @@ impl Mac {
         }
     }
 
-    /// The code of the message so far: of CMAC by SP 800-38B, 6.2, with Tlen = 128, and of HMAC by
+    /// The tag of the message so far: of CMAC by SP 800-38B, 6.2, with Tlen = 128, and of HMAC by
     /// FIPS 198-1, 4. It takes no memory and cannot fail.
-    pub fn code(&self) -> Code
-        ensures value { result ≡ code_of self.now }
-        ensures length { length result ≡ code_length self.now.mechanism }
+    pub fn tag(&self) -> Tag
+        ensures value { result ≡ tag_of self.now }
+        ensures length { length result ≡ tag_length self.now.mechanism }
     {
-        self.state.code()
+        self.state.tag()
     }
 }

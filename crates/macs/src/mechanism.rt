@@ -2,7 +2,7 @@
 
 ghost use Rattle.std.specs.Prelude.{◌≡◌};
 
-/// A mechanism that makes codes of messages (PKCS #11 v3.1, 5.13 and 5.15), at their whole length.
+/// A mechanism that makes MACs (PKCS #11 v3.1, 5.13 and 5.15), at their whole length.
 #[derive(Clone, Copy, Debug, PartialEq, Eq)]
 pub enum Mechanism {
     /// CKM_AES_CMAC (SP 800-38B), with a key of 16, 24 or 32 bytes.
@@ -18,11 +18,11 @@ pub enum Mechanism {
 }
 
 impl Mechanism {
-    ghost use Rattle.macs.specs.Codes.{code_length};
+    ghost use Rattle.macs.specs.Tags.{tag_length};
 
     /// How many bytes a code has: 16, 28, 32, 48 or 64.
-    pub fn code_len(self) -> usize
-        ensures { result ≡ code_length self }
+    pub fn tag_len(self) -> usize
+        ensures { result ≡ tag_length self }
     {
         match self {
             Mechanism::AesCmac => 16,

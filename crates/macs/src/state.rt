@@ -2,13 +2,13 @@
 
 ghost use Rattle.std.specs.Prelude.{◌≡◌, ◌↔◌, length, IsSome, IfSome};
 ghost use Rattle.macs.specs.Authentication.{begun, longer};
-ghost use Rattle.macs.specs.Codes.{IsKeyLengthOf, code_length, code_of};
+ghost use Rattle.macs.specs.Tags.{IsKeyLengthOf, tag_length, tag_of};
 ghost use Rattle.macs.specs.States.{authentication};
 
 use crate::Mechanism;
 use crate::cmac_stream::CmacStream;
-use crate::code::Code;
 use crate::hmac_stream::HmacStream;
+use crate::tag::Tag;
 use aes_block::Key;
 use sha2::{Sha224, Sha256, Sha384, Sha512};
 
@@ -53,7 +53,7 @@ impl State {
     /// The mechanism.
     pub(crate) fn mechanism(&self) -> Mechanism
         ensures value { result ≡ (authentication self.now).mechanism }
-        ensures length { length (code_of (authentication self.now)) ≡ code_length result }
+        ensures length { length (tag_of (authentication self.now)) ≡ tag_length result }
     {
         match self {
             State::Cmac(stream) => {
@@ -80,17 +80,17 @@ impl State {
         }
     }
 
-    /// The code of the message.
-    pub(crate) fn code(&self) -> Code
-        ensures value { result ≡ code_of (authentication self.now) }
-        ensures length { length result ≡ code_length (authentication self.now).mechanism }
+    /// The tag of the message.
+    pub(crate) fn tag(&self) -> Tag
+        ensures value { result ≡ tag_of (authentication self.now) }
+        ensures length { length result ≡ tag_length (authentication self.now).mechanism }
     {
         match self {
-            State::Cmac(stream) => Code::new(&stream.code()),
-            State::Hmac224(stream) => Code::new(&stream.code()),
-            State::Hmac256(stream) => Code::new(&stream.code()),
-            State::Hmac384(stream) => Code::new(&stream.code()),
-            State::Hmac512(stream) => Code::new(&stream.code()),
+            State::Cmac(stream) => Tag::new(&stream.tag()),
+            State::Hmac224(stream) => Tag::new(&stream.tag()),
+            State::Hmac256(stream) => Tag::new(&stream.tag()),
+            State::Hmac384(stream) => Tag::new(&stream.tag()),
+            State::Hmac512(stream) => Tag::new(&stream.tag()),
         }
     }
 }

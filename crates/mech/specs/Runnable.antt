@@ -4,7 +4,7 @@ use Rattle.mech.specs.declared.work.Work.{Work}
 use Rattle.mech.specs.declared.work.Work.TheVariants.{Cipher, Take, Sign, Verify, Wrap, Unwrap, CheckPin, MakePin, ChangePin, InitToken, ResetToken}
 use Rattle.mech.specs.Wrappings.{is_value_length}
 use Rattle.ops.specs.Texts.{refuses_length, ends_counters}
-use Rattle.templates.specs.declared.call.Call.TheVariants as call
+use Rattle.templates.specs.declared.making.Making.TheVariants as call
 use Rattle.templates.specs.Faults.{template_fault}
 
 -- data that the mechanism takes: of a length of its texts, where it is the last, and with a counter for each block; a value

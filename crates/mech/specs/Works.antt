@@ -9,8 +9,8 @@ use Rattle.mech.specs.declared.work.Work.{Work}
 use Rattle.mech.specs.declared.work.Work.TheVariants.{Cipher, Take, Sign, Verify, Wrap, Unwrap, CheckPin, MakePin, ChangePin, InitToken, ResetToken}
 use Rattle.mech.specs.Wrappings.{value_wrapped_in}
 use Rattle.pin_record.specs.Verifiers.{accepts, new_rounds, verifier_for}
-use Rattle.ops.specs.Texts.{Direction, Update, Last, after_piece, update_output, last_output, longer, code_of}
-use Rattle.templates.specs.declared.call.Call.TheVariants as call
+use Rattle.ops.specs.Texts.{Direction, Update, Last, after_piece, update_output, last_output, longer, tag_of}
+use Rattle.templates.specs.declared.making.Making.TheVariants as call
 use Rattle.templates.specs.Made.{object_made}
 
 abbrev pub rest_of : Direction → Option (List ℕ) → Outcome
@@ -29,8 +29,8 @@ abbrev pub outcome_of : Work → Outcome
 outcome_of (Cipher stream Update input) = Piece (update_output stream input) (after_piece stream input (update_output stream input))
 outcome_of (Cipher stream Last input) = rest_of stream.direction (last_output stream input)
 outcome_of (Take place mac input) = Taken place (longer mac input)
-outcome_of (Sign mac input) = Signature (code_of (longer mac input))
-outcome_of (Verify mac input signature) = if bytes_eq signature (code_of (longer mac input)) then RightSignature else WrongSignature
+outcome_of (Sign mac input) = Signature (tag_of (longer mac input))
+outcome_of (Verify mac input signature) = if bytes_eq signature (tag_of (longer mac input)) then RightSignature else WrongSignature
 outcome_of (Wrap key value) = Wrapped (wrapped key value)
 outcome_of (Unwrap key bytes state template random) = key_of template random (value_wrapped_in key bytes)
 outcome_of (CheckPin who verifier pin) = if accepts verifier pin then RightPin who else WrongPin

@@ -4,17 +4,17 @@ ghost use Rattle.std.specs.Prelude.{◌≡◌, ◌≢◌, IfErr, IfOk, IsTrue};
 ghost use Rattle.mech.specs.declared.outcome.Outcome.{Outcome as OutcomeType};
 ghost use Rattle.mech.specs.declared.work.Work.{Work as WorkType};
 ghost use Rattle.mech.specs.declared.work.Work.TheVariants.{Cipher, CheckPin, ChangePin, ResetToken};
-ghost use Rattle.mech.specs.declared.slot.Slot.TheVariants.{Empty as EmptySlot, Outcome as OutcomeSlot, Work as WorkSlot};
+ghost use Rattle.mech.specs.declared.job_cell.JobCell.TheVariants.{Empty as EmptyCell, Outcome as OutcomeCell, Work as WorkCell};
 ghost use Rattle.mech.specs.Endings.{ended_as};
 ghost use Rattle.mech.specs.Rooms.{HasRoom};
 ghost use Rattle.mech.specs.Runnable.{is_runnable};
 ghost use Rattle.mech.specs.Works.{outcome_of};
 
 use crate::job::Job;
+use crate::job_cell::JobCell;
 use crate::key_wrapping::{key_unwrapped, wrapped};
-use crate::message_codes::{signed, taken, verified};
+use crate::message_tags::{signed, taken, verified};
 use crate::outcome::Outcome;
-use crate::slot::Slot;
 use crate::work::Work;
 use ck_calls::Function;
 use ck_types::{Bytes, Label, UserType};
@@ -30,15 +30,15 @@ pub struct Done {
     app: u64,
     question: u64,
     function: Function,
-    slot: Box<Slot>,
+    cell: Box<JobCell>,
     job: Snapshot<Job>,
     ghost app_is: { app ≡ job.value.app },
     ghost question_is: { question ≡ job.value.question },
     ghost function_is: { function ≡ job.value.function },
-    ghost full: { slot.value ≢ EmptySlot },
-    ghost value: { (o : OutcomeType) → slot.value ≡ OutcomeSlot o → o ≡ outcome_of job.value.work.value },
-    ghost room: { (o : OutcomeType) → slot.value ≡ OutcomeSlot o → HasRoom job.value.work.value o },
-    ghost back: { (given : WorkType) → slot.value ≡ WorkSlot given → given ≡ job.value.work.value },
+    ghost full: { cell.value ≢ EmptyCell },
+    ghost value: { (o : OutcomeType) → cell.value ≡ OutcomeCell o → o ≡ outcome_of job.value.work.value },
+    ghost room: { (o : OutcomeType) → cell.value ≡ OutcomeCell o → HasRoom job.value.work.value o },
+    ghost back: { (given : WorkType) → cell.value ≡ WorkCell given → given ≡ job.value.work.value },
 }
 
 impl Done {
@@ -63,23 +63,23 @@ impl Done {
         self.function
     }
 
-    /// What the work gave, or for want of memory the work as it was.
+    /// What the work gave, or because an allocation failed the work as it was.
     pub fn into_outcome(self) -> Result<Outcome, Work>
         ensures value { IfOk result (λ o. o ≡ outcome_of self.job.value.work.value) }
         // It is no longer than its work's may be.
         ensures room { IfOk result (λ o. HasRoom self.job.value.work.value o) }
         ensures back { IfErr result (λ work. work ≡ self.job.value.work.value) }
     {
-        let Done { mut slot, .. } = self;
-        match mem::replace(&mut *slot, Slot::Empty) {
-            Slot::Outcome(outcome) => Ok(outcome),
-            Slot::Work(work) => Err(work),
-            Slot::Empty => unreachable!(),
+        let Done { mut cell, .. } = self;
+        match mem::replace(&mut *cell, JobCell::Empty) {
+            JobCell::Outcome(outcome) => Ok(outcome),
+            JobCell::Work(work) => Err(work),
+            JobCell::Empty => unreachable!(),
         }
     }
 }
 
-/// Does a cipher's work, or gives it back for want of memory.
+/// Does a cipher's work, or gives it back because an allocation failed.
 fn ciphered(alloc: Global, stream: Stream, part: Part, input: Bytes) -> Result<Outcome, Work>
     requires { IsTrue (is_runnable (Cipher stream part input)) }
     ensures value { IfOk result (λ o. o ≡ outcome_of (Cipher stream part input)) }
@@ -162,7 +162,7 @@ fn token_reset(label: Label, verifier: &Verifier, pin: &[u8]) -> Outcome
     }
 }
 
-/// Does the work, or gives it back for want of memory, which the work of PINs never takes.
+/// Does the work, or gives it back because an allocation failed, which the work of PINs never takes.
 fn work_done(alloc: Global, work: Work) -> Result<Outcome, Work>
     requires { IsTrue (is_runnable work) }
     ensures value { IfOk result (λ o. o ≡ outcome_of work) }
@@ -212,29 +212,29 @@ fn work_done(alloc: Global, work: Work) -> Result<Outcome, Work>
 }
 
 /// The work is taken out of a slot.
-fn taken_out(slot: &mut Slot, work: Snapshot<Work>) -> Work
-    requires { slot.old ≡ WorkSlot work.value }
+fn taken_out(cell: &mut JobCell, work: Snapshot<Work>) -> Work
+    requires { cell.old ≡ WorkCell work.value }
     ensures { result ≡ work.value }
 {
-    match mem::replace(slot, Slot::Empty) {
-        Slot::Work(work) => work,
-        Slot::Outcome(_) | Slot::Empty => unreachable!(),
+    match mem::replace(cell, JobCell::Empty) {
+        JobCell::Work(work) => work,
+        JobCell::Outcome(_) | JobCell::Empty => unreachable!(),
     }
 }
 
 /// What came of work is put into a slot.
-fn put(slot: &mut Slot, outcome: Result<Outcome, Work>)
-    ensures { slot.new ≡ ended_as outcome }
+fn put(cell: &mut JobCell, outcome: Result<Outcome, Work>)
+    ensures { cell.new ≡ ended_as outcome }
 {
     let ended = match outcome {
-        Ok(outcome) => Slot::Outcome(outcome),
-        Err(work) => Slot::Work(work),
+        Ok(outcome) => JobCell::Outcome(outcome),
+        Err(work) => JobCell::Work(work),
     };
-    drop(mem::replace(slot, ended));
+    drop(mem::replace(cell, ended));
 }
 
 impl Job {
-    /// Does the work. It waits for nobody, and fails only for want of memory.
+    /// Does the work. It waits for nobody, and fails only if an allocation fails.
     pub fn run(self, alloc: Global) -> Done
         ensures { result.job.value ≡ self }
     {
@@ -244,16 +244,16 @@ impl Job {
             question,
             function,
             work,
-            mut slot,
+            mut cell,
             ..
         } = self;
-        let work = taken_out(&mut *slot, work);
-        put(&mut *slot, work_done(alloc, work));
+        let work = taken_out(&mut *cell, work);
+        put(&mut *cell, work_done(alloc, work));
         Done {
             app,
             question,
             function,
-            slot,
+            cell,
             job,
         }
     }

@@ -1,10 +1,10 @@
 //! The work of a question.
 
 ghost use Rattle.std.specs.Prelude.{◌≡◌, IfOk, IsTrue};
-ghost use Rattle.mech.specs.declared.slot.Slot.TheVariants.{Work as WorkSlot};
+ghost use Rattle.mech.specs.declared.job_cell.JobCell.TheVariants.{Work as WorkCell};
 ghost use Rattle.mech.specs.Runnable.{is_runnable};
 
-use crate::slot::Slot;
+use crate::job_cell::JobCell;
 use crate::work::Work;
 use ck_calls::Function;
 use std::alloc::{AllocError, Global};
@@ -20,8 +20,8 @@ pub struct Job {
     pub function: Function,
     pub session: u64,
     pub work: Snapshot<Work>,
-    pub(crate) slot: Box<Slot>,
-    pub ghost has: { slot.value ≡ WorkSlot work.value },
+    pub(crate) cell: Box<JobCell>,
+    pub ghost has: { cell.value ≡ WorkCell work.value },
     pub ghost runnable: { IsTrue (is_runnable work.value) },
 }
 
@@ -39,14 +39,14 @@ impl Job {
         ensures { IfOk result (λ job. (job.app ≡ app) × (job.question ≡ question) × (job.function ≡ function) × (job.session ≡ session) × (job.work.value ≡ work)) }
     {
         let snapshot = Snapshot::of(&work);
-        match Box::new(alloc, Slot::Work(work)) {
-            Ok(slot) => Ok(Job {
+        match Box::new(alloc, JobCell::Work(work)) {
+            Ok(cell) => Ok(Job {
                 app,
                 question,
                 function,
                 session,
                 work: snapshot,
-                slot,
+                cell,
             }),
             Err(refused) => {
                 drop(refused);
@@ -59,9 +59,9 @@ impl Job {
     pub fn work(&self) -> &Work
         ensures { result.now ≡ self.now.work.value }
     {
-        match &*self.slot {
-            Slot::Work(work) => work,
-            Slot::Outcome(_) | Slot::Empty => unreachable!(),
+        match &*self.cell {
+            JobCell::Work(work) => work,
+            JobCell::Outcome(_) | JobCell::Empty => unreachable!(),
         }
     }
 }

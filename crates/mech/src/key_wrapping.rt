@@ -15,7 +15,7 @@ use ck_types::{Bytes, SessionState, Template};
 use std::alloc::Global;
 use templates::unwrapped;
 
-/// Wraps the value of a key, or gives the work back for want of memory.
+/// Wraps the value of a key, or gives the work back because an allocation failed.
 pub(crate) fn wrapped(alloc: Global, key: Key, value: Bytes) -> Result<Outcome, Work>
     requires { IsTrue (is_runnable (Wrap key value)) }
     ensures value { IfOk result (λ o. o ≡ outcome_of (Wrap key value)) }
@@ -28,7 +28,7 @@ pub(crate) fn wrapped(alloc: Global, key: Key, value: Bytes) -> Result<Outcome, 
     }
 }
 
-/// The value that is wrapped in the bytes, or none where they are the wrapping of no value. It fails only for want of memory.
+/// The value that is wrapped in the bytes, or none where they are the wrapping of no value. It fails only if an allocation fails.
 fn value_in(alloc: Global, key: &Key, bytes: &[u8]) -> Result<Option<Bytes>, KwFault>
     requires least { 24 ≤ length bytes.now }
     requires whole { length bytes.now % 8 ≡ 0 }
@@ -45,7 +45,7 @@ fn value_in(alloc: Global, key: &Key, bytes: &[u8]) -> Result<Option<Bytes>, KwF
     }
 }
 
-/// What is made of the wrapped value, or nothing for want of memory.
+/// What is made of the wrapped value, or nothing because an allocation failed.
 fn key_in(
     alloc: Global,
     key: &Key,
@@ -64,7 +64,7 @@ fn key_in(
     Some(Outcome::Unwrapped(object))
 }
 
-/// Unwraps the value of a key, and makes the key of it; or gives the work back for want of memory.
+/// Unwraps the value of a key, and makes the key of it; or gives the work back because an allocation failed.
 pub(crate) fn key_unwrapped(
     alloc: Global,
     key: Key,

@@ -6,7 +6,7 @@
 //! memory, with the work as it was.
 //!
 //! - A cipher's work is a piece or the last data of a stream (PKCS #11 v3.1, 5.8 and 5.10).
-//! - The work of a message's code is a piece, its signature, or to verify one (PKCS #11 v3.1, 5.13 and 5.15).
+//! - The work of a message's tag is a piece, its signature, or to verify one (PKCS #11 v3.1, 5.13 and 5.15).
 //! - A key's work is to wrap its value, or to unwrap one and make the key of it (PKCS #11 v3.1, 5.18).
 //! - A PIN's work is to check a PIN against a verifier, to make a new one's verifier, or both (C_Login,
 //!   C_InitPIN, C_SetPIN and C_InitToken; 5.5 and 5.6). It takes no memory. Tries are counted elsewhere,
@@ -20,14 +20,14 @@
 
 mod done;
 mod job;
+mod job_cell;
 mod key_wrapping;
-mod message_codes;
+mod message_tags;
 mod outcome;
-mod slot;
 mod work;
 
 pub use done::Done;
 pub use job::Job;
+pub use job_cell::JobCell;
 pub use outcome::Outcome;
-pub use slot::Slot;
 pub use work::Work;

@@ -12,7 +12,7 @@ pub enum Outcome {
     Piece { output: Bytes, stream: Stream },
     /// The rest of the output of an operation of this direction, for the last data.
     Rest { direction: Direction, output: Bytes },
-    /// No text is enciphered to the data of an operation of this direction: its padding is wrong.
+    /// No text is encrypted to the data of an operation of this direction: its padding is wrong.
     BadPadding(Direction),
     /// The operation at a place that signs or verifies, after a piece.
     Taken { place: MacPlace, mac: Mac },

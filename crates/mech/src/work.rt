@@ -9,7 +9,7 @@ use pin_record::Verifier;
 /// call's to test. A salt is the 16 bytes of the verifier that is made, and a label has 32 bytes.
 #[derive(Drop)]
 pub enum Work {
-    /// Data of an operation that enciphers or deciphers, as a piece or as the last (PKCS #11 v3.1, 5.8 and 5.10). The
+    /// Data of an operation that encrypts or decrypts, as a piece or as the last (PKCS #11 v3.1, 5.8 and 5.10). The
     /// stream is a copy: the operation's own stands where it was.
     Cipher {
         stream: Stream,

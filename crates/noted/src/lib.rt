@@ -1,15 +1,15 @@
 //! Bytes that contracts alone speak of: data that was taken or given and is kept nowhere.
 //!
-//! A struct with a field `Noted` can say in its view what bytes went through it, and in its invariant
+//! A struct with a field `GhostBytes` can say in its view what bytes went through it, and in its invariant
 //! what its other fields are by these bytes. The field takes no memory and no time.
 //!
-//! What a `Noted` holds is worth what an invariant beside it says: a clause on the bytes alone is met
+//! What a `GhostBytes` holds is worth what an invariant beside it says: a clause on the bytes alone is met
 //! by a body that does nothing else.
 //!
 //! ```rust
-//! use noted::Noted;
+//! use noted::GhostBytes;
 //!
-//! let mut taken = Noted::new();
+//! let mut taken = GhostBytes::new();
 //! taken.push(b"abc");
 //! let same = taken.copied();
 //! ```
@@ -22,21 +22,21 @@ use std::marker::{Model, PhantomData};
 
 /// Bytes that were noted, for contracts alone, which read them as `bytes`.
 #[derive(Drop)]
-pub struct Noted {
+pub struct GhostBytes {
     marker: PhantomData<u8>,
     pub ghost bytes: { List ℕ },
 }
 
-impl Model for Noted {
+impl Model for GhostBytes {
     ghost also_owns = { λ _. ftrue };
 }
 
-impl Noted {
+impl GhostBytes {
     /// No bytes.
-    pub fn new() -> Noted
+    pub fn new() -> GhostBytes
         ensures { result.bytes ≡ [] }
     {
-        Noted {
+        GhostBytes {
             marker: PhantomData,
         }
     }
@@ -48,7 +48,7 @@ impl Noted {
     {}
 
     /// The same bytes once more.
-    pub fn copied(&self) -> Noted
+    pub fn copied(&self) -> GhostBytes
         ensures { result.bytes ≡ self.now.bytes }
     {
         Self {

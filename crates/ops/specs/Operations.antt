@@ -13,7 +13,7 @@ use Rattle.ops.specs.declared.place.Place.TheVariants.{Encrypt, Decrypt}
 use Rattle.ops.specs.declared.place.MacPlace.{MacPlace}
 use Rattle.ops.specs.declared.place.MacPlace.TheVariants.{Sign, Verify}
 
--- An operation that enciphers or deciphers: its mechanism with parameter and its direction, the data that it has taken and the bytes that it has
+-- An operation that encrypts or decrypts: its mechanism with parameter and its direction, the data that it has taken and the bytes that it has
 -- given so far. It works under a copy of its key's value, which may be left out.
 pub record Operation : Type 0 where
   pub mechanism : Mechanism
@@ -30,7 +30,7 @@ started mechanism direction key = record { mechanism = mechanism; direction = di
 abbrev pub further : Operation → List ℕ → List ℕ → Operation
 further o piece out = record o { taken = o.taken ++ piece; given = o.given ++ out }
 
--- the operation of a text in pieces, and the text of an operation, where its key isn't left out
+-- the operation of a text in parts, and the text of an operation, where its key isn't left out
 abbrev pub operation_of : Streamed → Operation
 operation_of s = record { mechanism = s.mechanism; direction = s.direction; taken = s.taken; given = s.given; key = Some s.key }
 
@@ -50,14 +50,14 @@ mac_started mechanism key = record { mechanism = mechanism; taken = []; key = ke
 abbrev pub mac_further : MacOperation → List ℕ → MacOperation
 mac_further o piece = record o { taken = o.taken ++ piece }
 
--- the operation of a message in pieces, and the message of an operation, where its key isn't left out
+-- the operation of a message in parts, and the message of an operation, where its key isn't left out
 abbrev pub mac_of : Authentication → MacOperation
 mac_of a = record { mechanism = a.mechanism; taken = a.taken; key = Some a.key }
 
 abbrev pub message_of : MacOperation → Authentication
 message_of o = record { mechanism = o.mechanism; key = unwrap_or o.key []; taken = o.taken }
 
--- what a session has under way: of a search, the handles that were not answered yet
+-- what a session has in progress: of a search, the handles that were not answered yet
 pub record Operations : Type 0 where
   pub encrypt : Option Operation
   pub decrypt : Option Operation

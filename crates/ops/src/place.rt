@@ -1,6 +1,6 @@
 //! The places of a session's operations.
 
-/// Where an operation of a session stands that enciphers or deciphers (PKCS #11 v3.1, 5.2): one of each kind may be active at
+/// Where an operation of a session stands that encrypts or decrypts (PKCS #11 v3.1, 5.2): one of each kind may be active at
 /// a time.
 #[derive(Clone, Copy, Debug, PartialEq, Eq)]
 pub enum Place {

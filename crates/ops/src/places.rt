@@ -1,4 +1,4 @@
-//! What a session has under way.
+//! What a session has in progress.
 
 ghost use Rattle.std.specs.Prelude.{◌≡◌, drop, option_map};
 ghost use Rattle.std.specs.Option.{option_copied};
@@ -7,11 +7,11 @@ ghost use Rattle.ops.specs.Operations.{mac_at, mac_of, mac_placed, no_operations
 use crate::place::{MacPlace, Place};
 use crate::search::Search;
 use macs::Mac;
-use sessions::Work;
+use sessions::Activity;
 use std::marker::Model;
 use streams::Stream;
 
-/// What a session has under way (PKCS #11 v3.1, 5.2): an operation at each place, or none, and a search, or none.
+/// What a session has in progress (PKCS #11 v3.1, 5.2): an operation at each place, or none, and a search, or none.
 ///
 /// An operation keeps its own copy of the key, so that a later change of the key's object leaves it running.
 #[derive(Drop)]
@@ -33,7 +33,7 @@ impl Model for Places {
 }
 
 impl Places {
-    /// The operation at a place that enciphers or deciphers.
+    /// The operation at a place that encrypts or decrypts.
     pub fn get(&self, place: Place) -> Option<&Stream>
         ensures { option_map operation_of (option_copied result) ≡ operation_at self.now place }
     {
@@ -43,7 +43,7 @@ impl Places {
         }
     }
 
-    /// An operation that enciphers or deciphers begins or goes on at a place, or the one that is there ends. The other places
+    /// An operation that encrypts or decrypts begins or goes on at a place, or the one that is there ends. The other places
     /// keep theirs.
     pub fn set(&mut self, place: Place, operation: Option<Stream>)
         ensures { self.new ≡ placed self.old place (option_map operation_of operation) }
@@ -99,7 +99,7 @@ impl Places {
     }
 }
 
-impl Work for Places {
+impl Activity for Places {
     ghost idle = { no_operations };
 
     fn idle() -> Places {

@@ -4,7 +4,7 @@ ghost use Rattle.std.specs.Prelude.{◌≡◌, take, drop};
 
 use std::marker::Model;
 
-/// A search that is under way (PKCS #11 v3.1, 5.7.5): the handles that it found, of which the first were answered.
+/// A search that is in progress (PKCS #11 v3.1, 5.7.5): the handles that it found, of which the first were answered.
 ///
 /// The list is fixed where the search begins, also where an object goes later.
 #[derive(Drop)]

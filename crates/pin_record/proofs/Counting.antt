@@ -1,4 +1,4 @@
--- Tries, charges and checks under way.
+-- Tries, charges and checks in progress.
 use Rattle.std.proofs.Common.{◌≡◌, ℕ, ◌+◌, ◌≤◌, ◌<◌, Bool, true, false, cond, not, List, [], ◌∷◌, ◌++◌, length, refl, sym, ◌∙◌, ap, arith, inl, inr, is_some}
 use Rattle.std.specs.Prelude.{◌==◌, ◌&&◌, nat_lt}
 use Rattle.std.proofs.lemmas.Bool.{and_parts, cases_Bool, cases_eq, eq-eqb, ne_eqb, eqb-true, ltb-true}
@@ -42,7 +42,7 @@ once-without (m ∷ ns) number once = elim (cases_Bool (m == number)) [
   | inr f ↦ rw f (under_way-without ns number m once.0, once-without ns number once.1)
 ]
 
--- where it isn't under way, none ends
+-- where it isn't in progress, none ends
 pub without-none : (ns : List ℕ) (number : ℕ) → is_under_way ns number ≡ false → without ns number ≡ ns
 without-none [] number none = refl
 without-none (m ∷ ns) number none = elim (cases_Bool (m == number)) [

@@ -6,13 +6,13 @@ use Rattle.ck_types.specs.declared.user_type.UserType.TheVariants.{So, User}
 use Rattle.pin_record.specs.Verifiers.{PinVerifier}
 use Rattle.pin_record.specs.Records.{TokenRecord, charged, checked, initialized_record, is_initialized, tries_limit, tries_of, verifier_of, with_pin}
 
--- the record that is stored, and the checks of each PIN that are under way, each by a number of its own
+-- the record that is stored, and the checks of each PIN that are in progress, each by a number of its own
 pub record Charges : Type 0 where
   pub stored : TokenRecord
   pub so_checks : List ℕ
   pub user_checks : List ℕ
 
--- a record that was just read: no check is under way
+-- a record that was just read: no check is in progress
 abbrev pub opened : TokenRecord → Charges
 opened r = record { stored = r; so_checks = []; user_checks = [] }
 
@@ -44,7 +44,7 @@ pub data Event : Type 0 where
   SetsPin : (who : UserType) (verifier : PinVerifier) → Event
   -- the token is initialised, with a new SO PIN, or on the right end of a check with the old one
   Initializes : (label : List ℕ) (so : PinVerifier) → Event
-  -- the token stops and starts again, so that no check is under way any more
+  -- the token stops and starts again, so that no check is in progress any more
   Restarts : Event
 
 -- a check begins only if its PIN is set and isn't locked
@@ -52,7 +52,7 @@ abbrev pub may_begin : Charges → UserType → ℕ → Bool
 may_begin c who number =
     is_some (verifier_of c.stored who) && (nat_lt (tries_of c.stored who) tries_limit && not (is_under_way (checks_of c who) number))
 
--- No check of the user's PIN is under way. A token is initialised only then: such a check has a
+-- No check of the user's PIN is in progress. A token is initialised only then: such a check has a
 -- session, and no application has one.
 abbrev pub has_no_user_check : Charges → Bool
 has_no_user_check c = length c.user_checks == 0
@@ -82,8 +82,8 @@ is_same So User = false
 is_same User So = false
 is_same User User = true
 
--- How many checks of a PIN have ended otherwise than right since it was last entered right or set, or
--- the token initialised. An event of the other PIN, or of a check that isn't under way, counts nothing.
+-- How many checks of a PIN have ended wrong or abandoned since it was last entered right or set, or
+-- the token initialised. An event of the other PIN, or of a check that isn't in progress, counts nothing.
 abbrev pub spent_after : UserType → ℕ → Charges → Event → ℕ
 spent_after who s c (Begins other number) = s
 spent_after who s c (EndsRight other number) = if is_same who other && is_under_way (checks_of c other) number then 0 else s
@@ -101,7 +101,7 @@ abbrev pub Once : List ℕ → Type 0
 Once [] = Unit {0}
 Once (n ∷ ns) = (is_under_way ns n ≡ false) × Once ns
 
--- the tries are the checks that are spent and those under way, and they are ten at most
+-- the tries are the checks that are spent and those in progress, and they are ten at most
 pub record IsCounted (s tries : ℕ) (checks : List ℕ) : Type 0 where
   pub sum : tries ≡ s + length checks
   pub most : tries ≤ tries_limit

@@ -103,6 +103,6 @@ with_tries r who tries = with_pin_state r who (record { verifier = verifier_of r
 abbrev pub charged : TokenRecord → UserType → TokenRecord
 charged r who = with_tries r who (tries_of r who + 1)
 
--- a check of the PIN has ended, and so many others of it are under way
+-- a check of the PIN has ended, and so many others of it are in progress
 abbrev pub checked : TokenRecord → UserType → Bool → ℕ → TokenRecord
 checked r who right under_way = if right then with_tries r who under_way else r

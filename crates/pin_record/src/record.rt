@@ -55,7 +55,7 @@ impl Record {
     }
 
     /// The record of a token that was initialised (C_InitToken): with this label and SO PIN, and
-    /// without a user PIN. Of the SO's PIN, `under_way` checks are under way. No memory is taken.
+    /// without a user PIN. Of the SO's PIN, `under_way` checks are in progress. No memory is taken.
     pub fn initialized(label: Label, so: Verifier, under_way: u8) -> Record
         requires { under_way ≤ tries_limit }
         ensures { result ≡ initialized_record label so under_way }
@@ -111,7 +111,7 @@ impl Record {
     }
 
     /// The tries of the PIN, at most `TRIES_LIMIT`: the checks of it that were begun since the last
-    /// one that ended right, or since it was set, and those that were under way then.
+    /// one that ended right, or since it was set, and those that were in progress then.
     pub fn tries(&self, who: UserType) -> u8
         ensures value { result ≡ tries_of self.now who }
         ensures few { tries_of self.now who ≤ tries_limit }
@@ -127,7 +127,7 @@ impl Record {
         self.tries(who) >= TRIES_LIMIT
     }
 
-    /// The record with a new PIN, of which `under_way` checks are under way (C_InitPIN for the user,
+    /// The record with a new PIN, of which `under_way` checks are in progress (C_InitPIN for the user,
     /// C_SetPIN). No memory is taken.
     pub fn with_pin(self, who: UserType, verifier: Verifier, under_way: u8) -> Record
         requires initialized { is_initialized self ≡ true }

@@ -5,7 +5,7 @@ ghost use Rattle.std.specs.List.{position_from};
 ghost use Rattle.precede.specs.Table.{table_of};
 ghost use Rattle.precede.specs.FirstFault.{first_of, IsFirstFault};
 
-use crate::row::Row;
+use crate::condition::Condition;
 use crate::table::rows;
 use ck_types::Rv;
 
@@ -36,14 +36,14 @@ impl Facts {
     }
 
     /// Says whether a row of the call's table holds. A row that the table doesn't have changes nothing.
-    pub fn set(&mut self, row: Row, holds: bool)
-        ensures at_place { (place : ℕ) → slice_get (table_of self.old.function) place ≡ Some row →
-            self.new ≡ record self.old { holds = slice_set self.old.holds place holds } }
-        ensures elsewhere { ((place : ℕ) → slice_get (table_of self.old.function) place ≢ Some row) →
+    pub fn set(&mut self, row: Condition, holds: bool)
+        ensures at_index { (index : ℕ) → slice_get (table_of self.old.function) index ≡ Some row →
+            self.new ≡ record self.old { holds = slice_set self.old.holds index holds } }
+        ensures elsewhere { ((index : ℕ) → slice_get (table_of self.old.function) index ≢ Some row) →
             self.new ≡ self.old }
     {
-        if let Some(place) = place_of(rows(self.function), row) {
-            self.holds[place] = holds;
+        if let Some(index) = index_of(rows(self.function), row) {
+            self.holds[index] = holds;
         }
     }
 }
@@ -58,13 +58,13 @@ pub fn first_fault(facts: &Facts) -> Option<Rv>
 }
 
 /// The place of a row in a table.
-fn place_of(table: &[Row], row: Row) -> Option<usize>
-    ensures found { IfSome result (λ place. slice_get table.now place ≡ Some row) }
-    ensures missing { IfNone result ((place : ℕ) → slice_get table.now place ≢ Some row) }
+fn index_of(table: &[Condition], row: Condition) -> Option<usize>
+    ensures found { IfSome result (λ index. slice_get table.now index ≡ Some row) }
+    ensures missing { IfNone result ((index : ℕ) → slice_get table.now index ≢ Some row) }
 {
-    for (place, other) in table.iter().enumerate() {
+    for (index, other) in table.iter().enumerate() {
         if *other == row {
-            return Some(place);
+            return Some(index);
         }
     }
     None
@@ -78,8 +78,8 @@ fn first_true(holds: &[bool]) -> Option<usize>
 }
 
 /// The code of the first row that holds.
-#[tactic(auto, using(crate::proofs::FirstRow::first_of_by_place))]
-fn first_code(table: &[Row], holds: &[bool], made: Rv) -> Option<Rv>
+#[tactic(auto, using(crate::proofs::FirstRow::first_of_by_index))]
+fn first_code(table: &[Condition], holds: &[bool], made: Rv) -> Option<Rv>
     ensures { result ≡ first_of table.now holds.now made }
 {
     let row = table.get(first_true(holds)?)?;

@@ -13,16 +13,16 @@
 //!
 //! ```
 //! let mut facts = Facts::new(15, Rv::Ok); // C_DestroyObject
-//! facts.set(Row::TokenObjectReadOnly, true);
-//! facts.set(Row::NotDestroyable, true);
+//! facts.set(Condition::TokenObjectReadOnly, true);
+//! facts.set(Condition::NotDestroyable, true);
 //! let code = first_fault(&facts); // Some(Rv::SessionReadOnly)
 //! ```
 #![tactic(auto)]
 
+mod condition;
 mod facts;
-mod row;
 mod table;
 
+pub use condition::Condition;
 pub use facts::{Facts, first_fault};
-pub use row::Row;
 pub use table::rows;

@@ -107,12 +107,12 @@ impl Connection {
             if is_stopping.load(Ordering::SeqCst) {
                 return Err(Parting::Stopped);
             }
-            let Some(payload) = self.frames.front()? else {
+            let Some(payload) = self.frames.peek()? else {
                 self.read_piece(piece)?;
                 continue;
             };
             let asked = asked_in(alloc, app, payload, &mut self.words);
-            self.frames.pass();
+            self.frames.consume();
             match asked {
                 Asked::Call(call) => return Ok(call),
                 Asked::Refused(fault) => self.answer_fault(fault, is_stopping)?,

@@ -9,7 +9,7 @@
 //! `SocketSeat` is a seat on a Unix socket, whose connections are applications. It accepts one connection after the other from a
 //! listener. The c-th connection of seat s, both from 0, is application 4c + s. It reads frames and gives their calls, and writes the
 //! frames of replies. A payload that is no call is answered at once. A frame that is too long or is cut off, a read or a write that
-//! fails, and want of memory end the connection, which is logged, and its application goes. A seat that is told that the daemon ends
+//! fails, and allocation failure end the connection, which is logged, and its application goes. A seat that is told that the daemon ends
 //! accepts and reads no more. `Journal` is a log on standard error, as a journal reads it.
 //!
 //! This crate is safe and tested. It states no theorem, but that it keeps the rules of `hall`.

@@ -1,16 +1,16 @@
 -- How much a cipher adds to its output for data that a frame has room for: no more than a frame has room for.
 use Rattle.std.proofs.Common.{◌≡◌, ℕ, ◌+◌, ◌-◌, ◌≤◌, ◌/◌, List, length, Option, Some, None, arith}
 use Rattle.aes_modes.specs.declared.direction.Direction.{Direction}
-use Rattle.aes_modes.specs.declared.direction.Direction.TheVariants.{Encipher, Decipher}
+use Rattle.aes_modes.specs.declared.direction.Direction.TheVariants.{Encrypt, Decrypt}
 use Rattle.streams.specs.declared.mechanism.Mechanism.{Mechanism}
 use Rattle.streams.specs.declared.mechanism.Mechanism.TheVariants.{Ecb, Cbc, CbcPad, Ctr}
 use Rattle.streams.specs.declared.part.Part.TheVariants.{Update, Last}
 use Rattle.mech.specs.Rooms.{most_added}
-use Rattle.token_store.specs.Short.{IsShortData, most_data}
+use Rattle.serve_base.specs.Short.{IsShortData, most_data}
 
-pub room-short : (input : List ℕ) (room : Option ℕ) → IsShortData input room → (n : ℕ) → room ≡ Some n → length input ≤ 1048553
-room-short input None short n is = absurd cc
-room-short input (Some room) short n is = short
+pub buffer_len-short : (input : List ℕ) (buffer_len : Option ℕ) → IsShortData input buffer_len → (n : ℕ) → buffer_len ≡ Some n → length input ≤ 1048553
+buffer_len-short input None short n is = absurd cc
+buffer_len-short input (Some buffer_len) short n is = short
 
 -- whole blocks, of which there are no more than 65,535
 blocks-short : (t n : ℕ) → n ≤ 1048553 → (t + n) / 16 ≤ t / 16 + 65535
@@ -22,22 +22,22 @@ held-short t n few = omega (arith, few)
 pub update-short : (m : Mechanism) (d : Direction) (t n : ℕ) → n ≤ 1048553 → most_added Update m d t n ≤ most_data
 update-short Ecb d t n few = omega (arith, blocks-short t n few)
 update-short (Cbc iv) d t n few = omega (arith, blocks-short t n few)
-update-short (CbcPad iv) Encipher t n few = omega (arith, blocks-short t n few)
-update-short (CbcPad iv) Decipher t n few = omega (arith, held-short t n few)
+update-short (CbcPad iv) Encrypt t n few = omega (arith, blocks-short t n few)
+update-short (CbcPad iv) Decrypt t n few = omega (arith, held-short t n few)
 update-short (Ctr bits start) d t n few = omega (arith, few)
 
 -- all data at once, and with it the padding
 pub single-short : (m : Mechanism) (d : Direction) (t n : ℕ) → t ≡ 0 → n ≤ 1048553 → most_added Last m d t n ≤ most_data
 single-short Ecb d t n none few = omega (arith, none, few)
 single-short (Cbc iv) d t n none few = omega (arith, none, few)
-single-short (CbcPad iv) Encipher t n none few = omega (arith, none, few)
-single-short (CbcPad iv) Decipher t n none few = omega (arith, none, few)
+single-short (CbcPad iv) Encrypt t n none few = omega (arith, none, few)
+single-short (CbcPad iv) Decrypt t n none few = omega (arith, none, few)
 single-short (Ctr bits start) d t n none few = omega (arith, none, few)
 
 -- the end of the data
 pub last-short : (m : Mechanism) (d : Direction) (t n : ℕ) → n ≡ 0 → most_added Last m d t n ≤ most_data
 last-short Ecb d t n none = omega (arith, none)
 last-short (Cbc iv) d t n none = omega (arith, none)
-last-short (CbcPad iv) Encipher t n none = omega (arith, none)
-last-short (CbcPad iv) Decipher t n none = omega (arith, none)
+last-short (CbcPad iv) Encrypt t n none = omega (arith, none)
+last-short (CbcPad iv) Decrypt t n none = omega (arith, none)
 last-short (Ctr bits start) d t n none = omega (arith, none)

@@ -5,14 +5,14 @@ ghost use Rattle.std.specs.Prelude.{◌≡◌, ◌<◌, ◌^◌, IfOk, None, Som
 ghost use Rattle.ck_calls.specs.declared.reply.Output.TheVariants.{Data};
 ghost use Rattle.ck_calls.specs.declared.reply.Reply.TheVariants.{Code, Output as OutputReply};
 ghost use Rattle.ops.specs.Operations.{operation_of, with_operation};
-ghost use Rattle.precede.specs.Row.{code_of};
+ghost use Rattle.precede.specs.Condition.{code_of};
 ghost use Rattle.ck_types.specs.declared.rv.Rv.TheVariants as rv;
-ghost use Rattle.token_store.specs.declared.out.Out.TheVariants.{Reply as OutReply};
-ghost use Rattle.answers.specs.Cipher.{cipher_final, cipher_single, cipher_update};
-ghost use Rattle.answers.specs.CipherInit.{place_for};
-ghost use Rattle.token_store.specs.Refusing.{AtDesk, AtDeskIf};
-ghost use Rattle.token_store.specs.Short.{IsShortData};
-ghost use Rattle.token_store.specs.Shown.{IsFor, said_of};
+ghost use Rattle.serve_base.specs.declared.out.Out.TheVariants.{Reply as OutReply};
+ghost use Rattle.model_answers.specs.Cipher.{cipher_final, cipher_single, cipher_update};
+ghost use Rattle.model_answers.specs.CipherInit.{place_for};
+ghost use Rattle.serve_base.specs.Refusing.{AtDesk, AtDeskIf};
+ghost use Rattle.serve_base.specs.Short.{IsShortData};
+ghost use Rattle.serve_base.specs.Shown.{IsFor, said_of};
 
 use crate::directions::{final_function, place_for, refused_row, single_function, update_function};
 use aes_modes::Direction;
@@ -21,10 +21,10 @@ use ck_types::{Bytes, Rv};
 use desk::Desk;
 use mech::Work;
 use ops::Place;
-use precede::Row;
+use precede::Condition;
+use serve_base::{Out, Refusal, ask_within};
 use std::alloc::Global;
 use streams::{Part, Stream};
-use token_store::{Out, Refusal, ask_within};
 
 /// Takes all data at once: asks for what it is turned to, or tells the room for it, in bytes. It is the only data of its
 /// operation (`CKR_OPERATION_ACTIVE`), and of a length that the mechanism takes, with a counter for each block
@@ -36,17 +36,19 @@ pub fn single(
     direction: Direction,
     session: u64,
     input: Bytes,
-    room: Option<u64>,
+    buffer_len: Option<u64>,
 ) -> Result<Out, Refusal>
     requires { desk.old.next_question < 2 ^ 63 }
-    ensures serves { AtDeskIf (IsShortData input room) said_of (λ v. cipher_single direction v session input room) desk.old result desk.new }
+    ensures serves { AtDeskIf (IsShortData input buffer_len) said_of (λ v. cipher_single direction v session input buffer_len) desk.old result desk.new }
     ensures asker { IfOk result (IsFor app) }
 {
     let place = place_for(direction);
-    let _ = desk.state(session).ok_or(Row::NoSession)?;
-    let operation = desk.operation(session, place).ok_or(Row::NoOperation)?;
+    let _ = desk.state(session).ok_or(Condition::NoSession)?;
+    let operation = desk
+        .operation(session, place)
+        .ok_or(Condition::NoOperation)?;
     if operation.has_taken() {
-        return Ok(end(desk, session, place, Row::DataTaken));
+        return Ok(end(desk, session, place, Condition::DataTaken));
     }
     let wanted = match operation.room_of(Part::Last, input.as_slice()) {
         Ok(wanted) => wanted as u64,
@@ -66,7 +68,7 @@ pub fn single(
         session,
         work,
         wanted,
-        room,
+        buffer_len,
     )?)
 }
 
@@ -79,17 +81,19 @@ pub fn update(
     direction: Direction,
     session: u64,
     input: Bytes,
-    room: Option<u64>,
+    buffer_len: Option<u64>,
 ) -> Result<Out, Refusal>
     requires { desk.old.next_question < 2 ^ 63 }
-    ensures serves { AtDeskIf (IsShortData input room) said_of (λ v. cipher_update direction v session input room) desk.old result desk.new }
+    ensures serves { AtDeskIf (IsShortData input buffer_len) said_of (λ v. cipher_update direction v session input buffer_len) desk.old result desk.new }
     ensures asker { IfOk result (IsFor app) }
 {
     let place = place_for(direction);
-    let _ = desk.state(session).ok_or(Row::NoSession)?;
-    let operation = desk.operation(session, place).ok_or(Row::NoOperation)?;
+    let _ = desk.state(session).ok_or(Condition::NoSession)?;
+    let operation = desk
+        .operation(session, place)
+        .ok_or(Condition::NoOperation)?;
     let Ok(wanted) = operation.room_of(Part::Update, input.as_slice()) else {
-        return Ok(end(desk, session, place, Row::CounterEnd));
+        return Ok(end(desk, session, place, Condition::CounterEnd));
     };
     let stream = operation.copied();
     let work = Work::Cipher {
@@ -105,7 +109,7 @@ pub fn update(
         session,
         work,
         wanted as u64,
-        room,
+        buffer_len,
     )?)
 }
 
@@ -117,15 +121,17 @@ pub fn last(
     desk: &mut Desk,
     direction: Direction,
     session: u64,
-    room: Option<u64>,
+    buffer_len: Option<u64>,
 ) -> Result<Out, Refusal>
     requires { desk.old.next_question < 2 ^ 63 }
-    ensures serves { AtDesk said_of (λ v. cipher_final direction v session room) desk.old result desk.new }
+    ensures serves { AtDesk said_of (λ v. cipher_final direction v session buffer_len) desk.old result desk.new }
     ensures asker { IfOk result (IsFor app) }
 {
     let place = place_for(direction);
-    let _ = desk.state(session).ok_or(Row::NoSession)?;
-    let operation = desk.operation(session, place).ok_or(Row::NoOperation)?;
+    let _ = desk.state(session).ok_or(Condition::NoSession)?;
+    let operation = desk
+        .operation(session, place)
+        .ok_or(Condition::NoOperation)?;
     let wanted = match operation.room_of(Part::Last, b"") {
         Ok(wanted) => wanted as u64,
         Err(fault) => return Ok(end(desk, session, place, refused_row(direction, fault))),
@@ -144,12 +150,12 @@ pub fn last(
         session,
         work,
         wanted,
-        room,
+        buffer_len,
     )?)
 }
 
 /// The operation at a place ends, with the code of a row.
-fn end(desk: &mut Desk, session: u64, place: Place, row: Row) -> Out
+fn end(desk: &mut Desk, session: u64, place: Place, row: Condition) -> Out
     ensures out { result ≡ OutReply (Code (code_of rv.Ok row)) }
     ensures ended { desk.new ≡ record desk.old { sessions = with_operation desk.old.sessions session place None } }
 {

@@ -1,23 +1,23 @@
-//! What differs between enciphering and deciphering.
+//! What differs between encrypting and decrypting.
 
 ghost use Rattle.std.specs.Prelude.{◌≡◌};
-ghost use Rattle.answers.specs.Cipher.{final_function, single_function, update_function};
-ghost use Rattle.answers.specs.CipherInit.{permission, place_for};
+ghost use Rattle.model_answers.specs.Cipher.{final_function, single_function, update_function};
+ghost use Rattle.model_answers.specs.CipherInit.{permission, place_for};
 ghost use Rattle.serve_ciphers.specs.Steps.{refused_row};
 
 use aes_modes::{Direction, ModeFault};
 use ck_calls::Function;
 use ck_types::AttrType;
 use ops::Place;
-use precede::Row;
+use precede::Condition;
 
 /// Where the operation of a direction stands.
 pub(crate) fn place_for(direction: Direction) -> Place
     ensures { result ≡ place_for direction }
 {
     match direction {
-        Direction::Encipher => Place::Encrypt,
-        Direction::Decipher => Place::Decrypt,
+        Direction::Encrypt => Place::Encrypt,
+        Direction::Decrypt => Place::Decrypt,
     }
 }
 
@@ -26,21 +26,21 @@ pub(crate) fn permission(direction: Direction) -> AttrType
     ensures { result ≡ permission direction }
 {
     match direction {
-        Direction::Encipher => AttrType::Encrypt,
-        Direction::Decipher => AttrType::Decrypt,
+        Direction::Encrypt => AttrType::Encrypt,
+        Direction::Decrypt => AttrType::Decrypt,
     }
 }
 
 /// The row of data that is refused: for its length, or since the mechanism has no counter for each block.
-pub(crate) fn refused_row(direction: Direction, fault: ModeFault) -> Row
+pub(crate) fn refused_row(direction: Direction, fault: ModeFault) -> Condition
     ensures { result ≡ refused_row direction fault }
 {
     if fault == ModeFault::CounterEnd {
-        return Row::DataLength;
+        return Condition::DataLength;
     }
     match direction {
-        Direction::Encipher => Row::DataLength,
-        Direction::Decipher => Row::EncryptedDataLength,
+        Direction::Encrypt => Condition::DataLength,
+        Direction::Decrypt => Condition::EncryptedDataLength,
     }
 }
 
@@ -49,8 +49,8 @@ pub(crate) fn single_function(direction: Direction) -> Function
     ensures { result ≡ single_function direction }
 {
     match direction {
-        Direction::Encipher => Function::Encrypt,
-        Direction::Decipher => Function::Decrypt,
+        Direction::Encrypt => Function::Encrypt,
+        Direction::Decrypt => Function::Decrypt,
     }
 }
 
@@ -59,8 +59,8 @@ pub(crate) fn update_function(direction: Direction) -> Function
     ensures { result ≡ update_function direction }
 {
     match direction {
-        Direction::Encipher => Function::EncryptUpdate,
-        Direction::Decipher => Function::DecryptUpdate,
+        Direction::Encrypt => Function::EncryptUpdate,
+        Direction::Decrypt => Function::DecryptUpdate,
     }
 }
 
@@ -69,7 +69,7 @@ pub(crate) fn final_function(direction: Direction) -> Function
     ensures { result ≡ final_function direction }
 {
     match direction {
-        Direction::Encipher => Function::EncryptFinal,
-        Direction::Decipher => Function::DecryptFinal,
+        Direction::Encrypt => Function::EncryptFinal,
+        Direction::Decrypt => Function::DecryptFinal,
     }
 }

@@ -1,5 +1,5 @@
-//! Calls that encipher and decipher (PKCS #11 v3.1, 5.8 and 5.10): they begin an operation of a session under a key, and
-//! work on data, all at once or in pieces.
+//! Calls that encrypt and decrypt (PKCS #11 v3.1, 5.8 and 5.10): they begin an operation of a session under a key, and
+//! work on data, all at once or in parts.
 //!
 //! Both directions are served by the same functions. Each answers by the rows of its call's table. Its clauses say that the
 //! answer is the written one to what the application sees, or that it was refused and nothing has changed: `IsDone` where a
@@ -7,8 +7,8 @@
 //! `cipher::piece`, `cipher::rest` and `cipher::bad_padding` answer its outcome.
 //!
 //! ```text
-//! settle(cipher_init::serve(alloc, desk, store, Direction::Encipher, session, mechanism, key))
-//! settle_asking(cipher::single(app, desk, Direction::Encipher, session, data, room))
+//! settle(cipher_init::serve(alloc, desk, store, Direction::Encrypt, session, mechanism, key))
+//! settle_asking(cipher::single(app, desk, Direction::Encrypt, session, data, buffer_len))
 //! ```
 #![tactic(auto)]
 

@@ -1,7 +1,7 @@
 //! Mechanisms with their parameters.
 
 ghost use Rattle.std.specs.Prelude.{◌≡◌, ◌==◌, length, Option, Some, None, if◌then◌else◌, take, drop};
-ghost use Rattle.answers.specs.CipherInit.{counter_bits, is_counter_parameter, with_parameter};
+ghost use Rattle.model_answers.specs.CipherInit.{counter_bits, is_counter_parameter, with_parameter};
 ghost use Rattle.streams.specs.declared.mechanism.Mechanism.TheVariants.{Ctr};
 
 use aes_block::{BLOCK_SIZE, Block};

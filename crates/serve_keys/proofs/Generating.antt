@@ -10,24 +10,24 @@ use Rattle.ck_types.specs.declared.session_state.SessionState.{SessionState}
 use Rattle.ck_types.specs.Numbers.{attr_type_number}
 use Rattle.ck_calls.specs.declared.fields.Mechanism.{Mechanism}
 use Rattle.ck_calls.specs.Need.{value_len_of, value_len_in}
-use Rattle.templates.specs.declared.call.Call.TheVariants.{Generate}
+use Rattle.templates.specs.declared.making.Making.TheVariants.{Generate}
 use Rattle.templates.specs.Faults.{template_fault}
 use Rattle.templates.specs.Made.{object_made, generated_len, generated_value, asked_len}
 use Rattle.attrs.specs.Objects.{attribute, number_of}
 use Rattle.sessions.specs.declared.Session.{Session}
 use Rattle.sessions.specs.Sessions.{state_of}
 use Rattle.ops.specs.Operations.{Operations}
-use Rattle.views.specs.Views.{View}
-use Rattle.views.specs.Answering.{session_of}
-use Rattle.answers.specs.GenerateKey.{generation_at, generate_key}
-use Rattle.answers.specs.CreateObject.{adds_where}
+use Rattle.model_views.specs.Views.{View}
+use Rattle.model_views.specs.Answering.{session_of}
+use Rattle.model_answers.specs.GenerateKey.{generation_at, generate_key}
+use Rattle.model_answers.specs.CreateObject.{adds_where}
 
 -- ---- the random bytes that the call takes are as many as the key wants
 
-found-attribute : (n : ℕ) (es : List Entry) → option_map (λ e. e.value) (find (λ e. e.number == n) es) ≡ attribute es n
+found-attribute : (n : ℕ) (es : List Entry) → option_map (λ e. e.value) (find (λ e. e.attr_type == n) es) ≡ attribute es n
 found-attribute n [] = refl
-found-attribute n (e ∷ es) = step (e.number == n) (found-attribute n es) where
-  step : (b : Bool) → option_map (λ x. x.value) (find (λ x. x.number == n) es) ≡ attribute es n → option_map (λ x. x.value) (cond b (Some e) (find (λ x. x.number == n) es)) ≡ cond b (Some e.value) (attribute es n)
+found-attribute n (e ∷ es) = step (e.attr_type == n) (found-attribute n es) where
+  step : (b : Bool) → option_map (λ x. x.value) (find (λ x. x.attr_type == n) es) ≡ attribute es n → option_map (λ x. x.value) (cond b (Some e) (find (λ x. x.attr_type == n) es)) ≡ cond b (Some e.value) (attribute es n)
   step true rest = refl
   step false rest = rest
 
@@ -41,12 +41,12 @@ asked-entry (Some e) = asked-bytes e.value (length e.value == 8)
 
 pub asked-len : (template : List Entry) → value_len_in template ≡ generated_len template
 asked-len template =
-    asked-entry (find (λ e. e.number == attr_type_number ValueLen) template)
+    asked-entry (find (λ e. e.attr_type == attr_type_number ValueLen) template)
     ∙ ap (λ value. asked_len (number_of value)) (found-attribute (attr_type_number ValueLen) template)
 
 -- ---- the answer
 
-module _ (v : View) (session : ℕ) (m : Mechanism) (template : List Entry) (s : Session Operations) (there : session_of v session ≡ Some s) (kind : MechType) (is : generation_at m.number ≡ Some kind) (empty : not (length m.parameter == 0) ≡ false) where
+module _ (v : View) (session : ℕ) (m : Mechanism) (template : List Entry) (s : Session Operations) (there : session_of v session ≡ Some s) (kind : MechType) (is : generation_at m.mech_type ≡ Some kind) (empty : not (length m.parameter == 0) ≡ false) where
   abbrev pub state : SessionState
   state = state_of v.sessions.login s.read_write
 

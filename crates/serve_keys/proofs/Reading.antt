@@ -4,17 +4,17 @@ use Rattle.std.proofs.lemmas.Bool.{lt-ltb}
 use Rattle.ck_types.specs.declared.entry.Entry.{Entry}
 use Rattle.keep.specs.Contents.{Contents}
 use Rattle.desk.specs.Desks.{DeskState}
-use Rattle.views.specs.Views.{View}
+use Rattle.model_views.specs.Views.{View}
 use Rattle.sessions.specs.declared.Session.{Session}
 use Rattle.sessions.specs.Sessions.{state_of}
 use Rattle.ops.specs.Operations.{Operations}
-use Rattle.views.specs.Outcomes.{Unwrapped}
-use Rattle.views.specs.Answering.{Said, Answer, object_at, session_of}
-use Rattle.answers.specs.CreateObject.{adds_where}
-use Rattle.answers.specs.UnwrapKey.{unwrapped_result}
-use Rattle.token_store.specs.declared.finding.Found.{Found}
-use Rattle.token_store.specs.Found.{IsFound}
-use Rattle.token_store.specs.Shown.{view_of, Gives}
+use Rattle.model_views.specs.TaskResults.{Unwrapped}
+use Rattle.model_views.specs.Answering.{Said, Answer, object_at, session_of}
+use Rattle.model_answers.specs.CreateObject.{adds_where}
+use Rattle.model_answers.specs.UnwrapKey.{unwrapped_result}
+use Rattle.serve_base.specs.declared.finding.Found.{Found}
+use Rattle.serve_base.specs.Found.{IsFound}
+use Rattle.serve_base.specs.Shown.{view_of, Gives}
 use Rattle.serve_keys.specs.Objects.{object_in}
 
 -- what is found is what the application sees

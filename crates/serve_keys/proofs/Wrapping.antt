@@ -9,12 +9,12 @@ use Rattle.ck_calls.specs.declared.function.Function.TheVariants as functions
 use Rattle.attrs.specs.Masking.{is_secret_key}
 use Rattle.attrs.specs.Objects.{attribute_of, class_of, flag, key_type_of}
 use Rattle.mech.specs.Wrappings.{is_value_length}
-use Rattle.views.specs.Views.{View, WrapsKey}
-use Rattle.views.specs.Answering.{session_of}
-use Rattle.views.specs.Checked.{is_aes}
-use Rattle.answers.specs.GetObjectSize.{value_len}
-use Rattle.answers.specs.WrapKey.{wrapping_at, wraps}
-use Rattle.token_store.specs.Asking.{asks_within}
+use Rattle.model_views.specs.Views.{View, WrapsKey}
+use Rattle.model_views.specs.Answering.{session_of}
+use Rattle.model_views.specs.Checked.{is_aes}
+use Rattle.model_answers.specs.GetObjectSize.{value_len}
+use Rattle.model_answers.specs.WrapKey.{wrapping_at, wraps}
+use Rattle.serve_base.specs.Asking.{asks_within}
 
 -- what is told of both keys
 pub record MayWrap (w k : List Entry) : Type 0 where
@@ -25,6 +25,6 @@ pub record MayWrap (w k : List Entry) : Type 0 where
   pub extractable : flag k attr.Extractable ≡ true
   pub trusted : (flag k attr.WrapWithTrusted && not (flag w attr.Trusted)) ≡ false
 
-pub wraps-asks : (v : View) (s : ℕ) (m : Mechanism) (room : Option ℕ) → is_none (session_of v s) ≡ false → (kind : MechType) → wrapping_at m.number ≡ Some kind → (length m.parameter == 0) ≡ true → (w k : List Entry) → MayWrap w k → (key value : List ℕ) → attribute_of w attr.Value ≡ Some key → attribute_of k attr.Value ≡ Some value → value_len k ≡ length value → is_value_length (length value) ≡ true
-    → wraps v s m (Some w) (Some k) room ≡ asks_within functions.WrapKey s (WrapsKey (Some key) (Some value)) (length value + 8) room v
-wraps-asks v s m room there kind is empty w k may key value under of len size = rw (there, is, empty, may.wrapping, may.key, may.aes, may.permitted, may.extractable, may.trusted, rw may.key at len, size, under, of) refl
+pub wraps-asks : (v : View) (s : ℕ) (m : Mechanism) (buffer_len : Option ℕ) → is_none (session_of v s) ≡ false → (kind : MechType) → wrapping_at m.mech_type ≡ Some kind → (length m.parameter == 0) ≡ true → (w k : List Entry) → MayWrap w k → (key value : List ℕ) → attribute_of w attr.Value ≡ Some key → attribute_of k attr.Value ≡ Some value → value_len k ≡ length value → is_value_length (length value) ≡ true
+    → wraps v s m (Some w) (Some k) buffer_len ≡ asks_within functions.WrapKey s (WrapsKey (Some key) (Some value)) (length value + 8) buffer_len v
+wraps-asks v s m buffer_len there kind is empty w k may key value under of len size = rw (there, is, empty, may.wrapping, may.key, may.aes, may.permitted, may.extractable, may.trusted, rw may.key at len, size, under, of) refl

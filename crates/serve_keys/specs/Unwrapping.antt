@@ -4,14 +4,14 @@ use Rattle.ck_types.specs.declared.entry.Entry.{Entry}
 use Rattle.ck_types.specs.declared.rv.Rv.{Rv}
 use Rattle.ck_types.specs.declared.session_state.SessionState.{SessionState}
 use Rattle.ck_calls.specs.declared.function.Function.TheVariants.{UnwrapKey}
-use Rattle.precede.specs.declared.row.Row.TheVariants.{TemplateRefused, WrappedLengthOfType}
+use Rattle.precede.specs.declared.condition.Condition.TheVariants.{TemplateRefused, WrappedLengthOfType}
 use Rattle.precede.specs.Table.{write}
-use Rattle.templates.specs.declared.call.Call.TheVariants.{Unwrap}
+use Rattle.templates.specs.declared.making.Making.TheVariants.{Unwrap}
 use Rattle.templates.specs.Faults.{template_fault}
-use Rattle.views.specs.Views.{View, UnwrapsKey}
-use Rattle.views.specs.Answering.{Answer, asks}
-use Rattle.views.specs.Checked.{by_rows}
-use Rattle.answers.specs.UnwrapKey.{key_ahead, unwrap_says, template_row}
+use Rattle.model_views.specs.Views.{View, UnwrapsKey}
+use Rattle.model_views.specs.Answering.{Answer, asks}
+use Rattle.model_views.specs.Checked.{by_rows}
+use Rattle.model_answers.specs.UnwrapKey.{key_ahead, unwrap_says, template_row}
 
 abbrev pub asks_by : View → ℕ → SessionState → List ℕ → List ℕ → List Entry → List ℕ → Option Rv → Answer
 asks_by v s state key wrapped template random fault =

@@ -3,11 +3,11 @@
 ghost use Rattle.std.specs.Prelude.{◌≡◌, Some, false, true};
 ghost use Rattle.attrs.specs.Masking.{is_secret_key};
 ghost use Rattle.attrs.specs.Objects.{class_of};
-ghost use Rattle.answers.specs.WrapKey.{is_no_key};
+ghost use Rattle.model_answers.specs.WrapKey.{is_no_key};
 ghost use Rattle.serve_keys.specs.Objects.{object_in};
 
 use attrs::Object;
-use token_store::{Found, is_secret_key};
+use serve_base::{Found, is_secret_key};
 
 /// Whether what was found under a handle is no key.
 pub(crate) fn is_no_key(found: &Option<Found>) -> bool

@@ -2,19 +2,19 @@
 
 ghost use Rattle.std.specs.Prelude.{◌≡◌, ◌+◌, ◌<◌, ◌^◌, ◌==◌, length, not};
 ghost use Rattle.ck_calls.specs.Need.{value_len_in};
-ghost use Rattle.answers.specs.GenerateKey.{generate_key};
-ghost use Rattle.token_store.specs.Refusing.{IsDone};
+ghost use Rattle.model_answers.specs.GenerateKey.{generate_key};
+ghost use Rattle.serve_base.specs.Refusing.{IsDone};
 
 use ck_calls::{Mechanism, Reply};
+use ck_mechanisms::{Purpose, find_for};
 use ck_types::Template;
 use desk::Desk;
 use keep::Keep;
-use mechanisms::{Purpose, find_for};
-use precede::Row;
+use precede::Condition;
+use serve_base::{Refusal, Store};
 use serve_objects::add_object;
 use std::alloc::Global;
 use templates::generated;
-use token_store::{Refusal, Store};
 
 /// Makes a key of a template and of the call's random bytes: the first 16 make its CKA_UNIQUE_ID, and those that follow are
 /// its value. `CKR_MECHANISM_INVALID` where the mechanism generates no keys, `CKR_MECHANISM_PARAM_INVALID` where it has a
@@ -48,10 +48,12 @@ fn generate<K: Keep>(
     requires random { length random.now ≡ 16 + value_len_in template.now }
     ensures { IsDone K.terms 1 (λ v. generate_key v session mechanism.now template.now random.now) store.old store.new desk.old result desk.new }
 {
-    let state = desk.state(session).ok_or(Row::NoSession)?;
-    let generation = find_for(Purpose::Generation, mechanism.number).ok_or(Row::WrongMechanism)?;
+    let state = desk.state(session).ok_or(Condition::NoSession)?;
+    let generation = find_for(Purpose::Generation, mechanism.mech_type).ok_or(
+        Condition::WrongMechanism,
+    )?;
     if has_parameter(mechanism) {
-        return Err(Refusal::Row(Row::WrongParameter));
+        return Err(Refusal::Condition(Condition::WrongParameter));
     }
     let object = generated(alloc, state, generation, template, random)?;
     add_object(desk, store, session, state, object)

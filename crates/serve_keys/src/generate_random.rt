@@ -1,16 +1,16 @@
 //! C_GenerateRandom (PKCS #11 v3.1, 5.19).
 
 ghost use Rattle.std.specs.Prelude.{◌≤◌, length};
-ghost use Rattle.views.specs.Answering.{Replies};
-ghost use Rattle.session_answers.specs.GenerateRandom.{generate_random};
-ghost use Rattle.token_store.specs.Refusing.{AtDeskIf};
+ghost use Rattle.model_views.specs.Answering.{Replies};
+ghost use Rattle.model_session_answers.specs.GenerateRandom.{generate_random};
+ghost use Rattle.serve_base.specs.Refusing.{AtDeskIf};
 
 use ck_calls::Reply;
 use ck_types::Bytes;
 use desk::Desk;
-use precede::Row;
+use precede::Condition;
+use serve_base::Refusal;
 use std::alloc::Global;
-use token_store::Refusal;
 
 /// How many bytes are given at once, at most.
 pub const RANDOM_LIMIT: u64 = 32_768;
@@ -26,9 +26,9 @@ pub fn serve(
 ) -> Result<Reply, Refusal>
     ensures { AtDeskIf (length random.now ≤ 32768) Replies (λ v. generate_random v session len random.now) desk.now result desk.now }
 {
-    let _ = desk.state(session).ok_or(Row::NoSession)?;
+    let _ = desk.state(session).ok_or(Condition::NoSession)?;
     if len > RANDOM_LIMIT {
-        return Err(Refusal::Row(Row::RandomLength));
+        return Err(Refusal::Condition(Condition::RandomLength));
     }
     Ok(Reply::Random(Bytes::from_slice(alloc, random)?))
 }

@@ -2,7 +2,7 @@
 //!
 //! Each function answers by the rows of its call's table, and its one clause says that the answer is the written one to
 //! what the application sees, or that it was refused and nothing has changed: `AtDesk` where no store is asked, `IsDone`
-//! where one is, `IsDoneAs` where the call may ask a question. `unwrap_key::unwrapped` answers the outcome of its question.
+//! where one is, `IsDoneAs` where the call may return a job. `unwrap_key::unwrapped` answers the outcome of its question.
 //!
 //! The calls on objects, of which some of these make one, are shown here under the same names, so that the token names this crate
 //! alone.

@@ -2,13 +2,13 @@
 
 ghost use Rattle.std.specs.Prelude.{◌≡◌, ◌<◌, ◌^◌, ◌-◌, ◌&&◌, not, [], IfOk, length, true};
 ghost use Rattle.guard.specs.Access.{is_rw, is_user};
-ghost use Rattle.views.specs.Outcomes.{Unwrapped};
-ghost use Rattle.answers.specs.UnwrapKey.{is_wrapped_length, unwrap_key, unwraps, unwrapped_result};
-ghost use Rattle.templates.specs.declared.call.Call.TheVariants as templates_call;
+ghost use Rattle.model_views.specs.TaskResults.{Unwrapped};
+ghost use Rattle.model_answers.specs.UnwrapKey.{is_wrapped_length, unwrap_key, unwraps, unwrapped_result};
+ghost use Rattle.templates.specs.declared.making.Making.TheVariants as templates_call;
 ghost use Rattle.templates.specs.Faults.{template_fault};
-ghost use Rattle.views.specs.Checked.{state_in};
-ghost use Rattle.token_store.specs.Refusing.{AtDesk, IsDone, IsDoneAs};
-ghost use Rattle.token_store.specs.Shown.{IsFor, said_of};
+ghost use Rattle.model_views.specs.Checked.{state_in};
+ghost use Rattle.serve_base.specs.Refusing.{AtDesk, IsDone, IsDoneAs};
+ghost use Rattle.serve_base.specs.Shown.{IsFor, said_of};
 ghost use Rattle.serve_keys.specs.Objects.{object_in};
 ghost use Rattle.serve_keys.specs.Unwrapping.{asks_for_key};
 
@@ -16,18 +16,18 @@ use crate::found_key::{is_no_key, key_in};
 use aes_block::Key;
 use attrs::Object;
 use ck_calls::{Function, Mechanism, Reply};
+use ck_mechanisms::{Purpose, find_for};
 use ck_types::{AttrType, Bytes, Rv, SessionState, Template};
 use desk::Desk;
 use guard::is_read_write;
 use keep::Keep;
 use lists::NUMBER_LIMIT;
 use mech::Work;
-use mechanisms::{Purpose, find_for};
-use precede::Row;
+use precede::Condition;
+use serve_base::{Found, Out, Refusal, Store, aes_key, ask, find, is_aes, random_block};
 use serve_objects::add_object;
 use std::alloc::Global;
 use templates::{unwrap_fault, unwraps_private_key, unwraps_token_key};
-use token_store::{Found, Out, Refusal, Store, aes_key, ask, find, is_aes, random_block};
 
 /// Asks for the key that a template makes of the value which is wrapped in the bytes, under an unwrapping key. The call's
 /// random bytes make its CKA_UNIQUE_ID. `CKR_SESSION_HANDLE_INVALID`, `CKR_MECHANISM_INVALID`,
@@ -81,23 +81,23 @@ fn ask_unwrapped(
     ensures serves { AtDesk said_of (λ v. unwraps v session mechanism.now (object_in key.now) wrapped_key template random.now (state_in v session) (template_fault (templates_call.Unwrap (length wrapped_key - 8)) (state_in v session) [] template)) desk.old result desk.new }
     ensures asker { IfOk result (IsFor app) }
 {
-    let state = desk.state(session).ok_or(Row::NoSession)?;
-    let _ = find_for(Purpose::Wrapping, mechanism.number).ok_or(Row::WrongMechanism)?;
+    let state = desk.state(session).ok_or(Condition::NoSession)?;
+    let _ = find_for(Purpose::Wrapping, mechanism.mech_type).ok_or(Condition::WrongMechanism)?;
     if !mechanism.parameter.is_empty() {
-        return Err(Refusal::Row(Row::WrongParameter));
+        return Err(Refusal::Condition(Condition::WrongParameter));
     }
     if is_no_key(key) {
-        return Err(Refusal::Row(Row::NoUnwrappingKey));
+        return Err(Refusal::Condition(Condition::NoUnwrappingKey));
     }
     let key = key_in(key);
     if !is_aes(key) {
-        return Err(Refusal::Row(Row::WrongUnwrappingKeyType));
+        return Err(Refusal::Condition(Condition::WrongUnwrappingKeyType));
     }
     if !key.flag(AttrType::Unwrap) {
-        return Err(Refusal::Row(Row::KeyNotPermitted));
+        return Err(Refusal::Condition(Condition::KeyNotPermitted));
     }
     if !is_wrapped_length(wrapped_key.len()) {
-        return Err(Refusal::Row(Row::WrappedLength));
+        return Err(Refusal::Condition(Condition::WrappedLength));
     }
     ask_for_key(
         alloc,
@@ -138,7 +138,7 @@ fn fault_of(state: SessionState, template: &Template, wrapped_len: usize) -> Opt
 }
 
 /// Whether a session in this state may have no such key: a token object is made in a R/W session.
-fn is_kept_back(is_token: bool, state: SessionState) -> bool
+fn needs_read_write(is_token: bool, state: SessionState) -> bool
     ensures { result ≡ (is_token && not (is_rw state)) }
 {
     is_token && !is_read_write(state)
@@ -166,14 +166,14 @@ fn ask_for_key(
         return Err(Refusal::Code(code));
     }
     let is_token = unwraps_token_key(&template);
-    if is_kept_back(is_token, state) {
-        return Err(Refusal::Row(Row::TokenObjectReadOnly));
+    if needs_read_write(is_token, state) {
+        return Err(Refusal::Condition(Condition::TokenObjectReadOnly));
     }
     if unwraps_private_key(&template) && !is_user(state) {
-        return Err(Refusal::Row(Row::PrivateObject));
+        return Err(Refusal::Condition(Condition::PrivateObject));
     }
     if !is_token && desk.has_all_objects() {
-        return Err(Refusal::Row(Row::ObjectLimit));
+        return Err(Refusal::Condition(Condition::ObjectLimit));
     }
     let work = Work::Unwrap {
         key,

@@ -7,25 +7,25 @@ ghost use Rattle.attrs.specs.Objects.{attribute_of, class_of, flag};
 ghost use Rattle.keep.specs.Contents.{Contents};
 ghost use Rattle.keep.specs.Keeping.{Counted, HasCause, Stays};
 ghost use Rattle.mech.specs.Wrappings.{is_value_length};
-ghost use Rattle.answers.specs.GetObjectSize.{value_len};
-ghost use Rattle.answers.specs.WrapKey.{wrap_key, wraps};
-ghost use Rattle.token_store.specs.Found.{IsFound};
-ghost use Rattle.token_store.specs.Refusing.{AtDesk, IsDoneAs};
-ghost use Rattle.token_store.specs.Shown.{Fits, IsFor, said_of};
-ghost use Rattle.token_store.specs.Stores.{Has};
+ghost use Rattle.model_answers.specs.GetObjectSize.{value_len};
+ghost use Rattle.model_answers.specs.WrapKey.{wrap_key, wraps};
+ghost use Rattle.serve_base.specs.Found.{IsFound};
+ghost use Rattle.serve_base.specs.Refusing.{AtDesk, IsDoneAs};
+ghost use Rattle.serve_base.specs.Shown.{Fits, IsFor, said_of};
+ghost use Rattle.serve_base.specs.Stores.{Has};
 ghost use Rattle.serve_keys.specs.Objects.{object_in};
 
 use crate::found_key::{is_no_key, key_in};
 use attrs::Object;
 use ck_calls::{Function, Mechanism};
+use ck_mechanisms::{Purpose, find_for};
 use ck_types::{AttrType, Bytes};
 use desk::Desk;
 use keep::{Keep, KeepFault};
 use mech::Work;
-use mechanisms::{Purpose, find_for};
-use precede::Row;
+use precede::Condition;
+use serve_base::{Found, Out, Refusal, Store, aes_key, ask_within, find, is_aes};
 use std::alloc::Global;
-use token_store::{Found, Out, Refusal, Store, aes_key, ask_within, find, is_aes};
 
 /// How many bytes a wrapped key has more than its value.
 const WRAPPING_BYTES: u64 = 8;
@@ -43,10 +43,10 @@ pub fn serve<K: Keep>(
     mechanism: Mechanism,
     wrapping_key: u64,
     key: u64,
-    room: Option<u64>,
+    buffer_len: Option<u64>,
 ) -> Result<Out, Refusal>
     requires { desk.old.next_question < 2 ^ 63 }
-    ensures done { IsDoneAs K.terms said_of 0 (λ c v. wrap_key v session mechanism wrapping_key key room) store.old store.new desk.old result desk.new }
+    ensures done { IsDoneAs K.terms said_of 0 (λ c v. wrap_key v session mechanism wrapping_key key buffer_len) store.old store.new desk.old result desk.new }
     ensures asker { IfOk result (IsFor app) }
 {
     let (wrapping_key, key) = find_both(alloc, desk, store, wrapping_key, key)?;
@@ -58,7 +58,7 @@ pub fn serve<K: Keep>(
         &mechanism,
         &wrapping_key,
         &key,
-        room,
+        buffer_len,
     )
 }
 
@@ -90,40 +90,40 @@ fn ask_wrapped(
     mechanism: &Mechanism,
     wrapping_key: &Option<Found>,
     key: &Option<Found>,
-    room: Option<u64>,
+    buffer_len: Option<u64>,
 ) -> Result<Out, Refusal>
     requires { desk.old.next_question < 2 ^ 63 }
-    ensures serves { AtDesk said_of (λ v. wraps v session mechanism.now (object_in wrapping_key.now) (object_in key.now) room) desk.old result desk.new }
+    ensures serves { AtDesk said_of (λ v. wraps v session mechanism.now (object_in wrapping_key.now) (object_in key.now) buffer_len) desk.old result desk.new }
     ensures asker { IfOk result (IsFor app) }
 {
-    let _ = desk.state(session).ok_or(Row::NoSession)?;
-    let _ = find_for(Purpose::Wrapping, mechanism.number).ok_or(Row::WrongMechanism)?;
+    let _ = desk.state(session).ok_or(Condition::NoSession)?;
+    let _ = find_for(Purpose::Wrapping, mechanism.mech_type).ok_or(Condition::WrongMechanism)?;
     if !mechanism.parameter.is_empty() {
-        return Err(Refusal::Row(Row::WrongParameter));
+        return Err(Refusal::Condition(Condition::WrongParameter));
     }
     if is_no_key(wrapping_key) {
-        return Err(Refusal::Row(Row::NoWrappingKey));
+        return Err(Refusal::Condition(Condition::NoWrappingKey));
     }
     if is_no_key(key) {
-        return Err(Refusal::Row(Row::NoKey));
+        return Err(Refusal::Condition(Condition::NoKey));
     }
     let wrapping_key = key_in(wrapping_key);
     let key = key_in(key);
     if !is_aes(wrapping_key) {
-        return Err(Refusal::Row(Row::WrongWrappingKeyType));
+        return Err(Refusal::Condition(Condition::WrongWrappingKeyType));
     }
     if !may_wrap(wrapping_key) {
-        return Err(Refusal::Row(Row::KeyNotPermitted));
+        return Err(Refusal::Condition(Condition::KeyNotPermitted));
     }
     if !is_extractable(key) {
-        return Err(Refusal::Row(Row::KeyUnextractable));
+        return Err(Refusal::Condition(Condition::KeyUnextractable));
     }
     if lacks_trust(wrapping_key, key) {
-        return Err(Refusal::Row(Row::KeyNotWrappable));
+        return Err(Refusal::Condition(Condition::KeyNotWrappable));
     }
     let value = value_of(key);
     if !is_value_length(value.len()) {
-        return Err(Refusal::Row(Row::KeyLength));
+        return Err(Refusal::Condition(Condition::KeyLength));
     }
     let wanted = wrapped_len(value);
     let work = Work::Wrap {
@@ -138,7 +138,7 @@ fn ask_wrapped(
         session,
         work,
         wanted,
-        room,
+        buffer_len,
     )?)
 }
 

@@ -4,7 +4,7 @@ use Rattle.std.specs.Prelude.{is_none}
 use Rattle.ck_calls.specs.declared.function.Function.TheVariants as functions
 use Rattle.ck_calls.specs.declared.reply.Reply.{Reply}
 use Rattle.macs.specs.Authentication.{Authentication}
-use Rattle.macs.specs.Codes.{code_length}
+use Rattle.macs.specs.Tags.{tag_length}
 use Rattle.keep.specs.Contents.{Contents}
 use Rattle.sessions.specs.declared.Session.{Session}
 use Rattle.sessions.specs.Sessions.{session_at}
@@ -12,11 +12,11 @@ use Rattle.ops.specs.declared.place.MacPlace.{MacPlace}
 use Rattle.ops.specs.declared.place.MacPlace.TheVariants.{Sign, Verify}
 use Rattle.ops.specs.Operations.{MacOperation, Operations, mac_in, mac_of, mac_placed_in, with_mac as in_sessions}
 use Rattle.desk.specs.Desks.{DeskState}
-use Rattle.views.specs.Views.{View, Signs, Takes}
-use Rattle.views.specs.Answering.{Said, Replies, Answer, asks, becomes, session_of, with_mac}
-use Rattle.answers.specs.Mac.{mac_has_taken, mac_update, mac_update_function, sign, sign_final}
-use Rattle.token_store.specs.Asking.{asks_within}
-use Rattle.token_store.specs.Shown.{view_of, Fits, Gives}
+use Rattle.model_views.specs.Views.{View, Signs, Takes}
+use Rattle.model_views.specs.Answering.{Said, Replies, Answer, asks, becomes, session_of, with_mac}
+use Rattle.model_answers.specs.Mac.{mac_has_taken, mac_update, mac_update_function, sign, sign_final}
+use Rattle.serve_base.specs.Asking.{asks_within}
+use Rattle.serve_base.specs.Shown.{view_of, Fits, Gives}
 
 -- an operation begins, goes on or ends
 module _ (c : Contents) (d : DeskState) (session : ℕ) (place : MacPlace) (operation : Option MacOperation) (reply : Reply) where
@@ -30,25 +30,25 @@ module _ (c : Contents) (d : DeskState) (session : ℕ) (place : MacPlace) (oper
   gives-with fits = record { says = refl; view = rw login-stays refl; changes = refl; fits = fits }
 
 -- a place of an operation is in a session
-seated-at : (o : Option (Session Operations)) (place : MacPlace) (x : MacOperation) → mac_in o place ≡ Some x → is_none o ≡ false
-seated-at None place x is = let k : None ≡ Some x = is in cc
-seated-at (Some s) place x is = refl
+in_session-at : (o : Option (Session Operations)) (place : MacPlace) (x : MacOperation) → mac_in o place ≡ Some x → is_none o ≡ false
+in_session-at None place x is = let k : None ≡ Some x = is in cc
+in_session-at (Some s) place x is = refl
 
 -- a signature is asked for
-module _ (v : View) (session : ℕ) (a : Authentication) (under_way : mac_in (session_of v session) Sign ≡ Some (mac_of a)) (room : Option ℕ) where
+module _ (v : View) (session : ℕ) (a : Authentication) (under_way : mac_in (session_of v session) Sign ≡ Some (mac_of a)) (buffer_len : Option ℕ) where
   there : is_none (session_of v session) ≡ false
-  there = seated-at (session_of v session) Sign (mac_of a) under_way
+  there = in_session-at (session_of v session) Sign (mac_of a) under_way
 
-  pub sign-asks : (input : List ℕ) → mac_has_taken (mac_of a) ≡ false → sign v session input room ≡ asks_within functions.Sign session (Signs (mac_of a) input) (code_length a.mechanism) room v
+  pub sign-asks : (input : List ℕ) → mac_has_taken (mac_of a) ≡ false → sign v session input buffer_len ≡ asks_within functions.Sign session (Signs (mac_of a) input) (tag_length a.mechanism) buffer_len v
   sign-asks input fresh = rw (there, under_way, fresh) refl
 
-  pub final-asks : sign_final v session room ≡ asks_within functions.SignFinal session (Signs (mac_of a) []) (code_length a.mechanism) room v
+  pub final-asks : sign_final v session buffer_len ≡ asks_within functions.SignFinal session (Signs (mac_of a) []) (tag_length a.mechanism) buffer_len v
   final-asks = rw (there, under_way) refl
 
 -- a piece is taken
 pub update-asks : (v : View) (session : ℕ) (place : MacPlace) (a : Authentication) → mac_in (session_of v session) place ≡ Some (mac_of a) → (input : List ℕ) → mac_update place v session input ≡ asks v (mac_update_function place) session (Takes place (mac_of a) input)
-update-asks v session Sign a under_way input = rw (seated-at (session_of v session) Sign (mac_of a) under_way, under_way) refl
-update-asks v session Verify a under_way input = rw (seated-at (session_of v session) Verify (mac_of a) under_way, under_way) refl
+update-asks v session Sign a under_way input = rw (in_session-at (session_of v session) Sign (mac_of a) under_way, under_way) refl
+update-asks v session Verify a under_way input = rw (in_session-at (session_of v session) Verify (mac_of a) under_way, under_way) refl
 
 -- an answer at the desk, written otherwise
 pub gives-is : (a b : Answer) (c : Contents) (d d' : DeskState) (said : Said) → a ≡ b → Gives b d.sessions.login c said c d' → Gives a d.sessions.login c said c d'

@@ -1,5 +1,5 @@
 //! Calls that sign and verify (PKCS #11 v3.1, 5.13 and 5.15): they begin an operation of a session under a key, and take a
-//! message, all at once or in pieces, of which a code is made or compared.
+//! message, all at once or in parts, of which a code is made or compared.
 //!
 //! C_SignInit and C_VerifyInit are served by one function, and so are C_SignUpdate and C_VerifyUpdate. Each answers by the
 //! rows of its call's table. Its clauses say that the answer is the written one to what the application sees, or that it was
@@ -8,11 +8,11 @@
 //!
 //! ```text
 //! settle(mac_init::serve(alloc, desk, store, MacPlace::Sign, session, mechanism, key))
-//! settle_asking(mac::sign(app, desk, session, data, room))
+//! settle_asking(mac::sign(app, desk, session, data, buffer_len))
 //! ```
 #![tactic(auto)]
 
-mod codes;
 pub mod mac;
 pub mod mac_init;
+mod mac_mechanisms;
 mod places;

@@ -4,14 +4,14 @@ ghost use Rattle.std.specs.Prelude.{◌≡◌, ◌<◌, ◌^◌, ◌==◌, IfOk,
 ghost use Rattle.ck_types.specs.declared.rv.Rv.TheVariants as rv;
 ghost use Rattle.ck_calls.specs.declared.reply.Output.TheVariants.{Data};
 ghost use Rattle.ck_calls.specs.declared.reply.Reply.TheVariants.{Code, Output as OutputReply};
-ghost use Rattle.macs.specs.Codes.{code_length};
+ghost use Rattle.macs.specs.Tags.{tag_length};
 ghost use Rattle.ops.specs.declared.place.MacPlace.TheVariants as places;
 ghost use Rattle.ops.specs.Operations.{mac_of, with_mac};
-ghost use Rattle.precede.specs.Row.{code_of};
-ghost use Rattle.answers.specs.Mac.{mac_update, sign, sign_final, verify, verify_final};
-ghost use Rattle.token_store.specs.declared.out.Out.TheVariants.{Reply as OutReply};
-ghost use Rattle.token_store.specs.Refusing.{AtDesk};
-ghost use Rattle.token_store.specs.Shown.{IsFor, said_of};
+ghost use Rattle.precede.specs.Condition.{code_of};
+ghost use Rattle.model_answers.specs.Mac.{mac_update, sign, sign_final, verify, verify_final};
+ghost use Rattle.serve_base.specs.declared.out.Out.TheVariants.{Reply as OutReply};
+ghost use Rattle.serve_base.specs.Refusing.{AtDesk};
+ghost use Rattle.serve_base.specs.Shown.{IsFor, said_of};
 
 use crate::places::update_function;
 use ck_calls::{Function, Output, Reply};
@@ -20,9 +20,9 @@ use desk::Desk;
 use macs::Mac;
 use mech::Work;
 use ops::MacPlace;
-use precede::Row;
+use precede::Condition;
+use serve_base::{Out, Refusal, ask, ask_within};
 use std::alloc::Global;
-use token_store::{Out, Refusal, ask, ask_within};
 
 /// C_Sign: takes all data at once, and asks for its signature, or tells the room for it, in bytes. It is the only data of its
 /// operation (`CKR_OPERATION_ACTIVE`); else the operation ends.
@@ -32,18 +32,20 @@ pub fn sign(
     desk: &mut Desk,
     session: u64,
     input: Bytes,
-    room: Option<u64>,
+    buffer_len: Option<u64>,
 ) -> Result<Out, Refusal>
     requires { desk.old.next_question < 2 ^ 63 }
-    ensures serves { AtDesk said_of (λ v. sign v session input room) desk.old result desk.new }
+    ensures serves { AtDesk said_of (λ v. sign v session input buffer_len) desk.old result desk.new }
     ensures asker { IfOk result (IsFor app) }
 {
-    let _ = desk.state(session).ok_or(Row::NoSession)?;
-    let mac = desk.mac(session, MacPlace::Sign).ok_or(Row::NoOperation)?;
+    let _ = desk.state(session).ok_or(Condition::NoSession)?;
+    let mac = desk
+        .mac(session, MacPlace::Sign)
+        .ok_or(Condition::NoOperation)?;
     if mac.has_taken() {
-        return Ok(end(desk, session, MacPlace::Sign, Row::DataTaken));
+        return Ok(end(desk, session, MacPlace::Sign, Condition::DataTaken));
     }
-    let wanted = mac.mechanism().code_len() as u64;
+    let wanted = mac.mechanism().tag_len() as u64;
     let mac = mac.copied();
     let work = Work::Sign { mac, input };
     Ok(ask_within(
@@ -54,7 +56,7 @@ pub fn sign(
         session,
         work,
         wanted,
-        room,
+        buffer_len,
     )?)
 }
 
@@ -64,15 +66,17 @@ pub fn sign_final(
     app: u64,
     desk: &mut Desk,
     session: u64,
-    room: Option<u64>,
+    buffer_len: Option<u64>,
 ) -> Result<Out, Refusal>
     requires { desk.old.next_question < 2 ^ 63 }
-    ensures serves { AtDesk said_of (λ v. sign_final v session room) desk.old result desk.new }
+    ensures serves { AtDesk said_of (λ v. sign_final v session buffer_len) desk.old result desk.new }
     ensures asker { IfOk result (IsFor app) }
 {
-    let _ = desk.state(session).ok_or(Row::NoSession)?;
-    let mac = desk.mac(session, MacPlace::Sign).ok_or(Row::NoOperation)?;
-    let wanted = mac.mechanism().code_len() as u64;
+    let _ = desk.state(session).ok_or(Condition::NoSession)?;
+    let mac = desk
+        .mac(session, MacPlace::Sign)
+        .ok_or(Condition::NoOperation)?;
+    let wanted = mac.mechanism().tag_len() as u64;
     let mac = mac.copied();
     let work = Work::Sign {
         mac,
@@ -86,7 +90,7 @@ pub fn sign_final(
         session,
         work,
         wanted,
-        room,
+        buffer_len,
     )?)
 }
 
@@ -105,13 +109,15 @@ pub fn verify(
     ensures serves { AtDesk said_of (λ v. verify v session input signature) desk.old result desk.new }
     ensures asker { IfOk result (IsFor app) }
 {
-    let _ = desk.state(session).ok_or(Row::NoSession)?;
-    let mac = desk.mac(session, MacPlace::Verify).ok_or(Row::NoOperation)?;
+    let _ = desk.state(session).ok_or(Condition::NoSession)?;
+    let mac = desk
+        .mac(session, MacPlace::Verify)
+        .ok_or(Condition::NoOperation)?;
     if mac.has_taken() {
-        return Ok(end(desk, session, MacPlace::Verify, Row::DataTaken));
+        return Ok(end(desk, session, MacPlace::Verify, Condition::DataTaken));
     }
     if !has_its_length(mac, signature.as_slice()) {
-        return Ok(end(desk, session, MacPlace::Verify, Row::SignatureLength));
+        return Ok(end(desk, session, MacPlace::Verify, Condition::SignatureLength));
     }
     let mac = mac.copied();
     let work = Work::Verify {
@@ -135,10 +141,12 @@ pub fn verify_final(
     ensures serves { AtDesk said_of (λ v. verify_final v session signature) desk.old result desk.new }
     ensures asker { IfOk result (IsFor app) }
 {
-    let _ = desk.state(session).ok_or(Row::NoSession)?;
-    let mac = desk.mac(session, MacPlace::Verify).ok_or(Row::NoOperation)?;
+    let _ = desk.state(session).ok_or(Condition::NoSession)?;
+    let mac = desk
+        .mac(session, MacPlace::Verify)
+        .ok_or(Condition::NoOperation)?;
     if !has_its_length(mac, signature.as_slice()) {
-        return Ok(end(desk, session, MacPlace::Verify, Row::SignatureLength));
+        return Ok(end(desk, session, MacPlace::Verify, Condition::SignatureLength));
     }
     let mac = mac.copied();
     let work = Work::Verify {
@@ -162,8 +170,8 @@ pub fn update(
     ensures serves { AtDesk said_of (λ v. mac_update place v session input) desk.old result desk.new }
     ensures asker { IfOk result (IsFor app) }
 {
-    let _ = desk.state(session).ok_or(Row::NoSession)?;
-    let mac = desk.mac(session, place).ok_or(Row::NoOperation)?;
+    let _ = desk.state(session).ok_or(Condition::NoSession)?;
+    let mac = desk.mac(session, place).ok_or(Condition::NoOperation)?;
     let mac = mac.copied();
     let work = Work::Take { place, mac, input };
     Ok(Out::Ask(ask(alloc, app, desk, update_function(place), session, work)?))
@@ -171,13 +179,13 @@ pub fn update(
 
 /// Whether a signature is as long as those of an operation.
 fn has_its_length(mac: &Mac, signature: &[u8]) -> bool
-    ensures { result ≡ (length signature.now == code_length mac.now.mechanism) }
+    ensures { result ≡ (length signature.now == tag_length mac.now.mechanism) }
 {
-    signature.len() == mac.mechanism().code_len()
+    signature.len() == mac.mechanism().tag_len()
 }
 
 /// The operation at a place ends, with the code of a row.
-fn end(desk: &mut Desk, session: u64, place: MacPlace, row: Row) -> Out
+fn end(desk: &mut Desk, session: u64, place: MacPlace, row: Condition) -> Out
     ensures out { result ≡ OutReply (Code (code_of rv.Ok row)) }
     ensures ended { desk.new ≡ record desk.old { sessions = with_mac desk.old.sessions session place None } }
 {

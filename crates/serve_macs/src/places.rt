@@ -1,8 +1,8 @@
 //! What differs between signing and verifying.
 
 ghost use Rattle.std.specs.Prelude.{◌≡◌};
-ghost use Rattle.answers.specs.Mac.{mac_update_function};
-ghost use Rattle.answers.specs.MacInit.{mac_permission};
+ghost use Rattle.model_answers.specs.Mac.{mac_update_function};
+ghost use Rattle.model_answers.specs.MacInit.{mac_permission};
 
 use ck_calls::Function;
 use ck_types::AttrType;

@@ -14,10 +14,10 @@ use Rattle.handles.specs.Handles.{number_of, with_handle}
 use Rattle.handles.proofs.HandleLemmas.{number_of-push}
 use Rattle.keep.specs.Contents.{Contents, Kept, IdsRise, IsSound, with_object}
 use Rattle.desk.specs.Desks.{DeskState, SameDesk}
-use Rattle.views.specs.Views.{TokenObject, SessionObject, View, sees}
-use Rattle.views.specs.Answering.{Replies}
-use Rattle.answers.specs.CreateObject.{adds_token_object, adds_session_object}
-use Rattle.token_store.specs.Shown.{sees_kept, token_object, session_object, view_of, IsNoted, Fits, Gives}
+use Rattle.model_views.specs.Views.{TokenObject, SessionObject, View, sees}
+use Rattle.model_views.specs.Answering.{Replies}
+use Rattle.model_answers.specs.CreateObject.{adds_token_object, adds_session_object}
+use Rattle.serve_base.specs.Shown.{sees_kept, token_object, session_object, view_of, IsNoted, Fits, Gives}
 use Rattle.lists.proofs.ListLemmas.{find-push_fails, filter-push_passes, All-push, map-push}
 
 -- ---- the next id
@@ -28,7 +28,7 @@ number-new last [] given = refl
 number-new last (h ∷ hs) given = rw (ne_eqb h.id (last + 1) (λ e. let low : h.id ≤ last = given.0 in omega arith)) (number-new last hs given.1)
 
 number-others : (h : Handle) (hs : List Handle) (id : ℕ) → h.id ≢ id → number_of (hs ++ h ∷ []) id ≡ number_of hs id
-number-others h hs id differ = ap (option_map (λ h. h.number)) (find-push_fails (λ h. h.id == id) hs h (ne_eqb h.id id differ))
+number-others h hs id differ = ap (option_map (λ h. h.handle)) (find-push_fails (λ h. h.id == id) hs h (ne_eqb h.id id differ))
 
 -- the handles of those that were there stay
 tokens-given : (low last : ℕ) (d d' : DeskState) (h : Handle) (t : Kept → Bool) (es : List Kept) → IdsRise low es last → last < h.id → d'.handles.entries ≡ d.handles.entries ++ h ∷ [] → map (token_object d') (filter t es) ≡ map (token_object d) (filter t es)
@@ -63,7 +63,7 @@ not-not false = refl
 
 module _ (c : Contents) (d : DeskState) (o : List Entry) (sound : IsSound c) (fits : Fits c d.handles.entries) where
   abbrev new_handle : Handle
-  new_handle = record { number = d.handles.next_number; id = c.last_id + 1; private = flag o attr.Private }
+  new_handle = record { handle = d.handles.next_number; id = c.last_id + 1; private = flag o attr.Private }
 
   fits-more : Fits (with_object o c) (d.handles.entries ++ new_handle ∷ [])
   fits-more = record {

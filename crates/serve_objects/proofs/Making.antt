@@ -7,18 +7,18 @@ use Rattle.ck_types.specs.declared.rv.Rv.{Rv}
 use Rattle.ck_types.specs.declared.session_state.SessionState.{SessionState}
 use Rattle.attrs.specs.Objects.{flag}
 use Rattle.guard.specs.Access.{is_rw}
-use Rattle.templates.specs.declared.call.Call.TheVariants.{Create, Copy, Set}
+use Rattle.templates.specs.declared.making.Making.TheVariants.{Create, Copy, Set}
 use Rattle.templates.specs.Faults.{template_fault}
 use Rattle.templates.specs.Made.{object_made, given_value, Answers as IsAnswered}
 use Rattle.sessions.specs.declared.Session.{Session}
 use Rattle.sessions.specs.Sessions.{state_of}
 use Rattle.ops.specs.Operations.{Operations}
-use Rattle.views.specs.Views.{View}
-use Rattle.views.specs.Answering.{session_of, object_at, place_of}
-use Rattle.answers.specs.CreateObject.{create_object}
-use Rattle.answers.specs.CopyObject.{copy_object}
-use Rattle.answers.specs.SetAttributeValue.{puts, set_attribute_value}
-use Rattle.answers.specs.CreateObject.{adds_where}
+use Rattle.model_views.specs.Views.{View}
+use Rattle.model_views.specs.Answering.{session_of, object_at, index_of}
+use Rattle.model_answers.specs.CreateObject.{create_object}
+use Rattle.model_answers.specs.CopyObject.{copy_object}
+use Rattle.model_answers.specs.SetAttributeValue.{puts, set_attribute_value}
+use Rattle.model_answers.specs.CreateObject.{adds_where}
 
 pub made-object : (fault : Option Rv) (made o : List Entry) → IsAnswered (Ok o) fault made → (fault ≡ None) × (made ≡ o)
 made-object (Some code) made o a = absurd a
@@ -40,5 +40,5 @@ module _ (v : View) (session : ℕ) (template : List Entry) (s : Session Operati
       copy-is made fault is = rw (there, found, free, fault, is) refl
 
     module _ (writable : (flag o attr.Token && not (is_rw state)) ≡ false) (modifiable : not (flag o attr.Modifiable) ≡ false) where
-      pub set-is : (made : List Entry) → template_fault Set state o template ≡ None → object_made Set o template [] [] ≡ made → set_attribute_value v session handle template ≡ puts v handle made (place_of v.tokens handle)
+      pub set-is : (made : List Entry) → template_fault Set state o template ≡ None → object_made Set o template [] [] ≡ made → set_attribute_value v session handle template ≡ puts v handle made (index_of v.tokens handle)
       set-is made fault is = rw (there, found, writable, modifiable, fault, is) refl

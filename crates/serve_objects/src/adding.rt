@@ -3,10 +3,10 @@
 ghost use Rattle.std.specs.Prelude.{◌≡◌, ◌<◌, ◌^◌, true};
 ghost use Rattle.guard.specs.Access.{is_user, is_user_in};
 ghost use Rattle.keep.specs.Contents.{IsTokenObject};
-ghost use Rattle.answers.specs.CreateObject.{adds_where};
-ghost use Rattle.answers.specs.CreateObject.{adds_token_object};
-ghost use Rattle.views.specs.Views.{sees};
-ghost use Rattle.token_store.specs.Refusing.{IsDone};
+ghost use Rattle.model_answers.specs.CreateObject.{adds_where};
+ghost use Rattle.model_answers.specs.CreateObject.{adds_token_object};
+ghost use Rattle.model_views.specs.Views.{sees};
+ghost use Rattle.serve_base.specs.Refusing.{IsDone};
 
 use attrs::Object;
 use ck_calls::Reply;
@@ -14,8 +14,8 @@ use ck_types::{AttrType, SessionState};
 use desk::Desk;
 use guard::{is_read_write, visible};
 use keep::Keep;
-use precede::Row;
-use token_store::{Refusal, Store};
+use precede::Condition;
+use serve_base::{Refusal, Store};
 
 /// Adds an object, if a session in this state may and there is room.
 pub fn add_object<K: Keep>(
@@ -31,16 +31,16 @@ pub fn add_object<K: Keep>(
 {
     let is_token = object.flag(AttrType::Token);
     if is_token && !is_read_write(state) {
-        return Err(Refusal::Row(Row::TokenObjectReadOnly));
+        return Err(Refusal::Condition(Condition::TokenObjectReadOnly));
     }
     if !visible(state, &object) {
-        return Err(Refusal::Row(Row::PrivateObject));
+        return Err(Refusal::Condition(Condition::PrivateObject));
     }
     if is_token {
         return add_token_object(desk, store, &object);
     }
     if desk.has_all_objects() {
-        return Err(Refusal::Row(Row::ObjectLimit));
+        return Err(Refusal::Condition(Condition::ObjectLimit));
     }
     Ok(Reply::Object(desk.add_own(session, object)?))
 }

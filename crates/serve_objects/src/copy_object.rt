@@ -1,18 +1,18 @@
 //! C_CopyObject (PKCS #11 v3.1, 5.7).
 
 ghost use Rattle.std.specs.Prelude.{◌<◌, ◌≤◌, ◌^◌, length};
-ghost use Rattle.answers.specs.CopyObject.{copy_object};
-ghost use Rattle.token_store.specs.Refusing.{IsDone};
+ghost use Rattle.model_answers.specs.CopyObject.{copy_object};
+ghost use Rattle.serve_base.specs.Refusing.{IsDone};
 
 use crate::adding::add_object;
 use ck_calls::Reply;
 use ck_types::{AttrType, Template};
 use desk::Desk;
 use keep::Keep;
-use precede::Row;
+use precede::Condition;
+use serve_base::{Refusal, Store, find};
 use std::alloc::Global;
 use templates::copied;
-use token_store::{Refusal, Store, find};
 
 /// Copies the object under a handle, with a template's changes, and gives the copy's handle.
 pub fn serve<K: Keep>(
@@ -28,10 +28,10 @@ pub fn serve<K: Keep>(
     requires random { 16 ≤ length random.now }
     ensures { IsDone K.terms 1 (λ v. copy_object v session handle template.now random.now) store.old store.new desk.old result desk.new }
 {
-    let state = desk.state(session).ok_or(Row::NoSession)?;
-    let found = find(alloc, desk, store, handle)?.ok_or(Row::NoObject)?;
+    let state = desk.state(session).ok_or(Condition::NoSession)?;
+    let found = find(alloc, desk, store, handle)?.ok_or(Condition::NoObject)?;
     if !found.object.flag(AttrType::Copyable) {
-        return Err(Refusal::Row(Row::NotCopyable));
+        return Err(Refusal::Condition(Condition::NotCopyable));
     }
     let object = copied(alloc, state, &found.object, template, random)?;
     add_object(desk, store, session, state, object)

@@ -1,18 +1,18 @@
 //! C_CreateObject (PKCS #11 v3.1, 5.7).
 
 ghost use Rattle.std.specs.Prelude.{◌<◌, ◌≤◌, ◌^◌, length};
-ghost use Rattle.answers.specs.CreateObject.{create_object};
-ghost use Rattle.token_store.specs.Refusing.{IsDone};
+ghost use Rattle.model_answers.specs.CreateObject.{create_object};
+ghost use Rattle.serve_base.specs.Refusing.{IsDone};
 
 use crate::adding::add_object;
 use ck_calls::Reply;
 use ck_types::Template;
 use desk::Desk;
 use keep::Keep;
-use precede::Row;
+use precede::Condition;
+use serve_base::{Refusal, Store};
 use std::alloc::Global;
 use templates::created;
-use token_store::{Refusal, Store};
 
 /// Makes an object of a template, and gives its handle.
 pub fn serve<K: Keep>(
@@ -27,7 +27,7 @@ pub fn serve<K: Keep>(
     requires random { 16 ≤ length random.now }
     ensures { IsDone K.terms 1 (λ v. create_object v session template.now random.now) store.old store.new desk.old result desk.new }
 {
-    let state = desk.state(session).ok_or(Row::NoSession)?;
+    let state = desk.state(session).ok_or(Condition::NoSession)?;
     let object = created(alloc, state, template, random)?;
     add_object(desk, store, session, state, object)
 }

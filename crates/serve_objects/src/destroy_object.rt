@@ -6,22 +6,22 @@ ghost use Rattle.desk.specs.Desks.{SameDesk};
 ghost use Rattle.handles.specs.Handles.{IsTable};
 ghost use Rattle.keep.specs.Contents.{Contents};
 ghost use Rattle.keep.specs.Keeping.{Counted, Rises};
-ghost use Rattle.views.specs.Answering.{place_of};
-ghost use Rattle.answers.specs.DestroyObject.{destroy_object, destroyed};
-ghost use Rattle.token_store.specs.declared.refusal.Refusal.TheVariants.{Device};
-ghost use Rattle.token_store.specs.Found.{IsAt};
-ghost use Rattle.token_store.specs.Refusing.{Does, IsDone, IsPlain};
-ghost use Rattle.token_store.specs.Short.{IsShort};
-ghost use Rattle.token_store.specs.Shown.{Fits, view_of};
-ghost use Rattle.token_store.specs.Stores.{Has};
+ghost use Rattle.model_views.specs.Answering.{index_of};
+ghost use Rattle.model_answers.specs.DestroyObject.{destroy_object, destroyed};
+ghost use Rattle.serve_base.specs.declared.refusal.Refusal.TheVariants.{Device};
+ghost use Rattle.serve_base.specs.Found.{IsAt};
+ghost use Rattle.serve_base.specs.Refusing.{Does, IsDone, IsPlain};
+ghost use Rattle.serve_base.specs.Short.{IsShort};
+ghost use Rattle.serve_base.specs.Shown.{Fits, view_of};
+ghost use Rattle.serve_base.specs.Stores.{Has};
 
 use ck_calls::Reply;
 use ck_types::{AttrType, Rv};
 use desk::Desk;
 use keep::Keep;
-use precede::Row;
+use precede::Condition;
+use serve_base::{Refusal, Store, find};
 use std::alloc::Global;
-use token_store::{Refusal, Store, find};
 
 /// Destroys the object under a handle.
 pub fn serve<K: Keep>(
@@ -33,13 +33,13 @@ pub fn serve<K: Keep>(
 ) -> Result<Reply, Refusal>
     ensures { IsDone K.terms 1 (λ v. destroy_object v session handle) store.old store.new desk.old result desk.new }
 {
-    let read_write = desk.is_read_write(session).ok_or(Row::NoSession)?;
-    let found = find(alloc, desk, store, handle)?.ok_or(Row::NoObject)?;
+    let read_write = desk.is_read_write(session).ok_or(Condition::NoSession)?;
+    let found = find(alloc, desk, store, handle)?.ok_or(Condition::NoObject)?;
     if found.object.flag(AttrType::Token) && !read_write {
-        return Err(Refusal::Row(Row::TokenObjectReadOnly));
+        return Err(Refusal::Condition(Condition::TokenObjectReadOnly));
     }
     if !found.object.flag(AttrType::Destroyable) {
-        return Err(Refusal::Row(Row::NotDestroyable));
+        return Err(Refusal::Condition(Condition::NotDestroyable));
     }
     destroy(desk, store, handle, found.id)
 }
@@ -52,7 +52,7 @@ fn destroy<K: Keep>(
     id: Option<u64>,
 ) -> Result<Reply, Refusal>
     requires { IsTable desk.old.handles.next_number desk.old.handles.entries }
-    ensures serves { (object : List Entry) → K.terms.doubt store.new.keep ≡ 0 → (c : Contents) → Has K.terms store.old c → Fits c desk.old.handles.entries → IsAt c desk.old handle object id → Does K.terms (destroyed (view_of c desk.old) handle (place_of (view_of c desk.old).tokens handle)) c store.old store.new desk.old result desk.new }
+    ensures serves { (object : List Entry) → K.terms.doubt store.new.keep ≡ 0 → (c : Contents) → Has K.terms store.old c → Fits c desk.old.handles.entries → IsAt c desk.old handle object id → Does K.terms (destroyed (view_of c desk.old) handle (index_of (view_of c desk.old).tokens handle)) c store.old store.new desk.old result desk.new }
     ensures counts { Counted K.terms store.old.keep store.new.keep 0 1 }
     ensures cause { IsErrOf result Device → Rises (K.terms.failures store.old.keep) (K.terms.failures store.new.keep) }
     ensures plain { IsPlain result }

@@ -1,10 +1,10 @@
 //! C_GetAttributeValue (PKCS #11 v3.1, 5.7).
 
 ghost use Rattle.std.specs.Prelude.{◌≡◌, ◌≤◌, ◌∷◌, [], IfOk, length};
-ghost use Rattle.views.specs.Answering.{Replies};
-ghost use Rattle.answers.specs.GetAttributeValue.{attribute_told, attributes_told, code_of_all, get_attribute_value, has_code, unavailable};
-ghost use Rattle.token_store.specs.Refusing.{IsDoneIf};
-ghost use Rattle.token_store.specs.Short.{IsShort};
+ghost use Rattle.model_views.specs.Answering.{Replies};
+ghost use Rattle.model_answers.specs.GetAttributeValue.{attribute_told, attributes_told, code_of_all, get_attribute_value, has_code, unavailable};
+ghost use Rattle.serve_base.specs.Refusing.{IsDoneIf};
+ghost use Rattle.serve_base.specs.Short.{IsShort};
 
 use attrs::{Object, find_attribute};
 use ck_calls::{AttributeQuery, AttributeValue, Query, Reply};
@@ -12,9 +12,9 @@ use ck_types::{Bytes, Items, Rv, UNAVAILABLE_INFORMATION};
 use desk::Desk;
 use guard::reveals_number;
 use keep::Keep;
-use precede::Row;
+use precede::Condition;
+use serve_base::{Refusal, Store, find};
 use std::alloc::{AllocError, Global};
-use token_store::{Refusal, Store, find};
 
 /// What is asked for of the object under a handle: each attribute is answered, whatever becomes of the others.
 pub fn serve<K: Keep>(
@@ -27,8 +27,8 @@ pub fn serve<K: Keep>(
 ) -> Result<Reply, Refusal>
     ensures { IsDoneIf (length query.now ≤ 32) K.terms Replies 0 (λ c v. get_attribute_value v session handle query.now) store.old store.new desk.now result desk.now }
 {
-    let _ = desk.state(session).ok_or(Row::NoSession)?;
-    let found = find(alloc, desk, store, handle)?.ok_or(Row::NoObject)?;
+    let _ = desk.state(session).ok_or(Condition::NoSession)?;
+    let found = find(alloc, desk, store, handle)?.ok_or(Condition::NoObject)?;
     Ok(tell(alloc, &found.object, query.as_slice())?)
 }
 
@@ -56,16 +56,16 @@ fn tell_one(
 ) -> Result<(Rv, AttributeValue), AllocError>
     ensures { IfOk result (λ told. told ≡ attribute_told object.now asked.now) }
 {
-    if !reveals_number(object, asked.number) {
+    if !reveals_number(object, asked.attr_type) {
         return Ok(unavailable(Rv::AttributeSensitive));
     }
-    let Some(bytes) = find_attribute(object.entries(), asked.number) else {
+    let Some(bytes) = find_attribute(object.entries(), asked.attr_type) else {
         return Ok(unavailable(Rv::AttributeTypeInvalid));
     };
     let len = bytes.len() as u64;
-    let value = match asked.room {
+    let value = match asked.buffer_len {
         None => None,
-        Some(room) if room < len => return Ok(unavailable(Rv::BufferTooSmall)),
+        Some(buffer_len) if buffer_len < len => return Ok(unavailable(Rv::BufferTooSmall)),
         Some(_) => Some(Bytes::from_slice(alloc, bytes)?),
     };
     Ok((Rv::Ok, AttributeValue { len, value }))

@@ -2,16 +2,16 @@
 
 ghost use Rattle.std.specs.Prelude.{◌≡◌, length};
 ghost use Rattle.attrs.specs.Stored.{stored_form};
-ghost use Rattle.answers.specs.GetObjectSize.{get_object_size, object_size};
-ghost use Rattle.token_store.specs.Refusing.{IsDone};
+ghost use Rattle.model_answers.specs.GetObjectSize.{get_object_size, object_size};
+ghost use Rattle.serve_base.specs.Refusing.{IsDone};
 
 use attrs::{Object, size};
 use ck_calls::Reply;
 use desk::Desk;
 use keep::Keep;
-use precede::Row;
+use precede::Condition;
+use serve_base::{Refusal, Store, find};
 use std::alloc::Global;
-use token_store::{Refusal, Store, find};
 
 /// The size of the object under a handle, in bytes.
 pub fn serve<K: Keep>(
@@ -23,8 +23,8 @@ pub fn serve<K: Keep>(
 ) -> Result<Reply, Refusal>
     ensures { IsDone K.terms 0 (λ v. get_object_size v session handle) store.old store.new desk.now result desk.now }
 {
-    let _ = desk.state(session).ok_or(Row::NoSession)?;
-    let found = find(alloc, desk, store, handle)?.ok_or(Row::NoObject)?;
+    let _ = desk.state(session).ok_or(Condition::NoSession)?;
+    let found = find(alloc, desk, store, handle)?.ok_or(Condition::NoObject)?;
     Ok(Reply::ObjectSize(size_of(&found.object)))
 }
 

@@ -7,14 +7,14 @@ ghost use Rattle.desk.specs.Desks.{SameDesk};
 ghost use Rattle.handles.specs.Handles.{IsTable};
 ghost use Rattle.keep.specs.Contents.{Contents, IsTokenObject};
 ghost use Rattle.keep.specs.Keeping.{Counted, Rises};
-ghost use Rattle.views.specs.Answering.{place_of};
-ghost use Rattle.answers.specs.SetAttributeValue.{puts, set_attribute_value};
-ghost use Rattle.token_store.specs.declared.refusal.Refusal.TheVariants.{Device};
-ghost use Rattle.token_store.specs.Found.{IsAt};
-ghost use Rattle.token_store.specs.Refusing.{Does, IsDone, IsPlain};
-ghost use Rattle.token_store.specs.Short.{IsShort};
-ghost use Rattle.token_store.specs.Shown.{Fits, view_of};
-ghost use Rattle.token_store.specs.Stores.{Has};
+ghost use Rattle.model_views.specs.Answering.{index_of};
+ghost use Rattle.model_answers.specs.SetAttributeValue.{puts, set_attribute_value};
+ghost use Rattle.serve_base.specs.declared.refusal.Refusal.TheVariants.{Device};
+ghost use Rattle.serve_base.specs.Found.{IsAt};
+ghost use Rattle.serve_base.specs.Refusing.{Does, IsDone, IsPlain};
+ghost use Rattle.serve_base.specs.Short.{IsShort};
+ghost use Rattle.serve_base.specs.Shown.{Fits, view_of};
+ghost use Rattle.serve_base.specs.Stores.{Has};
 
 use attrs::Object;
 use ck_calls::Reply;
@@ -22,10 +22,10 @@ use ck_types::{AttrType, Rv, Template};
 use desk::Desk;
 use guard::is_read_write;
 use keep::Keep;
-use precede::Row;
+use precede::Condition;
+use serve_base::{Refusal, Store, find};
 use std::alloc::Global;
 use templates::changed;
-use token_store::{Refusal, Store, find};
 
 /// Changes the object under a handle by a template.
 pub fn serve<K: Keep>(
@@ -38,13 +38,13 @@ pub fn serve<K: Keep>(
 ) -> Result<Reply, Refusal>
     ensures { IsDone K.terms 1 (λ v. set_attribute_value v session handle template.now) store.old store.new desk.old result desk.new }
 {
-    let state = desk.state(session).ok_or(Row::NoSession)?;
-    let found = find(alloc, desk, store, handle)?.ok_or(Row::NoObject)?;
+    let state = desk.state(session).ok_or(Condition::NoSession)?;
+    let found = find(alloc, desk, store, handle)?.ok_or(Condition::NoObject)?;
     if found.object.flag(AttrType::Token) && !is_read_write(state) {
-        return Err(Refusal::Row(Row::TokenObjectReadOnly));
+        return Err(Refusal::Condition(Condition::TokenObjectReadOnly));
     }
     if !found.object.flag(AttrType::Modifiable) {
-        return Err(Refusal::Row(Row::NotModifiable));
+        return Err(Refusal::Condition(Condition::NotModifiable));
     }
     let object = changed(alloc, state, &found.object, template)?;
     put(desk, store, handle, found.id, object)
@@ -61,7 +61,7 @@ fn put<K: Keep>(
 ) -> Result<Reply, Refusal>
     requires table { IsTable desk.old.handles.next_number desk.old.handles.entries }
     requires token { IfSome id (λ i. IsTokenObject object) }
-    ensures serves { (old : List Entry) → is_public object ≡ is_public old → K.terms.doubt store.new.keep ≡ 0 → (c : Contents) → Has K.terms store.old c → Fits c desk.old.handles.entries → IsAt c desk.old handle old id → Does K.terms (puts (view_of c desk.old) handle object (place_of (view_of c desk.old).tokens handle)) c store.old store.new desk.old result desk.new }
+    ensures serves { (old : List Entry) → is_public object ≡ is_public old → K.terms.doubt store.new.keep ≡ 0 → (c : Contents) → Has K.terms store.old c → Fits c desk.old.handles.entries → IsAt c desk.old handle old id → Does K.terms (puts (view_of c desk.old) handle object (index_of (view_of c desk.old).tokens handle)) c store.old store.new desk.old result desk.new }
     ensures counts { Counted K.terms store.old.keep store.new.keep 0 1 }
     ensures cause { IsErrOf result Device → Rises (K.terms.failures store.old.keep) (K.terms.failures store.new.keep) }
     ensures plain { IsPlain result }

@@ -11,10 +11,10 @@ use Rattle.handles.specs.declared.Handle.{Handle}
 use Rattle.handles.specs.Handles.{HandleTable, number_of}
 use Rattle.keep.specs.Contents.{Contents, Kept, IdsRise, IsSound}
 use Rattle.lists.proofs.ListLemmas.{All-push}
-use Rattle.token_store.specs.declared.searching.Match.{Match}
-use Rattle.token_store.specs.declared.searching.Match.TheVariants.{TokenObject, SessionObject}
-use Rattle.token_store.specs.Searching.{finds, token_match, tokens_found}
-use Rattle.token_store.specs.Shown.{Fits, IsNoted}
+use Rattle.serve_base.specs.declared.searching.Match.{Match}
+use Rattle.serve_base.specs.declared.searching.Match.TheVariants.{TokenObject, SessionObject}
+use Rattle.serve_base.specs.Searching.{finds, token_match, tokens_found}
+use Rattle.serve_base.specs.Shown.{Fits, IsNoted}
 use Rattle.serve_search.specs.Giving.{with_one, given}
 use Rattle.serve_search.proofs.Numbering.{pushed, new_handle, all-own}
 

@@ -16,11 +16,11 @@ use Rattle.handles.proofs.HandleLemmas.{number_of-push}
 use Rattle.keep.specs.Contents.{Kept, IdsRise}
 use Rattle.desk.specs.declared.own_object.OwnObject.{OwnObject}
 use Rattle.lists.proofs.ListLemmas.{find-push_fails, map-map}
-use Rattle.views.specs.Views.{TokenObject, sees}
-use Rattle.answers.specs.FindObjectsInit.{with_handles, next_after, tokens_found as handles_found}
-use Rattle.token_store.specs.declared.searching.Match.{Match}
-use Rattle.token_store.specs.declared.searching.Match.TheVariants.{TokenObject as TokenMatch, SessionObject as SessionMatch}
-use Rattle.token_store.specs.Searching.{finds, token_match, tokens_found, MayFind}
+use Rattle.model_views.specs.Views.{TokenObject, sees}
+use Rattle.model_answers.specs.FindObjectsInit.{with_handles, next_after, tokens_found as handles_found}
+use Rattle.serve_base.specs.declared.searching.Match.{Match}
+use Rattle.serve_base.specs.declared.searching.Match.TheVariants.{TokenObject as TokenMatch, SessionObject as SessionMatch}
+use Rattle.serve_base.specs.Searching.{finds, token_match, tokens_found, MayFind}
 use Rattle.serve_search.specs.Giving.{own_matches, with_one, number_of_one, given, numbers}
 
 -- ---- a handle further
@@ -33,10 +33,10 @@ number-stays (x ∷ hs) h id n is = elim (cases_Bool (x.id == id)) [
 ]
 
 number-others : (hs : List Handle) (h : Handle) (id : ℕ) → h.id ≢ id → number_of (hs ++ h ∷ []) id ≡ number_of hs id
-number-others hs h id differ = ap (option_map (λ x. x.number)) (find-push_fails (λ x. x.id == id) hs h (ne_eqb h.id id differ))
+number-others hs h id differ = ap (option_map (λ x. x.handle)) (find-push_fails (λ x. x.id == id) hs h (ne_eqb h.id id differ))
 
 abbrev pub new_handle : HandleTable → ℕ → Bool → Handle
-new_handle t id private = record { number = t.next_number; id = id; private = private }
+new_handle t id private = record { handle = t.next_number; id = id; private = private }
 
 abbrev pub pushed : HandleTable → ℕ → Bool → HandleTable
 pushed t id private = record t { entries = t.entries ++ new_handle t id private ∷ []; next_number = t.next_number + 1 }

@@ -14,12 +14,12 @@ use Rattle.sessions.specs.Sessions.{session_at}
 use Rattle.ops.specs.Operations.{Operations, search_in, searching_in, with_search}
 use Rattle.desk.specs.declared.own_object.OwnObject.{OwnObject}
 use Rattle.desk.specs.Desks.{DeskState, SameDesk}
-use Rattle.views.specs.Views.{View, TokenObject, SessionObject}
-use Rattle.views.specs.Answering.{Replies, session_of}
-use Rattle.answers.specs.FindObjectsInit.{with_handles, tokens_found as handles_found, own_found, searches, find_objects_init}
-use Rattle.token_store.specs.declared.searching.Match.{Match}
-use Rattle.token_store.specs.Searching.{tokens_found}
-use Rattle.token_store.specs.Shown.{session_object, view_of, Fits, Gives}
+use Rattle.model_views.specs.Views.{View, TokenObject, SessionObject}
+use Rattle.model_views.specs.Answering.{Replies, session_of}
+use Rattle.model_answers.specs.FindObjectsInit.{with_handles, tokens_found as handles_found, own_found, searches, find_objects_init}
+use Rattle.serve_base.specs.declared.searching.Match.{Match}
+use Rattle.serve_base.specs.Searching.{tokens_found}
+use Rattle.serve_base.specs.Shown.{session_object, view_of, Fits, Gives}
 use Rattle.serve_search.specs.Giving.{own_matches, given, numbers}
 use Rattle.serve_search.proofs.Numbering.{token_by, seen, before, numbered, given-own, numbers-own, own-handles}
 use Rattle.serve_search.proofs.Fitting.{fits-found}

@@ -5,8 +5,8 @@ use Rattle.ck_types.specs.declared.entry.Entry.{Entry}
 use Rattle.find.specs.Matching.{template_matches}
 use Rattle.handles.specs.Handles.{HandleTable, number_of, with_handle}
 use Rattle.desk.specs.declared.own_object.OwnObject.{OwnObject}
-use Rattle.token_store.specs.declared.searching.Match.{Match}
-use Rattle.token_store.specs.declared.searching.Match.TheVariants.{TokenObject, SessionObject}
+use Rattle.serve_base.specs.declared.searching.Match.{Match}
+use Rattle.serve_base.specs.declared.searching.Match.TheVariants.{TokenObject, SessionObject}
 
 -- what is found of the session objects, in the order of their creation
 abbrev pub own_matches : List Entry → List OwnObject → List Match

@@ -4,16 +4,16 @@ ghost use Rattle.std.specs.Prelude.{◌≡◌, option_copied, take};
 ghost use Rattle.std.specs.Option.{option_map};
 ghost use Rattle.sessions.specs.Sessions.{session_at};
 ghost use Rattle.ops.specs.Operations.{search_in};
-ghost use Rattle.views.specs.Answering.{Replies};
-ghost use Rattle.answers.specs.FindObjects.{answered_at_once, find_objects, find_objects_final};
-ghost use Rattle.token_store.specs.Refusing.{AtDesk};
+ghost use Rattle.model_views.specs.Answering.{Replies};
+ghost use Rattle.model_answers.specs.FindObjects.{answered_at_once, find_objects, find_objects_final};
+ghost use Rattle.serve_base.specs.Refusing.{AtDesk};
 
 use ck_calls::Reply;
 use ck_types::{Items, Rv};
 use desk::Desk;
-use precede::Row;
+use precede::Condition;
+use serve_base::Refusal;
 use std::alloc::Global;
-use token_store::Refusal;
 
 /// How many handles are answered at once, at most.
 pub const FOUND_LIMIT: u64 = 1024;
@@ -23,9 +23,9 @@ pub const FOUND_LIMIT: u64 = 1024;
 pub fn serve(alloc: Global, desk: &mut Desk, session: u64, max_count: u64) -> Result<Reply, Refusal>
     ensures { AtDesk Replies (λ v. find_objects v session max_count) desk.old result desk.new }
 {
-    let _ = desk.state(session).ok_or(Row::NoSession)?;
+    let _ = desk.state(session).ok_or(Condition::NoSession)?;
     let count = at_once(max_count);
-    let found = next_found(desk, session, count).ok_or(Row::NoOperation)?;
+    let found = next_found(desk, session, count).ok_or(Condition::NoOperation)?;
     let handles = Items::from_slice(alloc, found)?;
     desk.advance_search(session, count);
     Ok(Reply::Objects(handles))
@@ -44,8 +44,8 @@ fn next_found(desk: &Desk, session: u64, count: usize) -> Option<&[u64]>
 pub fn serve_final(desk: &mut Desk, session: u64) -> Result<Reply, Refusal>
     ensures { AtDesk Replies (λ v. find_objects_final v session) desk.old result desk.new }
 {
-    let _ = desk.state(session).ok_or(Row::NoSession)?;
-    let _ = desk.search(session).ok_or(Row::NoOperation)?;
+    let _ = desk.state(session).ok_or(Condition::NoSession)?;
+    let _ = desk.search(session).ok_or(Condition::NoOperation)?;
     desk.set_search(session, None);
     Ok(Reply::Code(Rv::Ok))
 }

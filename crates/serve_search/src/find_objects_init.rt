@@ -4,10 +4,10 @@ ghost use Rattle.std.specs.Prelude.{◌≡◌, ◌<◌, ◌^◌, ◌++◌, IfOk}
 ghost use Rattle.std.specs.List.{AllByRecursion};
 ghost use Rattle.keep.specs.Contents.{Contents};
 ghost use Rattle.keep.specs.Keeping.{Counted, HasCause, Stays};
-ghost use Rattle.answers.specs.FindObjectsInit.{find_objects_init};
-ghost use Rattle.token_store.specs.Refusing.{IsDone};
-ghost use Rattle.token_store.specs.Searching.{tokens_found, MayFind};
-ghost use Rattle.token_store.specs.Stores.{Has};
+ghost use Rattle.model_answers.specs.FindObjectsInit.{find_objects_init};
+ghost use Rattle.serve_base.specs.Refusing.{IsDone};
+ghost use Rattle.serve_base.specs.Searching.{tokens_found, MayFind};
+ghost use Rattle.serve_base.specs.Stores.{Has};
 ghost use Rattle.serve_search.specs.Giving.{own_matches};
 
 use crate::giving::give_handles;
@@ -18,9 +18,9 @@ use desk::{Desk, OwnObject};
 use find::search;
 use keep::{Keep, KeepFault};
 use ops::Search;
-use precede::Row;
+use precede::Condition;
+use serve_base::{Match, Refusal, Store};
 use std::alloc::{AllocError, Global};
-use token_store::{Match, Refusal, Store};
 
 /// Begins a search: what the template finds now is what it finds, also where an object goes later.
 /// `CKR_SESSION_HANDLE_INVALID` where there is no such session, `CKR_OPERATION_ACTIVE` where it has a search.
@@ -34,9 +34,9 @@ pub fn serve<K: Keep>(
     requires below { desk.old.handles.next_number < 2 ^ 63 }
     ensures { IsDone K.terms 0 (λ v. find_objects_init v session template.now) store.old store.new desk.old result desk.new }
 {
-    let _ = desk.state(session).ok_or(Row::NoSession)?;
+    let _ = desk.state(session).ok_or(Condition::NoSession)?;
     if desk.search(session).is_some() {
-        return Err(Refusal::Row(Row::OperationActive));
+        return Err(Refusal::Condition(Condition::OperationActive));
     }
     let matches = find_all(alloc, desk, store, template)?;
     let mut handles = Vec::with_capacity(alloc, matches.len())?;

@@ -3,11 +3,11 @@
 ghost use Rattle.std.specs.Prelude.{◌≡◌, ◌+◌, ◌<◌, ◌≤◌, ◌^◌, ◌++◌, length, vec_len, vec_capacity};
 ghost use Rattle.std.specs.List.{AllByRecursion};
 ghost use Rattle.handles.specs.Handles.{HasRoomFor};
-ghost use Rattle.token_store.specs.Searching.{MayFind};
+ghost use Rattle.serve_base.specs.Searching.{MayFind};
 ghost use Rattle.serve_search.specs.Giving.{given, numbers, with_one, number_of_one};
 
 use desk::Desk;
-use token_store::Match;
+use serve_base::Match;
 
 /// Gives the next handle to each of the token objects that has none, in their order, and notes the handles of all that
 /// was found. No memory is taken.

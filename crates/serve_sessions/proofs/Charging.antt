@@ -11,12 +11,12 @@ use Rattle.keep.specs.Keeping.{Terms}
 use Rattle.handles.specs.declared.Handle.{Handle}
 use Rattle.mech.specs.declared.job.Job.{Job}
 use Rattle.desk.specs.Desks.{DeskState, with_question}
-use Rattle.views.specs.Views.{View, Question, Task, sees}
-use Rattle.views.specs.Changes.{Change, Records, Resets, in_list}
-use Rattle.views.specs.Answering.{Answer, Replies, Asks}
-use Rattle.session_answers.specs.Pins.{resets}
-use Rattle.token_store.specs.Shown.{view_of, objects_of, question_of, Changes, Fits, Gives}
-use Rattle.token_store.specs.Stores.{StoreState, Has, LeavesOr, Refused}
+use Rattle.model_views.specs.Views.{View, Question, Task, sees}
+use Rattle.model_views.specs.Changes.{Change, Records, Resets, in_list}
+use Rattle.model_views.specs.Answering.{Answer, Replies, Asks}
+use Rattle.model_session_answers.specs.Pins.{resets}
+use Rattle.serve_base.specs.Shown.{view_of, objects_of, question_of, Changes, Fits, Gives}
+use Rattle.serve_base.specs.Stores.{StoreState, Has, LeavesOr, Refused}
 use Rattle.serve_sessions.specs.Recording.{asks_charged, codes_with}
 
 -- ---- what is given

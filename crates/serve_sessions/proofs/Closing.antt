@@ -20,13 +20,13 @@ use Rattle.attrs.specs.Objects.{flag}
 use Rattle.desk.specs.declared.own_object.OwnObject.{OwnObject}
 use Rattle.desk.specs.Desks.{DeskState, closed as desk_closed, all_closed as desk_all_closed, logged_out_desk, handles_for}
 use Rattle.ops.specs.Operations.{Operations}
-use Rattle.views.specs.Views.{TokenObject, SessionObject, sees, seen_by}
-use Rattle.views.specs.Answering.{Replies, session_of}
-use Rattle.session_answers.specs.CloseSession.{close_session, close_all_sessions}
-use Rattle.session_answers.specs.Logout.{logout}
-use Rattle.session_answers.specs.OpenSession.{is_slot}
-use Rattle.token_store.specs.Shown.{sees_kept, token_object, session_object, view_of, IsNoted, Fits, Gives}
-use Rattle.token_store.proofs.Seeing.{IsLess, less-none}
+use Rattle.model_views.specs.Views.{TokenObject, SessionObject, sees, seen_by}
+use Rattle.model_views.specs.Answering.{Replies, session_of}
+use Rattle.model_session_answers.specs.CloseSession.{close_session, close_all_sessions}
+use Rattle.model_session_answers.specs.Logout.{logout}
+use Rattle.model_session_answers.specs.OpenSession.{is_slot}
+use Rattle.serve_base.specs.Shown.{sees_kept, token_object, session_object, view_of, IsNoted, Fits, Gives}
+use Rattle.serve_base.proofs.Seeing.{IsLess, less-none}
 use Rattle.lists.proofs.ListLemmas.{filter-map, filter-less}
 
 -- ---- handles of private objects are retired
@@ -47,7 +47,7 @@ tokens-public d d' [] same noted = refl
 tokens-public d d' (e ∷ es) same noted = step (is_public e.1) refl (tokens-public d d' es same noted.1) where
   step : (b : Bool) → is_public e.1 ≡ b → map (token_object d') (filter (sees_kept None) es) ≡ map (token_object d) (filter (sees_kept None) es) → map (token_object d') (cond (b || false) (e ∷ filter (sees_kept None) es) (filter (sees_kept None) es)) ≡ map (token_object d) (cond (b || false) (e ∷ filter (sees_kept None) es) (filter (sees_kept None) es))
   step true shown rest =
-      let n : number_of d'.handles.entries e.0 ≡ number_of d.handles.entries e.0 = ap (λ hs. number_of hs e.0) same ∙ ap (option_map (λ h. h.number)) (find-public e.0 e.1 d.handles.entries shown noted.0) in
+      let n : number_of d'.handles.entries e.0 ≡ number_of d.handles.entries e.0 = ap (λ hs. number_of hs e.0) same ∙ ap (option_map (λ h. h.handle)) (find-public e.0 e.1 d.handles.entries shown noted.0) in
       let f : Option ℕ → TokenObject = λ x. record { object = e.1; handle = x } in
       ap (λ x. f x ∷ map (token_object d') (filter (sees_kept None) es)) n ∙ ap (λ xs. token_object d e ∷ xs) rest
   step false shown rest = rest
@@ -90,7 +90,7 @@ next-for false t = refl
 
 pub gives-closed : (c : Contents) (d : DeskState) (s : ℕ) → is_none (session_of (view_of c d) s) ≡ false → Fits c d.handles.entries → Gives (close_session (view_of c d) s) d.sessions.login c (Replies (Code Ok)) c (desk_closed d s)
 gives-closed c d s there fits =
-    let others = filter (λ x. not (x.number == s)) d.sessions.sessions in
+    let others = filter (λ x. not (x.handle == s)) d.sessions.sessions in
     let login = login_among others d.sessions.login in
     rw there (record {
       says = refl;

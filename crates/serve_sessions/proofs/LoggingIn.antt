@@ -14,11 +14,11 @@ use Rattle.handles.specs.Handles.{number_of}
 use Rattle.keep.specs.Contents.{Contents, Kept, with_record}
 use Rattle.pin_record.specs.Records.{with_tries}
 use Rattle.desk.specs.Desks.{DeskState, IsDiscreet}
-use Rattle.views.specs.Views.{TokenObject, View, sees, without_handle}
-use Rattle.views.specs.Answering.{Replies}
-use Rattle.session_answers.specs.Login.{merged, tokens_for, may_log_in, right_pin}
-use Rattle.session_answers.specs.Pins.{is_charged}
-use Rattle.token_store.specs.Shown.{sees_kept, token_object, view_of, IsNoted, Fits, Gives}
+use Rattle.model_views.specs.Views.{TokenObject, View, sees, without_handle}
+use Rattle.model_views.specs.Answering.{Replies}
+use Rattle.model_session_answers.specs.Login.{merged, tokens_for, may_log_in, right_pin}
+use Rattle.model_session_answers.specs.Pins.{is_charged}
+use Rattle.serve_base.specs.Shown.{sees_kept, token_object, view_of, IsNoted, Fits, Gives}
 use Rattle.serve_sessions.specs.Recording.{codes_with, objects_for, right_reveal}
 use Rattle.serve_sessions.proofs.Charging.{fits-recorded}
 

@@ -8,10 +8,10 @@ use Rattle.ck_calls.specs.declared.function.Function.{Function}
 use Rattle.ck_calls.specs.declared.reply.Reply.TheVariants.{Code}
 use Rattle.pin_record.specs.Records.{TokenRecord}
 use Rattle.keep.specs.Contents.{Contents}
-use Rattle.views.specs.Views.{View, Task}
-use Rattle.views.specs.Answering.{Answer, Reveal, asks_checked}
-use Rattle.session_answers.specs.Pins.{stores}
-use Rattle.token_store.specs.Shown.{objects_of}
+use Rattle.model_views.specs.Views.{View, Task}
+use Rattle.model_views.specs.Answering.{Answer, Reveal, asks_checked}
+use Rattle.model_session_answers.specs.Pins.{stores}
+use Rattle.serve_base.specs.Shown.{objects_of}
 
 -- a check of a PIN begins with its charge in this record
 abbrev pub asks_charged : TokenRecord → View → Function → ℕ → Task → UserType → Answer
@@ -26,6 +26,6 @@ abbrev pub objects_for : UserType → Contents → Option (List (List Entry))
 objects_for So c = None
 objects_for User c = Some (objects_of c)
 
--- and how many other checks of the PIN are under way, which it reveals to both
+-- and how many other checks of the PIN are in progress, which it reveals to both
 abbrev pub right_reveal : UserType → ℕ → Contents → Reveal
-right_reveal who under_way c = record { objects = objects_for who c; under_way = Some under_way; in_session = None }
+right_reveal who under_way c = record { objects = objects_for who c; under_way = Some under_way; others_have_sessions = None }

@@ -1,21 +1,21 @@
 //! C_CloseSession and C_CloseAllSessions (PKCS #11 v3.1, 5.6).
 
-ghost use Rattle.views.specs.Answering.{Replies};
-ghost use Rattle.session_answers.specs.CloseSession.{close_all_sessions, close_session};
-ghost use Rattle.token_store.specs.Refusing.{AtDesk};
+ghost use Rattle.model_views.specs.Answering.{Replies};
+ghost use Rattle.model_session_answers.specs.CloseSession.{close_all_sessions, close_session};
+ghost use Rattle.serve_base.specs.Refusing.{AtDesk};
 
 use crate::SLOT;
 use ck_calls::Reply;
 use ck_types::Rv;
 use desk::Desk;
-use precede::Row;
-use token_store::Refusal;
+use precede::Condition;
+use serve_base::Refusal;
 
 /// Closes a session, with its objects. `CKR_SESSION_HANDLE_INVALID` where there is none.
 pub fn serve(desk: &mut Desk, session: u64) -> Result<Reply, Refusal>
     ensures { AtDesk Replies (λ v. close_session v session) desk.old result desk.new }
 {
-    let _ = desk.state(session).ok_or(Row::NoSession)?;
+    let _ = desk.state(session).ok_or(Condition::NoSession)?;
     desk.close(session);
     Ok(Reply::Code(Rv::Ok))
 }
@@ -25,7 +25,7 @@ pub fn serve_all(desk: &mut Desk, slot: u64) -> Result<Reply, Refusal>
     ensures { AtDesk Replies (λ v. close_all_sessions v slot) desk.old result desk.new }
 {
     if slot != SLOT {
-        return Err(Refusal::Row(Row::NoSlot));
+        return Err(Refusal::Condition(Condition::NoSlot));
     }
     desk.close_all();
     Ok(Reply::Code(Rv::Ok))

@@ -1,15 +1,15 @@
 //! C_GetMechanismInfo (PKCS #11 v3.1, 5.5).
 
 ghost use Rattle.desk.specs.Desks.{DeskState};
-ghost use Rattle.views.specs.Answering.{Replies};
-ghost use Rattle.session_answers.specs.Mechanisms.{get_mechanism_info};
-ghost use Rattle.token_store.specs.Refusing.{AtDesk};
+ghost use Rattle.model_views.specs.Answering.{Replies};
+ghost use Rattle.model_session_answers.specs.Mechanisms.{get_mechanism_info};
+ghost use Rattle.serve_base.specs.Refusing.{AtDesk};
 
 use crate::SLOT;
 use ck_calls::Reply;
-use mechanisms::{find, info_of};
-use precede::Row;
-use token_store::Refusal;
+use ck_mechanisms::{find, info_of};
+use precede::Condition;
+use serve_base::Refusal;
 
 /// The sizes of a mechanism's keys, and its flags. `CKR_SLOT_ID_INVALID` where the slot isn't the one that there is,
 /// `CKR_MECHANISM_INVALID` where the token hasn't the mechanism.
@@ -17,8 +17,8 @@ pub fn serve(slot: u64, mechanism: u64) -> Result<Reply, Refusal>
     ensures { (d : DeskState) → AtDesk Replies (λ v. get_mechanism_info v slot mechanism) d result d }
 {
     if slot != SLOT {
-        return Err(Refusal::Row(Row::NoSlot));
+        return Err(Refusal::Condition(Condition::NoSlot));
     }
-    let mechanism = find(mechanism).ok_or(Row::WrongMechanism)?;
+    let mechanism = find(mechanism).ok_or(Condition::WrongMechanism)?;
     Ok(Reply::MechanismInfo(info_of(mechanism)))
 }

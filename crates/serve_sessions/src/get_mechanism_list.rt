@@ -1,26 +1,26 @@
 //! C_GetMechanismList (PKCS #11 v3.1, 5.5).
 
 ghost use Rattle.std.specs.Prelude.{◌≡◌, IfOk};
-ghost use Rattle.mechanisms.specs.Table.{listed_numbers};
+ghost use Rattle.ck_mechanisms.specs.Table.{listed_numbers};
 ghost use Rattle.desk.specs.Desks.{DeskState};
-ghost use Rattle.views.specs.Answering.{Replies};
-ghost use Rattle.session_answers.specs.Mechanisms.{get_mechanism_list};
-ghost use Rattle.token_store.specs.Refusing.{AtDesk};
+ghost use Rattle.model_views.specs.Answering.{Replies};
+ghost use Rattle.model_session_answers.specs.Mechanisms.{get_mechanism_list};
+ghost use Rattle.serve_base.specs.Refusing.{AtDesk};
 
 use crate::SLOT;
 use ck_calls::Reply;
+use ck_mechanisms::LISTED;
 use ck_types::Items;
-use mechanisms::LISTED;
-use precede::Row;
+use precede::Condition;
+use serve_base::Refusal;
 use std::alloc::{AllocError, Global};
-use token_store::Refusal;
 
 /// The numbers of the token's mechanisms, rising. `CKR_SLOT_ID_INVALID` where the slot isn't the one that there is.
 pub fn serve(alloc: Global, slot: u64) -> Result<Reply, Refusal>
     ensures { (d : DeskState) → AtDesk Replies (λ v. get_mechanism_list v slot) d result d }
 {
     if slot != SLOT {
-        return Err(Refusal::Row(Row::NoSlot));
+        return Err(Refusal::Condition(Condition::NoSlot));
     }
     Ok(Reply::MechanismList(numbers(alloc)?))
 }

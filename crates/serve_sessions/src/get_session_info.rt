@@ -1,21 +1,21 @@
 //! C_GetSessionInfo (PKCS #11 v3.1, 5.6).
 
-ghost use Rattle.views.specs.Answering.{Replies};
-ghost use Rattle.session_answers.specs.GetSessionInfo.{get_session_info};
-ghost use Rattle.token_store.specs.Refusing.{AtDesk};
+ghost use Rattle.model_views.specs.Answering.{Replies};
+ghost use Rattle.model_session_answers.specs.GetSessionInfo.{get_session_info};
+ghost use Rattle.serve_base.specs.Refusing.{AtDesk};
 
 use crate::SLOT;
 use ck_calls::{Reply, SessionInfo};
 use desk::Desk;
-use precede::Row;
-use token_store::Refusal;
+use precede::Condition;
+use serve_base::Refusal;
 
 /// What a session is: its slot, its state and whether it is read/write. `CKR_SESSION_HANDLE_INVALID` where there is none.
 pub fn serve(desk: &Desk, session: u64) -> Result<Reply, Refusal>
     ensures { AtDesk Replies (λ v. get_session_info v session) desk.now result desk.now }
 {
-    let state = desk.state(session).ok_or(Row::NoSession)?;
-    let read_write = desk.is_read_write(session).ok_or(Row::NoSession)?;
+    let state = desk.state(session).ok_or(Condition::NoSession)?;
+    let read_write = desk.is_read_write(session).ok_or(Condition::NoSession)?;
     Ok(Reply::SessionInfo(SessionInfo {
         slot: SLOT,
         state,

@@ -1,15 +1,15 @@
 //! C_GetTokenInfo (PKCS #11 v3.1, 5.5).
 
-ghost use Rattle.session_answers.specs.GetTokenInfo.{get_token_info};
-ghost use Rattle.token_store.specs.Refusing.{IsDone};
+ghost use Rattle.model_session_answers.specs.GetTokenInfo.{get_token_info};
+ghost use Rattle.serve_base.specs.Refusing.{IsDone};
 
 use crate::SLOT;
 use ck_calls::{Reply, TokenInfo};
 use desk::Desk;
 use keep::Keep;
 use pin_record::token_flags;
-use precede::Row;
-use token_store::{Refusal, Store};
+use precede::Condition;
+use serve_base::{Refusal, Store};
 
 /// What the token is: its label and flags, and how many sessions the application has. `CKR_SLOT_ID_INVALID` where the slot
 /// isn't the one that there is.
@@ -17,7 +17,7 @@ pub fn serve<K: Keep>(desk: &Desk, store: &Store<K>, slot: u64) -> Result<Reply,
     ensures { IsDone K.terms 0 (λ v. get_token_info v slot) store.now store.now desk.now result desk.now }
 {
     if slot != SLOT {
-        return Err(Refusal::Row(Row::NoSlot));
+        return Err(Refusal::Condition(Condition::NoSlot));
     }
     let record = store.get_record();
     Ok(Reply::TokenInfo(TokenInfo {

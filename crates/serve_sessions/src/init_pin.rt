@@ -1,11 +1,11 @@
 //! C_InitPIN (PKCS #11 v3.1, 5.5): the SO sets the user's PIN.
 
 ghost use Rattle.std.specs.Prelude.{◌≡◌, ◌<◌, ◌^◌, IfOk, Some, None, length};
-ghost use Rattle.views.specs.Answering.{Replies};
-ghost use Rattle.session_answers.specs.InitPin.{init_pin, pin_made};
-ghost use Rattle.session_answers.specs.Pins.{is_so};
-ghost use Rattle.token_store.specs.Refusing.{AtDesk, IsDone};
-ghost use Rattle.token_store.specs.Shown.{IsFor, said_of};
+ghost use Rattle.model_views.specs.Answering.{Replies};
+ghost use Rattle.model_session_answers.specs.InitPin.{init_pin, pin_made};
+ghost use Rattle.model_session_answers.specs.Pins.{is_so};
+ghost use Rattle.serve_base.specs.Refusing.{AtDesk, IsDone};
+ghost use Rattle.serve_base.specs.Shown.{IsFor, said_of};
 
 use crate::recording::{is_pin_length, store_record};
 use ck_calls::{Function, Reply};
@@ -14,9 +14,9 @@ use desk::Desk;
 use keep::Keep;
 use mech::Work;
 use pin_record::{TRIES_LIMIT, Verifier};
-use precede::Row;
+use precede::Condition;
+use serve_base::{Out, Refusal, Store, ask, random_block};
 use std::alloc::Global;
-use token_store::{Out, Refusal, Store, ask, random_block};
 
 fn is_so(login: Option<UserType>) -> bool
     ensures { result ≡ is_so login }
@@ -42,19 +42,19 @@ pub fn serve(
     ensures serves { AtDesk said_of (λ v. init_pin v session pin random.now) desk.old result desk.new }
     ensures asker { IfOk result (IsFor app) }
 {
-    let _ = desk.state(session).ok_or(Row::NoSession)?;
+    let _ = desk.state(session).ok_or(Condition::NoSession)?;
     if !is_so(desk.logged_in()) {
-        return Err(Refusal::Row(Row::NotSo));
+        return Err(Refusal::Condition(Condition::NotSo));
     }
     if !is_pin_length(pin.as_slice()) {
-        return Err(Refusal::Row(Row::PinLength));
+        return Err(Refusal::Condition(Condition::PinLength));
     }
     let salt = random_block(random);
     let work = Work::MakePin { pin, salt };
     Ok(Out::Ask(ask(alloc, app, desk, Function::InitPin, session, work)?))
 }
 
-/// The PIN is set. Its tries are the checks of the user's PIN that other applications have under way.
+/// The PIN is set. Its tries are the checks of the user's PIN that other applications have in progress.
 /// `CKR_FUNCTION_FAILED` where the token isn't initialised any more.
 pub fn made<K: Keep>(
     desk: &Desk,
@@ -62,7 +62,7 @@ pub fn made<K: Keep>(
     verifier: Verifier,
     under_way: usize,
 ) -> Result<Reply, Refusal>
-    ensures { IsDone K.terms 1 (λ v. pin_made v verifier (record { objects = None; under_way = Some under_way; in_session = None })) store.old store.new desk.now result desk.now }
+    ensures { IsDone K.terms 1 (λ v. pin_made v verifier (record { objects = None; under_way = Some under_way; others_have_sessions = None })) store.old store.new desk.now result desk.now }
 {
     let record = store.get_record();
     if !record.is_initialized() || under_way > TRIES_LIMIT as usize {

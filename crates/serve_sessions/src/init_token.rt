@@ -4,10 +4,10 @@ ghost use Rattle.std.specs.Prelude.{◌≡◌, ◌<◌, ◌^◌, ◌≤◌, IfOk
 ghost use Rattle.std.specs.Option.{option_map};
 ghost use Rattle.ck_types.specs.declared.user_type.UserType.TheVariants.{So};
 ghost use Rattle.pin_record.specs.Records.{initialized_record, tries_limit, verifier_of};
-ghost use Rattle.views.specs.Answering.{Replies};
-ghost use Rattle.session_answers.specs.InitToken.{init_token, inited, reset};
-ghost use Rattle.token_store.specs.Refusing.{IsDone, IsDoneAs};
-ghost use Rattle.token_store.specs.Shown.{IsFor, said_of};
+ghost use Rattle.model_views.specs.Answering.{Replies};
+ghost use Rattle.model_session_answers.specs.InitToken.{init_token, inited, reset};
+ghost use Rattle.serve_base.specs.Refusing.{IsDone, IsDoneAs};
+ghost use Rattle.serve_base.specs.Shown.{IsFor, said_of};
 
 use crate::SLOT;
 use crate::recording::{ask_charged, is_pin_length, reset_to, store_record};
@@ -17,9 +17,9 @@ use desk::Desk;
 use keep::Keep;
 use mech::Work;
 use pin_record::{Record, Verifier, end_check};
-use precede::Row;
+use precede::Condition;
+use serve_base::{Out, Refusal, Store, ask, random_block};
 use std::alloc::Global;
-use token_store::{Out, Refusal, Store, ask, random_block};
 
 /// Begins a check of the SO's PIN, which is charged before it; or, where the token isn't initialised, asks for the
 /// verifier of this PIN, with random bytes as its salt: `CKR_SLOT_ID_INVALID`, `CKR_ARGUMENTS_BAD` for a label that hasn't
@@ -33,31 +33,31 @@ pub fn serve<K: Keep>(
     pin: Bytes,
     label: Bytes,
     random: &[u8],
-    others_in_session: bool,
+    others_have_sessions: bool,
 ) -> Result<Out, Refusal>
     requires below { desk.old.next_question < 2 ^ 63 }
     requires random { length random.now ≡ 16 }
-    ensures done { IsDoneAs K.terms said_of 1 (λ c v. init_token v slot pin label random.now (record { objects = None; under_way = None; in_session = Some others_in_session })) store.old store.new desk.old result desk.new }
+    ensures done { IsDoneAs K.terms said_of 1 (λ c v. init_token v slot pin label random.now (record { objects = None; under_way = None; others_have_sessions = Some others_have_sessions })) store.old store.new desk.old result desk.new }
     ensures asker { IfOk result (IsFor app) }
 {
     if slot != SLOT {
-        return Err(Refusal::Row(Row::NoSlot));
+        return Err(Refusal::Condition(Condition::NoSlot));
     }
-    let label = Label::from_slice(label.as_slice()).ok_or(Row::LabelLength)?;
-    if desk.has_session() || others_in_session {
-        return Err(Refusal::Row(Row::SessionOpen));
+    let label = Label::from_slice(label.as_slice()).ok_or(Condition::LabelLength)?;
+    if desk.has_session() || others_have_sessions {
+        return Err(Refusal::Condition(Condition::SessionOpen));
     }
     let record = store.get_record();
     let Some(verifier) = record.verifier(UserType::So).copied() else {
         if !is_pin_length(pin.as_slice()) {
-            return Err(Refusal::Row(Row::PinLength));
+            return Err(Refusal::Condition(Condition::PinLength));
         }
         let salt = random_block(random);
         let work = Work::InitToken { label, pin, salt };
         return Ok(Out::Ask(ask(alloc, app, desk, Function::InitToken, 0, work)?));
     };
     if record.is_locked(UserType::So) {
-        return Err(Refusal::Row(Row::PinLocked));
+        return Err(Refusal::Condition(Condition::PinLocked));
     }
     let work = Work::ResetToken {
         label,
@@ -84,15 +84,15 @@ pub fn made<K: Keep>(
     store: &mut Store<K>,
     label: Label,
     verifier: Verifier,
-    others_in_session: bool,
+    others_have_sessions: bool,
 ) -> Result<Reply, Refusal>
-    ensures { IsDone K.terms 1 (λ v. inited v label verifier (record { objects = None; under_way = None; in_session = Some others_in_session })) store.old store.new desk.now result desk.now }
+    ensures { IsDone K.terms 1 (λ v. inited v label verifier (record { objects = None; under_way = None; others_have_sessions = Some others_have_sessions })) store.old store.new desk.now result desk.now }
 {
     let record = store.get_record();
     if record.is_initialized() || record.tries(UserType::So) != 0 {
         return Err(Refusal::Code(Rv::FunctionFailed));
     }
-    if desk.has_session() || others_in_session {
+    if desk.has_session() || others_have_sessions {
         return Err(Refusal::Code(Rv::SessionExists));
     }
     reset_to(desk, store, Record::initialized(label, verifier, 0))
@@ -105,16 +105,16 @@ pub fn reset<K: Keep>(
     store: &mut Store<K>,
     label: Label,
     under_way: usize,
-    others_in_session: bool,
+    others_have_sessions: bool,
 ) -> Result<Reply, Refusal>
-    ensures { IsDone K.terms 1 (λ v. reset v label (record { objects = None; under_way = Some under_way; in_session = Some others_in_session })) store.old store.new desk.now result desk.now }
+    ensures { IsDone K.terms 1 (λ v. reset v label (record { objects = None; under_way = Some under_way; others_have_sessions = Some others_have_sessions })) store.old store.new desk.now result desk.now }
 {
     let record = store.get_record();
     if under_way >= record.tries(UserType::So) as usize {
         return Err(Refusal::Code(Rv::FunctionFailed));
     }
     let under_way = under_way as u8;
-    if desk.has_session() || others_in_session {
+    if desk.has_session() || others_have_sessions {
         let record = end_check(record, UserType::So, true, under_way);
         return store_record(desk, store, record, Rv::SessionExists);
     }

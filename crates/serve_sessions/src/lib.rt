@@ -2,7 +2,7 @@
 //!
 //! Each function answers by the rows of its call's table, and its one clause says that the answer is the written one to
 //! what the application sees, or that it was refused and nothing has changed: `AtDesk` where no store is asked, `IsDone`
-//! where one is, and `IsDoneAs` where the call asks a question and writes, or where its answer takes something from the
+//! where one is, and `IsDoneAs` where the call returns a job and writes, or where its answer takes something from the
 //! store that the application doesn't see.
 //!
 //! A PIN is checked in two steps. `login::serve`, `set_pin::serve` and `init_token::serve` store the charge of the check and

@@ -6,11 +6,11 @@ ghost use Rattle.desk.specs.Desks.{IsDiscreet};
 ghost use Rattle.keep.specs.Contents.{Contents};
 ghost use Rattle.pin_record.specs.Records.{is_locked};
 ghost use Rattle.sessions.specs.Sessions.{has_read_only};
-ghost use Rattle.views.specs.Answering.{Replies};
-ghost use Rattle.session_answers.specs.Login.{is_in, keeps_out, login, may_log_in, right_pin, user_of};
+ghost use Rattle.model_views.specs.Answering.{Replies};
+ghost use Rattle.model_session_answers.specs.Login.{is_in, keeps_out, login, may_log_in, right_pin, user_of};
 ghost use Rattle.serve_sessions.specs.Recording.{right_reveal};
-ghost use Rattle.token_store.specs.Refusing.{IsDoneAs};
-ghost use Rattle.token_store.specs.Shown.{IsFor, said_of, view_of};
+ghost use Rattle.serve_base.specs.Refusing.{IsDoneAs};
+ghost use Rattle.serve_base.specs.Shown.{IsFor, said_of, view_of};
 
 use crate::recording::{ask_charged, store_record};
 use ck_calls::{Function, Reply};
@@ -19,9 +19,9 @@ use desk::Desk;
 use keep::Keep;
 use mech::Work;
 use pin_record::{Record, end_check};
-use precede::Row;
+use precede::Condition;
+use serve_base::{Out, Refusal, Store};
 use std::alloc::Global;
-use token_store::{Out, Refusal, Store};
 
 /// The user of a `CK_USER_TYPE`.
 fn user_of(number: u64) -> Option<UserType>
@@ -78,22 +78,22 @@ pub fn serve<K: Keep>(
     ensures done { IsDoneAs K.terms said_of 1 (λ c v. login v session user_type pin) store.old store.new desk.old result desk.new }
     ensures asker { IfOk result (IsFor app) }
 {
-    let _ = desk.state(session).ok_or(Row::NoSession)?;
-    let who = user_of(user_type).ok_or(Row::UnknownUserType)?;
+    let _ = desk.state(session).ok_or(Condition::NoSession)?;
+    let who = user_of(user_type).ok_or(Condition::UnknownUserType)?;
     let login = desk.logged_in();
     if is_in(who, login) {
-        return Err(Refusal::Row(Row::SameUserLoggedIn));
+        return Err(Refusal::Condition(Condition::SameUserLoggedIn));
     }
     if login.is_some() {
-        return Err(Refusal::Row(Row::OtherUserLoggedIn));
+        return Err(Refusal::Condition(Condition::OtherUserLoggedIn));
     }
     if keeps_out(who, desk.has_read_only_session()) {
-        return Err(Refusal::Row(Row::ReadOnlySessionOpen));
+        return Err(Refusal::Condition(Condition::ReadOnlySessionOpen));
     }
     let record = store.get_record();
-    let verifier = record.verifier(who).copied().ok_or(Row::PinNotSet)?;
+    let verifier = record.verifier(who).copied().ok_or(Condition::PinNotSet)?;
     if has_no_try_left(&record, who) {
-        return Err(Refusal::Row(Row::PinLocked));
+        return Err(Refusal::Condition(Condition::PinLocked));
     }
     let work = Work::CheckPin { who, verifier, pin };
     ask_charged(
@@ -122,7 +122,7 @@ fn may_log_in(desk: &Desk, who: UserType) -> bool
         && !keeps_out(who, desk.has_read_only_session())
 }
 
-/// The PIN was right: its tries are the checks of it that other applications have under way, and then this one is logged
+/// The PIN was right: its tries are the checks of it that other applications have in progress, and then this one is logged
 /// in. `CKR_FUNCTION_FAILED` where that is no longer possible.
 pub fn right<K: Keep>(
     desk: &mut Desk,

@@ -4,12 +4,12 @@ ghost use Rattle.std.specs.Prelude.{◌≡◌, ◌<◌, ◌≤◌, ◌^◌, IfOk
 ghost use Rattle.ck_calls.specs.declared.reply.Reply.TheVariants.{Code};
 ghost use Rattle.mech.specs.Runnable.{is_runnable};
 ghost use Rattle.pin_record.specs.Records.{tries_limit, tries_of, verifier_of};
-ghost use Rattle.views.specs.Answering.{Replies};
-ghost use Rattle.views.specs.Refusals.{set_apart};
-ghost use Rattle.session_answers.specs.Pins.{is_pin_length, resets};
-ghost use Rattle.token_store.specs.Refusing.{IsDone, IsDoneIf};
-ghost use Rattle.token_store.specs.Short.{IsShortTask};
-ghost use Rattle.token_store.specs.Shown.{IsFor, said_of, task_of};
+ghost use Rattle.model_views.specs.Answering.{Replies};
+ghost use Rattle.model_views.specs.Refusals.{resource_error};
+ghost use Rattle.model_session_answers.specs.Pins.{is_pin_length, resets};
+ghost use Rattle.serve_base.specs.Refusing.{IsDone, IsDoneIf};
+ghost use Rattle.serve_base.specs.Short.{IsShortTask};
+ghost use Rattle.serve_base.specs.Shown.{IsFor, said_of, task_of};
 ghost use Rattle.serve_sessions.specs.Recording.{asks_charged, codes_with};
 
 use ck_calls::{Function, Reply};
@@ -18,8 +18,8 @@ use desk::Desk;
 use keep::Keep;
 use mech::Work;
 use pin_record::{Record, begin_check};
+use serve_base::{Out, Refusal, Store, new_job};
 use std::alloc::Global;
-use token_store::{Out, Refusal, Store, new_job};
 
 /// Whether a new PIN has 4 to 64 bytes.
 pub(crate) fn is_pin_length(pin: &[u8]) -> bool
@@ -61,7 +61,7 @@ pub(crate) fn store_record<K: Keep>(
     record: Record,
     code: Rv,
 ) -> Result<Reply, Refusal>
-    requires { set_apart (Code code) ≡ None }
+    requires { resource_error (Code code) ≡ None }
     ensures { IsDone K.terms 1 (λ v. codes_with code «record» v) store.old store.new desk.now result desk.now }
 {
     store.set_record(record)?;

@@ -1,10 +1,10 @@
 //! C_SetPIN (PKCS #11 v3.1, 5.5): a new PIN in the place of the old one.
 
 ghost use Rattle.std.specs.Prelude.{◌≡◌, ◌<◌, ◌^◌, IfOk, Some, None, length};
-ghost use Rattle.views.specs.Answering.{Replies};
-ghost use Rattle.session_answers.specs.SetPin.{owner, pin_changed, set_pin};
-ghost use Rattle.token_store.specs.Refusing.{IsDone, IsDoneAs};
-ghost use Rattle.token_store.specs.Shown.{IsFor, said_of};
+ghost use Rattle.model_views.specs.Answering.{Replies};
+ghost use Rattle.model_session_answers.specs.SetPin.{owner, pin_changed, set_pin};
+ghost use Rattle.serve_base.specs.Refusing.{IsDone, IsDoneAs};
+ghost use Rattle.serve_base.specs.Shown.{IsFor, said_of};
 
 use crate::recording::{ask_charged, is_pin_length, store_record};
 use ck_calls::{Function, Reply};
@@ -13,9 +13,9 @@ use desk::Desk;
 use keep::Keep;
 use mech::Work;
 use pin_record::{Verifier, end_check};
-use precede::Row;
+use precede::Condition;
+use serve_base::{Out, Refusal, Store, random_block};
 use std::alloc::Global;
-use token_store::{Out, Refusal, Store, random_block};
 
 /// Whose PIN is changed: that of who is logged in, and the user's where nobody is.
 fn owner(login: Option<UserType>) -> UserType
@@ -45,18 +45,18 @@ pub fn serve<K: Keep>(
     ensures done { IsDoneAs K.terms said_of 1 (λ c v. set_pin v session old_pin new_pin random.now) store.old store.new desk.old result desk.new }
     ensures asker { IfOk result (IsFor app) }
 {
-    let read_write = desk.is_read_write(session).ok_or(Row::NoSession)?;
+    let read_write = desk.is_read_write(session).ok_or(Condition::NoSession)?;
     if !read_write {
-        return Err(Refusal::Row(Row::SessionReadOnly));
+        return Err(Refusal::Condition(Condition::SessionReadOnly));
     }
     let who = owner(desk.logged_in());
     let record = store.get_record();
-    let verifier = record.verifier(who).copied().ok_or(Row::PinNotSet)?;
+    let verifier = record.verifier(who).copied().ok_or(Condition::PinNotSet)?;
     if !is_pin_length(new_pin.as_slice()) {
-        return Err(Refusal::Row(Row::PinLength));
+        return Err(Refusal::Condition(Condition::PinLength));
     }
     if record.is_locked(who) {
-        return Err(Refusal::Row(Row::PinLocked));
+        return Err(Refusal::Condition(Condition::PinLocked));
     }
     let salt = random_block(random);
     let work = Work::ChangePin {
@@ -88,7 +88,7 @@ pub fn changed<K: Keep>(
     verifier: Verifier,
     under_way: usize,
 ) -> Result<Reply, Refusal>
-    ensures { IsDone K.terms 1 (λ v. pin_changed v who verifier (record { objects = None; under_way = Some under_way; in_session = None })) store.old store.new desk.now result desk.now }
+    ensures { IsDone K.terms 1 (λ v. pin_changed v who verifier (record { objects = None; under_way = Some under_way; others_have_sessions = None })) store.old store.new desk.now result desk.now }
 {
     let record = store.get_record();
     if under_way >= record.tries(who) as usize {

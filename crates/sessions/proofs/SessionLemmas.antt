@@ -54,7 +54,7 @@ module _ {W : Type 0} where
   -- ---- tables
   pub IsTable-closed : (t : SessionTable W) → IsTable t → IsTable (record t { sessions = []; login = None })
   IsTable-closed t table = record {
-    rising = NumbersRise-end (λ s. s.number) 1 t.next_number t.sessions table.rising;
+    rising = NumbersRise-end (λ s. s.handle) 1 t.next_number t.sessions table.rising;
     few = omega arith;
     so = λ is. refl;
     logged_in = λ is. refl;
@@ -62,8 +62,8 @@ module _ {W : Type 0} where
 
   pub IsTable-with_session : (idle : W) (read_write : Bool) (t : SessionTable W) → IsTable t → length t.sessions < 64 → (t.login ≡ Some So → read_write ≡ true) → IsTable (with_session idle t read_write)
   IsTable-with_session idle read_write t table room access = record {
-    rising = NumbersRise-push (λ s. s.number) 1 t.next_number _ t.sessions refl table.rising;
-    few = omega (arith, length-append t.sessions (record { number = t.next_number; read_write = read_write; work = idle } ∷ []));
+    rising = NumbersRise-push (λ s. s.handle) 1 t.next_number _ t.sessions refl table.rising;
+    few = omega (arith, length-append t.sessions (record { handle = t.next_number; read_write = read_write; work = idle } ∷ []));
     so = λ is. any-push (λ s. not s.read_write) t.sessions _ (table.so is) (rw (access is) refl);
     logged_in = λ none. absurd (push_is_some t.sessions _ none);
   }
@@ -72,11 +72,11 @@ module _ {W : Type 0} where
   login-so [] login so is = refl
   login-so (s ∷ ss) login so is = so is
 
-  pub IsTable-without_session : (number : ℕ) (t : SessionTable W) → IsTable t → IsTable (without_session t number)
-  IsTable-without_session number t table = record {
-    rising = NumbersRise-filter (λ s. s.number) 1 t.next_number (λ s. not (eqb s.number number)) t.sessions table.rising;
-    few = omega (arith, length-filter_le (λ s. not (eqb s.number number)) t.sessions, table.few);
-    so = login-so (filter (λ s. not (eqb s.number number)) t.sessions) t.login (λ is. any-filter (λ s. not s.read_write) (λ s. not (eqb s.number number)) t.sessions (table.so is));
+  pub IsTable-without_session : (handle : ℕ) (t : SessionTable W) → IsTable t → IsTable (without_session t handle)
+  IsTable-without_session handle t table = record {
+    rising = NumbersRise-filter (λ s. s.handle) 1 t.next_number (λ s. not (eqb s.handle handle)) t.sessions table.rising;
+    few = omega (arith, length-filter_le (λ s. not (eqb s.handle handle)) t.sessions, table.few);
+    so = login-so (filter (λ s. not (eqb s.handle handle)) t.sessions) t.login (λ is. any-filter (λ s. not s.read_write) (λ s. not (eqb s.handle handle)) t.sessions (table.so is));
     logged_in = λ none. ap (λ ss. login_among ss t.login) none;
   }
 
@@ -86,17 +86,17 @@ module _ {W : Type 0} where
 
   pub IsTable-logged_out : (idle : W) (t : SessionTable W) → IsTable t → IsTable (logged_out idle t)
   IsTable-logged_out idle t table = record {
-    rising = NumbersRise-map (λ s. s.number) (busy_with idle) (λ s. refl) 1 t.next_number t.sessions table.rising;
+    rising = NumbersRise-map (λ s. s.handle) (busy_with idle) (λ s. refl) 1 t.next_number t.sessions table.rising;
     few = omega (arith, length-map t.sessions (busy_with idle), table.few);
     so = λ is. absurd (cc);
     logged_in = λ is. refl;
   }
 
-  has_read_only-busy : (number : ℕ) (work : W) (ss : List (Session W)) → has_read_only (map (busy_at number work) ss) ≡ has_read_only ss
-  has_read_only-busy number work [] = refl
-  has_read_only-busy number work (s ∷ ss) =
-      let rest = has_read_only-busy number work ss in
-      elim (cases_Bool (eqb s.number number)) [
+  has_read_only-busy : (handle : ℕ) (work : W) (ss : List (Session W)) → has_read_only (map (busy_at handle work) ss) ≡ has_read_only ss
+  has_read_only-busy handle work [] = refl
+  has_read_only-busy handle work (s ∷ ss) =
+      let rest = has_read_only-busy handle work ss in
+      elim (cases_Bool (eqb s.handle handle)) [
         | inl here ↦ rw (here, rest) refl
         | inr other ↦ rw (other, rest) refl
       ]
@@ -105,53 +105,53 @@ module _ {W : Type 0} where
   map_is_some f [] none = refl
   map_is_some f (s ∷ ss) none = absurd (cc)
 
-  pub IsTable-with_work : (number : ℕ) (work : W) (t : SessionTable W) → IsTable t → IsTable (with_work t number work)
-  IsTable-with_work number work t table = record {
-    rising = NumbersRise-map (λ s. s.number) (busy_at number work) (keeps_number (λ s. s.number) (λ s. eqb s.number number) (busy_with work) (λ s. refl)) 1 t.next_number t.sessions table.rising;
-    few = omega (arith, length-map t.sessions (busy_at number work), table.few);
-    so = λ is. has_read_only-busy number work t.sessions ∙ table.so is;
-    logged_in = λ none. table.logged_in (map_is_some (busy_at number work) t.sessions none);
+  pub IsTable-with_work : (handle : ℕ) (work : W) (t : SessionTable W) → IsTable t → IsTable (with_work t handle work)
+  IsTable-with_work handle work t table = record {
+    rising = NumbersRise-map (λ s. s.handle) (busy_at handle work) (keeps_number (λ s. s.handle) (λ s. eqb s.handle handle) (busy_with work) (λ s. refl)) 1 t.next_number t.sessions table.rising;
+    few = omega (arith, length-map t.sessions (busy_at handle work), table.few);
+    so = λ is. has_read_only-busy handle work t.sessions ∙ table.so is;
+    logged_in = λ none. table.logged_in (map_is_some (busy_at handle work) t.sessions none);
   }
 
   -- ---- look-ups
-  pub session_at-in_order : (number next : ℕ) (slots : List (Option (Session W))) → NumbersRise (λ s. s.number) 1 (in_order (λ s. s.number) slots) next → option_map (λ e. e.1) (find (λ e. eqb e.1.number number) (entries_from 0 slots)) ≡ session_at (in_order (λ s. s.number) slots) number
-  session_at-in_order number next slots rising =
-      find-in_order (λ s. s.number) (λ s. eqb s.number number) 0 slots (PassesOnce-number (λ s. s.number) 1 next number (in_order (λ s. s.number) slots) rising)
+  pub session_at-in_order : (handle next : ℕ) (slots : List (Option (Session W))) → NumbersRise (λ s. s.handle) 1 (in_order (λ s. s.handle) slots) next → option_map (λ e. e.1) (find (λ e. eqb e.1.handle handle) (entries_from 0 slots)) ≡ session_at (in_order (λ s. s.handle) slots) handle
+  session_at-in_order handle next slots rising =
+      find-in_order (λ s. s.handle) (λ s. eqb s.handle handle) 0 slots (PassesOnce-number (λ s. s.handle) 1 next handle (in_order (λ s. s.handle) slots) rising)
 
   -- a session that a search of the slab found: it stands under its key, and is the one of its number
-  pub record IsFound (slab : Slab (Session W)) (number key : ℕ) (s : Session W) : Type 0 where
+  pub record IsFound (slab : Slab (Session W)) (handle key : ℕ) (s : Session W) : Type 0 where
     pub here : get slab key ≡ Some s
-    pub numbered : eqb s.number number ≡ true
-    pub listed : session_at (in_order (λ x. x.number) slab.slots) number ≡ Some s
+    pub numbered : eqb s.handle handle ≡ true
+    pub listed : session_at (in_order (λ x. x.handle) slab.slots) handle ≡ Some s
 
-  pub found_session : (slab : Slab (Session W)) (number next key : ℕ) (s : Session W) → NumbersRise (λ x. x.number) 1 (in_order (λ x. x.number) slab.slots) next → find (λ e. eqb e.1.number number) (entries slab) ≡ Some (key, s) → IsFound slab number key s
-  found_session slab number next key s rising found =
-      let entry = found_entry (λ x. eqb x.number number) 0 slab.slots key s found in
+  pub found_session : (slab : Slab (Session W)) (handle next key : ℕ) (s : Session W) → NumbersRise (λ x. x.handle) 1 (in_order (λ x. x.handle) slab.slots) next → find (λ e. eqb e.1.handle handle) (entries slab) ≡ Some (key, s) → IsFound slab handle key s
+  found_session slab handle next key s rising found =
+      let entry = found_entry (λ x. eqb x.handle handle) 0 slab.slots key s found in
       let at : key ≡ entry.0 = omega (arith, entry.1) in
       record {
         here = ap (get slab) at ∙ entry.2;
         numbered = entry.3;
-        listed = sym (session_at-in_order number next slab.slots rising) ∙ ap (option_map (λ e. e.1)) found;
+        listed = sym (session_at-in_order handle next slab.slots rising) ∙ ap (option_map (λ e. e.1)) found;
       }
 
   -- ---- a closed session
-  filter-absent : (number : ℕ) (ss : List (Session W)) → session_at ss number ≡ None → filter (λ s. not (eqb s.number number)) ss ≡ ss
-  filter-absent number [] absent = refl
-  filter-absent number (s ∷ ss) absent = elim (cases_Bool (eqb s.number number)) [
+  filter-absent : (handle : ℕ) (ss : List (Session W)) → session_at ss handle ≡ None → filter (λ s. not (eqb s.handle handle)) ss ≡ ss
+  filter-absent handle [] absent = refl
+  filter-absent handle (s ∷ ss) absent = elim (cases_Bool (eqb s.handle handle)) [
     | inl here ↦ absurd (let found : Some s ≡ None = rw here at absent in cc)
-    | inr other ↦ rw other (ap (λ xs. s ∷ xs) (filter-absent number ss (rw other at absent)))
+    | inr other ↦ rw other (ap (λ xs. s ∷ xs) (filter-absent handle ss (rw other at absent)))
   ]
 
   login_among-same : (ss : List (Session W)) (login : Option UserType) → (ss ≡ [] → login ≡ None) → login_among ss login ≡ login
   login_among-same [] login public = sym (public refl)
   login_among-same (s ∷ ss) login public = refl
 
-  pub without_absent : (number : ℕ) (t : SessionTable W) → IsTable t → session_at t.sessions number ≡ None → t ≡ without_session t number
-  without_absent number t table absent = rw (filter-absent number t.sessions absent, login_among-same t.sessions t.login table.logged_in) refl
+  pub without_absent : (handle : ℕ) (t : SessionTable W) → IsTable t → session_at t.sessions handle ≡ None → t ≡ without_session t handle
+  without_absent handle t table absent = rw (filter-absent handle t.sessions absent, login_among-same t.sessions t.login table.logged_in) refl
 
-  pub in_order-closed : (slab : Slab (Session W)) (number next key : ℕ) (s : Session W) → IsFound slab number key s → NumbersRise (λ x. x.number) 1 (in_order (λ x. x.number) slab.slots) next → in_order (λ x. x.number) (set slab.slots key None) ≡ filter (λ x. not (eqb x.number number)) (in_order (λ x. x.number) slab.slots)
-  in_order-closed slab number next key s found rising =
-      in_order-remove (λ x. x.number) (λ x. eqb x.number number) slab.slots key s found.here found.numbered (PassesOnce-number (λ x. x.number) 1 next number _ rising)
+  pub in_order-closed : (slab : Slab (Session W)) (handle next key : ℕ) (s : Session W) → IsFound slab handle key s → NumbersRise (λ x. x.handle) 1 (in_order (λ x. x.handle) slab.slots) next → in_order (λ x. x.handle) (set slab.slots key None) ≡ filter (λ x. not (eqb x.handle handle)) (in_order (λ x. x.handle) slab.slots)
+  in_order-closed slab handle next key s found rising =
+      in_order-remove (λ x. x.handle) (λ x. eqb x.handle handle) slab.slots key s found.here found.numbered (PassesOnce-number (λ x. x.handle) 1 next handle _ rising)
 
   -- the login after a close, by whether no session is left
   login_after : (others : List (Session W)) (login : Option UserType) (left : ℕ) → length others ≡ left → cond (eqb left 0) None login ≡ login_among others login
@@ -159,21 +159,21 @@ module _ {W : Type 0} where
   login_after (s ∷ ss) login left counted = rw (ne_eqb left 0 (λ none. absurd (omega (arith, counted, none)))) refl
 
   -- the table after a removal from the slab
-  pub closed_table : (slab removed : Slab (Session W)) (login : Option UserType) (number next key : ℕ) (s : Session W) (empty : Bool) → IsFound slab number key s → NumbersRise (λ x. x.number) 1 (in_order (λ x. x.number) slab.slots) next → removed.slots ≡ set slab.slots key None → empty ≡ eqb (slab_len removed) 0 → ◌≡◌ {A = SessionTable W} (record { sessions = in_order (λ x. x.number) removed.slots; login = cond empty None login; next_number = next }) (without_session (record { sessions = in_order (λ x. x.number) slab.slots; login = login; next_number = next }) number)
-  closed_table slab removed login number next key s empty found rising gone is =
-      let others = filter (λ x. not (eqb x.number number)) (in_order (λ x. x.number) slab.slots) in
-      let closed : in_order (λ x. x.number) removed.slots ≡ others = ap (in_order (λ x. x.number)) gone ∙ in_order-closed slab number next key s found rising in
-      let after : cond empty None login ≡ login_among others login = ap (λ b. cond b None login) is ∙ login_after others login (slab_len removed) (ap length (sym closed) ∙ length-in_order (λ x. x.number) removed.slots) in
+  pub closed_table : (slab removed : Slab (Session W)) (login : Option UserType) (handle next key : ℕ) (s : Session W) (empty : Bool) → IsFound slab handle key s → NumbersRise (λ x. x.handle) 1 (in_order (λ x. x.handle) slab.slots) next → removed.slots ≡ set slab.slots key None → empty ≡ eqb (slab_len removed) 0 → ◌≡◌ {A = SessionTable W} (record { sessions = in_order (λ x. x.handle) removed.slots; login = cond empty None login; next_number = next }) (without_session (record { sessions = in_order (λ x. x.handle) slab.slots; login = login; next_number = next }) handle)
+  closed_table slab removed login handle next key s empty found rising gone is =
+      let others = filter (λ x. not (eqb x.handle handle)) (in_order (λ x. x.handle) slab.slots) in
+      let closed : in_order (λ x. x.handle) removed.slots ≡ others = ap (in_order (λ x. x.handle)) gone ∙ in_order-closed slab handle next key s found rising in
+      let after : cond empty None login ≡ login_among others login = ap (λ b. cond b None login) is ∙ login_after others login (slab_len removed) (ap length (sym closed) ∙ length-in_order (λ x. x.handle) removed.slots) in
       rw (closed, after) refl
 
-  -- the table after a write of what a session has under way
-  pub written_table : (slab : Slab (Session W)) (login : Option UserType) (number next key : ℕ) (s : Session W) (work : W) → IsFound slab number key s → NumbersRise (λ x. x.number) 1 (in_order (λ x. x.number) slab.slots) next → ◌≡◌ {A = SessionTable W} (record { sessions = in_order (λ x. x.number) (set slab.slots key (Some (busy_with work s))); login = login; next_number = next }) (with_work (record { sessions = in_order (λ x. x.number) slab.slots; login = login; next_number = next }) number work)
-  written_table slab login number next key s work found rising =
-      rw (in_order-write (λ x. x.number) (λ x. eqb x.number number) (busy_with work) (λ x. refl) slab.slots key s found.here found.numbered (PassesOnce-number (λ x. x.number) 1 next number _ rising)) refl
+  -- the table after a write of what a session has in progress
+  pub written_table : (slab : Slab (Session W)) (login : Option UserType) (handle next key : ℕ) (s : Session W) (work : W) → IsFound slab handle key s → NumbersRise (λ x. x.handle) 1 (in_order (λ x. x.handle) slab.slots) next → ◌≡◌ {A = SessionTable W} (record { sessions = in_order (λ x. x.handle) (set slab.slots key (Some (busy_with work s))); login = login; next_number = next }) (with_work (record { sessions = in_order (λ x. x.handle) slab.slots; login = login; next_number = next }) handle work)
+  written_table slab login handle next key s work found rising =
+      rw (in_order-write (λ x. x.handle) (λ x. eqb x.handle handle) (busy_with work) (λ x. refl) slab.slots key s found.here found.numbered (PassesOnce-number (λ x. x.handle) 1 next handle _ rising)) refl
 
   -- the session under the key of one that was found is that one
-  pub IsFound-same : (slab : Slab (Session W)) (number key : ℕ) (s r : Session W) → IsFound slab number key s → get slab key ≡ Some r → IsFound slab number key r
-  IsFound-same slab number key s r found there =
+  pub IsFound-same : (slab : Slab (Session W)) (handle key : ℕ) (s r : Session W) → IsFound slab handle key s → get slab key ≡ Some r → IsFound slab handle key r
+  IsFound-same slab handle key s r found there =
       let both : Some s ≡ Some r = sym found.here ∙ there in
       let same : s ≡ r = cc in
-      subst (IsFound slab number key) same found
+      subst (IsFound slab handle key) same found

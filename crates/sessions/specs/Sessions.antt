@@ -30,15 +30,15 @@ module _ {W : Type 0} where
   no_sessions = record { sessions = []; login = None; next_number = 1 }
 
   abbrev pub session_at : List (Session W) → ℕ → Option (Session W)
-  session_at ss number = find (λ s. s.number == number) ss
+  session_at ss handle = find (λ s. s.handle == handle) ss
 
   abbrev pub has_read_only : List (Session W) → Bool
   has_read_only ss = list_any (λ s. not s.read_write) ss
 
-  -- a new session is the last, and has nothing under way
+  -- a new session is the last, and has nothing in progress
   abbrev pub with_session : W → SessionTable W → Bool → SessionTable W
   with_session idle t read_write = record t {
-    sessions = t.sessions ++ record { number = t.next_number; read_write = read_write; work = idle } ∷ [];
+    sessions = t.sessions ++ record { handle = t.next_number; read_write = read_write; work = idle } ∷ [];
     next_number = t.next_number + 1;
   }
 
@@ -49,22 +49,22 @@ module _ {W : Type 0} where
 
   -- the session of this number is gone, and with the last one the login
   abbrev pub without_session : SessionTable W → ℕ → SessionTable W
-  without_session t number =
-      let others = filter (λ s. not (s.number == number)) t.sessions in
+  without_session t handle =
+      let others = filter (λ s. not (s.handle == handle)) t.sessions in
       record t { sessions = others; login = login_among others t.login }
 
-  -- a session with this work under way, and the same where it has a number
+  -- a session with this work in progress, and the same where it has a number
   abbrev pub busy_with : W → Session W → Session W
   busy_with work s = record s { work = work }
 
   abbrev pub busy_at : ℕ → W → Session W → Session W
-  busy_at number work s = if s.number == number then busy_with work s else s
+  busy_at handle work s = if s.handle == handle then busy_with work s else s
 
-  -- the session of this number has this work under way
+  -- the session of this number has this work in progress
   abbrev pub with_work : SessionTable W → ℕ → W → SessionTable W
-  with_work t number work = record t { sessions = map (busy_at number work) t.sessions }
+  with_work t handle work = record t { sessions = map (busy_at handle work) t.sessions }
 
-  -- nobody is logged in, and nothing is under way
+  -- nobody is logged in, and nothing is in progress
   abbrev pub logged_out : W → SessionTable W → SessionTable W
   logged_out idle t = record t { sessions = map (busy_with idle) t.sessions; login = None }
 
@@ -72,7 +72,7 @@ module _ {W : Type 0} where
   -- sessions at most, none is read-only while the SO is logged in, and nobody is logged in without
   -- a session
   pub record IsTable (t : SessionTable W) : Type 0 where
-    pub rising : NumbersRise (λ s. s.number) 1 t.sessions t.next_number
+    pub rising : NumbersRise (λ s. s.handle) 1 t.sessions t.next_number
     pub few : length t.sessions ≤ 64
     pub so : t.login ≡ Some So → IsFalse (has_read_only t.sessions)
     pub logged_in : t.sessions ≡ [] → t.login ≡ None

@@ -1,11 +1,11 @@
 //! One application's sessions.
 //!
-//! A session is a number from 1 on, with its access (read-only or read/write) and what is under way
+//! A session is a number from 1 on, with its access (read-only or read/write) and what is in progress
 //! in it. Numbers rise by one and never return, so a session that was closed stays unknown for good.
 //! All sessions share one login: nobody, the user or the security officer (SO). Closing the last
 //! session ends it, and no session is read-only while the SO is logged in.
 //!
-//! What is under way in a session, as its operations, is a value of the caller's type, a `Work`. It
+//! What is in progress in a session, as its operations, is a value of the caller's type, a `Activity`. It
 //! comes idle with the session, goes with it, and a logout makes it idle again.
 //!
 //! Contracts see the sessions as a list in the order in which they were opened, with the login and
@@ -38,20 +38,20 @@ use std::marker::Model;
 /// How many sessions an application has at most.
 pub const SESSION_LIMIT: usize = 64;
 
-/// What is under way in a session, as its operations.
-pub trait Work {
-    /// Nothing is under way.
+/// What is in progress in a session, as its operations.
+pub trait Activity {
+    /// Nothing is in progress.
     ghost idle: { Self };
 
-    /// What a new session has under way: nothing.
+    /// What a new session has in progress: nothing.
     fn idle() -> Self
         ensures { result ≡ idle };
 }
 
-/// A session: its number, whether it is read/write (CKF_RW_SESSION), and what is under way in it.
+/// A session: its number, whether it is read/write (CKF_RW_SESSION), and what is in progress in it.
 #[derive(Drop)]
 pub struct Session<W> {
-    pub number: u64,
+    pub handle: u64,
     pub read_write: bool,
     pub work: W,
 }
@@ -70,12 +70,12 @@ impl<W> Model for Sessions<W> {
 
     ghost Value = { SessionTable W };
 
-    ghost view = { λ t. record { sessions = in_order (λ s. s.number) t.sessions.slots; login = t.login; next_number = t.next_number } };
+    ghost view = { λ t. record { sessions = in_order (λ s. s.handle) t.sessions.slots; login = t.login; next_number = t.next_number } };
 
-    ghost invariant = { λ t. IsTable (record { sessions = in_order (λ s. s.number) t.sessions.slots; login = t.login; next_number = t.next_number }) };
+    ghost invariant = { λ t. IsTable (record { sessions = in_order (λ s. s.handle) t.sessions.slots; login = t.login; next_number = t.next_number }) };
 }
 
-impl<W: Work> Sessions<W> {
+impl<W: Activity> Sessions<W> {
     ghost use Rattle.sessions.specs.Lending.{lends_work};
 
     /// No sessions yet. Nothing is allocated.
@@ -144,71 +144,71 @@ impl<W: Work> Sessions<W> {
     }
 
     /// Whether there is a session of this number.
-    pub fn has(&self, number: u64) -> bool
-        ensures { result ≡ is_some (session_at self.now.sessions number) }
+    pub fn has(&self, handle: u64) -> bool
+        ensures { result ≡ is_some (session_at self.now.sessions handle) }
     {
-        find_session(&self.sessions, number).is_some()
+        find_session(&self.sessions, handle).is_some()
     }
 
     /// Whether the session of this number is read/write.
-    pub fn is_read_write(&self, number: u64) -> Option<bool>
-        ensures { result ≡ option_map (λ s. s.read_write) (session_at self.now.sessions number) }
+    pub fn is_read_write(&self, handle: u64) -> Option<bool>
+        ensures { result ≡ option_map (λ s. s.read_write) (session_at self.now.sessions handle) }
     {
-        find_session(&self.sessions, number).map(|(_, session)| session.read_write)
+        find_session(&self.sessions, handle).map(|(_, session)| session.read_write)
     }
 
     /// The state of the session of this number (PKCS #11 v3.1, 3.3: `CK_STATE`).
-    pub fn state(&self, number: u64) -> Option<SessionState>
-        ensures { result ≡ option_map (λ s. state_of self.now.login s.read_write) (session_at self.now.sessions number) }
+    pub fn state(&self, handle: u64) -> Option<SessionState>
+        ensures { result ≡ option_map (λ s. state_of self.now.login s.read_write) (session_at self.now.sessions handle) }
     {
-        let read_write = self.is_read_write(number)?;
+        let read_write = self.is_read_write(handle)?;
         Some(session_state(self.login, read_write))
     }
 
-    /// What is under way in the session of this number.
-    pub fn work(&self, number: u64) -> Option<&W>
-        ensures { option_copied result ≡ option_map (λ s. s.work) (session_at self.now.sessions number) }
+    /// What is in progress in the session of this number.
+    pub fn work(&self, handle: u64) -> Option<&W>
+        ensures { option_copied result ≡ option_map (λ s. s.work) (session_at self.now.sessions handle) }
     {
-        find_session(&self.sessions, number).map(|(_, session)| &session.work)
+        find_session(&self.sessions, handle).map(|(_, session)| &session.work)
     }
 
-    /// What is under way in the session of this number, for writing.
-    pub fn work_mut(&mut self, number: u64) -> Option<&mut W>
-        ensures* writes_back { sem 𝓛 (lends_work W.row self.entry number result) }
-        ensures value { option_copied_mut result ≡ option_map (λ s. s.work) (session_at self.old.sessions number) }
+    /// What is in progress in the session of this number, for writing.
+    pub fn work_mut(&mut self, handle: u64) -> Option<&mut W>
+        ensures* writes_back { sem 𝓛 (lends_work W.row self.entry handle result) }
+        ensures value { option_copied_mut result ≡ option_map (λ s. s.work) (session_at self.old.sessions handle) }
     {
-        let (key, _) = find_session(&self.sessions, number)?;
+        let (key, _) = find_session(&self.sessions, handle)?;
         Some(&mut self.sessions[key].work)
     }
 
-    /// Opens a session, with nothing under way in it (C_OpenSession). It fails only for want of
+    /// Opens a session, with nothing in progress in it (C_OpenSession). It fails only for want of
     /// memory, and then nothing changes.
     pub fn open(&mut self, read_write: bool) -> Result<u64, AllocError>
         requires numbers { self.old.next_number < NUMBER_LIMIT }
         requires room { length self.old.sessions < SESSION_LIMIT }
         requires access { self.old.login ≡ Some UserType.So → IsTrue read_write }
-        ensures number { IfOk result (λ number. number ≡ self.old.next_number) }
+        ensures handle { IfOk result (λ handle. handle ≡ self.old.next_number) }
         ensures opened { OnOk result (self.new ≡ with_session W.idle self.old read_write) }
         ensures err { OnErr result (self.new ≡ self.old) }
     {
         self.sessions.reserve(1)?;
-        let number = self.next_number;
+        let handle = self.next_number;
         self.sessions.insert_reserved(Session {
-            number,
+            handle,
             read_write,
             work: W::idle(),
         });
         self.next_number += 1;
-        Ok(number)
+        Ok(handle)
     }
 
-    /// Closes the session of this number, if there is one, and hands back what was under way in it
+    /// Closes the session of this number, if there is one, and hands back what was in progress in it
     /// (C_CloseSession). Closing the last one ends the login. No memory is taken.
-    pub fn close(&mut self, number: u64) -> Option<W>
-        ensures work { result ≡ option_map (λ s. s.work) (session_at self.old.sessions number) }
-        ensures closed { self.new ≡ without_session self.old number }
+    pub fn close(&mut self, handle: u64) -> Option<W>
+        ensures work { result ≡ option_map (λ s. s.work) (session_at self.old.sessions handle) }
+        ensures closed { self.new ≡ without_session self.old handle }
     {
-        let (key, _) = find_session(&self.sessions, number)?;
+        let (key, _) = find_session(&self.sessions, handle)?;
         let Session { work, .. } = self.sessions.remove(key);
         if self.sessions.is_empty() {
             self.login = None;
@@ -236,7 +236,7 @@ impl<W: Work> Sessions<W> {
         self.login = Some(user);
     }
 
-    /// Logs out, which ends all that is under way (C_Logout). No memory is taken.
+    /// Logs out, which ends all that is in progress (C_Logout). No memory is taken.
     pub fn logout(&mut self)
     where
         W: Drop,
@@ -261,16 +261,16 @@ fn session_state(login: Option<UserType>, read_write: bool) -> SessionState
 
 // A session is found by the number that it carries, so that a key which the slab gives out again is
 // never taken for the session that had it before.
-fn find_session<W>(sessions: &Slab<Session<W>>, number: u64) -> Option<(usize, &Session<W>)>
-    ensures { option_map (λ e. (e.0, e.1.now)) result ≡ find (λ e. e.1.number == number) (entries sessions.now) }
+fn find_session<W>(sessions: &Slab<Session<W>>, handle: u64) -> Option<(usize, &Session<W>)>
+    ensures { option_map (λ e. (e.0, e.1.now)) result ≡ find (λ e. e.1.handle == handle) (entries sessions.now) }
 {
     sessions
         .iter()
-        .find(|(_, session)| session.number == number)
+        .find(|(_, session)| session.handle == handle)
 }
 
-fn end_work<W: Work + Drop>(sessions: &mut Slab<Session<W>>)
-    ensures { in_order (λ s. s.number) sessions.new.slots ≡ map (busy_with W.idle) (in_order (λ s. s.number) sessions.old.slots) }
+fn end_work<W: Activity + Drop>(sessions: &mut Slab<Session<W>>)
+    ensures { in_order (λ s. s.handle) sessions.new.slots ≡ map (busy_with W.idle) (in_order (λ s. s.handle) sessions.old.slots) }
 {
     sessions.retain(|_, session| {
         session.work = W::idle();

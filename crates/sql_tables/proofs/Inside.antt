@@ -6,7 +6,7 @@ use Rattle.sqlite.specs.Store.{Ghosts}
 use Rattle.sqlite.specs.State.{State, HasCleanDisk, ExecutesInside, Survives}
 use Rattle.sqlite.specs.Held.{Held, state}
 use Rattle.sqlite.specs.declared.error.Error.{Error}
-use Rattle.table_statements.specs.Ran.{RanPair, RanThree}
+use Rattle.sql_statements.specs.Ran.{RanPair, RanThree}
 
 -- what a call in a transaction says
 abbrev pub Inside : List ℕ → Row → State → State → Result ℕ Error → Type 0

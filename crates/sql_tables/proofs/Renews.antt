@@ -9,17 +9,17 @@ use Rattle.sqlite.specs.State.{State, Executes, Writes}
 use Rattle.sqlite.specs.Held.{Held, state}
 use Rattle.sqlite.proofs.Callers.{statement_of, runs_as}
 use Rattle.sql_tables.specs.declared.renewals.Renewal.{Renewal}
-use Rattle.table_statements.specs.Tables.{token_schema}
-use Rattle.table_statements.specs.Bodies.{Bodies, IdsRise, put_at}
-use Rattle.table_statements.specs.Store.{HasRows, body_row}
-use Rattle.table_statements.specs.Rows.{natural}
+use Rattle.sql_statements.specs.Tables.{token_schema}
+use Rattle.sql_statements.specs.Bodies.{Bodies, IdsRise, put_at}
+use Rattle.sql_statements.specs.Store.{HasRows, body_row}
+use Rattle.sql_statements.specs.Rows.{natural}
 use Rattle.sql_tables.specs.RanEach.{RanEach, RanRenewals}
 use Rattle.sql_tables.specs.Renewed.{AreNatural, put_each, renewed}
-use Rattle.table_statements.proofs.Ids.{RiseFrom, rises_put, rising}
-use Rattle.table_statements.proofs.Texts.{replace_is, set_is}
-use Rattle.table_statements.proofs.Replace.{replace_params, replace_plain, replace_query, replace_rows}
-use Rattle.table_statements.proofs.Update.{set_query, set_params}
-use Rattle.table_statements.proofs.Set.{set_plain, sets_record}
+use Rattle.sql_statements.proofs.Ids.{RiseFrom, rises_put, rising}
+use Rattle.sql_statements.proofs.Texts.{replace_is, set_is}
+use Rattle.sql_statements.proofs.Replace.{replace_params, replace_plain, replace_query, replace_rows}
+use Rattle.sql_statements.proofs.Update.{set_query, set_params}
+use Rattle.sql_statements.proofs.Set.{set_plain, sets_record}
 use Rattle.sql_tables.proofs.Each.{again_text}
 
 put_rises : (low id : ℕ) (bytes : List ℕ) (xs : List (ℕ × List ℕ)) → RiseFrom low xs → RiseFrom low (map (put_at id bytes) xs)

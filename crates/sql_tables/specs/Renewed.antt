@@ -1,8 +1,8 @@
 -- What writing bodies again makes of them.
 use Rattle.std.specs.Prelude.{◌≡◌, ℕ, pos, List, [], ◌∷◌, map, ⊤}
 use Rattle.sql_tables.specs.declared.renewals.Renewal.{Renewal}
-use Rattle.table_statements.specs.Bodies.{Bodies, put_at}
-use Rattle.table_statements.specs.Rows.{natural}
+use Rattle.sql_statements.specs.Bodies.{Bodies, put_at}
+use Rattle.sql_statements.specs.Rows.{natural}
 
 -- the bodies after each renewal, in turn
 abbrev pub put_each : List Renewal → List (ℕ × List ℕ) → List (ℕ × List ℕ)

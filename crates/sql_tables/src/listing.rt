@@ -6,9 +6,9 @@ ghost use Rattle.sqlite.specs.declared.types.Value.TheVariants.{Int};
 ghost use Rattle.sqlite.specs.Effect.{Database, Reads};
 ghost use Rattle.sqlite.specs.State.{HasCleanDisk};
 ghost use Rattle.sqlite.specs.Held.{state};
-ghost use Rattle.table_statements.specs.Bodies.{Bodies, ids_of};
-ghost use Rattle.table_statements.specs.Store.{HoldsRows, IsQuery, OnlyReads, RowsStayed, SeesTables, command};
-ghost use Rattle.table_statements.specs.Rows.{bodies, ids_and_bodies};
+ghost use Rattle.sql_statements.specs.Bodies.{Bodies, ids_of};
+ghost use Rattle.sql_statements.specs.Store.{HoldsRows, IsQuery, OnlyReads, RowsStayed, SeesTables, command};
+ghost use Rattle.sql_statements.specs.Rows.{bodies, ids_and_bodies};
 
 use crate::statements::ensure_open;
 use sqlite::{Alter, Connection, Error, Row};

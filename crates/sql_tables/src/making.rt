@@ -6,9 +6,9 @@ ghost use Rattle.sqlite.specs.Tree.{Trees};
 ghost use Rattle.sqlite_trees.specs.View.{doubt};
 ghost use Rattle.sqlite.specs.State.{HasCleanDisk};
 ghost use Rattle.sqlite.specs.Held.{state};
-ghost use Rattle.table_statements.specs.Bodies.{new_bodies};
-ghost use Rattle.table_statements.specs.Tables.{no_schema};
-ghost use Rattle.table_statements.specs.Store.{HasTables, IsAtRows, IsReady, Sees, ShowsNow};
+ghost use Rattle.sql_statements.specs.Bodies.{new_bodies};
+ghost use Rattle.sql_statements.specs.Tables.{no_schema};
+ghost use Rattle.sql_statements.specs.Store.{HasTables, IsAtRows, IsReady, Sees, ShowsNow};
 
 use crate::transactions::{Three, run_all};
 use sqlite::{Alter, Connection, Error};

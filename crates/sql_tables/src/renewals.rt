@@ -7,8 +7,8 @@ ghost use Rattle.sqlite_trees.specs.View.{doubt};
 ghost use Rattle.sqlite.specs.declared.types.Value.TheVariants.{Blob, Int};
 ghost use Rattle.sqlite.specs.State.{ExecutesInside, HasCleanDisk, KeepsCommit, Survives};
 ghost use Rattle.sqlite.specs.Held.{state};
-ghost use Rattle.table_statements.specs.Bodies.{Bodies};
-ghost use Rattle.table_statements.specs.Store.{HasTables, IsAtRows, IsReady, Sees, ShowsNow};
+ghost use Rattle.sql_statements.specs.Bodies.{Bodies};
+ghost use Rattle.sql_statements.specs.Store.{HasTables, IsAtRows, IsReady, Sees, ShowsNow};
 ghost use Rattle.sql_tables.specs.RanEach.{RanEach, RanRenewals};
 ghost use Rattle.sql_tables.specs.Renewed.{AreNatural, renewed};
 

@@ -9,8 +9,8 @@ ghost use Rattle.sqlite.specs.declared.error.Error.TheVariants.{SqliteFailure};
 ghost use Rattle.sqlite.specs.declared.error.ErrorCode.TheVariants.{Closed};
 ghost use Rattle.sqlite.specs.State.{HasCleanDisk, Executes, QueriesRow, Survives, CommitsBy, CommitsShowing};
 ghost use Rattle.sqlite.specs.Held.{state};
-ghost use Rattle.table_statements.specs.Bodies.{Bodies, after_reset, greatest_id, with_body, with_body_at, with_record, without_body};
-ghost use Rattle.table_statements.specs.Store.{Committed, HoldsRows, IsReady, RowsChanged, RowsFailed, RowsStayed, ShowsBody, Uncommitted, Unwritten};
+ghost use Rattle.sql_statements.specs.Bodies.{Bodies, after_reset, greatest_id, with_body, with_body_at, with_record, without_body};
+ghost use Rattle.sql_statements.specs.Store.{Committed, HoldsRows, IsReady, RowsChanged, RowsFailed, RowsStayed, ShowsBody, Uncommitted, Unwritten};
 
 use crate::transactions::{Pair, run_all};
 use sqlite::{Alter, Connection, Error, Row, params};

@@ -4,7 +4,7 @@ ghost use Rattle.std.specs.Prelude.{◌≡◌, false, true, IsOk, IsTrue, OnOk, 
 ghost use Rattle.sqlite.specs.State.{HasCleanDisk, KeepsCommit, Shows, Survives};
 ghost use Rattle.sqlite.specs.Effect.{Database};
 ghost use Rattle.sqlite.specs.Held.{Held, state};
-ghost use Rattle.table_statements.specs.Ran.{RanPair, RanThree};
+ghost use Rattle.sql_statements.specs.Ran.{RanPair, RanThree};
 ghost use Rattle.sql_tables.specs.OneTransaction.{IsOneTransaction};
 
 use sqlite::{Alter, Connection, Error, Transaction, params};

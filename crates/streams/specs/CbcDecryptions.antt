@@ -1,16 +1,16 @@
 -- The fields of a CBC decryption.
 use Rattle.std.specs.Prelude.{◌≡◌, ◌*◌, ◌≤◌, drop}
 use Rattle.aes_modes.specs.Modes.{chained}
-use Rattle.mode_flows.specs.Flows.{Flow, blocks_done}
-use Rattle.mode_flows.specs.CbcFlows.{IsCbcDeciphered}
+use Rattle.streams_model.specs.Flows.{Flow, blocks_done}
+use Rattle.streams_model.specs.CbcFlows.{IsCbcDecrypted}
 use Rattle.streams.specs.declared.cbc_decryption.CbcDecryption.TheInside.{Inside}
 
 abbrev pub flow_of : Inside → Flow
 flow_of s = record { iv = s.iv.bytes; key = s.key; held = s.held; taken = s.passed.taken.bytes; given = s.passed.given.bytes }
 
--- what the next block deciphered is added to, and the bytes behind the blocks done, are kept
+-- what the next block decrypted is added to, and the bytes behind the blocks done, are kept
 pub record Holds (s : Inside) : Type 0 where
   pub held : s.held ≤ 1
-  pub given : IsCbcDeciphered (flow_of s)
+  pub given : IsCbcDecrypted (flow_of s)
   pub chain : s.chain ≡ chained s.key s.iv.bytes s.passed.given.bytes (blocks_done s.held s.passed.taken.bytes)
   pub kept : s.passed.kept ≡ drop (16 * blocks_done s.held s.passed.taken.bytes) s.passed.taken.bytes

@@ -1,11 +1,11 @@
--- The fields of CTR in pieces.
+-- The fields of CTR in parts.
 use Rattle.std.specs.Prelude.{◌≡◌, ◌+◌, ◌*◌, ◌^◌, ◌≤◌, drop}
 use Rattle.std.specs.Int.{w128, from_be_bytes}
 use Rattle.fips_197.specs.Bytes.{AreBytes}
 use Rattle.fips_197.specs.KeyExpansion.{IsKey}
 use Rattle.aes_modes.specs.Counter.{counter_start}
-use Rattle.mode_flows.specs.Countings.{Counting, ctr_output}
-use Rattle.mode_flows.specs.Flows.{blocks_done}
+use Rattle.streams_model.specs.Countings.{Counting, ctr_output}
+use Rattle.streams_model.specs.Flows.{blocks_done}
 use Rattle.streams.specs.declared.ctr_stream.CtrStream.TheInside.{Inside}
 
 abbrev pub counting_of : Inside → Counting

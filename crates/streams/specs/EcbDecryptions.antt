@@ -1,7 +1,7 @@
 -- The fields of an ECB decryption.
 use Rattle.std.specs.Prelude.{◌≡◌, ◌*◌, ◌/◌, [], length, drop}
-use Rattle.mode_flows.specs.Flows.{Flow}
-use Rattle.mode_flows.specs.EcbFlows.{IsEcbDeciphered}
+use Rattle.streams_model.specs.Flows.{Flow}
+use Rattle.streams_model.specs.EcbFlows.{IsEcbDecrypted}
 use Rattle.streams.specs.declared.ecb_decryption.EcbDecryption.TheInside.{Inside}
 
 abbrev pub flow_of : Inside → Flow
@@ -9,5 +9,5 @@ flow_of s = record { iv = []; key = s.key; held = 0; taken = s.passed.taken.byte
 
 -- the bytes behind the whole blocks are kept
 pub record Holds (s : Inside) : Type 0 where
-  pub given : IsEcbDeciphered (flow_of s)
+  pub given : IsEcbDecrypted (flow_of s)
   pub kept : s.passed.kept ≡ drop (16 * (length s.passed.taken.bytes / 16)) s.passed.taken.bytes

@@ -4,7 +4,7 @@ use Rattle.std.specs.Prelude.{ℕ, ◌+◌, ◌-◌, ◌*◌, ◌/◌, ◌%◌, 
 use Rattle.aes_modes.specs.Blocks.{blocks_begun}
 use Rattle.aes_modes.specs.Counter.{counter_start}
 use Rattle.aes_modes.specs.declared.direction.Direction.{Direction}
-use Rattle.aes_modes.specs.declared.direction.Direction.TheVariants.{Encipher, Decipher}
+use Rattle.aes_modes.specs.declared.direction.Direction.TheVariants.{Encrypt, Decrypt}
 use Rattle.streams.specs.declared.mechanism.Mechanism.{Mechanism}
 use Rattle.streams.specs.declared.mechanism.Mechanism.TheVariants.{Ecb, Cbc, CbcPad, Ctr}
 use Rattle.streams.specs.declared.part.Part.{Part}
@@ -16,16 +16,16 @@ use Rattle.streams.specs.Streamed.{Streamed}
 abbrev pub length_so_far : Mechanism → Direction → ℕ → ℕ
 length_so_far Ecb direction d = 16 * (d / 16)
 length_so_far (Cbc iv) direction d = 16 * (d / 16)
-length_so_far (CbcPad iv) Encipher d = 16 * (d / 16)
-length_so_far (CbcPad iv) Decipher d = 16 * ((d - 1) / 16)
+length_so_far (CbcPad iv) Encrypt d = 16 * (d / 16)
+length_so_far (CbcPad iv) Decrypt d = 16 * ((d - 1) / 16)
 length_so_far (Ctr bits start) direction d = d
 
 -- how many bytes the whole output has; where a padding is taken off, a bound on them
 abbrev pub whole_length : Mechanism → Direction → ℕ → ℕ
 whole_length Ecb direction d = d
 whole_length (Cbc iv) direction d = d
-whole_length (CbcPad iv) Encipher d = 16 * (d / 16 + 1)
-whole_length (CbcPad iv) Decipher d = d
+whole_length (CbcPad iv) Encrypt d = 16 * (d / 16 + 1)
+whole_length (CbcPad iv) Decrypt d = d
 whole_length (Ctr bits start) direction d = d
 
 -- the room that a call with n bytes of data wants: what the output then has, less what was given
@@ -33,12 +33,12 @@ abbrev pub wanted : Part → Streamed → ℕ → ℕ
 wanted Update s n = length_so_far s.mechanism s.direction (length s.taken + n) - length s.given
 wanted Last s n = whole_length s.mechanism s.direction (length s.taken + n) - length s.given
 
--- so many bytes can't be all data: ECB and CBC take whole blocks, and deciphering a padded text one at least
+-- so many bytes can't be all data: ECB and CBC take whole blocks, and decrypting a padded text one at least
 abbrev pub is_of_no_text : Mechanism → Direction → ℕ → Bool
 is_of_no_text Ecb direction d = not (d % 16 == 0)
 is_of_no_text (Cbc iv) direction d = not (d % 16 == 0)
-is_of_no_text (CbcPad iv) Encipher d = false
-is_of_no_text (CbcPad iv) Decipher d = (d == 0) || not (d % 16 == 0)
+is_of_no_text (CbcPad iv) Encrypt d = false
+is_of_no_text (CbcPad iv) Decrypt d = (d == 0) || not (d % 16 == 0)
 is_of_no_text (Ctr bits start) direction d = false
 
 -- a call with n bytes of data is refused for the length: where data ends with it that can't be all

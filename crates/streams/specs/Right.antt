@@ -1,50 +1,50 @@
 -- Pieces equal the whole: what the bytes given are, by the modes over whole texts (SP 800-38A, 6).
 use Rattle.std.specs.Prelude.{◌≡◌, ℕ, false, List, ◌++◌, length, take}
 use Rattle.fips_197.specs.Bytes.{AreBytes}
-use Rattle.aes_modes.specs.Modes.{ecb_enciphered, cbc_enciphered, cbc_pad_enciphered, ctr_enciphered}
+use Rattle.aes_modes.specs.Modes.{ecb_encrypted, cbc_encrypted, cbc_pad_encrypted, ctr_encrypted}
 use Rattle.aes_modes.specs.Directions.{IsTurned}
 use Rattle.aes_modes.specs.declared.direction.Direction.{Direction}
-use Rattle.aes_modes.specs.declared.direction.Direction.TheVariants.{Encipher, Decipher}
+use Rattle.aes_modes.specs.declared.direction.Direction.TheVariants.{Encrypt, Decrypt}
 use Rattle.streams.specs.declared.mechanism.Mechanism.{Mechanism}
 use Rattle.streams.specs.declared.mechanism.Mechanism.TheVariants.{Ecb, Cbc, CbcPad, Ctr}
 use Rattle.streams.specs.Streamed.{Streamed}
 use Rattle.streams.specs.Lengths.{length_so_far, is_of_no_text}
 
--- a text before its padding, enciphered: of ECB and CBC a text of whole blocks
-abbrev pub enciphered : Mechanism → List ℕ → List ℕ → List ℕ
-enciphered Ecb key text = ecb_enciphered key text
-enciphered (Cbc iv) key text = cbc_enciphered key iv text
-enciphered (CbcPad iv) key text = cbc_enciphered key iv text
-enciphered (Ctr bits start) key text = ctr_enciphered key bits start text
+-- a text before its padding, encrypted: of ECB and CBC a text of whole blocks
+abbrev pub encrypted : Mechanism → List ℕ → List ℕ → List ℕ
+encrypted Ecb key text = ecb_encrypted key text
+encrypted (Cbc iv) key text = cbc_encrypted key iv text
+encrypted (CbcPad iv) key text = cbc_encrypted key iv text
+encrypted (Ctr bits start) key text = ctr_encrypted key bits start text
 
--- a whole text, enciphered
-abbrev pub whole_enciphered : Mechanism → List ℕ → List ℕ → List ℕ
-whole_enciphered Ecb key text = ecb_enciphered key text
-whole_enciphered (Cbc iv) key text = cbc_enciphered key iv text
-whole_enciphered (CbcPad iv) key text = cbc_pad_enciphered key iv text
-whole_enciphered (Ctr bits start) key text = ctr_enciphered key bits start text
+-- a whole text, encrypted
+abbrev pub whole_encrypted : Mechanism → List ℕ → List ℕ → List ℕ
+whole_encrypted Ecb key text = ecb_encrypted key text
+whole_encrypted (Cbc iv) key text = cbc_encrypted key iv text
+whole_encrypted (CbcPad iv) key text = cbc_pad_encrypted key iv text
+whole_encrypted (Ctr bits start) key text = ctr_encrypted key bits start text
 
 -- of the data taken as many bytes as the table says were turned to the bytes given, and to no others
 pub record IsRight (s : Streamed) : Type 0 where
   pub size : length s.given ≡ length_so_far s.mechanism s.direction (length s.taken)
-  pub turned : IsTurned s.direction (enciphered s.mechanism s.key) (take (length s.given) s.taken) s.given
+  pub turned : IsTurned s.direction (encrypted s.mechanism s.key) (take (length s.given) s.taken) s.given
   pub only : (x : List ℕ) → AreBytes x → length x ≡ length s.given
-      → IsTurned s.direction (enciphered s.mechanism s.key) (take (length s.given) s.taken) x → x ≡ s.given
+      → IsTurned s.direction (encrypted s.mechanism s.key) (take (length s.given) s.taken) x → x ≡ s.given
 
 -- `out` is the rest of what all data is turned to
 abbrev pub IsRest : Streamed → List ℕ → Type 0
-IsRest s out = IsTurned s.direction (whole_enciphered s.mechanism s.key) s.taken (s.given ++ out)
+IsRest s out = IsTurned s.direction (whole_encrypted s.mechanism s.key) s.taken (s.given ++ out)
 
--- a text that the mechanism enciphers
+-- a text that the mechanism encrypts
 abbrev pub IsText : Mechanism → List ℕ → Type 0
-IsText mechanism text = is_of_no_text mechanism Encipher (length text) ≡ false
+IsText mechanism text = is_of_no_text mechanism Encrypt (length text) ≡ false
 
 -- and nothing else is the rest
 abbrev pub IsOnlyRest : Streamed → List ℕ → Type 0
 IsOnlyRest s out = (x : List ℕ) → AreBytes x → IsText s.mechanism x
-    → IsTurned s.direction (whole_enciphered s.mechanism s.key) s.taken x → x ≡ s.given ++ out
+    → IsTurned s.direction (whole_encrypted s.mechanism s.key) s.taken x → x ≡ s.given ++ out
 
 -- a padding is to be taken off
 abbrev pub TakesPaddingOff : Mechanism → Direction → Type 0
-TakesPaddingOff (CbcPad iv) Decipher = Unit {0}
+TakesPaddingOff (CbcPad iv) Decrypt = Unit {0}
 TakesPaddingOff _ _ = ⊥

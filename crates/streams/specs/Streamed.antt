@@ -1,4 +1,4 @@
--- A text that is enciphered or deciphered in pieces, as contracts see it (SP 800-38A, 6; PKCS #11 v3.1,
+-- A text that is encrypted or decrypted in parts, as contracts see it (SP 800-38A, 6; PKCS #11 v3.1,
 -- 5.8 and 5.10).
 use Rattle.std.specs.Prelude.{ℕ, List, [], ◌++◌}
 pub use Rattle.aes_modes.specs.declared.direction.Direction.{Direction}

@@ -1,16 +1,16 @@
-//! CBC decryption in pieces (SP 800-38A, 6.2), with or without padding at the end (RFC 5652, 6.3).
+//! CBC decryption in parts (SP 800-38A, 6.2), with or without padding at the end (RFC 5652, 6.3).
 
 ghost use Rattle.std.specs.Prelude.{◌≡◌, ◌≢◌, ◌⊎◌, ℕ, List, ◌+◌, ◌-◌, ◌*◌, ◌%◌, ◌≤◌, ◌++◌, ◌↔◌, length, take, IfOk, IfErr, OnErr, IsErrOf};
 ghost use Rattle.fips_197.specs.Bytes.{AreBytes};
-ghost use Rattle.aes_modes.specs.Modes.{chained, cbc_blocks, cbc_pad_enciphered};
-ghost use Rattle.mode_flows.specs.Flows.{begun, further};
-ghost use Rattle.mode_flows.specs.CbcFlows.{IsCbcDeciphered};
+ghost use Rattle.aes_modes.specs.Modes.{chained, cbc_blocks, cbc_pad_encrypted};
+ghost use Rattle.streams_model.specs.Flows.{begun, further};
+ghost use Rattle.streams_model.specs.CbcFlows.{IsCbcDecrypted};
 
 use crate::kept::Kept;
 use crate::passed::Passed;
 use aes_block::{BLOCK_SIZE, Block, Key, are_bytes, xor_blocks};
 use aes_modes::{ModeFault, unpadded_len};
-use noted::Noted;
+use noted::GhostBytes;
 use std::alloc::{AllocError, Global};
 use std::marker::Model;
 
@@ -23,11 +23,11 @@ pub(crate) struct CbcDecryption {
     chain: Block,
     passed: Passed,
     held: usize,
-    iv: Noted,
+    iv: GhostBytes,
 }
 
 impl Model for CbcDecryption {
-    ghost use Rattle.mode_flows.specs.Flows.{Flow};
+    ghost use Rattle.streams_model.specs.Flows.{Flow};
 
     ghost Value = { Flow };
 
@@ -38,8 +38,8 @@ impl Model for CbcDecryption {
     ghost invariant = { Holds };
 }
 
-// What the first blocks of kept bytes and a piece are deciphered to, and the last of these blocks.
-fn deciphered_blocks(
+// What the first blocks of kept bytes and a piece are decrypted to, and the last of these blocks.
+fn decrypted_blocks(
     alloc: Global,
     key: &Key,
     start: Block,
@@ -73,7 +73,7 @@ impl CbcDecryption {
     {
         let _size = key.size();
         are_bytes(&iv);
-        let mut start = Noted::new();
+        let mut start = GhostBytes::new();
         start.push(&iv);
         CbcDecryption {
             key,
@@ -104,7 +104,7 @@ impl CbcDecryption {
     {
         let kept = &self.passed.kept;
         let blocks = (kept.len() + piece.len()).saturating_sub(self.held) / BLOCK_SIZE;
-        let (out, chain) = deciphered_blocks(alloc, &self.key, self.chain, kept, piece, blocks)?;
+        let (out, chain) = decrypted_blocks(alloc, &self.key, self.chain, kept, piece, blocks)?;
         self.chain = chain;
         self.passed.advance(piece, blocks, &out);
         Ok(out)
@@ -112,7 +112,7 @@ impl CbcDecryption {
 
     /// What the bytes given are. It does nothing.
     pub(crate) fn gives(&self)
-        ensures { IsCbcDeciphered self.now }
+        ensures { IsCbcDecrypted self.now }
     {
         let _passed = &self.passed;
     }
@@ -129,15 +129,15 @@ impl CbcDecryption {
     pub(crate) fn unpadded_block(&self, alloc: Global) -> Result<Vec<u8>, ModeFault>
         requires { self.now.held ≡ 1 }
         ensures value { IfOk result (λ out.
-            cbc_pad_enciphered self.now.key self.now.iv (self.now.given ++ out.items) ≡ self.now.taken) }
+            cbc_pad_encrypted self.now.key self.now.iv (self.now.given ++ out.items) ≡ self.now.taken) }
         ensures only { IfOk result (λ out. (x : List ℕ) → AreBytes x
-            → cbc_pad_enciphered self.now.key self.now.iv x ≡ self.now.taken → x ≡ self.now.given ++ out.items) }
+            → cbc_pad_encrypted self.now.key self.now.iv x ≡ self.now.taken → x ≡ self.now.given ++ out.items) }
         ensures size { IfOk result (λ out. length out.items ≤ length self.now.taken - length self.now.given) }
         ensures bytes { IfOk result (λ out. AreBytes (self.now.given ++ out.items)) }
         ensures len_range { IsErrOf result ModeFault.LenRange
             ↔ ((length self.now.taken ≡ 0) ⊎ (length self.now.taken % 16 ≢ 0)) }
         ensures bad_pad { IsErrOf result ModeFault.BadPad → (x : List ℕ) → AreBytes x
-            → cbc_pad_enciphered self.now.key self.now.iv x ≢ self.now.taken }
+            → cbc_pad_encrypted self.now.key self.now.iv x ≢ self.now.taken }
         ensures faults { IfErr result (λ fault. fault ≢ ModeFault.CounterEnd) }
     {
         if self.passed.kept.len() != BLOCK_SIZE {

@@ -1,15 +1,15 @@
-//! CBC encryption in pieces (SP 800-38A, 6.2), with or without padding at the end (RFC 5652, 6.3).
+//! CBC encryption in parts (SP 800-38A, 6.2), with or without padding at the end (RFC 5652, 6.3).
 
 ghost use Rattle.std.specs.Prelude.{◌≡◌, ◌+◌, ◌-◌, ◌*◌, ◌≤◌, ◌++◌, length, IfOk, OnErr};
-ghost use Rattle.aes_modes.specs.Modes.{chained, cbc_blocks, cbc_pad_enciphered};
-ghost use Rattle.mode_flows.specs.Flows.{begun, further};
-ghost use Rattle.mode_flows.specs.CbcFlows.{IsCbcEnciphered};
+ghost use Rattle.aes_modes.specs.Modes.{chained, cbc_blocks, cbc_pad_encrypted};
+ghost use Rattle.streams_model.specs.Flows.{begun, further};
+ghost use Rattle.streams_model.specs.CbcFlows.{IsCbcEncrypted};
 
 use crate::kept::Kept;
 use crate::passed::Passed;
 use aes_block::{BLOCK_SIZE, Block, Key, are_bytes, xor_blocks};
 use aes_modes::{filled_block, push_number, xor_number};
-use noted::Noted;
+use noted::GhostBytes;
 use std::alloc::{AllocError, Global};
 use std::marker::Model;
 
@@ -20,11 +20,11 @@ pub(crate) struct CbcEncryption {
     key: Key,
     chain: Block,
     passed: Passed,
-    iv: Noted,
+    iv: GhostBytes,
 }
 
 impl Model for CbcEncryption {
-    ghost use Rattle.mode_flows.specs.Flows.{Flow};
+    ghost use Rattle.streams_model.specs.Flows.{Flow};
 
     ghost Value = { Flow };
 
@@ -35,8 +35,8 @@ impl Model for CbcEncryption {
     ghost invariant = { Holds };
 }
 
-// What the first blocks of kept bytes and a piece are enciphered to, and the last block of that.
-fn enciphered_blocks(
+// What the first blocks of kept bytes and a piece are encrypted to, and the last block of that.
+fn encrypted_blocks(
     alloc: Global,
     key: &Key,
     start: Block,
@@ -53,7 +53,7 @@ fn enciphered_blocks(
     are_bytes(&start);
     let mut chain = u128::from_be_bytes(start);
     'turns: for i in 0..blocks {
-        chain = key.encipher_number(xor_number(kept.block(piece, i), chain));
+        chain = key.encrypt_number(xor_number(kept.block(piece, i), chain));
         push_number(&mut out, chain)?;
     }
     Ok((out, chain.to_be_bytes()))
@@ -64,7 +64,7 @@ impl CbcEncryption {
     pub(crate) fn new(key: Key, iv: Block) -> CbcEncryption
         ensures { result ≡ begun iv key 0 }
     {
-        let mut start = Noted::new();
+        let mut start = GhostBytes::new();
         start.push(&iv);
         CbcEncryption {
             key,
@@ -93,7 +93,7 @@ impl CbcEncryption {
     {
         let kept = &self.passed.kept;
         let blocks = (kept.len() + piece.len()) / BLOCK_SIZE;
-        let (out, chain) = enciphered_blocks(alloc, &self.key, self.chain, kept, piece, blocks)?;
+        let (out, chain) = encrypted_blocks(alloc, &self.key, self.chain, kept, piece, blocks)?;
         self.chain = chain;
         self.passed.advance(piece, blocks, &out);
         Ok(out)
@@ -101,7 +101,7 @@ impl CbcEncryption {
 
     /// What the bytes given are. It does nothing.
     pub(crate) fn gives(&self)
-        ensures { IsCbcEnciphered self.now }
+        ensures { IsCbcEncrypted self.now }
     {
         let _passed = &self.passed;
     }
@@ -117,7 +117,7 @@ impl CbcEncryption {
     /// The last block of the padded text: the rest of the output.
     pub(crate) fn padded_block(&self, alloc: Global) -> Result<Vec<u8>, AllocError>
         ensures value { IfOk result (λ out.
-            self.now.given ++ out.items ≡ cbc_pad_enciphered self.now.key self.now.iv self.now.taken) }
+            self.now.given ++ out.items ≡ cbc_pad_encrypted self.now.key self.now.iv self.now.taken) }
         ensures size { IfOk result (λ out. length out.items ≡ 16) }
     {
         let mut out = Vec::with_capacity(alloc, BLOCK_SIZE)?;

@@ -1,16 +1,16 @@
-//! CTR in pieces (SP 800-38A, 6.5), which is the same in both directions.
+//! CTR in parts (SP 800-38A, 6.5), which is the same in both directions.
 
 ghost use Rattle.std.specs.Prelude.{◌≡◌, ◌⊎◌, ◌+◌, ◌-◌, ◌/◌, ◌^◌, ◌<◌, ◌++◌, ◌↔◌, length, IfOk, IfErr, OnOk, OnErr, IsErrOf, IsTrue};
 ghost use Rattle.fips_197.specs.Bytes.{AreBytes};
 ghost use Rattle.fips_197.specs.KeyExpansion.{IsKey};
 ghost use Rattle.aes_modes.specs.Blocks.{blocks_begun};
 ghost use Rattle.aes_modes.specs.Counter.{counter_start};
-ghost use Rattle.mode_flows.specs.Countings.{begun_counting, counted_further, ctr_output, numbered};
+ghost use Rattle.streams_model.specs.Countings.{begun_counting, counted_further, ctr_output, numbered};
 
 use crate::kept::Kept;
 use aes_block::{BLOCK_SIZE, Block, Key, are_bytes};
 use aes_modes::{CounterBits, ModeFault, filled_block, push_number, xor_number};
-use noted::Noted;
+use noted::GhostBytes;
 use std::alloc::{AllocError, Global};
 use std::marker::Model;
 
@@ -23,12 +23,12 @@ pub(crate) struct CtrStream {
     number: u128,
     left: u128,
     kept: Kept,
-    start: Noted,
-    taken: Noted,
+    start: GhostBytes,
+    taken: GhostBytes,
 }
 
 impl Model for CtrStream {
-    ghost use Rattle.mode_flows.specs.Countings.{Counting};
+    ghost use Rattle.streams_model.specs.Countings.{Counting};
 
     ghost Value = { Counting };
 
@@ -54,14 +54,14 @@ fn joined_counters(
     let whole = (kept.len() + piece.len()) / BLOCK_SIZE;
     let mut out = Vec::with_capacity(alloc, kept.len() + piece.len())?;
     'turns: for i in 0..whole {
-        let output = key.encipher_number(number + i as u128);
+        let output = key.encrypt_number(number + i as u128);
         push_number(&mut out, xor_number(kept.block(piece, i), output))?;
     }
     let rest = kept.behind(piece, whole);
     if rest.len() == 0 {
         return Ok(out);
     }
-    let output = key.encipher_number(number + whole as u128);
+    let output = key.encrypt_number(number + whole as u128);
     let last = xor_number(filled_block(rest.as_slice(), 0), output).to_be_bytes();
     out.extend_from_slice(&last[..rest.len()])?;
     Ok(out)
@@ -76,7 +76,7 @@ impl CtrStream {
         let low_bits = u128::MAX >> (128 - bits.number());
         let number = u128::from_be_bytes(start);
         let left = low_bits - (number & low_bits);
-        let mut first = Noted::new();
+        let mut first = GhostBytes::new();
         first.push(&start);
         CtrStream {
             key,
@@ -85,7 +85,7 @@ impl CtrStream {
             left,
             kept: Kept::new(),
             start: first,
-            taken: Noted::new(),
+            taken: GhostBytes::new(),
         }
     }
 

@@ -1,10 +1,10 @@
-//! ECB decryption in pieces (SP 800-38A, 6.1).
+//! ECB decryption in parts (SP 800-38A, 6.1).
 
 ghost use Rattle.std.specs.Prelude.{◌≡◌, [], ◌+◌, ◌-◌, ◌*◌, ◌≤◌, ◌++◌, length, take, IfOk, OnErr};
 ghost use Rattle.fips_197.specs.Bytes.{AreBytes};
 ghost use Rattle.aes_modes.specs.Modes.{ecb_blocks};
-ghost use Rattle.mode_flows.specs.Flows.{begun, further};
-ghost use Rattle.mode_flows.specs.EcbFlows.{IsEcbDeciphered};
+ghost use Rattle.streams_model.specs.Flows.{begun, further};
+ghost use Rattle.streams_model.specs.EcbFlows.{IsEcbDecrypted};
 
 use crate::kept::Kept;
 use crate::passed::Passed;
@@ -20,7 +20,7 @@ pub(crate) struct EcbDecryption {
 }
 
 impl Model for EcbDecryption {
-    ghost use Rattle.mode_flows.specs.Flows.{Flow};
+    ghost use Rattle.streams_model.specs.Flows.{Flow};
 
     ghost Value = { Flow };
 
@@ -31,8 +31,8 @@ impl Model for EcbDecryption {
     ghost invariant = { Holds };
 }
 
-// What the first blocks of kept bytes and a piece are deciphered to.
-fn deciphered_blocks(
+// What the first blocks of kept bytes and a piece are decrypted to.
+fn decrypted_blocks(
     alloc: Global,
     key: &Key,
     kept: &Kept,
@@ -81,14 +81,14 @@ impl EcbDecryption {
         ensures err { OnErr result (self.new ≡ self.old) }
     {
         let blocks = (self.passed.kept.len() + piece.len()) / BLOCK_SIZE;
-        let out = deciphered_blocks(alloc, &self.key, &self.passed.kept, piece, blocks)?;
+        let out = decrypted_blocks(alloc, &self.key, &self.passed.kept, piece, blocks)?;
         self.passed.advance(piece, blocks, &out);
         Ok(out)
     }
 
     /// What the bytes given are. It does nothing.
     pub(crate) fn gives(&self)
-        ensures { IsEcbDeciphered self.now }
+        ensures { IsEcbDecrypted self.now }
     {
         let _passed = &self.passed;
     }

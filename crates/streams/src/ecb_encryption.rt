@@ -1,9 +1,9 @@
-//! ECB encryption in pieces (SP 800-38A, 6.1).
+//! ECB encryption in parts (SP 800-38A, 6.1).
 
 ghost use Rattle.std.specs.Prelude.{◌≡◌, [], ◌+◌, ◌-◌, ◌*◌, ◌≤◌, ◌++◌, length, IfOk, OnErr};
 ghost use Rattle.aes_modes.specs.Modes.{ecb_blocks};
-ghost use Rattle.mode_flows.specs.Flows.{begun, further};
-ghost use Rattle.mode_flows.specs.EcbFlows.{IsEcbEnciphered};
+ghost use Rattle.streams_model.specs.Flows.{begun, further};
+ghost use Rattle.streams_model.specs.EcbFlows.{IsEcbEncrypted};
 
 use crate::kept::Kept;
 use crate::passed::Passed;
@@ -19,7 +19,7 @@ pub(crate) struct EcbEncryption {
 }
 
 impl Model for EcbEncryption {
-    ghost use Rattle.mode_flows.specs.Flows.{Flow};
+    ghost use Rattle.streams_model.specs.Flows.{Flow};
 
     ghost Value = { Flow };
 
@@ -30,8 +30,8 @@ impl Model for EcbEncryption {
     ghost invariant = { Holds };
 }
 
-// What the first blocks of kept bytes and a piece are enciphered to.
-fn enciphered_blocks(
+// What the first blocks of kept bytes and a piece are encrypted to.
+fn encrypted_blocks(
     alloc: Global,
     key: &Key,
     kept: &Kept,
@@ -76,14 +76,14 @@ impl EcbEncryption {
         ensures err { OnErr result (self.new ≡ self.old) }
     {
         let blocks = (self.passed.kept.len() + piece.len()) / BLOCK_SIZE;
-        let out = enciphered_blocks(alloc, &self.key, &self.passed.kept, piece, blocks)?;
+        let out = encrypted_blocks(alloc, &self.key, &self.passed.kept, piece, blocks)?;
         self.passed.advance(piece, blocks, &out);
         Ok(out)
     }
 
     /// What the bytes given are. It does nothing.
     pub(crate) fn gives(&self)
-        ensures { IsEcbEnciphered self.now }
+        ensures { IsEcbEncrypted self.now }
     {
         let _passed = &self.passed;
     }

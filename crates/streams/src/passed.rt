@@ -3,15 +3,15 @@
 ghost use Rattle.std.specs.Prelude.{◌≡◌, ◌+◌, ◌*◌, ◌≤◌, ◌++◌, [], length, drop};
 
 use crate::kept::Kept;
-use noted::Noted;
+use noted::GhostBytes;
 
 /// All data that a stream took and all bytes that it gave, of which contracts alone speak, and the
 /// data that it has yet to work on.
 #[derive(Drop)]
 pub(crate) struct Passed {
     pub(crate) kept: Kept,
-    pub(crate) taken: Noted,
-    pub(crate) given: Noted,
+    pub(crate) taken: GhostBytes,
+    pub(crate) given: GhostBytes,
 }
 
 impl Passed {
@@ -23,8 +23,8 @@ impl Passed {
     {
         Passed {
             kept: Kept::new(),
-            taken: Noted::new(),
-            given: Noted::new(),
+            taken: GhostBytes::new(),
+            given: GhostBytes::new(),
         }
     }
 

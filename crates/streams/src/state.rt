@@ -51,11 +51,11 @@ impl State {
             State::EcbEncrypt(_)
             | State::CbcEncrypt(_)
             | State::CbcPadEncrypt(_)
-            | State::CtrEncrypt(_) => Direction::Encipher,
+            | State::CtrEncrypt(_) => Direction::Encrypt,
             State::EcbDecrypt(_)
             | State::CbcDecrypt(_)
             | State::CbcPadDecrypt(_)
-            | State::CtrDecrypt(_) => Direction::Decipher,
+            | State::CtrDecrypt(_) => Direction::Decrypt,
         }
     }
 

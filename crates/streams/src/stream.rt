@@ -1,4 +1,4 @@
-//! A text enciphered or deciphered in pieces.
+//! A text encrypted or decrypted in parts.
 
 ghost use Rattle.std.specs.Prelude.{◌≡◌, ◌≢◌, ◌≤◌, ◌⊎◌, ℕ, List, ◌↔◌, ◌==◌, true, false, not, Some, None, ◌++◌, length, IfOk, IfErr, OnErr, IsErrOf};
 ghost use Rattle.fips_197.specs.Bytes.{AreBytes};
@@ -6,7 +6,7 @@ ghost use Rattle.streams.specs.Streamed.{started, after_piece};
 ghost use Rattle.streams.specs.Lengths.{wanted, is_of_no_text, refuses_length, ends_counters};
 ghost use Rattle.streams.specs.Outputs.{output_so_far, whole_output, with_data, update_output, last_output};
 ghost use Rattle.streams.specs.States.{streamed, HoldsBack};
-ghost use Rattle.streams.specs.Right.{whole_enciphered, IsRight, IsRest, IsOnlyRest, TakesPaddingOff};
+ghost use Rattle.streams.specs.Right.{whole_encrypted, IsRight, IsRest, IsOnlyRest, TakesPaddingOff};
 
 use crate::cbc_decryption::CbcDecryption;
 use crate::cbc_encryption::CbcEncryption;
@@ -21,7 +21,7 @@ use aes_modes::{Direction, ModeFault};
 use std::alloc::Global;
 use std::marker::Model;
 
-/// A text that is enciphered or deciphered in pieces. Contracts see its mechanism with parameter, its
+/// A text that is encrypted or decrypted in parts. Contracts see its mechanism with parameter, its
 /// direction and key, all data that it has taken and all bytes that it has given.
 ///
 /// Of the data it keeps at most 16 bytes, and whether there was any.
@@ -50,20 +50,20 @@ fn begun(mechanism: Mechanism, direction: Direction, key: Key) -> State
 {
     match mechanism {
         Mechanism::Ecb => match direction {
-            Direction::Encipher => State::EcbEncrypt(EcbEncryption::new(key)),
-            Direction::Decipher => State::EcbDecrypt(EcbDecryption::new(key)),
+            Direction::Encrypt => State::EcbEncrypt(EcbEncryption::new(key)),
+            Direction::Decrypt => State::EcbDecrypt(EcbDecryption::new(key)),
         },
         Mechanism::Cbc { iv } => match direction {
-            Direction::Encipher => State::CbcEncrypt(CbcEncryption::new(key, iv)),
-            Direction::Decipher => State::CbcDecrypt(CbcDecryption::new(key, iv, 0)),
+            Direction::Encrypt => State::CbcEncrypt(CbcEncryption::new(key, iv)),
+            Direction::Decrypt => State::CbcDecrypt(CbcDecryption::new(key, iv, 0)),
         },
         Mechanism::CbcPad { iv } => match direction {
-            Direction::Encipher => State::CbcPadEncrypt(CbcEncryption::new(key, iv)),
-            Direction::Decipher => State::CbcPadDecrypt(CbcDecryption::new(key, iv, 1)),
+            Direction::Encrypt => State::CbcPadEncrypt(CbcEncryption::new(key, iv)),
+            Direction::Decrypt => State::CbcPadDecrypt(CbcDecryption::new(key, iv, 1)),
         },
         Mechanism::Ctr { bits, start } => match direction {
-            Direction::Encipher => State::CtrEncrypt(CtrStream::new(key, bits, start)),
-            Direction::Decipher => State::CtrDecrypt(CtrStream::new(key, bits, start)),
+            Direction::Encrypt => State::CtrEncrypt(CtrStream::new(key, bits, start)),
+            Direction::Decrypt => State::CtrDecrypt(CtrStream::new(key, bits, start)),
         },
     }
 }
@@ -89,7 +89,7 @@ impl Stream {
         }
     }
 
-    /// Whether it enciphers or deciphers.
+    /// Whether it encrypts or decrypts.
     pub fn direction(&self) -> Direction
         ensures { result ≡ self.now.direction }
     {
@@ -144,7 +144,7 @@ impl Stream {
     ///
     /// `LenRange` where data of this length is no text: under ECB and CBC it is whole blocks, and
     /// where a padding is taken off one at least. `CounterEnd` where CTR has no counter for each
-    /// block of the data. `BadPad` where no text is enciphered to the data. `Memory` where the result
+    /// block of the data. `BadPad` where no text is encrypted to the data. `Memory` where the result
     /// gets no memory.
     pub fn last(&self, alloc: Global, input: &[u8]) -> Result<Vec<u8>, ModeFault>
         ensures value { IfOk result (λ out. last_output self.now input.now ≡ Some out.items) }
@@ -155,7 +155,7 @@ impl Stream {
         ensures counter_end { IsErrOf result ModeFault.CounterEnd ↔ (ends_counters self.now input.now ≡ true) }
         ensures bad_pad { IsErrOf result ModeFault.BadPad → last_output self.now input.now ≡ None }
         ensures bad_pad_text { IsErrOf result ModeFault.BadPad → (x : List ℕ) → AreBytes x
-            → whole_enciphered self.now.mechanism self.now.key x ≢ self.now.taken ++ input.now }
+            → whole_encrypted self.now.mechanism self.now.key x ≢ self.now.taken ++ input.now }
         ensures bad_pad_mechanism { IsErrOf result ModeFault.BadPad
             → TakesPaddingOff self.now.mechanism self.now.direction }
     {
@@ -179,7 +179,7 @@ impl Stream {
         ensures bad_pad_mechanism { IsErrOf result ModeFault.BadPad
             → TakesPaddingOff self.now.mechanism self.now.direction }
         ensures bad_pad { IsErrOf result ModeFault.BadPad → (x : List ℕ) → AreBytes x
-            → whole_enciphered self.now.mechanism self.now.key x ≢ self.now.taken }
+            → whole_encrypted self.now.mechanism self.now.key x ≢ self.now.taken }
         ensures bad_pad_value { IsErrOf result ModeFault.BadPad → whole_output self.now ≡ None }
         ensures faults { IfErr result (λ fault. fault ≢ ModeFault.CounterEnd) }
     {

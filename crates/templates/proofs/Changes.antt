@@ -15,9 +15,9 @@ use Rattle.attrs.specs.declared.table.AttributeRow.{AttributeRow}
 use Rattle.attrs.specs.Table.{attribute_table, row_number, rows_of, is_held_by}
 use Rattle.attrs.specs.Objects.{attribute, attribute_of, class_of, class_at, number_of, key_type_at, has_form, is_of_class, is_true, IsObject, fits_rows, is_key_value, has_key_value}
 use Rattle.attrs.specs.ObjectLaws.{class_at-none, fits_rows-held}
-use Rattle.templates.specs.declared.call.Call.{Call}
-use Rattle.templates.specs.declared.call.Call.TheVariants as call
-use Rattle.templates.specs.Call.{rule}
+use Rattle.templates.specs.declared.making.Making.{Making}
+use Rattle.templates.specs.declared.making.Making.TheVariants as making
+use Rattle.templates.specs.Making.{rule}
 use Rattle.templates.specs.Faults.{is_about, refuses}
 use Rattle.templates.specs.Made.{alters, by_default, made_class, made_entries, made_value}
 use Rattle.templates.specs.Guarded.{StaysPlaced}
@@ -88,30 +88,30 @@ key_kept es new class keeps value fits =
 -- ---- a copy, or a changed object
 
 -- what holds of C_CopyObject and of C_SetAttributeValue
-pub both : (P : Call → Type 0) → P call.Copy → P call.Set → (c : Call) → alters c ≡ true → P c
-both P copy set call.Create e = absurd cc
-both P copy set (call.Generate m) e = absurd cc
-both P copy set (call.Unwrap n) e = absurd cc
-both P copy set call.Copy e = copy
-both P copy set call.Set e = set
+pub both : (P : Making → Type 0) → P making.Copy → P making.Set → (c : Making) → alters c ≡ true → P c
+both P copy set making.Create e = absurd cc
+both P copy set (making.Generate m) e = absurd cc
+both P copy set (making.Unwrap n) e = absurd cc
+both P copy set making.Copy e = copy
+both P copy set making.Set e = set
 
 -- the class stays
-pub made_class-altered : (c : Call) → alters c ≡ true → (original template : List Entry) → made_class c original template ≡ class_of original
+pub made_class-altered : (c : Making) → alters c ≡ true → (original template : List Entry) → made_class c original template ≡ class_of original
 made_class-altered c alt original template = both (λ c. made_class c original template ≡ class_of original) refl refl c alt
 
 -- whether a call refuses a value of a type
-abbrev pub refused_by : Call → ObjectClass → AttrType → SessionState → Option (List ℕ) → List ℕ → Bool
+abbrev pub refused_by : Making → ObjectClass → AttrType → SessionState → Option (List ℕ) → List ℕ → Bool
 refused_by c k t s present v = list_any (λ r. is_about (Some k) (attr_type_number t) r && refuses (rule c r) s present v) attribute_table
 
 -- it refuses each
-abbrev pub IsFixed : ObjectClass → AttrType → Call → Type 0
+abbrev pub IsFixed : ObjectClass → AttrType → Making → Type 0
 IsFixed k t c = (s : SessionState) (present : Option (List ℕ)) (v : List ℕ) → refused_by c k t s present v ≡ true
 
 -- what is given, else what was there
 abbrev pub given_or_kept : List Entry → List Entry → ℕ → List ℕ
 given_or_kept original template n = unwrap_or (attribute template n) (unwrap_or (attribute original n) [])
 
-row_kept : (c : Call) → alters c ≡ true → (k : ObjectClass) (original template : List Entry) (random : List ℕ) (n : ℕ) → eqb n (attr_type_number attr.UniqueId) ≡ false → (r : AttributeRow) → row_number r ≡ n
+row_kept : (c : Making) → alters c ≡ true → (k : ObjectClass) (original template : List Entry) (random : List ℕ) (n : ℕ) → eqb n (attr_type_number attr.UniqueId) ≡ false → (r : AttributeRow) → row_number r ≡ n
     → made_value c k original template random [] r ≡ given_or_kept original template n
 row_kept c alt k original template random n other r is =
     let digits = encode_lower (take 16 random) in
@@ -121,10 +121,10 @@ row_kept c alt k original template random n other r is =
     c alt
 
 at_row : (f : AttributeRow → List ℕ) (v : List ℕ) (n : ℕ) → ((r : AttributeRow) → row_number r ≡ n → f r ≡ v) → (rs : List AttributeRow) → list_any (λ r. eqb (row_number r) n) rs ≡ true
-    → attribute (map (λ r. record { number = row_number r; value = f r }) rs) n ≡ Some v
+    → attribute (map (λ r. record { attr_type = row_number r; value = f r }) rs) n ≡ Some v
 at_row f v n same [] there = absurd cc
 at_row f v n same (r ∷ rs) there =
-    let rest = attribute (map (λ r. record { number = row_number r; value = f r }) rs) n in
+    let rest = attribute (map (λ r. record { attr_type = row_number r; value = f r }) rs) n in
     let step : (b : Bool) → eqb (row_number r) n ≡ b → (b || list_any (λ r. eqb (row_number r) n) rs) ≡ true → cond b (Some (f r)) rest ≡ Some v =
     λ b. elim b as (λ d. eqb (row_number r) n ≡ d → (d || list_any (λ r. eqb (row_number r) n) rs) ≡ true → cond d (Some (f r)) rest ≡ Some v) [
       | true ↦ λ is e. ap (λ (w : List ℕ). Some w) (same r (eqb-true (row_number r) n is))
@@ -132,25 +132,25 @@ at_row f v n same (r ∷ rs) there =
     ] in
     step (eqb (row_number r) n) refl there
 
-pub kept_at : (c : Call) → alters c ≡ true → (k : ObjectClass) (original template : List Entry) (random : List ℕ) (n : ℕ) → eqb n (attr_type_number attr.UniqueId) ≡ false → list_any (λ r. eqb (row_number r) n) (rows_of k) ≡ true
+pub kept_at : (c : Making) → alters c ≡ true → (k : ObjectClass) (original template : List Entry) (random : List ℕ) (n : ℕ) → eqb n (attr_type_number attr.UniqueId) ≡ false → list_any (λ r. eqb (row_number r) n) (rows_of k) ≡ true
     → attribute (made_entries c k original template random []) n ≡ Some (given_or_kept original template n)
 kept_at c alt k original template random n other there =
     at_row (made_value c k original template random []) (given_or_kept original template n) n (row_kept c alt k original template random n other) (rows_of k) there
 
-fixed_class : (c : Call) → alters c ≡ true → (k : ObjectClass) → IsFixed k attr.Class c
+fixed_class : (c : Making) → alters c ≡ true → (k : ObjectClass) → IsFixed k attr.Class c
 unfolding attribute_table
 fixed_class c alt Data = both (IsFixed Data attr.Class) (λ s p v. refl) (λ s p v. refl) c alt
 fixed_class c alt SecretKey = both (IsFixed SecretKey attr.Class) (λ s p v. refl) (λ s p v. refl) c alt
 
-fixed_type : (c : Call) → alters c ≡ true → IsFixed SecretKey attr.KeyType c
+fixed_type : (c : Making) → alters c ≡ true → IsFixed SecretKey attr.KeyType c
 unfolding attribute_table
 fixed_type = both (IsFixed SecretKey attr.KeyType) (λ s p v. refl) (λ s p v. refl)
 
-pub fixed_value : (c : Call) → alters c ≡ true → IsFixed SecretKey attr.Value c
+pub fixed_value : (c : Making) → alters c ≡ true → IsFixed SecretKey attr.Value c
 unfolding attribute_table
 fixed_value = both (IsFixed SecretKey attr.Value) (λ s p v. refl) (λ s p v. refl)
 
-fixed_len : (c : Call) → alters c ≡ true → IsFixed SecretKey attr.ValueLen c
+fixed_len : (c : Making) → alters c ≡ true → IsFixed SecretKey attr.ValueLen c
 unfolding attribute_table
 fixed_len = both (IsFixed SecretKey attr.ValueLen) (λ s p v. refl) (λ s p v. refl)
 
@@ -159,7 +159,7 @@ unfolding attribute_table
 has_class Data = refl
 has_class SecretKey = refl
 
-module _ (c : Call) (alt : alters c ≡ true) (s : SessionState) (original template : List Entry) (random : List ℕ) (ok : IsFaultless c s original template) where
+module _ (c : Making) (alt : alters c ≡ true) (s : SessionState) (original template : List Entry) (random : List ℕ) (ok : IsFaultless c s original template) where
   abbrev new : ObjectClass → List Entry
   new k = made_entries c k original template random []
 
@@ -201,13 +201,13 @@ flag_stays : (given present : Option (List ℕ)) → given ≡ None → is_true 
 flag_stays given None none = ap (λ (o : Option (List ℕ)). is_true (Some (unwrap_or o []))) none
 flag_stays given (Some v) none = ap (λ (o : Option (List ℕ)). is_true (Some (unwrap_or o v))) none
 
-pub changed_placed : (s : SessionState) (original template : List Entry) (random : List ℕ) (class : ObjectClass) → class_of original ≡ Some class → IsFaultless call.Set s original template → StaysPlaced original (made_entries call.Set class original template random [])
+pub changed_placed : (s : SessionState) (original template : List Entry) (random : List ℕ) (class : ObjectClass) → class_of original ≡ Some class → IsFaultless making.Set s original template → StaysPlaced original (made_entries making.Set class original template random [])
 unfolding attribute_table
 changed_placed s original template random Data class ok = record {
-  token = flag_stays (attribute_of template attr.Token) (attribute_of original attr.Token) (not_read_only call.Set s (Some Data) original template (attr_type_number attr.Token) class (λ p v. refl) ok.writable);
-  private = flag_stays (attribute_of template attr.Private) (attribute_of original attr.Private) (not_read_only call.Set s (Some Data) original template (attr_type_number attr.Private) class (λ p v. refl) ok.writable);
+  token = flag_stays (attribute_of template attr.Token) (attribute_of original attr.Token) (not_read_only making.Set s (Some Data) original template (attr_type_number attr.Token) class (λ p v. refl) ok.writable);
+  private = flag_stays (attribute_of template attr.Private) (attribute_of original attr.Private) (not_read_only making.Set s (Some Data) original template (attr_type_number attr.Private) class (λ p v. refl) ok.writable);
 }
 changed_placed s original template random SecretKey class ok = record {
-  token = flag_stays (attribute_of template attr.Token) (attribute_of original attr.Token) (not_read_only call.Set s (Some SecretKey) original template (attr_type_number attr.Token) class (λ p v. refl) ok.writable);
-  private = flag_stays (attribute_of template attr.Private) (attribute_of original attr.Private) (not_read_only call.Set s (Some SecretKey) original template (attr_type_number attr.Private) class (λ p v. refl) ok.writable);
+  token = flag_stays (attribute_of template attr.Token) (attribute_of original attr.Token) (not_read_only making.Set s (Some SecretKey) original template (attr_type_number attr.Token) class (λ p v. refl) ok.writable);
+  private = flag_stays (attribute_of template attr.Private) (attribute_of original attr.Private) (not_read_only making.Set s (Some SecretKey) original template (attr_type_number attr.Private) class (λ p v. refl) ok.writable);
 }

@@ -16,9 +16,9 @@ use Rattle.attrs.specs.declared.table.AttributeRow.{AttributeRow}
 use Rattle.attrs.specs.Table.{attribute_table, row_number, rows_of}
 use Rattle.attrs.specs.Objects.{attribute, attribute_of, class_of, flag, is_true, fits_rows, has_form, IsObject}
 use Rattle.attrs.specs.Masking.{is_masked, is_secret_key}
-use Rattle.templates.specs.declared.call.Call.{Call}
+use Rattle.templates.specs.declared.making.Making.{Making}
 use Rattle.templates.specs.Faults.{is_about, is_read_only, refuses, is_set, is_present, is_so}
-use Rattle.templates.specs.Call.{rule}
+use Rattle.templates.specs.Making.{rule}
 use Rattle.templates.specs.Made.{alters, made_entries}
 use Rattle.templates.specs.Guarded.{IsAsGuarded}
 use Rattle.templates.proofs.Changes.{both, refused_by, kept_at, keeps_class, data_rows_fit}
@@ -26,12 +26,12 @@ use Rattle.templates.proofs.Entries.{both_false, not_false, any_false-attribute}
 use Rattle.templates.proofs.NoFault.{IsFaultless}
 
 -- what the rule of a given attribute says
-given_allowed : (c : Call) (s : SessionState) (k : Option ObjectClass) (original template : List Entry) (n : ℕ) (v : List ℕ) → class_of original ≡ k → list_any (is_read_only c s original) template ≡ false → attribute template n ≡ Some v
+given_allowed : (c : Making) (s : SessionState) (k : Option ObjectClass) (original template : List Entry) (n : ℕ) (v : List ℕ) → class_of original ≡ k → list_any (is_read_only c s original) template ≡ false → attribute template n ≡ Some v
     → list_any (λ r. is_about k n r && refuses (rule c r) s (attribute original n) v) attribute_table ≡ false
 given_allowed c s k original template n v class writable given =
     let g = any_false-attribute (is_read_only c s original) template n v writable given in
-    let at_class : list_any (λ r. is_about k g.entry.number r && refuses (rule c r) s (attribute original g.entry.number) g.entry.value) attribute_table ≡ false =
-    subst (λ (j : Option ObjectClass). list_any (λ r. is_about j g.entry.number r && refuses (rule c r) s (attribute original g.entry.number) g.entry.value) attribute_table ≡ false) class g.fails in
+    let at_class : list_any (λ r. is_about k g.entry.attr_type r && refuses (rule c r) s (attribute original g.entry.attr_type) g.entry.value) attribute_table ≡ false =
+    subst (λ (j : Option ObjectClass). list_any (λ r. is_about j g.entry.attr_type r && refuses (rule c r) s (attribute original g.entry.attr_type) g.entry.value) attribute_table ≡ false) class g.fails in
     let at_number : list_any (λ r. is_about k n r && refuses (rule c r) s (attribute original n) g.entry.value) attribute_table ≡ false =
     subst (λ (m : ℕ). list_any (λ r. is_about k m r && refuses (rule c r) s (attribute original m) g.entry.value) attribute_table ≡ false) g.number_is at_class in
     subst (λ (w : List ℕ). list_any (λ r. is_about k n r && refuses (rule c r) s (attribute original n) w) attribute_table ≡ false) g.value_is at_number
@@ -97,10 +97,10 @@ absent [] [] n fits none = refl
 absent [] (x ∷ es) n fits none = absurd cc
 absent (r ∷ rs) [] n fits none = absurd cc
 absent (r ∷ rs) (x ∷ es) n fits none =
-    let a = and_parts (eqb x.number (row_number r) && has_form r.form x.value) (fits_rows rs es) fits in
-    let b = and_parts (eqb x.number (row_number r)) (has_form r.form x.value) a.0 in
+    let a = and_parts (eqb x.attr_type (row_number r) && has_form r.form x.value) (fits_rows rs es) fits in
+    let b = and_parts (eqb x.attr_type (row_number r)) (has_form r.form x.value) a.0 in
     let f = both_false (eqb (row_number r) n) (list_any (λ q. eqb (row_number q) n) rs) none in
-    let differs : eqb x.number n ≡ false = ap (λ (m : ℕ). eqb m n) (eqb-true x.number (row_number r) b.0) ∙ f.0 in
+    let differs : eqb x.attr_type n ≡ false = ap (λ (m : ℕ). eqb m n) (eqb-true x.attr_type (row_number r) b.0) ∙ f.0 in
     ap (λ (c : Bool). cond c (Some x.value) (attribute es n)) differs ∙ absent rs es n a.1 f.1
 
 masked_parts : (o : Option ObjectClass) (a b : Bool) → (is_secret_key o && (a || not b)) ≡ true → (a || not b) ≡ true
@@ -127,32 +127,32 @@ no_wrapped es fits = absent (rows_of Data) es (attr_type_number attr.WrapWithTru
 -- ---- a copy, or a changed object
 
 -- a flag that becomes no other than true, by TrueOnly, or than false, by FalseOnly, or true by the SO alone
-abbrev IsTrueOnly : AttrType → Call → Type 0
+abbrev IsTrueOnly : AttrType → Making → Type 0
 IsTrueOnly t c = (s : SessionState) (p : Option (List ℕ)) (v : List ℕ) → refused_by c SecretKey t s p v ≡ ((not (is_set v) && not (is_present p v)) || false)
 
-abbrev IsFalseOnly : AttrType → Call → Type 0
+abbrev IsFalseOnly : AttrType → Making → Type 0
 IsFalseOnly t c = (s : SessionState) (p : Option (List ℕ)) (v : List ℕ) → refused_by c SecretKey t s p v ≡ ((is_set v && not (is_present p v)) || false)
 
-abbrev IsTrueBySo : AttrType → Call → Type 0
+abbrev IsTrueBySo : AttrType → Making → Type 0
 IsTrueBySo t c = (s : SessionState) (p : Option (List ℕ)) (v : List ℕ) → refused_by c SecretKey t s p v ≡ ((is_set v && (not (is_so s) && not (is_present p v))) || false)
 
-sensitive_rule : (c : Call) → alters c ≡ true → IsTrueOnly attr.Sensitive c
+sensitive_rule : (c : Making) → alters c ≡ true → IsTrueOnly attr.Sensitive c
 unfolding attribute_table
 sensitive_rule = both (IsTrueOnly attr.Sensitive) (λ s p v. refl) (λ s p v. refl)
 
-wrapped_rule : (c : Call) → alters c ≡ true → IsTrueOnly attr.WrapWithTrusted c
+wrapped_rule : (c : Making) → alters c ≡ true → IsTrueOnly attr.WrapWithTrusted c
 unfolding attribute_table
 wrapped_rule = both (IsTrueOnly attr.WrapWithTrusted) (λ s p v. refl) (λ s p v. refl)
 
-extractable_rule : (c : Call) → alters c ≡ true → IsFalseOnly attr.Extractable c
+extractable_rule : (c : Making) → alters c ≡ true → IsFalseOnly attr.Extractable c
 unfolding attribute_table
 extractable_rule = both (IsFalseOnly attr.Extractable) (λ s p v. refl) (λ s p v. refl)
 
-trusted_rule : (c : Call) → alters c ≡ true → IsTrueBySo attr.Trusted c
+trusted_rule : (c : Making) → alters c ≡ true → IsTrueBySo attr.Trusted c
 unfolding attribute_table
 trusted_rule = both (IsTrueBySo attr.Trusted) (λ s p v. refl) (λ s p v. refl)
 
-module _ (c : Call) (alt : alters c ≡ true) (s : SessionState) (original template : List Entry) (random : List ℕ) (ok : IsFaultless c s original template) where
+module _ (c : Making) (alt : alters c ≡ true) (s : SessionState) (original template : List Entry) (random : List ℕ) (ok : IsFaultless c s original template) where
   abbrev new : ObjectClass → List Entry
   new k = made_entries c k original template random []
 

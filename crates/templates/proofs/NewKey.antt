@@ -18,8 +18,8 @@ use Rattle.attrs.specs.declared.table.Form.TheVariants.{Number, Bytes}
 use Rattle.attrs.specs.Table.{attribute_table, rows_of}
 use Rattle.attrs.specs.Objects.{attribute_of, class_of, class_at, number_of, key_type_of, key_type_at, is_key_len, IsObject, fits_rows, flag, is_true}
 use Rattle.attrs.specs.ObjectLaws.{class_at-none, key_type_at-none}
-use Rattle.templates.specs.declared.call.Call.TheVariants as call
-use Rattle.templates.specs.Call.{generated_type}
+use Rattle.templates.specs.declared.making.Making.TheVariants as making
+use Rattle.templates.specs.Making.{generated_type}
 use Rattle.templates.specs.Faults.{form_in, fits_form_of, is_ill_formed, is_other, is_of_other_class, is_missing, is_bad_len, len_of}
 use Rattle.templates.specs.Made.{made_entries, truth, number_bytes, given_value, generated_len, asked_len}
 use Rattle.templates.proofs.Entries.{both_false, not_false}
@@ -124,37 +124,37 @@ key_from_parts es class type value len t parts fits is_class is_type right is_le
     is_key_object es (ap (λ (o : Option (List ℕ)). class_at (number_of o)) parts.class_is ∙ is_class) fits
     (key_value_is es t value (length value) (ap (λ (o : Option (List ℕ)). key_type_at (number_of o)) parts.type_is ∙ is_type) parts.value_is (ap number_of parts.len_is ∙ is_len) right refl)
 
-parts_create : (template : List Entry) (random value : List ℕ) → HasParts (made_entries call.Create SecretKey [] template random value) (unwrap_or (attribute_of template attr.Class) (number_bytes 4)) (unwrap_or (attribute_of template attr.KeyType) (number_bytes (key_type_number GenericSecret)))
+parts_create : (template : List Entry) (random value : List ℕ) → HasParts (made_entries making.Create SecretKey [] template random value) (unwrap_or (attribute_of template attr.Class) (number_bytes 4)) (unwrap_or (attribute_of template attr.KeyType) (number_bytes (key_type_number GenericSecret)))
     (unwrap_or (attribute_of template attr.Value) value) (unwrap_or (attribute_of template attr.ValueLen) (number_bytes (length value)))
 unfolding attribute_table
 parts_create template random value = record { class_is = refl; type_is = refl; value_is = refl; len_is = refl }
 
-parts_generate : (m : MechType) (template : List Entry) (random value : List ℕ) → HasParts (made_entries (call.Generate m) SecretKey [] template random value) (unwrap_or (attribute_of template attr.Class) (number_bytes 4)) (unwrap_or (attribute_of template attr.KeyType) (number_bytes (key_type_number (generated_type m))))
+parts_generate : (m : MechType) (template : List Entry) (random value : List ℕ) → HasParts (made_entries (making.Generate m) SecretKey [] template random value) (unwrap_or (attribute_of template attr.Class) (number_bytes 4)) (unwrap_or (attribute_of template attr.KeyType) (number_bytes (key_type_number (generated_type m))))
     (unwrap_or (attribute_of template attr.Value) value) (unwrap_or (attribute_of template attr.ValueLen) (number_bytes (length value)))
 unfolding attribute_table
 parts_generate m template random value = record { class_is = refl; type_is = refl; value_is = refl; len_is = refl }
 
-parts_unwrap : (n : ℕ) (template : List Entry) (random value : List ℕ) → HasParts (made_entries (call.Unwrap n) SecretKey [] template random value) (unwrap_or (attribute_of template attr.Class) (number_bytes 4)) (unwrap_or (attribute_of template attr.KeyType) (number_bytes (key_type_number GenericSecret)))
+parts_unwrap : (n : ℕ) (template : List Entry) (random value : List ℕ) → HasParts (made_entries (making.Unwrap n) SecretKey [] template random value) (unwrap_or (attribute_of template attr.Class) (number_bytes 4)) (unwrap_or (attribute_of template attr.KeyType) (number_bytes (key_type_number GenericSecret)))
     (unwrap_or (attribute_of template attr.Value) value) (unwrap_or (attribute_of template attr.ValueLen) (number_bytes (length value)))
 unfolding attribute_table
 parts_unwrap n template random value = record { class_is = refl; type_is = refl; value_is = refl; len_is = refl }
 
 -- ---- C_UnwrapKey
 
-type_required : (n : ℕ) (template : List Entry) (k : Option ObjectClass) → class_of template ≡ k → is_of_other_class template ≡ false → list_any (is_missing (call.Unwrap n) template) attribute_table ≡ false → is_none (attribute_of template attr.KeyType) ≡ false
+type_required : (n : ℕ) (template : List Entry) (k : Option ObjectClass) → class_of template ≡ k → is_of_other_class template ≡ false → list_any (is_missing (making.Unwrap n) template) attribute_table ≡ false → is_none (attribute_of template attr.KeyType) ≡ false
 unfolding attribute_table
-type_required n template None e same complete = (both_false (is_none (attribute_of template attr.KeyType)) false (complete_at (call.Unwrap n) None template e complete)).0
+type_required n template None e same complete = (both_false (is_none (attribute_of template attr.KeyType)) false (complete_at (making.Unwrap n) None template e complete)).0
 type_required n template (Some Data) e same complete = absurd (data_is_other template same e)
-type_required n template (Some SecretKey) e same complete = (both_false (is_none (attribute_of template attr.KeyType)) false (complete_at (call.Unwrap n) (Some SecretKey) template e complete)).0
+type_required n template (Some SecretKey) e same complete = (both_false (is_none (attribute_of template attr.KeyType)) false (complete_at (making.Unwrap n) (Some SecretKey) template e complete)).0
 
-no_value_unwrap : (n : ℕ) (s : SessionState) (template : List Entry) → IsFaultless (call.Unwrap n) s [] template → attribute_of template attr.Value ≡ None
+no_value_unwrap : (n : ℕ) (s : SessionState) (template : List Entry) → IsFaultless (making.Unwrap n) s [] template → attribute_of template attr.Value ≡ None
 unfolding attribute_table
-no_value_unwrap n s template ok = not_excluded (call.Unwrap n) None [] template (attr_type_number attr.Value) no_original refl ok.included
+no_value_unwrap n s template ok = not_excluded (making.Unwrap n) None [] template (attr_type_number attr.Value) no_original refl ok.included
 
 len_right : (t : KeyType) (o : Option KeyType) (n : ℕ) → o ≡ Some t → is_bad_len o (Some n) ≡ false → is_key_len t n ≡ true
 len_right t o n e right = not_false (is_key_len t n) (ap (λ (p : Option KeyType). is_bad_len p (Some n)) (sym e) ∙ right)
 
-pub unwrapped_is_object : (s : SessionState) (template : List Entry) (random value : List ℕ) → IsFaultless (call.Unwrap (length value)) s [] template → IsObject (made_entries (call.Unwrap (length value)) SecretKey [] template random value)
+pub unwrapped_is_object : (s : SessionState) (template : List Entry) (random value : List ℕ) → IsFaultless (making.Unwrap (length value)) s [] template → IsObject (made_entries (making.Unwrap (length value)) SecretKey [] template random value)
 unwrapped_is_object s template random value ok =
     let n = length value in
     let two = both_false (is_of_other_class template) (is_other (number_of (attribute_of template attr.ValueLen)) n) ok.agrees in
@@ -167,29 +167,29 @@ unwrapped_is_object s template random value ok =
     ap (λ (o : Option (List ℕ)). key_type_at (number_of (Some (unwrap_or o (number_bytes (key_type_number GenericSecret)))))) given.1 ∙ t.1 in
     let value_made : unwrap_or (attribute_of template attr.Value) value ≡ value = ap (λ (o : Option (List ℕ)). unwrap_or o value) (no_value_unwrap n s template ok) in
     let p = parts_unwrap n template random value in
-    key_from_parts (made_entries (call.Unwrap n) SecretKey [] template random value) _ _ value _ t.0
+    key_from_parts (made_entries (making.Unwrap n) SecretKey [] template random value) _ _ value _ t.0
     (record { class_is = p.class_is; type_is = p.type_is; value_is = p.value_is ∙ ap (λ (v : List ℕ). Some v) value_made; len_is = p.len_is })
-    (made_fit (call.Unwrap n) SecretKey [] template random value ok.formed (defaults_fit (call.Unwrap n) SecretKey template value (omega (arith, small))))
+    (made_fit (making.Unwrap n) SecretKey [] template random value ok.formed (defaults_fit (making.Unwrap n) SecretKey template value (omega (arith, small))))
     (class_chosen template ok.formed two.0) type_made right
     (len_chosen template n (omega (arith, small)) ok.formed two.1)
 
 -- ---- C_GenerateKey
 
-len_required : (m : MechType) (template : List Entry) (k : Option ObjectClass) → class_of template ≡ k → is_of_other_class template ≡ false → list_any (is_missing (call.Generate m) template) attribute_table ≡ false → is_none (attribute_of template attr.ValueLen) ≡ false
+len_required : (m : MechType) (template : List Entry) (k : Option ObjectClass) → class_of template ≡ k → is_of_other_class template ≡ false → list_any (is_missing (making.Generate m) template) attribute_table ≡ false → is_none (attribute_of template attr.ValueLen) ≡ false
 unfolding attribute_table
-len_required m template None e same complete = (both_false (is_none (attribute_of template attr.ValueLen)) false (complete_at (call.Generate m) None template e complete)).0
+len_required m template None e same complete = (both_false (is_none (attribute_of template attr.ValueLen)) false (complete_at (making.Generate m) None template e complete)).0
 len_required m template (Some Data) e same complete = absurd (data_is_other template same e)
-len_required m template (Some SecretKey) e same complete = (both_false (is_none (attribute_of template attr.ValueLen)) false (complete_at (call.Generate m) (Some SecretKey) template e complete)).0
+len_required m template (Some SecretKey) e same complete = (both_false (is_none (attribute_of template attr.ValueLen)) false (complete_at (making.Generate m) (Some SecretKey) template e complete)).0
 
-no_value_generate : (m : MechType) (s : SessionState) (template : List Entry) → IsFaultless (call.Generate m) s [] template → attribute_of template attr.Value ≡ None
+no_value_generate : (m : MechType) (s : SessionState) (template : List Entry) → IsFaultless (making.Generate m) s [] template → attribute_of template attr.Value ≡ None
 unfolding attribute_table
-no_value_generate m s template ok = not_excluded (call.Generate m) None [] template (attr_type_number attr.Value) no_original refl ok.included
+no_value_generate m s template ok = not_excluded (making.Generate m) None [] template (attr_type_number attr.Value) no_original refl ok.included
 
 asked_is : (n : ℕ) → n ≤ 512 → asked_len (Some n) ≡ n
 asked_is n small = ap (λ (b : Bool). cond b n 0) (le-leb n 512 small)
 
-pub generated_is_object : (m : MechType) (s : SessionState) (template : List Entry) (random value : List ℕ) → length value ≡ generated_len template → IsFaultless (call.Generate m) s [] template
-    → IsObject (made_entries (call.Generate m) SecretKey [] template random value)
+pub generated_is_object : (m : MechType) (s : SessionState) (template : List Entry) (random value : List ℕ) → length value ≡ generated_len template → IsFaultless (making.Generate m) s [] template
+    → IsObject (made_entries (making.Generate m) SecretKey [] template random value)
 generated_is_object m s template random value len_is ok =
     let t = generated_type m in
     let two = both_false (is_of_other_class template) (is_other (number_of (attribute_of template attr.KeyType)) (key_type_number t)) ok.agrees in
@@ -205,26 +205,26 @@ generated_is_object m s template random value len_is ok =
     let len_made : number_of (Some (unwrap_or (attribute_of template attr.ValueLen) (number_bytes (length value)))) ≡ Some (length value) =
     ap (λ (o : Option (List ℕ)). number_of (Some (unwrap_or o (number_bytes (length value))))) given.1 ∙ number_is ∙ ap (λ (k : ℕ). Some k) (sym same) in
     let p = parts_generate m template random value in
-    key_from_parts (made_entries (call.Generate m) SecretKey [] template random value) _ _ value _ t
+    key_from_parts (made_entries (making.Generate m) SecretKey [] template random value) _ _ value _ t
     (record { class_is = p.class_is; type_is = p.type_is; value_is = p.value_is ∙ ap (λ (v : List ℕ). Some v) value_made; len_is = p.len_is })
-    (made_fit (call.Generate m) SecretKey [] template random value ok.formed (defaults_fit (call.Generate m) SecretKey template value (omega (arith, small, same))))
+    (made_fit (making.Generate m) SecretKey [] template random value ok.formed (defaults_fit (making.Generate m) SecretKey template value (omega (arith, small, same))))
     (class_chosen template ok.formed two.0) (type_chosen template t ok.formed two.1) right_value len_made
 
 -- ---- C_CreateObject
 
-class_missing : (template : List Entry) → class_of template ≡ None → list_any (is_missing call.Create template) attribute_table ≡ false → is_none (attribute_of template attr.Class) ≡ false
+class_missing : (template : List Entry) → class_of template ≡ None → list_any (is_missing making.Create template) attribute_table ≡ false → is_none (attribute_of template attr.Class) ≡ false
 unfolding attribute_table
-class_missing template e complete = (both_false (is_none (attribute_of template attr.Class)) (is_none (attribute_of template attr.Value) || (is_none (attribute_of template attr.KeyType) || false)) (complete_at call.Create None template e complete)).0
+class_missing template e complete = (both_false (is_none (attribute_of template attr.Class)) (is_none (attribute_of template attr.Value) || (is_none (attribute_of template attr.KeyType) || false)) (complete_at making.Create None template e complete)).0
 
-pub created_has_class : (s : SessionState) (template : List Entry) → IsFaultless call.Create s [] template → class_of template ≡ None → ⊥
+pub created_has_class : (s : SessionState) (template : List Entry) → IsFaultless making.Create s [] template → class_of template ≡ None → ⊥
 created_has_class s template ok none =
     let given = is_given (attribute_of template attr.Class) (class_missing template none ok.complete) in
     listed_class template given.0 ok.formed given.1 (ap (λ (o : Option (List ℕ)). class_at (number_of o)) (sym given.1) ∙ none)
 
-key_required : (template : List Entry) → class_of template ≡ Some SecretKey → list_any (is_missing call.Create template) attribute_table ≡ false → (is_none (attribute_of template attr.Value) ≡ false) × (is_none (attribute_of template attr.KeyType) ≡ false)
+key_required : (template : List Entry) → class_of template ≡ Some SecretKey → list_any (is_missing making.Create template) attribute_table ≡ false → (is_none (attribute_of template attr.Value) ≡ false) × (is_none (attribute_of template attr.KeyType) ≡ false)
 unfolding attribute_table
 key_required template e complete =
-    let all = both_false (is_none (attribute_of template attr.Class)) (is_none (attribute_of template attr.Value) || (is_none (attribute_of template attr.KeyType) || false)) (complete_at call.Create (Some SecretKey) template e complete) in
+    let all = both_false (is_none (attribute_of template attr.Class)) (is_none (attribute_of template attr.Value) || (is_none (attribute_of template attr.KeyType) || false)) (complete_at making.Create (Some SecretKey) template e complete) in
     let last = both_false (is_none (attribute_of template attr.Value)) (is_none (attribute_of template attr.KeyType) || false) all.1 in
     (last.0, (both_false (is_none (attribute_of template attr.KeyType)) false last.1).0)
 
@@ -232,9 +232,9 @@ class_kept : (o : Option (List ℕ)) (k : ObjectClass) (other : List ℕ) → cl
 class_kept (Some v) k other e = e
 class_kept None k other e = absurd (let no : None ≡ Some k = sym class_at-none ∙ e in cc)
 
-no_len_create : (s : SessionState) (template : List Entry) → IsFaultless call.Create s [] template → attribute_of template attr.ValueLen ≡ None
+no_len_create : (s : SessionState) (template : List Entry) → IsFaultless making.Create s [] template → attribute_of template attr.ValueLen ≡ None
 unfolding attribute_table
-no_len_create s template ok = not_excluded call.Create None [] template (attr_type_number attr.ValueLen) no_original refl ok.included
+no_len_create s template ok = not_excluded making.Create None [] template (attr_type_number attr.ValueLen) no_original refl ok.included
 
 value_form : form_in attribute_table (attr_type_number attr.Value) ≡ Some Bytes
 unfolding attribute_table
@@ -249,11 +249,11 @@ given_small template formed =
     ] in
     step (attribute_of template attr.Value) refl
 
-data_class : (template : List Entry) (random value : List ℕ) → attribute_of (made_entries call.Create Data [] template random value) attr.Class ≡ Some (unwrap_or (attribute_of template attr.Class) (number_bytes 4))
+data_class : (template : List Entry) (random value : List ℕ) → attribute_of (made_entries making.Create Data [] template random value) attr.Class ≡ Some (unwrap_or (attribute_of template attr.Class) (number_bytes 4))
 unfolding attribute_table
 data_class template random value = refl
 
-created_key : (s : SessionState) (template : List Entry) (random : List ℕ) → IsFaultless call.Create s [] template → class_of template ≡ Some SecretKey → IsObject (made_entries call.Create SecretKey [] template random (given_value template))
+created_key : (s : SessionState) (template : List Entry) (random : List ℕ) → IsFaultless making.Create s [] template → class_of template ≡ Some SecretKey → IsObject (made_entries making.Create SecretKey [] template random (given_value template))
 created_key s template random ok class_is =
     let value = given_value template in
     let needed = key_required template class_is ok.complete in
@@ -271,33 +271,33 @@ created_key s template random ok class_is =
     let len_made : number_of (Some (unwrap_or (attribute_of template attr.ValueLen) (number_bytes (length value)))) ≡ Some (length value) =
     ap (λ (o : Option (List ℕ)). number_of (Some (unwrap_or o (number_bytes (length value))))) (no_len_create s template ok) ∙ number_again (length value) (omega (arith, small)) in
     let p = parts_create template random value in
-    key_from_parts (made_entries call.Create SecretKey [] template random value) _ _ value _ t.0
+    key_from_parts (made_entries making.Create SecretKey [] template random value) _ _ value _ t.0
     (record { class_is = p.class_is; type_is = p.type_is; value_is = p.value_is ∙ ap (λ (w : List ℕ). Some w) value_made; len_is = p.len_is })
-    (made_fit call.Create SecretKey [] template random value ok.formed (defaults_fit call.Create SecretKey template value (omega (arith, small))))
+    (made_fit making.Create SecretKey [] template random value ok.formed (defaults_fit making.Create SecretKey template value (omega (arith, small))))
     (class_kept (attribute_of template attr.Class) SecretKey (number_bytes 4) class_is) type_made right len_made
 
-created_data : (s : SessionState) (template : List Entry) (random : List ℕ) → IsFaultless call.Create s [] template → class_of template ≡ Some Data → IsObject (made_entries call.Create Data [] template random (given_value template))
+created_data : (s : SessionState) (template : List Entry) (random : List ℕ) → IsFaultless making.Create s [] template → class_of template ≡ Some Data → IsObject (made_entries making.Create Data [] template random (given_value template))
 created_data s template random ok class_is =
-    let es = made_entries call.Create Data [] template random (given_value template) in
+    let es = made_entries making.Create Data [] template random (given_value template) in
     is_data_object es (ap (λ (o : Option (List ℕ)). class_at (number_of o)) (data_class template random (given_value template)) ∙ class_kept (attribute_of template attr.Class) Data (number_bytes 4) class_is)
-    (made_fit call.Create Data [] template random (given_value template) ok.formed (defaults_fit call.Create Data template (given_value template) (given_small template ok.formed)))
+    (made_fit making.Create Data [] template random (given_value template) ok.formed (defaults_fit making.Create Data template (given_value template) (given_small template ok.formed)))
 
-pub created_is_object : (s : SessionState) (template : List Entry) (random : List ℕ) (class : ObjectClass) → IsFaultless call.Create s [] template → class_of template ≡ Some class → IsObject (made_entries call.Create class [] template random (given_value template))
+pub created_is_object : (s : SessionState) (template : List Entry) (random : List ℕ) (class : ObjectClass) → IsFaultless making.Create s [] template → class_of template ≡ Some class → IsObject (made_entries making.Create class [] template random (given_value template))
 created_is_object s template random Data ok e = created_data s template random ok e
 created_is_object s template random SecretKey ok e = created_key s template random ok e
 
 -- ---- what is known of an unwrapped key before its value is
 
-unwrapped_token_flag : (n : ℕ) (template : List Entry) (random value : List ℕ) → flag (made_entries (call.Unwrap n) SecretKey [] template random value) attr.Token ≡ is_true (Some (unwrap_or (attribute_of template attr.Token) (truth false)))
+unwrapped_token_flag : (n : ℕ) (template : List Entry) (random value : List ℕ) → flag (made_entries (making.Unwrap n) SecretKey [] template random value) attr.Token ≡ is_true (Some (unwrap_or (attribute_of template attr.Token) (truth false)))
 unfolding attribute_table
 unwrapped_token_flag n template random value = refl
 
-pub unwrapped_token : (template : List Entry) (random value : List ℕ) (b : Bool) → b ≡ is_true (Some (unwrap_or (attribute_of template attr.Token) (truth false))) → flag (made_entries (call.Unwrap (length value)) SecretKey [] template random value) attr.Token ≡ b
+pub unwrapped_token : (template : List Entry) (random value : List ℕ) (b : Bool) → b ≡ is_true (Some (unwrap_or (attribute_of template attr.Token) (truth false))) → flag (made_entries (making.Unwrap (length value)) SecretKey [] template random value) attr.Token ≡ b
 unwrapped_token template random value b e = unwrapped_token_flag (length value) template random value ∙ sym e
 
-unwrapped_private_flag : (n : ℕ) (template : List Entry) (random value : List ℕ) → flag (made_entries (call.Unwrap n) SecretKey [] template random value) attr.Private ≡ is_true (Some (unwrap_or (attribute_of template attr.Private) (truth true)))
+unwrapped_private_flag : (n : ℕ) (template : List Entry) (random value : List ℕ) → flag (made_entries (making.Unwrap n) SecretKey [] template random value) attr.Private ≡ is_true (Some (unwrap_or (attribute_of template attr.Private) (truth true)))
 unfolding attribute_table
 unwrapped_private_flag n template random value = refl
 
-pub unwrapped_private : (template : List Entry) (random value : List ℕ) (b : Bool) → b ≡ is_true (Some (unwrap_or (attribute_of template attr.Private) (truth true))) → flag (made_entries (call.Unwrap (length value)) SecretKey [] template random value) attr.Private ≡ b
+pub unwrapped_private : (template : List Entry) (random value : List ℕ) (b : Bool) → b ≡ is_true (Some (unwrap_or (attribute_of template attr.Private) (truth true))) → flag (made_entries (making.Unwrap (length value)) SecretKey [] template random value) attr.Private ≡ b
 unwrapped_private template random value b e = unwrapped_private_flag (length value) template random value ∙ sym e

@@ -15,8 +15,8 @@ use Rattle.ck_types.specs.Numbers.{attr_type_number}
 use Rattle.attrs.specs.declared.table.Form.TheVariants.{Number}
 use Rattle.attrs.specs.Table.{attribute_table, row_number}
 use Rattle.attrs.specs.Objects.{attribute, attribute_of, number_of, class_at, class_of, key_type_at, is_key_len, has_form}
-use Rattle.templates.specs.declared.call.Call.{Call}
-use Rattle.templates.specs.Call.{rule}
+use Rattle.templates.specs.declared.making.Making.{Making}
+use Rattle.templates.specs.Making.{rule}
 use Rattle.templates.specs.Faults.{template_fault, is_unknown, is_ill_formed, is_unlisted, contradicts, is_read_only, is_excluded, disagrees, is_missing, has_bad_len, has_bad_unwrapped_len, is_about, is_held, is_inconsistent, is_required, refuses, is_other, form_in, fits_form_of}
 use Rattle.templates.specs.Made.{number_bytes}
 use Rattle.templates.proofs.Entries.{both_false, not_false, any_false-attribute}
@@ -25,7 +25,7 @@ cond_none : {A : Type 0} (b : Bool) (x : A) (o : Option A) → cond b (Some x) o
 cond_none true x o e = absurd cc
 cond_none false x o e = (refl, e)
 
-pub record IsFaultless (c : Call) (s : SessionState) (original template : List Entry) : Type 0 where
+pub record IsFaultless (c : Making) (s : SessionState) (original template : List Entry) : Type 0 where
   pub formed : list_any is_ill_formed template ≡ false
   pub writable : list_any (is_read_only c s original) template ≡ false
   pub included : list_any (is_excluded c original) template ≡ false
@@ -34,7 +34,7 @@ pub record IsFaultless (c : Call) (s : SessionState) (original template : List E
   pub right_len : has_bad_len c template ≡ false
   pub right_unwrapped_len : has_bad_unwrapped_len c template ≡ false
 
-pub faultless : (c : Call) (s : SessionState) (original template : List Entry) → template_fault c s original template ≡ None → IsFaultless c s original template
+pub faultless : (c : Making) (s : SessionState) (original template : List Entry) → template_fault c s original template ≡ None → IsFaultless c s original template
 unfolding template_fault
 faultless c s original template e =
     let f1 = cond_none (list_any (is_unknown (class_of original)) template) _ _ e in
@@ -55,22 +55,22 @@ when_given template n none =
     let step : (o : Option (List ℕ)) → attribute template n ≡ o → attribute template n ≡ None = λ o. elim o as (λ p. attribute template n ≡ p → attribute template n ≡ None) [ Some v ↦ λ e. absurd (none v e) | None ↦ λ e. e ] in
     step (attribute template n) refl
 
-pub not_excluded : (c : Call) (k : Option ObjectClass) (original template : List Entry) (n : ℕ) → class_of original ≡ k → list_any (λ r. is_about k n r && is_inconsistent (rule c r)) attribute_table ≡ true → list_any (is_excluded c original) template ≡ false → attribute template n ≡ None
+pub not_excluded : (c : Making) (k : Option ObjectClass) (original template : List Entry) (n : ℕ) → class_of original ≡ k → list_any (λ r. is_about k n r && is_inconsistent (rule c r)) attribute_table ≡ true → list_any (is_excluded c original) template ≡ false → attribute template n ≡ None
 not_excluded c k original template n class refused included =
     when_given template n (λ v given.
     let g = any_false-attribute (is_excluded c original) template n v included given in
-    let at_class : list_any (λ r. is_about k g.entry.number r && is_inconsistent (rule c r)) attribute_table ≡ false = subst (λ (j : Option ObjectClass). list_any (λ r. is_about j g.entry.number r && is_inconsistent (rule c r)) attribute_table ≡ false) class g.fails in
+    let at_class : list_any (λ r. is_about k g.entry.attr_type r && is_inconsistent (rule c r)) attribute_table ≡ false = subst (λ (j : Option ObjectClass). list_any (λ r. is_about j g.entry.attr_type r && is_inconsistent (rule c r)) attribute_table ≡ false) class g.fails in
     let at_number : list_any (λ r. is_about k n r && is_inconsistent (rule c r)) attribute_table ≡ false = subst (λ (m : ℕ). list_any (λ r. is_about k m r && is_inconsistent (rule c r)) attribute_table ≡ false) g.number_is at_class in
     let no : true ≡ false = sym refused ∙ at_number in
     cc)
 
-pub not_read_only : (c : Call) (s : SessionState) (k : Option ObjectClass) (original template : List Entry) (n : ℕ) → class_of original ≡ k
+pub not_read_only : (c : Making) (s : SessionState) (k : Option ObjectClass) (original template : List Entry) (n : ℕ) → class_of original ≡ k
     → ((present : Option (List ℕ)) (v : List ℕ) → list_any (λ r. is_about k n r && refuses (rule c r) s present v) attribute_table ≡ true) → list_any (is_read_only c s original) template ≡ false → attribute template n ≡ None
 not_read_only c s k original template n class refused writable =
     when_given template n (λ v given.
     let g = any_false-attribute (is_read_only c s original) template n v writable given in
-    let present = attribute original g.entry.number in
-    let at_class : list_any (λ r. is_about k g.entry.number r && refuses (rule c r) s present g.entry.value) attribute_table ≡ false = subst (λ (j : Option ObjectClass). list_any (λ r. is_about j g.entry.number r && refuses (rule c r) s present g.entry.value) attribute_table ≡ false) class g.fails in
+    let present = attribute original g.entry.attr_type in
+    let at_class : list_any (λ r. is_about k g.entry.attr_type r && refuses (rule c r) s present g.entry.value) attribute_table ≡ false = subst (λ (j : Option ObjectClass). list_any (λ r. is_about j g.entry.attr_type r && refuses (rule c r) s present g.entry.value) attribute_table ≡ false) class g.fails in
     let at_number : list_any (λ r. is_about k n r && refuses (rule c r) s present g.entry.value) attribute_table ≡ false = subst (λ (m : ℕ). list_any (λ r. is_about k m r && refuses (rule c r) s present g.entry.value) attribute_table ≡ false) g.number_is at_class in
     let no : true ≡ false = sym (refused present g.entry.value) ∙ at_number in
     cc)
@@ -82,16 +82,16 @@ is_given (Some v) e = (v, refl)
 is_given None e = absurd cc
 
 -- what is required of a class, by the class that is given
-pub complete_at : (c : Call) (k : Option ObjectClass) (template : List Entry) → class_of template ≡ k → list_any (is_missing c template) attribute_table ≡ false → list_any (λ r. is_required (rule c r) && (is_held k r && is_none (attribute template (row_number r)))) attribute_table ≡ false
+pub complete_at : (c : Making) (k : Option ObjectClass) (template : List Entry) → class_of template ≡ k → list_any (is_missing c template) attribute_table ≡ false → list_any (λ r. is_required (rule c r) && (is_held k r && is_none (attribute template (row_number r)))) attribute_table ≡ false
 complete_at c k template class complete = subst (λ (j : Option ObjectClass). list_any (λ r. is_required (rule c r) && (is_held j r && is_none (attribute template (row_number r)))) attribute_table ≡ false) class complete
 
 -- a class that is given is listed
 pub listed_class : (template : List Entry) (v : List ℕ) → list_any is_ill_formed template ≡ false → attribute_of template attr.Class ≡ Some v → class_at (number_of (Some v)) ≡ None → ⊥
 listed_class template v formed given none =
     let g = any_false-attribute is_ill_formed template (attr_type_number attr.Class) v formed given in
-    let listed = (both_false (not (fits_form_of (form_in attribute_table g.entry.number) g.entry.value)) (is_unlisted g.entry) g.fails).1 in
-    let first = (both_false (eqb g.entry.number (attr_type_number attr.Class) && is_none (class_at (number_of (Some g.entry.value)))) (eqb g.entry.number (attr_type_number attr.KeyType) && is_none (key_type_at (number_of (Some g.entry.value)))) listed).0 in
-    let is_class : eqb g.entry.number (attr_type_number attr.Class) ≡ true = eq-eqb g.entry.number (attr_type_number attr.Class) g.number_is in
+    let listed = (both_false (not (fits_form_of (form_in attribute_table g.entry.attr_type) g.entry.value)) (is_unlisted g.entry) g.fails).1 in
+    let first = (both_false (eqb g.entry.attr_type (attr_type_number attr.Class) && is_none (class_at (number_of (Some g.entry.value)))) (eqb g.entry.attr_type (attr_type_number attr.KeyType) && is_none (key_type_at (number_of (Some g.entry.value)))) listed).0 in
+    let is_class : eqb g.entry.attr_type (attr_type_number attr.Class) ≡ true = eq-eqb g.entry.attr_type (attr_type_number attr.Class) g.number_is in
     let unlisted : is_none (class_at (number_of (Some g.entry.value))) ≡ true = ap (λ (w : List ℕ). is_none (class_at (number_of (Some w)))) g.value_is ∙ ap is_none none in
     let no : true ≡ false = sym (ap (λ (b : Bool). b && is_none (class_at (number_of (Some g.entry.value)))) is_class ∙ unlisted) ∙ first in
     cc
@@ -100,9 +100,9 @@ listed_class template v formed given none =
 pub listed_type : (template : List Entry) (v : List ℕ) → list_any is_ill_formed template ≡ false → attribute_of template attr.KeyType ≡ Some v → key_type_at (number_of (Some v)) ≡ None → ⊥
 listed_type template v formed given none =
     let g = any_false-attribute is_ill_formed template (attr_type_number attr.KeyType) v formed given in
-    let listed = (both_false (not (fits_form_of (form_in attribute_table g.entry.number) g.entry.value)) (is_unlisted g.entry) g.fails).1 in
-    let second = (both_false (eqb g.entry.number (attr_type_number attr.Class) && is_none (class_at (number_of (Some g.entry.value)))) (eqb g.entry.number (attr_type_number attr.KeyType) && is_none (key_type_at (number_of (Some g.entry.value)))) listed).1 in
-    let is_type : eqb g.entry.number (attr_type_number attr.KeyType) ≡ true = eq-eqb g.entry.number (attr_type_number attr.KeyType) g.number_is in
+    let listed = (both_false (not (fits_form_of (form_in attribute_table g.entry.attr_type) g.entry.value)) (is_unlisted g.entry) g.fails).1 in
+    let second = (both_false (eqb g.entry.attr_type (attr_type_number attr.Class) && is_none (class_at (number_of (Some g.entry.value)))) (eqb g.entry.attr_type (attr_type_number attr.KeyType) && is_none (key_type_at (number_of (Some g.entry.value)))) listed).1 in
+    let is_type : eqb g.entry.attr_type (attr_type_number attr.KeyType) ≡ true = eq-eqb g.entry.attr_type (attr_type_number attr.KeyType) g.number_is in
     let unlisted : is_none (key_type_at (number_of (Some g.entry.value))) ≡ true = ap (λ (w : List ℕ). is_none (key_type_at (number_of (Some w)))) g.value_is ∙ ap is_none none in
     let no : true ≡ false = sym (ap (λ (b : Bool). b && is_none (key_type_at (number_of (Some g.entry.value)))) is_type ∙ unlisted) ∙ second in
     cc

@@ -17,7 +17,7 @@ use Rattle.attrs.specs.declared.table.Form.{Form}
 use Rattle.attrs.specs.declared.table.Form.TheVariants.{Bytes}
 use Rattle.attrs.specs.Table.{attribute_table, row_number, rows_of, is_held_by}
 use Rattle.attrs.specs.Objects.{attribute, attribute_of, class_of, number_of, key_type_of, is_key_len, is_key_value, has_key_value, is_of_class, IsObject, fits_rows, has_form}
-use Rattle.templates.specs.declared.call.Call.{Call}
+use Rattle.templates.specs.declared.making.Making.{Making}
 use Rattle.templates.specs.Faults.{form_in, is_ill_formed}
 use Rattle.templates.specs.Made.{made_value, made_entries, not_given, is_renewed, renews, by_default}
 use Rattle.templates.proofs.Entries.{AllByRecursion-filter, fits_rows-map}
@@ -31,7 +31,7 @@ unique_id_form : form_in attribute_table (attr_type_number attr.UniqueId) ≡ So
 unfolding attribute_table
 unique_id_form = refl
 
-value_formed : (c : Call) (class : ObjectClass) (original template : List Entry) (random value : List ℕ) (r : AttributeRow) → list_any is_ill_formed template ≡ false → IsFormed r
+value_formed : (c : Making) (class : ObjectClass) (original template : List Entry) (random value : List ℕ) (r : AttributeRow) → list_any is_ill_formed template ≡ false → IsFormed r
     → has_form r.form (not_given c class original template value r) ≡ true → has_form r.form (made_value c class original template random value r) ≡ true
 value_formed c class original template random value r formed row_is other =
     let step : (b : Bool) → is_renewed c r ≡ b → has_form r.form (cond b (encode_lower (take 16 random)) (unwrap_or (attribute template (row_number r)) (not_given c class original template value r))) ≡ true =
@@ -45,20 +45,20 @@ value_formed c class original template random value r formed row_is other =
     ] in
     step (is_renewed c r) refl
 
-values_formed : (c : Call) (class : ObjectClass) (original template : List Entry) (random value : List ℕ) (rs : List AttributeRow) → list_any is_ill_formed template ≡ false → AllByRecursion IsFormed rs
+values_formed : (c : Making) (class : ObjectClass) (original template : List Entry) (random value : List ℕ) (rs : List AttributeRow) → list_any is_ill_formed template ≡ false → AllByRecursion IsFormed rs
     → AllByRecursion (λ r. has_form r.form (not_given c class original template value r) ≡ true) rs → AllByRecursion (λ r. has_form r.form (made_value c class original template random value r) ≡ true) rs
 values_formed c class original template random value [] formed rows others = tt
 values_formed c class original template random value (r ∷ rs) formed rows others =
     (value_formed c class original template random value r formed rows.0 others.0, values_formed c class original template random value rs formed rows.1 others.1)
 
 -- the made entries are those of the class, each in its form
-pub made_fit : (c : Call) (class : ObjectClass) (original template : List Entry) (random value : List ℕ) → list_any is_ill_formed template ≡ false
+pub made_fit : (c : Making) (class : ObjectClass) (original template : List Entry) (random value : List ℕ) → list_any is_ill_formed template ≡ false
     → AllByRecursion (λ r. has_form r.form (not_given c class original template value r) ≡ true) (rows_of class) → fits_rows (rows_of class) (made_entries c class original template random value) ≡ true
 made_fit c class original template random value formed others =
     fits_rows-map (made_value c class original template random value) (rows_of class)
     (values_formed c class original template random value (rows_of class) formed (AllByRecursion-filter IsFormed (is_held_by class) attribute_table table_formed) others)
 
-pub defaults_fit : (c : Call) (class : ObjectClass) (template : List Entry) (value : List ℕ) → length value ≤ 1024
+pub defaults_fit : (c : Making) (class : ObjectClass) (template : List Entry) (value : List ℕ) → length value ≤ 1024
     → AllByRecursion (λ r. has_form r.form (by_default r.default c class template value r.attribute) ≡ true) (rows_of class)
 defaults_fit c class template value small =
     AllByRecursion-filter (λ r. has_form r.form (by_default r.default c class template value r.attribute) ≡ true) (is_held_by class) attribute_table

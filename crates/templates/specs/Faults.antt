@@ -20,9 +20,9 @@ use Rattle.attrs.specs.declared.table.Rule.{Rule}
 use Rattle.attrs.specs.declared.table.Rule.TheVariants.{Unused, Required, Optional, Inconsistent, ReadOnly, FalseOnly, TrueOnly, TrueBySo}
 use Rattle.attrs.specs.Table.{attribute_table, row_number, is_held_by}
 use Rattle.attrs.specs.Objects.{attribute, attribute_of, is_true, number_of, class_at, class_of, key_type_at, key_type_of, is_key_len, has_form}
-use Rattle.templates.specs.declared.call.Call.{Call}
-use Rattle.templates.specs.declared.call.Call.TheVariants as call
-use Rattle.templates.specs.Call.{rule, generated_type}
+use Rattle.templates.specs.declared.making.Making.{Making}
+use Rattle.templates.specs.declared.making.Making.TheVariants as making
+use Rattle.templates.specs.Making.{rule, generated_type}
 
 -- whether the objects of a class have the attribute, or where no class is known some objects
 abbrev pub is_held : Option ObjectClass → AttributeRow → Bool
@@ -35,7 +35,7 @@ is_about class n r = (row_number r == n) && is_held class r
 
 -- 1. The type is no attribute, or none that objects of the class have.
 abbrev pub is_unknown : Option ObjectClass → Entry → Bool
-is_unknown class e = not (list_any (is_about class e.number) attribute_table)
+is_unknown class e = not (list_any (is_about class e.attr_type) attribute_table)
 
 -- 2. The value has not the form of its type, or it is an unknown class or key type.
 abbrev pub form_in : List AttributeRow → ℕ → Option Form
@@ -48,15 +48,15 @@ fits_form_of (Some form) value = has_form form value
 
 abbrev pub is_unlisted : Entry → Bool
 is_unlisted e =
-    ((e.number == attr_type_number attr.Class) && is_none (class_at (number_of (Some e.value))))
-    || ((e.number == attr_type_number attr.KeyType) && is_none (key_type_at (number_of (Some e.value))))
+    ((e.attr_type == attr_type_number attr.Class) && is_none (class_at (number_of (Some e.value))))
+    || ((e.attr_type == attr_type_number attr.KeyType) && is_none (key_type_at (number_of (Some e.value))))
 
 abbrev pub is_ill_formed : Entry → Bool
-is_ill_formed e = not (fits_form_of (form_in attribute_table e.number) e.value) || is_unlisted e
+is_ill_formed e = not (fits_form_of (form_in attribute_table e.attr_type) e.value) || is_unlisted e
 
 -- 3. Two entries of one type have unequal values.
 abbrev pub contradicts : Entry → Entry → Bool
-contradicts e f = (e.number == f.number) && not (bytes_eq e.value f.value)
+contradicts e f = (e.attr_type == f.attr_type) && not (bytes_eq e.value f.value)
 
 -- 4. The rule of the attribute doesn't allow the value, given the present one.
 abbrev pub is_set : List ℕ → Bool
@@ -83,8 +83,8 @@ refuses FalseOnly s present value = is_set value && not (is_present present valu
 refuses TrueOnly s present value = not (is_set value) && not (is_present present value)
 refuses TrueBySo s present value = is_set value && (not (is_so s) && not (is_present present value))
 
-abbrev pub is_read_only : Call → SessionState → List Entry → Entry → Bool
-is_read_only c s original e = list_any (λ r. is_about (class_of original) e.number r && refuses (rule c r) s (attribute original e.number) e.value) attribute_table
+abbrev pub is_read_only : Making → SessionState → List Entry → Entry → Bool
+is_read_only c s original e = list_any (λ r. is_about (class_of original) e.attr_type r && refuses (rule c r) s (attribute original e.attr_type) e.value) attribute_table
 
 -- 5. The attribute doesn't go with the call, or with what else is asked for.
 abbrev pub is_inconsistent : Rule → Bool
@@ -97,8 +97,8 @@ is_inconsistent FalseOnly = false
 is_inconsistent TrueOnly = false
 is_inconsistent TrueBySo = false
 
-abbrev pub is_excluded : Call → List Entry → Entry → Bool
-is_excluded c original e = list_any (λ r. is_about (class_of original) e.number r && is_inconsistent (rule c r)) attribute_table
+abbrev pub is_excluded : Making → List Entry → Entry → Bool
+is_excluded c original e = list_any (λ r. is_about (class_of original) e.attr_type r && is_inconsistent (rule c r)) attribute_table
 
 -- a number is given, and it is another one
 abbrev pub is_other : Option ℕ → ℕ → Bool
@@ -108,14 +108,14 @@ is_other (Some m) n = not (m == n)
 abbrev pub is_of_other_class : List Entry → Bool
 is_of_other_class template = is_other (number_of (attribute_of template attr.Class)) (object_class_number SecretKey)
 
-abbrev pub disagrees : Call → List Entry → Bool
-disagrees call.Create template = list_any (is_unknown (class_of template)) template
-disagrees (call.Generate mechanism) template =
+abbrev pub disagrees : Making → List Entry → Bool
+disagrees making.Create template = list_any (is_unknown (class_of template)) template
+disagrees (making.Generate mechanism) template =
     is_of_other_class template || is_other (number_of (attribute_of template attr.KeyType)) (key_type_number (generated_type mechanism))
-disagrees (call.Unwrap len) template =
+disagrees (making.Unwrap len) template =
     is_of_other_class template || is_other (number_of (attribute_of template attr.ValueLen)) len
-disagrees call.Copy template = false
-disagrees call.Set template = false
+disagrees making.Copy template = false
+disagrees making.Set template = false
 
 -- 6. A required attribute is missing.
 abbrev pub is_required : Rule → Bool
@@ -128,7 +128,7 @@ is_required FalseOnly = false
 is_required TrueOnly = false
 is_required TrueBySo = false
 
-abbrev pub is_missing : Call → List Entry → AttributeRow → Bool
+abbrev pub is_missing : Making → List Entry → AttributeRow → Bool
 is_missing c template r = is_required (rule c r) && (is_held (class_of template) r && is_none (attribute template (row_number r)))
 
 -- 7. The key type doesn't have the length.
@@ -141,22 +141,22 @@ abbrev pub len_of : Option (List ℕ) → Option ℕ
 len_of None = None
 len_of (Some value) = Some (length value)
 
-abbrev pub has_bad_len : Call → List Entry → Bool
-has_bad_len call.Create template = is_bad_len (key_type_of template) (len_of (attribute_of template attr.Value))
-has_bad_len (call.Generate mechanism) template = is_bad_len (Some (generated_type mechanism)) (number_of (attribute_of template attr.ValueLen))
-has_bad_len (call.Unwrap len) template = false
-has_bad_len call.Copy template = false
-has_bad_len call.Set template = false
+abbrev pub has_bad_len : Making → List Entry → Bool
+has_bad_len making.Create template = is_bad_len (key_type_of template) (len_of (attribute_of template attr.Value))
+has_bad_len (making.Generate mechanism) template = is_bad_len (Some (generated_type mechanism)) (number_of (attribute_of template attr.ValueLen))
+has_bad_len (making.Unwrap len) template = false
+has_bad_len making.Copy template = false
+has_bad_len making.Set template = false
 
-abbrev pub has_bad_unwrapped_len : Call → List Entry → Bool
-has_bad_unwrapped_len call.Create template = false
-has_bad_unwrapped_len (call.Generate mechanism) template = false
-has_bad_unwrapped_len (call.Unwrap len) template = is_bad_len (key_type_of template) (Some len)
-has_bad_unwrapped_len call.Copy template = false
-has_bad_unwrapped_len call.Set template = false
+abbrev pub has_bad_unwrapped_len : Making → List Entry → Bool
+has_bad_unwrapped_len making.Create template = false
+has_bad_unwrapped_len (making.Generate mechanism) template = false
+has_bad_unwrapped_len (making.Unwrap len) template = is_bad_len (key_type_of template) (Some len)
+has_bad_unwrapped_len making.Copy template = false
+has_bad_unwrapped_len making.Set template = false
 
 -- the code of the first condition that holds
-unfoldable pub template_fault : Call → SessionState → List Entry → List Entry → Option Rv
+unfoldable pub template_fault : Making → SessionState → List Entry → List Entry → Option Rv
 template_fault c s original template =
     if list_any (is_unknown (class_of original)) template then Some rv.AttributeTypeInvalid else (
     if list_any is_ill_formed template then Some rv.AttributeValueInvalid else (

@@ -1,4 +1,4 @@
-pub mod Call
+pub mod Making
 pub mod Faults
 pub mod Made
 pub mod Guarded

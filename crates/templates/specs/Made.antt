@@ -17,11 +17,11 @@ use Rattle.attrs.specs.declared.table.DefaultValue.{DefaultValue}
 use Rattle.attrs.specs.declared.table.DefaultValue.TheVariants.{ByToken, False, True, TrueForKey, TrueUnwrapped, Empty}
 use Rattle.attrs.specs.Table.{row_number, rows_of}
 use Rattle.attrs.specs.Objects.{attribute, attribute_of, is_true, number_of, class_of}
-use Rattle.templates.specs.declared.call.Call.{Call}
-use Rattle.templates.specs.declared.call.Call.TheVariants as call
+use Rattle.templates.specs.declared.making.Making.{Making}
+use Rattle.templates.specs.declared.making.Making.TheVariants as making
 use Rattle.templates.specs.declared.fault.MakeFault.{MakeFault}
 use Rattle.templates.specs.declared.fault.MakeFault.TheVariants.{Refused, Memory}
-use Rattle.templates.specs.Call.{generated_type}
+use Rattle.templates.specs.Making.{generated_type}
 
 abbrev pub truth : Bool → List ℕ
 truth true = 1 ∷ []
@@ -30,39 +30,39 @@ truth false = 0 ∷ []
 abbrev pub number_bytes : ℕ → List ℕ
 number_bytes n = to_be_bytes w64 n
 
-abbrev pub is_generate : Call → Bool
-is_generate call.Create = false
-is_generate (call.Generate mechanism) = true
-is_generate (call.Unwrap len) = false
-is_generate call.Copy = false
-is_generate call.Set = false
+abbrev pub is_generate : Making → Bool
+is_generate making.Create = false
+is_generate (making.Generate mechanism) = true
+is_generate (making.Unwrap len) = false
+is_generate making.Copy = false
+is_generate making.Set = false
 
-abbrev pub is_unwrap : Call → Bool
-is_unwrap call.Create = false
-is_unwrap (call.Generate mechanism) = false
-is_unwrap (call.Unwrap len) = true
-is_unwrap call.Copy = false
-is_unwrap call.Set = false
+abbrev pub is_unwrap : Making → Bool
+is_unwrap making.Create = false
+is_unwrap (making.Generate mechanism) = false
+is_unwrap (making.Unwrap len) = true
+is_unwrap making.Copy = false
+is_unwrap making.Set = false
 
 abbrev pub is_key_class : ObjectClass → Bool
 is_key_class Data = false
 is_key_class SecretKey = true
 
 -- the mechanism that generated a key, or CK_UNAVAILABLE_INFORMATION
-abbrev pub generator : Call → ℕ
-generator call.Create = 0xffff_ffff_ffff_ffff
-generator (call.Generate mechanism) = mech_type_number mechanism
-generator (call.Unwrap len) = 0xffff_ffff_ffff_ffff
-generator call.Copy = 0xffff_ffff_ffff_ffff
-generator call.Set = 0xffff_ffff_ffff_ffff
+abbrev pub generator : Making → ℕ
+generator making.Create = 0xffff_ffff_ffff_ffff
+generator (making.Generate mechanism) = mech_type_number mechanism
+generator (making.Unwrap len) = 0xffff_ffff_ffff_ffff
+generator making.Copy = 0xffff_ffff_ffff_ffff
+generator making.Set = 0xffff_ffff_ffff_ffff
 
 -- the key type where the template needn't give one
-abbrev pub type_by_call : Call → KeyType
-type_by_call call.Create = GenericSecret
-type_by_call (call.Generate mechanism) = generated_type mechanism
-type_by_call (call.Unwrap len) = GenericSecret
-type_by_call call.Copy = GenericSecret
-type_by_call call.Set = GenericSecret
+abbrev pub type_by_making : Making → KeyType
+type_by_making making.Create = GenericSecret
+type_by_making (making.Generate mechanism) = generated_type mechanism
+type_by_making (making.Unwrap len) = GenericSecret
+type_by_making making.Copy = GenericSecret
+type_by_making making.Set = GenericSecret
 
 -- whether a generated key is sensitive, and whether it is extractable
 abbrev pub is_sensitive : List Entry → Bool
@@ -72,9 +72,9 @@ abbrev pub is_extractable : List Entry → Bool
 is_extractable template = is_true (Some (unwrap_or (attribute_of template attr.Extractable) (truth false)))
 
 -- what the token finds: the value of a key is handed in
-abbrev pub by_token : Call → List Entry → List ℕ → AttrType → List ℕ
+abbrev pub by_token : Making → List Entry → List ℕ → AttrType → List ℕ
 by_token c template value attr.Class = number_bytes (object_class_number SecretKey)
-by_token c template value attr.KeyType = number_bytes (key_type_number (type_by_call c))
+by_token c template value attr.KeyType = number_bytes (key_type_number (type_by_making c))
 by_token c template value attr.Value = value
 by_token c template value attr.ValueLen = number_bytes (length value)
 by_token c template value attr.Local = truth (is_generate c)
@@ -83,7 +83,7 @@ by_token c template value attr.AlwaysSensitive = truth (is_generate c && is_sens
 by_token c template value attr.KeyGenMechanism = number_bytes (generator c)
 by_token c template value _ = []
 
-abbrev pub by_default : DefaultValue → Call → ObjectClass → List Entry → List ℕ → AttrType → List ℕ
+abbrev pub by_default : DefaultValue → Making → ObjectClass → List Entry → List ℕ → AttrType → List ℕ
 by_default ByToken c class template value t = by_token c template value t
 by_default False c class template value t = truth false
 by_default True c class template value t = truth true
@@ -92,53 +92,53 @@ by_default TrueUnwrapped c class template value t = truth (is_unwrap c)
 by_default Empty c class template value t = []
 
 -- C_CopyObject and C_SetAttributeValue make an object of another one
-abbrev pub alters : Call → Bool
-alters call.Create = false
-alters (call.Generate mechanism) = false
-alters (call.Unwrap len) = false
-alters call.Copy = true
-alters call.Set = true
+abbrev pub alters : Making → Bool
+alters making.Create = false
+alters (making.Generate mechanism) = false
+alters (making.Unwrap len) = false
+alters making.Copy = true
+alters making.Set = true
 
 -- what is not given: as the original has it, or in a new object the default
-abbrev pub not_given : Call → ObjectClass → List Entry → List Entry → List ℕ → AttributeRow → List ℕ
+abbrev pub not_given : Making → ObjectClass → List Entry → List Entry → List ℕ → AttributeRow → List ℕ
 not_given c class original template value r =
     if alters c then unwrap_or (attribute original (row_number r)) [] else by_default r.default c class template value r.attribute
 
 -- each call but C_SetAttributeValue gives a new CKA_UNIQUE_ID
-abbrev pub renews : Call → Bool
-renews call.Create = true
-renews (call.Generate mechanism) = true
-renews (call.Unwrap len) = true
-renews call.Copy = true
-renews call.Set = false
+abbrev pub renews : Making → Bool
+renews making.Create = true
+renews (making.Generate mechanism) = true
+renews (making.Unwrap len) = true
+renews making.Copy = true
+renews making.Set = false
 
-abbrev pub is_renewed : Call → AttributeRow → Bool
+abbrev pub is_renewed : Making → AttributeRow → Bool
 is_renewed c r = renews c && (row_number r == attr_type_number attr.UniqueId)
 
 -- the value of an attribute: CKA_UNIQUE_ID is 32 hexadecimal digits of 16 random bytes
-abbrev pub made_value : Call → ObjectClass → List Entry → List Entry → List ℕ → List ℕ → AttributeRow → List ℕ
+abbrev pub made_value : Making → ObjectClass → List Entry → List Entry → List ℕ → List ℕ → AttributeRow → List ℕ
 made_value c class original template random value r =
     if is_renewed c r then encode_lower (take 16 random)
     else unwrap_or (attribute template (row_number r)) (not_given c class original template value r)
 
-abbrev pub made_entry : Call → ObjectClass → List Entry → List Entry → List ℕ → List ℕ → AttributeRow → Entry
-made_entry c class original template random value r = record { number = row_number r; value = made_value c class original template random value r }
+abbrev pub made_entry : Making → ObjectClass → List Entry → List Entry → List ℕ → List ℕ → AttributeRow → Entry
+made_entry c class original template random value r = record { attr_type = row_number r; value = made_value c class original template random value r }
 
-abbrev pub made_entries : Call → ObjectClass → List Entry → List Entry → List ℕ → List ℕ → List Entry
+abbrev pub made_entries : Making → ObjectClass → List Entry → List Entry → List ℕ → List ℕ → List Entry
 made_entries c class original template random value = map (made_entry c class original template random value) (rows_of class)
 
-abbrev pub made_class : Call → List Entry → List Entry → Option ObjectClass
-made_class call.Create original template = class_of template
-made_class (call.Generate m) original template = Some SecretKey
-made_class (call.Unwrap n) original template = Some SecretKey
-made_class call.Copy original template = class_of original
-made_class call.Set original template = class_of original
+abbrev pub made_class : Making → List Entry → List Entry → Option ObjectClass
+made_class making.Create original template = class_of template
+made_class (making.Generate m) original template = Some SecretKey
+made_class (making.Unwrap n) original template = Some SecretKey
+made_class making.Copy original template = class_of original
+made_class making.Set original template = class_of original
 
-abbrev pub made_of : Option ObjectClass → Call → List Entry → List Entry → List ℕ → List ℕ → List Entry
+abbrev pub made_of : Option ObjectClass → Making → List Entry → List Entry → List ℕ → List ℕ → List Entry
 made_of None c original template random value = []
 made_of (Some class) c original template random value = made_entries c class original template random value
 
-abbrev pub object_made : Call → List Entry → List Entry → List ℕ → List ℕ → List Entry
+abbrev pub object_made : Making → List Entry → List Entry → List ℕ → List ℕ → List Entry
 object_made c original template random value = made_of (made_class c original template) c original template random value
 
 -- the value of a created key

@@ -3,12 +3,12 @@
 ghost use Rattle.std.specs.Prelude.{◌≡◌, ℕ, List, [], length};
 ghost use Rattle.ck_types.specs.declared.attr_type.AttrType.TheVariants as attr;
 ghost use Rattle.attrs.specs.Objects.{flag};
-ghost use Rattle.templates.specs.declared.call.Call.TheVariants as calls;
+ghost use Rattle.templates.specs.declared.making.Making.TheVariants as calls;
 ghost use Rattle.templates.specs.Faults.{template_fault};
 ghost use Rattle.templates.specs.Made.{object_made};
 
-use crate::call::Call;
 use crate::fault::find_fault;
+use crate::making::Making;
 use crate::value::flag_or;
 use attrs::Template;
 use ck_types::{AttrType, Rv, SessionState};
@@ -18,7 +18,7 @@ use ck_types::{AttrType, Rv, SessionState};
 pub fn unwrap_fault(state: SessionState, template: &Template, len: usize) -> Option<Rv>
     ensures { result ≡ template_fault (calls.Unwrap len) state [] template.now }
 {
-    find_fault(Call::Unwrap(len), state, &[], template.as_slice())
+    find_fault(Making::Unwrap(len), state, &[], template.as_slice())
 }
 
 /// Whether the key that `unwrapped` makes of a template is a token object, whatever its value.

@@ -7,7 +7,7 @@ ghost use Rattle.attrs.specs.Objects.{class_of};
 ghost use Rattle.attrs.specs.Table.{attribute_table};
 ghost use Rattle.templates.specs.Faults.{contradicts, disagrees, fits_form_of, form_in, has_bad_len, has_bad_unwrapped_len, is_about, is_bad_len, is_excluded, is_held, is_ill_formed, is_inconsistent, is_missing, is_of_other_class, is_other, is_present, is_read_only, is_required, is_set, is_so, is_unknown, is_unlisted, len_of, refuses};
 
-use crate::call::{Call, generated_type_of, rule_of};
+use crate::making::{Making, generated_type_of, rule_of};
 use attrs::{
     AttributeRow, Form, Rule, attribute_in, attributes, class_from, class_in, find_attribute,
     fits_form, fits_key_type, key_type_from, key_type_in, number_in,
@@ -38,7 +38,7 @@ fn is_known_type(class: Option<ObjectClass>, number: u64) -> bool
 fn is_unknown_type(class: Option<ObjectClass>, entry: &Entry) -> bool
     ensures { result ≡ is_unknown class entry.now }
 {
-    !is_known_type(class, entry.number)
+    !is_known_type(class, entry.attr_type)
 }
 
 /// Whether a type is no attribute of the class, or where there is none, of no object.
@@ -61,9 +61,9 @@ fn find_form(rows: &[AttributeRow], number: u64) -> Option<Form>
 }
 
 fn fits_its_form(entry: &Entry) -> bool
-    ensures { result ≡ fits_form_of (form_in attribute_table entry.now.number) entry.now.value }
+    ensures { result ≡ fits_form_of (form_in attribute_table entry.now.attr_type) entry.now.value }
 {
-    match find_form(attributes(), entry.number) {
+    match find_form(attributes(), entry.attr_type) {
         None => true,
         Some(form) => fits_form(form, entry.value.as_slice()),
     }
@@ -73,8 +73,8 @@ fn is_unlisted_entry(entry: &Entry) -> bool
     ensures { result ≡ is_unlisted entry.now }
 {
     let number = number_in(Some(entry.value.as_slice()));
-    (entry.number == AttrType::Class.number() && class_from(number).is_none())
-        || (entry.number == AttrType::KeyType.number() && key_type_from(number).is_none())
+    (entry.attr_type == AttrType::Class.number() && class_from(number).is_none())
+        || (entry.attr_type == AttrType::KeyType.number() && key_type_from(number).is_none())
 }
 
 fn is_ill_formed_entry(entry: &Entry) -> bool
@@ -93,7 +93,7 @@ pub(crate) fn any_ill_formed(template: &[Entry]) -> bool
 fn is_contradicted(entry: &Entry, template: &[Entry]) -> bool
     ensures { result ≡ list_any (contradicts entry.now) template.now }
 {
-    template.iter().any(|other| entry.number == other.number
+    template.iter().any(|other| entry.attr_type == other.attr_type
         && entry.value.as_slice() != other.value.as_slice())
 }
 
@@ -147,29 +147,34 @@ fn rule_refuses(rule: Rule, state: SessionState, present: Option<&[u8]>, value: 
     }
 }
 
-fn is_read_only_entry(call: Call, state: SessionState, original: &[Entry], entry: &Entry) -> bool
-    ensures { result ≡ is_read_only call state original.now entry.now }
+fn is_read_only_entry(
+    making: Making,
+    state: SessionState,
+    original: &[Entry],
+    entry: &Entry,
+) -> bool
+    ensures { result ≡ is_read_only making state original.now entry.now }
 {
     let class = class_in(original);
-    let present = find_attribute(original, entry.number);
+    let present = find_attribute(original, entry.attr_type);
     attributes().iter().any(|row| {
-        speaks_of(class, entry.number, row)
-            && rule_refuses(rule_of(call, row), state, present, entry.value.as_slice())
+        speaks_of(class, entry.attr_type, row)
+            && rule_refuses(rule_of(making, row), state, present, entry.value.as_slice())
     })
 }
 
 /// Whether the rule of an attribute refuses its value as read-only.
 pub(crate) fn any_read_only(
-    call: Call,
+    making: Making,
     state: SessionState,
     original: &[Entry],
     template: &[Entry],
 ) -> bool
-    ensures { result ≡ list_any (is_read_only call state original.now) template.now }
+    ensures { result ≡ list_any (is_read_only making state original.now) template.now }
 {
     template
         .iter()
-        .any(|entry| is_read_only_entry(call, state, original, entry))
+        .any(|entry| is_read_only_entry(making, state, original, entry))
 }
 
 fn is_inconsistent_rule(rule: Rule) -> bool
@@ -178,22 +183,22 @@ fn is_inconsistent_rule(rule: Rule) -> bool
     rule == Rule::Inconsistent
 }
 
-fn is_excluded_entry(call: Call, original: &[Entry], entry: &Entry) -> bool
-    ensures { result ≡ is_excluded call original.now entry.now }
+fn is_excluded_entry(making: Making, original: &[Entry], entry: &Entry) -> bool
+    ensures { result ≡ is_excluded making original.now entry.now }
 {
     let class = class_in(original);
     attributes().iter().any(|row| {
-        speaks_of(class, entry.number, row) && is_inconsistent_rule(rule_of(call, row))
+        speaks_of(class, entry.attr_type, row) && is_inconsistent_rule(rule_of(making, row))
     })
 }
 
 /// Whether an attribute doesn't go with the call.
-pub(crate) fn any_excluded(call: Call, original: &[Entry], template: &[Entry]) -> bool
-    ensures { result ≡ list_any (is_excluded call original.now) template.now }
+pub(crate) fn any_excluded(making: Making, original: &[Entry], template: &[Entry]) -> bool
+    ensures { result ≡ list_any (is_excluded making original.now) template.now }
 {
     template
         .iter()
-        .any(|entry| is_excluded_entry(call, original, entry))
+        .any(|entry| is_excluded_entry(making, original, entry))
 }
 
 fn is_other_number(number: Option<u64>, wanted: u64) -> bool
@@ -213,21 +218,21 @@ fn is_of_another_class(template: &[Entry]) -> bool
 }
 
 /// Whether the template disagrees with itself, the mechanism or the unwrapped length.
-pub(crate) fn is_disagreeing(call: Call, template: &[Entry]) -> bool
-    ensures { result ≡ disagrees call template.now }
+pub(crate) fn is_disagreeing(making: Making, template: &[Entry]) -> bool
+    ensures { result ≡ disagrees making template.now }
 {
-    match call {
-        Call::Create => any_unknown(class_in(template), template),
-        Call::Generate(mechanism) => {
+    match making {
+        Making::Create => any_unknown(class_in(template), template),
+        Making::Generate(mechanism) => {
             let number = number_in(attribute_in(template, AttrType::KeyType));
             is_of_another_class(template)
                 || is_other_number(number, generated_type_of(mechanism).number())
         }
-        Call::Unwrap(len) => {
+        Making::Unwrap(len) => {
             let number = number_in(attribute_in(template, AttrType::ValueLen));
             is_of_another_class(template) || is_other_number(number, len as u64)
         }
-        Call::Copy | Call::Set => false,
+        Making::Copy | Making::Set => false,
     }
 }
 
@@ -237,21 +242,21 @@ fn is_required_rule(rule: Rule) -> bool
     rule == Rule::Required
 }
 
-fn is_missing_in(call: Call, template: &[Entry], row: &AttributeRow) -> bool
-    ensures { result ≡ is_missing call template.now row.now }
+fn is_missing_in(making: Making, template: &[Entry], row: &AttributeRow) -> bool
+    ensures { result ≡ is_missing making template.now row.now }
 {
-    is_required_rule(rule_of(call, row))
+    is_required_rule(rule_of(making, row))
         && is_held_in(class_in(template), row)
         && attribute_in(template, row.attribute).is_none()
 }
 
 /// Whether a required attribute is missing.
-pub(crate) fn any_missing(call: Call, template: &[Entry]) -> bool
-    ensures { result ≡ list_any (is_missing call template.now) attribute_table }
+pub(crate) fn any_missing(making: Making, template: &[Entry]) -> bool
+    ensures { result ≡ list_any (is_missing making template.now) attribute_table }
 {
     attributes()
         .iter()
-        .any(|row| is_missing_in(call, template, row))
+        .any(|row| is_missing_in(making, template, row))
 }
 
 fn is_bad_len_of(key_type: Option<KeyType>, len: Option<u64>) -> bool
@@ -273,28 +278,28 @@ fn len_in(value: Option<&[u8]>) -> Option<u64>
 }
 
 /// Whether the value that is given or asked for has a length that its key type doesn't have.
-pub(crate) fn is_of_bad_len(call: Call, template: &[Entry]) -> bool
-    ensures { result ≡ has_bad_len call template.now }
+pub(crate) fn is_of_bad_len(making: Making, template: &[Entry]) -> bool
+    ensures { result ≡ has_bad_len making template.now }
 {
-    match call {
-        Call::Create => is_bad_len_of(
+    match making {
+        Making::Create => is_bad_len_of(
             key_type_in(template),
             len_in(attribute_in(template, AttrType::Value)),
         ),
-        Call::Generate(mechanism) => is_bad_len_of(
+        Making::Generate(mechanism) => is_bad_len_of(
             Some(generated_type_of(mechanism)),
             number_in(attribute_in(template, AttrType::ValueLen)),
         ),
-        Call::Unwrap(_) | Call::Copy | Call::Set => false,
+        Making::Unwrap(_) | Making::Copy | Making::Set => false,
     }
 }
 
 /// Whether the unwrapped value has a length that its key type doesn't have.
-pub(crate) fn is_of_bad_unwrapped_len(call: Call, template: &[Entry]) -> bool
-    ensures { result ≡ has_bad_unwrapped_len call template.now }
+pub(crate) fn is_of_bad_unwrapped_len(making: Making, template: &[Entry]) -> bool
+    ensures { result ≡ has_bad_unwrapped_len making template.now }
 {
-    match call {
-        Call::Unwrap(len) => is_bad_len_of(key_type_in(template), Some(len as u64)),
-        Call::Create | Call::Generate(_) | Call::Copy | Call::Set => false,
+    match making {
+        Making::Unwrap(len) => is_bad_len_of(key_type_in(template), Some(len as u64)),
+        Making::Create | Making::Generate(_) | Making::Copy | Making::Set => false,
     }
 }

@@ -4,8 +4,8 @@ ghost use Rattle.std.specs.Prelude.{◌≡◌};
 ghost use Rattle.templates.specs.declared.fault.MakeFault.TheVariants.{Memory};
 ghost use Rattle.templates.specs.Faults.{template_fault};
 
-use crate::call::Call;
 use crate::conditions;
+use crate::making::Making;
 use attrs::class_in;
 use ck_types::{Entry, Rv, SessionState};
 use std::alloc::AllocError;
@@ -34,12 +34,12 @@ impl From<AllocError> for MakeFault {
 /// and empty where a new one is made.
 #[tactic(auto, unfolding(crate::specs::Faults::template_fault))]
 pub(crate) fn find_fault(
-    call: Call,
+    making: Making,
     state: SessionState,
     original: &[Entry],
     template: &[Entry],
 ) -> Option<Rv>
-    ensures { result ≡ template_fault call state original.now template.now }
+    ensures { result ≡ template_fault making state original.now template.now }
 {
     if conditions::any_unknown(class_in(original), template) {
         return Some(Rv::AttributeTypeInvalid);
@@ -50,21 +50,21 @@ pub(crate) fn find_fault(
     if conditions::any_contradicted(template) {
         return Some(Rv::TemplateInconsistent);
     }
-    if conditions::any_read_only(call, state, original, template) {
+    if conditions::any_read_only(making, state, original, template) {
         return Some(Rv::AttributeReadOnly);
     }
-    if conditions::any_excluded(call, original, template)
-        || conditions::is_disagreeing(call, template)
+    if conditions::any_excluded(making, original, template)
+        || conditions::is_disagreeing(making, template)
     {
         return Some(Rv::TemplateInconsistent);
     }
-    if conditions::any_missing(call, template) {
+    if conditions::any_missing(making, template) {
         return Some(Rv::TemplateIncomplete);
     }
-    if conditions::is_of_bad_len(call, template) {
+    if conditions::is_of_bad_len(making, template) {
         return Some(Rv::AttributeValueInvalid);
     }
-    if conditions::is_of_bad_unwrapped_len(call, template) {
+    if conditions::is_of_bad_unwrapped_len(making, template) {
         return Some(Rv::WrappedKeyLenRange);
     }
     None

@@ -31,10 +31,10 @@
 #![tactic(auto)]
 
 mod ahead;
-mod call;
 mod conditions;
 mod fault;
 mod make;
+mod making;
 mod value;
 
 pub use ahead::{unwrap_fault, unwraps_private_key, unwraps_token_key};

@@ -3,49 +3,52 @@
 ghost use Rattle.std.specs.Prelude.{◌≡◌, ◌+◌, ◌≤◌, [], IfOk, None, true, MatchResult, length};
 ghost use Rattle.attrs.specs.Objects.{IsObject};
 ghost use Rattle.ck_types.specs.declared.object_class.ObjectClass.TheVariants.{SecretKey};
-ghost use Rattle.templates.specs.declared.call.Call.TheVariants as calls;
+ghost use Rattle.templates.specs.declared.making.Making.TheVariants as calls;
 ghost use Rattle.templates.specs.declared.fault.MakeFault.TheVariants.{Memory};
 ghost use Rattle.templates.specs.Faults.{template_fault};
 ghost use Rattle.templates.specs.Guarded.{IsAsGuarded, StaysPlaced};
 ghost use Rattle.templates.specs.Made.{alters, Answers, asked_len, generated_len, generated_value, given_value, made_entries, made_entry, object_made};
 
-use crate::call::Call;
 use crate::fault::{MakeFault, find_fault};
-use crate::value::{Making, value_made};
+use crate::making::Making;
+use crate::value::{Recipe, value_made};
 use attrs::{AttributeRow, Object, Template, attribute_in, attributes, class_in, number_in};
 use ck_types::{
     AttrType, Entry, Items, MAX_SECRET_LEN, MechType, ObjectClass, SessionState, UNIQUE_ID_BYTES,
 };
 use std::alloc::{AllocError, Global};
 
-fn make_entry(alloc: Global, making: &Making, row: &AttributeRow) -> Result<Entry, AllocError>
-    requires { 16 ≤ length making.now.random.now }
-    ensures { IfOk result (λ entry. entry ≡ made_entry making.now.call making.now.class making.now.original.now making.now.template.now making.now.random.now making.now.value.now row.now) }
+fn make_entry(alloc: Global, recipe: &Recipe, row: &AttributeRow) -> Result<Entry, AllocError>
+    requires { 16 ≤ length recipe.now.random.now }
+    ensures { IfOk result (λ entry. entry ≡ made_entry recipe.now.making recipe.now.class recipe.now.original.now recipe.now.template.now recipe.now.random.now recipe.now.value.now row.now) }
 {
     let number = row.attribute.number();
-    let value = value_made(alloc, making, row)?;
-    Ok(Entry { number, value })
+    let value = value_made(alloc, recipe, row)?;
+    Ok(Entry {
+        attr_type: number,
+        value,
+    })
 }
 
-fn make_entries(alloc: Global, making: &Making) -> Result<Items<Entry>, AllocError>
-    requires { 16 ≤ length making.now.random.now }
-    ensures { IfOk result (λ entries. entries ≡ made_entries making.now.call making.now.class making.now.original.now making.now.template.now making.now.random.now making.now.value.now) }
+fn make_entries(alloc: Global, recipe: &Recipe) -> Result<Items<Entry>, AllocError>
+    requires { 16 ≤ length recipe.now.random.now }
+    ensures { IfOk result (λ entries. entries ≡ made_entries recipe.now.making recipe.now.class recipe.now.original.now recipe.now.template.now recipe.now.random.now recipe.now.value.now) }
 {
     let mut entries = Items::new(alloc);
     for row in attributes() {
-        if row.is_held_by(making.class) {
-            entries.push(make_entry(alloc, making, row)?)?;
+        if row.is_held_by(recipe.class) {
+            entries.push(make_entry(alloc, recipe, row)?)?;
         }
     }
     Ok(entries)
 }
 
-fn make(alloc: Global, making: &Making) -> Result<Object, MakeFault>
-    requires random { 16 ≤ length making.now.random.now }
-    requires object { IsObject (made_entries making.now.call making.now.class making.now.original.now making.now.template.now making.now.random.now making.now.value.now) }
-    ensures { MatchResult result (λ object. object ≡ made_entries making.now.call making.now.class making.now.original.now making.now.template.now making.now.random.now making.now.value.now) (λ fault. fault ≡ Memory) }
+fn make(alloc: Global, recipe: &Recipe) -> Result<Object, MakeFault>
+    requires random { 16 ≤ length recipe.now.random.now }
+    requires object { IsObject (made_entries recipe.now.making recipe.now.class recipe.now.original.now recipe.now.template.now recipe.now.random.now recipe.now.value.now) }
+    ensures { MatchResult result (λ object. object ≡ made_entries recipe.now.making recipe.now.class recipe.now.original.now recipe.now.template.now recipe.now.random.now recipe.now.value.now) (λ fault. fault ≡ Memory) }
 {
-    let entries = make_entries(alloc, making)?;
+    let entries = make_entries(alloc, recipe)?;
     Ok(Object::new(entries))
 }
 
@@ -69,21 +72,21 @@ pub fn created(
     ensures { Answers result (template_fault calls.Create state [] template.now) (object_made calls.Create [] template.now random.now (given_value template.now)) }
 {
     let template = template.as_slice();
-    if let Some(code) = find_fault(Call::Create, state, &[], template) {
+    if let Some(code) = find_fault(Making::Create, state, &[], template) {
         return Err(MakeFault::Refused(code));
     }
     let Some(class) = class_in(template) else {
         unreachable!()
     };
-    let making = Making {
-        call: Call::Create,
+    let recipe = Recipe {
+        making: Making::Create,
         class,
         original: &[],
         template,
         random,
         value: value_given(template),
     };
-    make(alloc, &making)
+    make(alloc, &recipe)
 }
 
 fn len_asked_for(template: &[Entry]) -> usize
@@ -106,28 +109,28 @@ pub fn random_len(template: &Template) -> usize
 /// A key that is new, with this value.
 fn make_key(
     alloc: Global,
-    call: Call,
+    making: Making,
     state: SessionState,
     template: &[Entry],
     random: &[u8],
     value: &[u8],
 ) -> Result<Object, MakeFault>
     requires random { 16 ≤ length random.now }
-    requires object { template_fault call state [] template.now ≡ None → IsObject (made_entries call SecretKey [] template.now random.now value.now) }
-    ensures { Answers result (template_fault call state [] template.now) (made_entries call SecretKey [] template.now random.now value.now) }
+    requires object { template_fault making state [] template.now ≡ None → IsObject (made_entries making SecretKey [] template.now random.now value.now) }
+    ensures { Answers result (template_fault making state [] template.now) (made_entries making SecretKey [] template.now random.now value.now) }
 {
-    if let Some(code) = find_fault(call, state, &[], template) {
+    if let Some(code) = find_fault(making, state, &[], template) {
         return Err(MakeFault::Refused(code));
     }
-    let making = Making {
-        call,
+    let recipe = Recipe {
+        making,
         class: ObjectClass::SecretKey,
         original: &[],
         template,
         random,
         value,
     };
-    make(alloc, &making)
+    make(alloc, &recipe)
 }
 
 /// The key that C_GenerateKey makes of a template by a mechanism that generates keys. The first 16
@@ -145,8 +148,8 @@ pub fn generated(
     let template = template.as_slice();
     let (_, after) = random.split_at(UNIQUE_ID_BYTES);
     let (value, _) = after.split_at(len_asked_for(template));
-    let call = Call::Generate(mechanism);
-    make_key(alloc, call, state, template, random, value)
+    let making = Making::Generate(mechanism);
+    make_key(alloc, making, state, template, random, value)
 }
 
 /// The key that C_UnwrapKey makes of a template and the unwrapped value. The first 16 random bytes make
@@ -162,37 +165,37 @@ pub fn unwrapped(
     requires { 16 ≤ length random.now }
     ensures { Answers result (template_fault (calls.Unwrap (length value.now)) state [] template.now) (object_made (calls.Unwrap (length value.now)) [] template.now random.now value.now) }
 {
-    let call = Call::Unwrap(value.len());
-    make_key(alloc, call, state, template.as_slice(), random, value)
+    let making = Making::Unwrap(value.len());
+    make_key(alloc, making, state, template.as_slice(), random, value)
 }
 
 /// What a copy or a change makes of an object, with the template's changes.
 fn altered(
     alloc: Global,
-    call: Call,
+    making: Making,
     state: SessionState,
     original: &Object,
     template: &[Entry],
     random: &[u8],
 ) -> Result<Object, MakeFault>
-    requires call { alters call ≡ true }
+    requires making { alters making ≡ true }
     requires random { 16 ≤ length random.now }
-    ensures made { Answers result (template_fault call state original.now template.now) (object_made call original.now template.now random.now []) }
+    ensures made { Answers result (template_fault making state original.now template.now) (object_made making original.now template.now random.now []) }
     ensures guarded { IfOk result (λ object. IsAsGuarded state original.now object) }
-    ensures placed { call ≡ calls.Set → IfOk result (λ object. StaysPlaced original.now object) }
+    ensures placed { making ≡ calls.Set → IfOk result (λ object. StaysPlaced original.now object) }
 {
-    if let Some(code) = find_fault(call, state, original.entries(), template) {
+    if let Some(code) = find_fault(making, state, original.entries(), template) {
         return Err(MakeFault::Refused(code));
     }
-    let making = Making {
-        call,
+    let recipe = Recipe {
+        making,
         class: original.class(),
         original: original.entries(),
         template,
         random,
         value: &[],
     };
-    make(alloc, &making)
+    make(alloc, &recipe)
 }
 
 /// The copy that C_CopyObject makes of an object, with the template's changes. The first 16 random
@@ -210,7 +213,7 @@ pub fn copied(
 {
     altered(
         alloc,
-        Call::Copy,
+        Making::Copy,
         state,
         original,
         template.as_slice(),
@@ -234,7 +237,7 @@ pub fn changed(
     let random = [0; UNIQUE_ID_BYTES];
     altered(
         alloc,
-        Call::Set,
+        Making::Set,
         state,
         original,
         template.as_slice(),

@@ -3,17 +3,17 @@
 ghost use Rattle.std.specs.Prelude.{◌≡◌, ◌≤◌, [], IfOk, Some, length, unwrap_or};
 ghost use Rattle.attrs.specs.Objects.{attribute, attribute_of, is_true};
 ghost use Rattle.attrs.specs.Table.{row_number};
-ghost use Rattle.templates.specs.Made.{by_default, by_token, generator, is_extractable, is_generate, is_key_class, is_sensitive, is_renewed, is_unwrap, made_value, not_given, number_bytes, renews, truth, type_by_call};
+ghost use Rattle.templates.specs.Made.{by_default, by_token, generator, is_extractable, is_generate, is_key_class, is_sensitive, is_renewed, is_unwrap, made_value, not_given, number_bytes, renews, truth, type_by_making};
 
-use crate::call::{Call, generated_type_of};
+use crate::making::{Making, generated_type_of};
 use attrs::{AttributeRow, DefaultValue, attribute_in, find_attribute};
 use ck_types::{AttrType, Bytes, Entry, KeyType, ObjectClass, UNAVAILABLE_INFORMATION};
 use std::alloc::{AllocError, Global};
 
 /// What an object is made of.
 #[derive(Clone, Copy)]
-pub(crate) struct Making<'a> {
-    pub call: Call,
+pub(crate) struct Recipe<'a> {
+    pub making: Making,
     pub class: ObjectClass,
     /// The object that is copied or changed; empty where a new one is made.
     pub original: &'a [Entry],
@@ -40,21 +40,21 @@ fn bytes_of_number(alloc: Global, number: u64) -> Result<Bytes, AllocError>
     Bytes::from_slice(alloc, &number.to_be_bytes())
 }
 
-fn generates(call: Call) -> bool
-    ensures { result ≡ is_generate call }
+fn generates(making: Making) -> bool
+    ensures { result ≡ is_generate making }
 {
-    match call {
-        Call::Generate(_) => true,
-        Call::Create | Call::Unwrap(_) | Call::Copy | Call::Set => false,
+    match making {
+        Making::Generate(_) => true,
+        Making::Create | Making::Unwrap(_) | Making::Copy | Making::Set => false,
     }
 }
 
-fn unwraps(call: Call) -> bool
-    ensures { result ≡ is_unwrap call }
+fn unwraps(making: Making) -> bool
+    ensures { result ≡ is_unwrap making }
 {
-    match call {
-        Call::Unwrap(_) => true,
-        Call::Create | Call::Generate(_) | Call::Copy | Call::Set => false,
+    match making {
+        Making::Unwrap(_) => true,
+        Making::Create | Making::Generate(_) | Making::Copy | Making::Set => false,
     }
 }
 
@@ -67,21 +67,21 @@ fn is_key(class: ObjectClass) -> bool
     }
 }
 
-fn generator_of(call: Call) -> u64
-    ensures { result ≡ generator call }
+fn generator_of(making: Making) -> u64
+    ensures { result ≡ generator making }
 {
-    match call {
-        Call::Generate(mechanism) => mechanism.number(),
-        Call::Create | Call::Unwrap(_) | Call::Copy | Call::Set => UNAVAILABLE_INFORMATION,
+    match making {
+        Making::Generate(mechanism) => mechanism.number(),
+        Making::Create | Making::Unwrap(_) | Making::Copy | Making::Set => UNAVAILABLE_INFORMATION,
     }
 }
 
-fn key_type_by_call(call: Call) -> KeyType
-    ensures { result ≡ type_by_call call }
+fn key_type_by_call(making: Making) -> KeyType
+    ensures { result ≡ type_by_making making }
 {
-    match call {
-        Call::Generate(mechanism) => generated_type_of(mechanism),
-        Call::Create | Call::Unwrap(_) | Call::Copy | Call::Set => KeyType::GenericSecret,
+    match making {
+        Making::Generate(mechanism) => generated_type_of(mechanism),
+        Making::Create | Making::Unwrap(_) | Making::Copy | Making::Set => KeyType::GenericSecret,
     }
 }
 
@@ -115,97 +115,99 @@ fn is_extractable_key(template: &[Entry]) -> bool
 
 fn value_by_token(
     alloc: Global,
-    call: Call,
+    making: Making,
     template: &[Entry],
     value: &[u8],
     attribute: AttrType,
 ) -> Result<Bytes, AllocError>
-    ensures { IfOk result (λ bytes. bytes ≡ by_token call template.now value.now attribute) }
+    ensures { IfOk result (λ bytes. bytes ≡ by_token making template.now value.now attribute) }
 {
     match attribute {
         AttrType::Class => bytes_of_number(alloc, ObjectClass::SecretKey.number()),
-        AttrType::KeyType => bytes_of_number(alloc, key_type_by_call(call).number()),
+        AttrType::KeyType => bytes_of_number(alloc, key_type_by_call(making).number()),
         AttrType::Value => Bytes::from_slice(alloc, value),
         AttrType::ValueLen => bytes_of_number(alloc, value.len() as u64),
-        AttrType::Local => truth_bytes(alloc, generates(call)),
+        AttrType::Local => truth_bytes(alloc, generates(making)),
         AttrType::NeverExtractable => {
-            truth_bytes(alloc, generates(call) && !is_extractable_key(template))
+            truth_bytes(alloc, generates(making) && !is_extractable_key(template))
         }
         AttrType::AlwaysSensitive => {
-            truth_bytes(alloc, generates(call) && is_sensitive_key(template))
+            truth_bytes(alloc, generates(making) && is_sensitive_key(template))
         }
-        AttrType::KeyGenMechanism => bytes_of_number(alloc, generator_of(call)),
+        AttrType::KeyGenMechanism => bytes_of_number(alloc, generator_of(making)),
         _ => Ok(Bytes::new(alloc)),
     }
 }
 
-fn default_value(alloc: Global, making: &Making, row: &AttributeRow) -> Result<Bytes, AllocError>
-    ensures { IfOk result (λ bytes. bytes ≡ by_default row.now.default making.now.call making.now.class making.now.template.now making.now.value.now row.now.attribute) }
+fn default_value(alloc: Global, recipe: &Recipe, row: &AttributeRow) -> Result<Bytes, AllocError>
+    ensures { IfOk result (λ bytes. bytes ≡ by_default row.now.default recipe.now.making recipe.now.class recipe.now.template.now recipe.now.value.now row.now.attribute) }
 {
     match row.default {
         DefaultValue::ByToken => value_by_token(
             alloc,
-            making.call,
-            making.template,
-            making.value,
+            recipe.making,
+            recipe.template,
+            recipe.value,
             row.attribute,
         ),
         DefaultValue::False => truth_bytes(alloc, false),
         DefaultValue::True => truth_bytes(alloc, true),
-        DefaultValue::TrueForKey => truth_bytes(alloc, is_key(making.class)),
-        DefaultValue::TrueUnwrapped => truth_bytes(alloc, unwraps(making.call)),
+        DefaultValue::TrueForKey => truth_bytes(alloc, is_key(recipe.class)),
+        DefaultValue::TrueUnwrapped => truth_bytes(alloc, unwraps(recipe.making)),
         DefaultValue::Empty => Ok(Bytes::new(alloc)),
     }
 }
 
-fn original_value(alloc: Global, making: &Making, row: &AttributeRow) -> Result<Bytes, AllocError>
-    ensures { IfOk result (λ bytes. bytes ≡ unwrap_or (attribute making.now.original.now (row_number row.now)) []) }
+fn original_value(alloc: Global, recipe: &Recipe, row: &AttributeRow) -> Result<Bytes, AllocError>
+    ensures { IfOk result (λ bytes. bytes ≡ unwrap_or (attribute recipe.now.original.now (row_number row.now)) []) }
 {
-    match find_attribute(making.original, row.attribute.number()) {
+    match find_attribute(recipe.original, row.attribute.number()) {
         Some(value) => Bytes::from_slice(alloc, value),
         None => Ok(Bytes::new(alloc)),
     }
 }
 
-fn value_not_given(alloc: Global, making: &Making, row: &AttributeRow) -> Result<Bytes, AllocError>
-    ensures { IfOk result (λ bytes. bytes ≡ not_given making.now.call making.now.class making.now.original.now making.now.template.now making.now.value.now row.now) }
+fn value_not_given(alloc: Global, recipe: &Recipe, row: &AttributeRow) -> Result<Bytes, AllocError>
+    ensures { IfOk result (λ bytes. bytes ≡ not_given recipe.now.making recipe.now.class recipe.now.original.now recipe.now.template.now recipe.now.value.now row.now) }
 {
-    match making.call {
-        Call::Create | Call::Generate(_) | Call::Unwrap(_) => default_value(alloc, making, row),
-        Call::Copy | Call::Set => original_value(alloc, making, row),
+    match recipe.making {
+        Making::Create | Making::Generate(_) | Making::Unwrap(_) => default_value(
+            alloc, recipe, row,
+        ),
+        Making::Copy | Making::Set => original_value(alloc, recipe, row),
     }
 }
 
-fn renews_unique_id(call: Call) -> bool
-    ensures { result ≡ renews call }
+fn renews_unique_id(making: Making) -> bool
+    ensures { result ≡ renews making }
 {
-    match call {
-        Call::Create | Call::Generate(_) | Call::Unwrap(_) | Call::Copy => true,
-        Call::Set => false,
+    match making {
+        Making::Create | Making::Generate(_) | Making::Unwrap(_) | Making::Copy => true,
+        Making::Set => false,
     }
 }
 
-fn is_renewed_by(call: Call, row: &AttributeRow) -> bool
-    ensures { result ≡ is_renewed call row.now }
+fn is_renewed_by(making: Making, row: &AttributeRow) -> bool
+    ensures { result ≡ is_renewed making row.now }
 {
-    renews_unique_id(call) && row.attribute.number() == AttrType::UniqueId.number()
+    renews_unique_id(making) && row.attribute.number() == AttrType::UniqueId.number()
 }
 
 /// The value of an attribute of the object that is made.
 pub(crate) fn value_made(
     alloc: Global,
-    making: &Making,
+    recipe: &Recipe,
     row: &AttributeRow,
 ) -> Result<Bytes, AllocError>
-    requires { 16 ≤ length making.now.random.now }
-    ensures { IfOk result (λ bytes. bytes ≡ made_value making.now.call making.now.class making.now.original.now making.now.template.now making.now.random.now making.now.value.now row.now) }
+    requires { 16 ≤ length recipe.now.random.now }
+    ensures { IfOk result (λ bytes. bytes ≡ made_value recipe.now.making recipe.now.class recipe.now.original.now recipe.now.template.now recipe.now.random.now recipe.now.value.now row.now) }
 {
-    if is_renewed_by(making.call, row) {
-        let digits = hex::encode(alloc, making.random.split_at(16).0)?;
+    if is_renewed_by(recipe.making, row) {
+        let digits = hex::encode(alloc, recipe.random.split_at(16).0)?;
         return Ok(Bytes::from_vec(digits.into_bytes()));
     }
-    match find_attribute(making.template, row.attribute.number()) {
+    match find_attribute(recipe.template, row.attribute.number()) {
         Some(value) => Bytes::from_slice(alloc, value),
-        None => value_not_given(alloc, making, row),
+        None => value_not_given(alloc, recipe, row),
     }
 }

@@ -12,32 +12,32 @@ use Rattle.ck_calls.specs.declared.reply.Reply.TheVariants.{Code}
 use Rattle.ck_calls.specs.Functions.{function_of}
 use Rattle.keep.specs.Contents.{Contents}
 use Rattle.keep.specs.Keeping.{Terms}
-use Rattle.precede.specs.declared.row.Row.TheVariants.{Busy, NoSession, NotSo, PinLength}
+use Rattle.precede.specs.declared.condition.Condition.TheVariants.{Busy, NoSession, NotSo, PinLength}
 use Rattle.mech.specs.declared.job.Job.{Job}
 use Rattle.desk.specs.Desks.{DeskState, is_busy}
-use Rattle.views.specs.declared.fault.Fault.{Fault}
-use Rattle.views.specs.declared.fault.Fault.TheVariants as faults
+use Rattle.model_views.specs.declared.fault.Fault.{Fault}
+use Rattle.model_views.specs.declared.fault.Fault.TheVariants as faults
 use Rattle.ck_calls.specs.declared.function.Function.TheVariants as function
-use Rattle.views.specs.Views.{View, MakesPin}
-use Rattle.views.specs.Changes.{Stays}
-use Rattle.views.specs.Answering.{Said, Replies, Answer, Reveal, asks, refuses, refuses_by, is_closed}
-use Rattle.answers.specs.Answers.{answer, answer_to, is_still_function}
-use Rattle.session_answers.specs.InitPin.{init_pin_row, init_pin}
-use Rattle.token_model.specs.Worlds.{reveal_by_call}
-use Rattle.views.specs.Refusals.{set_apart}
-use Rattle.answers.proofs.Proper.{proper-answer_to}
-use Rattle.token_store.specs.declared.out.Out.{Out}
-use Rattle.token_store.specs.declared.out.Out.TheVariants.{Reply as OutReply}
-use Rattle.token_store.specs.declared.refusal.Refusal.{Refusal}
-use Rattle.token_store.specs.declared.refusal.Refusal.TheVariants as refusals
-use Rattle.token_store.specs.Refusing.{AtDeskIf, IsDoneIf, IsServedIf, settled}
-use Rattle.token_store.specs.Short.{IsShortCall}
-use Rattle.token_store.specs.Shown.{IsFor, question_of, said_of, view_of}
-use Rattle.token_store.specs.Stores.{StoreState, Serves}
-use Rattle.token_store.proofs.Gaves.{gave-reply}
-use Rattle.token_store.proofs.Plain.{plain-at-desk, stays-at-desk}
-use Rattle.token_store.proofs.Refusals.{serves-at-desk}
-use Rattle.token_store.proofs.Serving.{blamed, served-as, short-settled}
+use Rattle.model_views.specs.Views.{View, MakesPin}
+use Rattle.model_views.specs.Changes.{Stays}
+use Rattle.model_views.specs.Answering.{Said, Replies, Answer, Reveal, asks, refuses, refuses_by, is_closed}
+use Rattle.model_answers.specs.Answers.{answer, answer_to, is_still_function}
+use Rattle.model_session_answers.specs.InitPin.{init_pin_row, init_pin}
+use Rattle.model_worlds.specs.Worlds.{reveal_by_call}
+use Rattle.model_views.specs.Refusals.{resource_error}
+use Rattle.model_answers.proofs.Proper.{proper-answer_to}
+use Rattle.serve_base.specs.declared.out.Out.{Out}
+use Rattle.serve_base.specs.declared.out.Out.TheVariants.{Reply as OutReply}
+use Rattle.serve_base.specs.declared.refusal.Refusal.{Refusal}
+use Rattle.serve_base.specs.declared.refusal.Refusal.TheVariants as refusals
+use Rattle.serve_base.specs.Refusing.{AtDeskIf, IsDoneIf, IsServedIf, settled}
+use Rattle.serve_base.specs.Short.{IsShortCall}
+use Rattle.serve_base.specs.Shown.{IsFor, question_of, said_of, view_of}
+use Rattle.serve_base.specs.Stores.{StoreState, Serves}
+use Rattle.serve_base.proofs.Gaves.{gave-reply}
+use Rattle.serve_base.proofs.Plain.{plain-at-desk, stays-at-desk}
+use Rattle.serve_base.proofs.Refusals.{serves-at-desk}
+use Rattle.serve_base.proofs.Serving.{blamed, served-as, short-settled}
 
 closed-is : (c : Contents) (d : DeskState) → is_closed (view_of c d) ≡ is_busy d
 unfolding is_closed
@@ -64,24 +64,24 @@ serves-is terms a b c old new before desk r is serves = subst (λ x. Serves term
 -- a reply is no other application's job
 for-reply : (app : ℕ) (r : Result Reply Refusal) → IfOk (settled OutReply r) (IsFor app)
 for-reply app (Ok reply) = tt
-for-reply app (Err (refusals.Row row)) = tt
+for-reply app (Err (refusals.Condition row)) = tt
 for-reply app (Err (refusals.Code code)) = tt
 for-reply app (Err refusals.Memory) = tt
 for-reply app (Err refusals.Device) = tt
 
 for-out : (app : ℕ) (r : Result Out Refusal) → IfOk r (IsFor app) → IfOk (settled (λ out. out) r) (IsFor app)
 for-out app (Ok out) is = is
-for-out app (Err (refusals.Row row)) is = tt
+for-out app (Err (refusals.Condition row)) is = tt
 for-out app (Err (refusals.Code code)) is = tt
 for-out app (Err refusals.Memory) is = tt
 for-out app (Err refusals.Device) is = tt
 
-module _ {K : Type 0} (terms : Terms K) (app : ℕ) (in_use : Bool) (call x : Call) (random : List ℕ) (is : call ≡ x) where
+module _ {K : Type 0} (terms : Terms K) (app : ℕ) (others_have_sessions : Bool) (call x : Call) (random : List ℕ) (is : call ≡ x) where
   abbrev answers : View → Answer
-  answers v = answer_to v x random (reveal_by_call x in_use)
+  answers v = answer_to v x random (reveal_by_call x others_have_sessions)
 
   abbrev pub IsCallServed : StoreState K → StoreState K → DeskState → Result Out Fault → DeskState → Type 0
-  IsCallServed old new before out desk = IsServedIf (IsShortCall call) terms (IsFor app) (λ v. answer_to v call random (reveal_by_call call in_use)) old new before out desk
+  IsCallServed old new before out desk = IsServedIf (IsShortCall call) terms (IsFor app) (λ v. answer_to v call random (reveal_by_call call others_have_sessions)) old new before out desk
 
   -- a call at the desk and the store
   pub call-done : (writes : ℕ) (old new : StoreState K) (before desk : DeskState) (r : Result Reply Refusal) (out : Result Out Fault) → writes ≤ 1 → out ≡ settled OutReply r → IsDoneIf (IsShortCall x) terms Replies writes (λ c. answers) old new before r desk → IsCallServed old new before out desk
@@ -99,13 +99,13 @@ module _ {K : Type 0} (terms : Terms K) (app : ℕ) (in_use : Bool) (call x : Ca
     says = for;
     counts = record { steady = λ s. s; doubt = omega arith; failures = omega arith; tried = omega arith; bounded = omega arith };
     cause = λ device. absurd (does.cause (blamed as_out r device));
-    plain = plain-at-desk tell as_out answers before desk r same (λ v. ((proper-answer_to x random).fair v (reveal_by_call x in_use)).plain) does;
+    plain = plain-at-desk tell as_out answers before desk r same (λ v. ((proper-answer_to x random).fair v (reveal_by_call x others_have_sessions)).plain) does;
     stays = stays-at-desk tell as_out answers before desk r does;
     short = λ few. short-settled tell as_out r same (does.short few);
   })
 
   still-call : is_still_function (function_of x) ≡ true → (v : View) → (answers v).change ≡ Stays
-  still-call quiet v = ((proper-answer_to x random).fair v (reveal_by_call x in_use)).still quiet
+  still-call quiet v = ((proper-answer_to x random).fair v (reveal_by_call x others_have_sessions)).still quiet
 
   pub call-at-desk : (store : StoreState K) (before desk : DeskState) (r : Result Reply Refusal) (out : Result Out Fault) → is_still_function (function_of x) ≡ true → out ≡ settled OutReply r → AtDeskIf (IsShortCall x) Replies answers before r desk → IsCallServed store store before out desk
   call-at-desk store before desk r out quiet told does = at-desk Replies OutReply store before desk r out (λ t. refl) (still-call quiet) told (for-reply app r) does
@@ -131,10 +131,10 @@ still-init_pin v s pin random = still-rows (init_pin_row v s pin NoSession) (ini
   still-rows false false false = refl
 
 -- a call that is taken is answered so
-pub taken : {K : Type 0} (terms : Terms K) (app : ℕ) (in_use : Bool) (x : Call) (random : List ℕ) (old new : StoreState K) (before desk : DeskState) (r : Result Out Fault) → is_busy before ≡ false
-    → IsServedIf (IsShortCall x) terms (IsFor app) (λ v. answer_to v x random (reveal_by_call x in_use)) old new before r desk → IsServedIf (IsShortCall x) terms (IsFor app) (λ v. answer v x random (reveal_by_call x in_use)) old new before r desk
-taken terms app in_use x random old new before desk r free served = record {
-  serves = λ sure k h fits. serves-is terms _ _ k old new before desk r (answer-is k before x random (reveal_by_call x in_use) free) (served.serves sure k h fits);
+pub taken : {K : Type 0} (terms : Terms K) (app : ℕ) (others_have_sessions : Bool) (x : Call) (random : List ℕ) (old new : StoreState K) (before desk : DeskState) (r : Result Out Fault) → is_busy before ≡ false
+    → IsServedIf (IsShortCall x) terms (IsFor app) (λ v. answer_to v x random (reveal_by_call x others_have_sessions)) old new before r desk → IsServedIf (IsShortCall x) terms (IsFor app) (λ v. answer v x random (reveal_by_call x others_have_sessions)) old new before r desk
+taken terms app others_have_sessions x random old new before desk r free served = record {
+  serves = λ sure k h fits. serves-is terms _ _ k old new before desk r (answer-is k before x random (reveal_by_call x others_have_sessions) free) (served.serves sure k h fits);
   says = served.says;
   counts = served.counts;
   cause = served.cause;

@@ -7,7 +7,7 @@ use Rattle.ck_types.specs.declared.rv.Rv.TheVariants.{DeviceError, FunctionFaile
 use Rattle.ck_types.specs.declared.rv.Rv.TheVariants as rv
 use Rattle.ck_calls.specs.declared.reply.Reply.{Reply}
 use Rattle.ck_calls.specs.declared.reply.Reply.TheVariants.{Code}
-use Rattle.precede.specs.Row.{code_of}
+use Rattle.precede.specs.Condition.{code_of}
 use Rattle.keep.specs.Contents.{Contents}
 use Rattle.keep.specs.Keeping.{Counted, Terms}
 use Rattle.mech.specs.declared.job.Job.{Job}
@@ -15,31 +15,31 @@ use Rattle.mech.specs.declared.outcome.Outcome.{Outcome}
 use Rattle.mech.specs.Rooms.{HasRoom}
 use Rattle.mech.specs.Works.{outcome_of}
 use Rattle.desk.specs.Desks.{DeskState, SameDesk}
-use Rattle.views.specs.declared.fault.Fault.{Fault}
-use Rattle.views.specs.declared.fault.Fault.TheVariants.{Memory, Device}
-use Rattle.token_model.specs.WorkResults.{told_of}
-use Rattle.views.specs.Views.{View}
-use Rattle.views.specs.Answering.{Replies, Answer, Reveal, answered, refuses}
-use Rattle.views.specs.Refusals.{set_apart}
-use Rattle.answers.specs.Answers.{answer_outcome, answer_question, answer_result}
-use Rattle.views.proofs.Checks.{plain-row}
-use Rattle.token_model.specs.Worlds.{reveal_by_outcome, value_of}
-use Rattle.token_store.specs.declared.refusal.Refusal.{Refusal}
-use Rattle.token_store.specs.declared.refusal.Refusal.TheVariants as refusals
-use Rattle.token_store.specs.Refusing.{DoesAs, IsDoneAs, IsDoneIf, IsPlainAs}
-use Rattle.token_store.specs.Short.{IsShort, IsShortTask}
-use Rattle.token_store.specs.Shown.{objects_of, question_of, task_of, over, view_of, Fits, Gives}
-use Rattle.token_store.specs.Stores.{StoreState, Has, Gave, Serves}
-use Rattle.token_store.proofs.Gaves.{gave-quiet, gave-reply}
-use Rattle.token_store.proofs.Refusals.{does_as-is}
+use Rattle.model_views.specs.declared.fault.Fault.{Fault}
+use Rattle.model_views.specs.declared.fault.Fault.TheVariants.{Memory, Device}
+use Rattle.model_worlds.specs.WorkResults.{told_of}
+use Rattle.model_views.specs.Views.{View}
+use Rattle.model_views.specs.Answering.{Replies, Answer, Reveal, answered, refuses}
+use Rattle.model_views.specs.Refusals.{resource_error}
+use Rattle.model_answers.specs.Answers.{answer_outcome, answer_question, answer_result}
+use Rattle.model_views.proofs.Checks.{plain-row}
+use Rattle.model_worlds.specs.Worlds.{reveal_by_outcome, value_of}
+use Rattle.serve_base.specs.declared.refusal.Refusal.{Refusal}
+use Rattle.serve_base.specs.declared.refusal.Refusal.TheVariants as refusals
+use Rattle.serve_base.specs.Refusing.{DoesAs, IsDoneAs, IsDoneIf, IsPlainAs}
+use Rattle.serve_base.specs.Short.{IsShort, IsShortTask}
+use Rattle.serve_base.specs.Shown.{objects_of, question_of, task_of, over, view_of, Fits, Gives}
+use Rattle.serve_base.specs.Stores.{StoreState, Has, Gave, Serves}
+use Rattle.serve_base.proofs.Gaves.{gave-quiet, gave-reply}
+use Rattle.serve_base.proofs.Refusals.{does_as-is}
 use Rattle.token.specs.declared.ending.Others.{Others}
-use Rattle.token_states.specs.Applications.{Finishes, answer_to_job, by_job, reveal_by_job, told_result}
+use Rattle.model_runs.specs.Applications.{Finishes, answer_to_job, by_job, reveal_by_job, told_result}
 use Rattle.token.specs.Endings.{EndsBy, IsShortOutcome, settled_reply, under_way_of}
 use Rattle.token.proofs.Outcomes.{answer_by, answer-ends, ends_by, work-value}
 use Rattle.token.proofs.Shortness.{outcome-short}
-use Rattle.views.specs.Views.{sees}
-use Rattle.views.specs.Changes.{Stays, in_list}
-use Rattle.token_store.specs.Stores.{LeavesTried}
+use Rattle.model_views.specs.Views.{sees}
+use Rattle.model_views.specs.Changes.{Stays, in_list}
+use Rattle.serve_base.specs.Stores.{LeavesTried}
 
 -- ---- the outcome of a question that is over
 
@@ -62,19 +62,19 @@ module _ {K : Type 0} (terms : Terms K) where
   untouched store = record { steady = λ s. s; doubt = omega arith; failures = omega arith; tried = omega arith; bounded = omega arith }
 
   -- an outcome is answered by what it is alone
-  pub ends-as : (s : ℕ) (x : Outcome) (others : Others) (old new : StoreState K) (before : DeskState) (r : Result Reply Refusal) (desk : DeskState) → IsDoneIf (IsShortOutcome x) terms Replies 1 (λ c v. ends_by v (objects_of c) (under_way_of others) others.in_session s x) old new before r desk → EndsBy terms s x others old new before r desk
+  pub ends-as : (s : ℕ) (x : Outcome) (others : Others) (old new : StoreState K) (before : DeskState) (r : Result Reply Refusal) (desk : DeskState) → IsDoneIf (IsShortOutcome x) terms Replies 1 (λ c v. ends_by v (objects_of c) (under_way_of others) others.others_have_sessions s x) old new before r desk → EndsBy terms s x others old new before r desk
   ends-as s x others old new before r desk done w q is session =
-      done-is 1 (λ c v. answer_by v (objects_of c) (under_way_of others) others.in_session q w x) (λ c v. ends_by v (objects_of c) (under_way_of others) others.in_session s x) old new before r desk
+      done-is 1 (λ c v. answer_by v (objects_of c) (under_way_of others) others.others_have_sessions q w x) (λ c v. ends_by v (objects_of c) (under_way_of others) others.others_have_sessions s x) old new before r desk
       (λ c.
       let v = view_of c before in
-      ap (answer_by v (objects_of c) (under_way_of others) others.in_session q w) is
-      ∙ answer-ends v (objects_of c) (under_way_of others) others.in_session q w
-      ∙ ap (ends_by v (objects_of c) (under_way_of others) others.in_session q.session) (sym is)
-      ∙ ap (λ n. ends_by v (objects_of c) (under_way_of others) others.in_session n x) session)
+      ap (answer_by v (objects_of c) (under_way_of others) others.others_have_sessions q w) is
+      ∙ answer-ends v (objects_of c) (under_way_of others) others.others_have_sessions q w
+      ∙ ap (ends_by v (objects_of c) (under_way_of others) others.others_have_sessions q.session) (sym is)
+      ∙ ap (λ n. ends_by v (objects_of c) (under_way_of others) others.others_have_sessions n x) session)
       done
 
   -- it changes the desk alone
-  pub done-at-desk : {given : Type 0} (a : View → Answer) (store : StoreState K) (d desk : DeskState) (reply : Reply) → d.question ≡ None → set_apart reply ≡ None → ((v : View) → (a v).change ≡ Stays) → ((c : Contents) → Fits c d.handles.entries → Gives (a (view_of c d)) d.sessions.login c (Replies reply) c desk) → (given → IsShort reply) → IsDoneIf given terms Replies 1 (λ c v. a (answered v)) store store d (Ok reply) desk
+  pub done-at-desk : {given : Type 0} (a : View → Answer) (store : StoreState K) (d desk : DeskState) (reply : Reply) → d.question ≡ None → resource_error reply ≡ None → ((v : View) → (a v).change ≡ Stays) → ((c : Contents) → Fits c d.handles.entries → Gives (a (view_of c d)) d.sessions.login c (Replies reply) c desk) → (given → IsShort reply) → IsDoneIf given terms Replies 1 (λ c v. a (answered v)) store store d (Ok reply) desk
   done-at-desk a store d desk reply none plain still gives short = record {
     serves = λ sure c h fits. rw (over-view c d none) (gave-quiet terms (a (view_of c d)) d.sessions.login c store store (Replies reply) desk h (λ l may. may) (still (view_of c d)) (gives c fits));
     counts = untouched store;
@@ -85,7 +85,7 @@ module _ {K : Type 0} (terms : Terms K) where
   }
 
   -- a code that changes nothing
-  pub done-code : {given : Type 0} (code : Rv) (store : StoreState K) (d : DeskState) → d.question ≡ None → set_apart (Code code) ≡ None → IsDoneIf given terms Replies 1 (λ c v. refuses (answered v) code) store store d (Err (refusals.Code code)) d
+  pub done-code : {given : Type 0} (code : Rv) (store : StoreState K) (d : DeskState) → d.question ≡ None → resource_error (Code code) ≡ None → IsDoneIf given terms Replies 1 (λ c v. refuses (answered v) code) store store d (Err (refusals.Code code)) d
   done-code code store d none plain = record {
     serves = λ sure c h fits. (ap (λ v. refuses v code) (over-view c d none), record { has = h; leaves = λ l may. may; desk = refl });
     counts = untouched store;
@@ -112,35 +112,35 @@ module _ {K : Type 0} (terms : Terms K) where
 
 served-told : {K : Type 0} (terms : Terms K) (a : Answer) (c : Contents) (old new : StoreState K) (before mid desk : DeskState) (r : Result Reply Refusal) → mid ≡ over before → Fits c mid.handles.entries → DoesAs terms Replies a c old new mid r desk → Serves terms Replies a c old new before mid (settled_reply r) desk
 served-told terms a c old new before mid desk (Ok reply) is fits does = subst (λ login. Gave terms a login c old new (Replies reply) desk) (ap (λ (d : DeskState). d.sessions.login) is) does
-served-told terms a c old new before mid desk (Err (refusals.Row row)) is fits does = subst (λ login. Gave terms a login c old new (Replies (Code (code_of rv.Ok row))) desk) (ap (λ (d : DeskState). d.sessions.login) is) (rw does.1.desk (gave-reply terms a c old new mid (Code (code_of rv.Ok row)) does.1.has does.1.leaves fits does.0))
+served-told terms a c old new before mid desk (Err (refusals.Condition row)) is fits does = subst (λ login. Gave terms a login c old new (Replies (Code (code_of rv.Ok row))) desk) (ap (λ (d : DeskState). d.sessions.login) is) (rw does.1.desk (gave-reply terms a c old new mid (Code (code_of rv.Ok row)) does.1.has does.1.leaves fits does.0))
 served-told terms a c old new before mid desk (Err (refusals.Code code)) is fits does = subst (λ login. Gave terms a login c old new (Replies (Code code)) desk) (ap (λ (d : DeskState). d.sessions.login) is) (rw does.1.desk (gave-reply terms a c old new mid (Code code) does.1.has does.1.leaves fits does.0))
 served-told terms a c old new before mid desk (Err refusals.Memory) is fits does = record { has = does.has; same = does.same; leaves = subst (λ login. LeavesTried terms (in_list (sees login) (objects_of c) a.change) old new c) (ap (λ (d : DeskState). d.sessions.login) is) does.leaves }
 served-told terms a c old new before mid desk (Err refusals.Device) is fits does = record { has = does.has; same = does.same; leaves = subst (λ login. LeavesTried terms (in_list (sees login) (objects_of c) a.change) old new c) (ap (λ (d : DeskState). d.sessions.login) is) does.leaves }
 
-plain-told : (r : Result Reply Refusal) → IsPlainAs Replies r → IfOk (settled_reply r) (λ reply. set_apart reply ≡ None)
+plain-told : (r : Result Reply Refusal) → IsPlainAs Replies r → IfOk (settled_reply r) (λ reply. resource_error reply ≡ None)
 plain-told (Ok reply) plain = plain
-plain-told (Err (refusals.Row row)) plain = plain-row row
+plain-told (Err (refusals.Condition row)) plain = plain-row row
 plain-told (Err (refusals.Code code)) plain = plain
 plain-told (Err refusals.Memory) plain = tt
 plain-told (Err refusals.Device) plain = tt
 
 blamed-told : (r : Result Reply Refusal) → IsErrOf (settled_reply r) Device → IsErrOf r refusals.Device
 blamed-told (Ok reply) is = let k : Ok reply ≡ Err Device = is in cc
-blamed-told (Err (refusals.Row row)) is = let k : Ok (Code (code_of rv.Ok row)) ≡ Err Device = is in cc
+blamed-told (Err (refusals.Condition row)) is = let k : Ok (Code (code_of rv.Ok row)) ≡ Err Device = is in cc
 blamed-told (Err (refusals.Code code)) is = let k : Ok (Code code) ≡ Err Device = is in cc
 blamed-told (Err refusals.Memory) is = let k : Err Memory ≡ Err Device = is in cc
 blamed-told (Err refusals.Device) is = refl
 
 stays-told : (mid desk : DeskState) (r : Result Reply Refusal) → IfErr r (λ refusal. SameDesk mid desk) → IfErr (settled_reply r) (λ fault. SameDesk mid desk)
 stays-told mid desk (Ok reply) stays = tt
-stays-told mid desk (Err (refusals.Row row)) stays = tt
+stays-told mid desk (Err (refusals.Condition row)) stays = tt
 stays-told mid desk (Err (refusals.Code code)) stays = tt
 stays-told mid desk (Err refusals.Memory) stays = stays
 stays-told mid desk (Err refusals.Device) stays = stays
 
 short-told : (r : Result Reply Refusal) → IfOk r (λ reply. IsShort reply) → IfOk (settled_reply r) (λ reply. IsShort reply)
 short-told (Ok reply) short = short
-short-told (Err (refusals.Row row)) short = tt
+short-told (Err (refusals.Condition row)) short = tt
 short-told (Err (refusals.Code code)) short = tt
 short-told (Err refusals.Memory) short = tt
 short-told (Err refusals.Device) short = tt
@@ -149,9 +149,9 @@ short-told (Err refusals.Device) short = tt
 
 module _ {K : Type 0} (terms : Terms K) (job : Job) (others : Others) (old new : StoreState K) (before : DeskState) where
   abbrev reveal : Contents → Reveal
-  reveal = reveal_by_job job (under_way_of others) others.in_session
+  reveal = reveal_by_job job (under_way_of others) others.others_have_sessions
 
-  -- of the pending question
+  -- of the pending call
   job-answer : (c : Contents) (j : Job) → before.question ≡ Some j → answer_to_job job (view_of c before) (reveal c) ≡ answer_outcome (view_of c (over before)) (by_job job (question_of j)) (task_of job.work.value) (value_of (task_of job.work.value)) (reveal c)
   unfolding answer_result
   job-answer c j asked =
@@ -164,14 +164,14 @@ module _ {K : Type 0} (terms : Terms K) (job : Job) (others : Others) (old new :
       let q = by_job job (question_of j) in
       let done = ends job.work.value q is (sym session) in
       let value : told_of x ≡ value_of (task_of job.work.value) = ap told_of is ∙ work-value job.work.value in
-      let answer : (c : Contents) → answer_to_job job (view_of c before) (reveal c) ≡ answer_outcome (view_of c mid) q (task_of job.work.value) (told_of x) (reveal_by_outcome (task_of job.work.value) (told_of x) (objects_of c) (under_way_of others) others.in_session) =
+      let answer : (c : Contents) → answer_to_job job (view_of c before) (reveal c) ≡ answer_outcome (view_of c mid) q (task_of job.work.value) (told_of x) (reveal_by_outcome (task_of job.work.value) (told_of x) (objects_of c) (under_way_of others) others.others_have_sessions) =
       λ c. job-answer c j asked
       ∙ ap (λ d. answer_outcome (view_of c d) q (task_of job.work.value) (value_of (task_of job.work.value)) (reveal c)) (sym mid-is)
-      ∙ ap (λ y. answer_outcome (view_of c mid) q (task_of job.work.value) y (reveal_by_outcome (task_of job.work.value) y (objects_of c) (under_way_of others) others.in_session)) (sym value) in
+      ∙ ap (λ y. answer_outcome (view_of c mid) q (task_of job.work.value) y (reveal_by_outcome (task_of job.work.value) y (objects_of c) (under_way_of others) others.others_have_sessions)) (sym value) in
       rw told (record {
         serves = λ sure c h fits. subst (λ d. Serves terms Replies (answer_to_job job (view_of c before) (reveal c)) c old new before d (settled_reply r) desk) mid-is
             (served-told terms (answer_to_job job (view_of c before) (reveal c)) c old new before mid desk r mid-is (rw mid-is fits)
-            (does_as-is terms Replies (answer_to_job job (view_of c before) (reveal c)) (answer_outcome (view_of c mid) q (task_of job.work.value) (told_of x) (reveal_by_outcome (task_of job.work.value) (told_of x) (objects_of c) (under_way_of others) others.in_session)) c old new mid desk r (answer c) (done.serves sure c h (rw mid-is fits))));
+            (does_as-is terms Replies (answer_to_job job (view_of c before) (reveal c)) (answer_outcome (view_of c mid) q (task_of job.work.value) (told_of x) (reveal_by_outcome (task_of job.work.value) (told_of x) (objects_of c) (under_way_of others) others.others_have_sessions)) c old new mid desk r (answer c) (done.serves sure c h (rw mid-is fits))));
         counts = done.counts;
         cause = λ device. done.cause (blamed-told r device);
         plain = plain-told r done.plain;
@@ -224,11 +224,11 @@ finishes-as terms job f g old new before r desk same done = record {
 
 module _ {K : Type 0} (terms : Terms K) (job : Job) (reveal : Contents → Reveal) (old new : StoreState K) (before : DeskState) where
   pub blames-device : (r : Result Reply Fault) (desk : DeskState) → Finishes terms job reveal old new before r desk → told_result r ≡ Code DeviceError → IsErrOf r Device
-  blames-device (Ok reply) desk done is = let p : Some Device ≡ None = ap set_apart (sym is) ∙ done.plain in cc
+  blames-device (Ok reply) desk done is = let p : Some Device ≡ None = ap resource_error (sym is) ∙ done.plain in cc
   blames-device (Err Memory) desk done is = cc
   blames-device (Err Device) desk done is = refl
 
-  pub stays-finished : (r : Result Reply Fault) (desk : DeskState) → Finishes terms job reveal old new before r desk → IsSome (set_apart (told_result r)) → SameDesk (over before) desk
+  pub stays-finished : (r : Result Reply Fault) (desk : DeskState) → Finishes terms job reveal old new before r desk → IsSome (resource_error (told_result r)) → SameDesk (over before) desk
   stays-finished (Ok reply) desk done some = let k : false ≡ true = subst IsSome done.plain some in cc
   stays-finished (Err fault) desk done some = done.stays
 

@@ -9,7 +9,7 @@ use Rattle.ck_calls.specs.declared.reply.Output.TheVariants.{Data}
 use Rattle.ck_calls.specs.declared.reply.Reply.TheVariants.{Code, Output}
 use Rattle.aes_modes.specs.declared.direction.Direction.{Direction}
 use Rattle.macs.specs.Authentication.{longer}
-use Rattle.macs.specs.Codes.{code_of}
+use Rattle.macs.specs.Tags.{tag_of}
 use Rattle.pin_record.specs.Verifiers.{accepts, verifier_for, new_rounds}
 use Rattle.mech.specs.declared.outcome.Outcome.{Outcome}
 use Rattle.mech.specs.declared.outcome.Outcome.TheVariants as out
@@ -21,19 +21,19 @@ use Rattle.streams.specs.declared.part.Part.TheVariants.{Update, Last}
 use Rattle.streams.specs.Outputs.{last_output}
 use Rattle.ops.specs.declared.place.MacPlace.TheVariants as place
 use Rattle.ops.specs.Operations.{operation_of, mac_of}
-use Rattle.views.specs.Outcomes.{Unwrapped}
-use Rattle.token_model.specs.WorkResults.{told_of}
-use Rattle.views.specs.Views.{View, Question}
-use Rattle.views.specs.Answering.{Answer, answered, becomes, refuses, replies, with_operation, with_mac}
-use Rattle.answers.specs.Answers.{answer_outcome}
-use Rattle.answers.specs.CipherInit.{place_for}
-use Rattle.answers.specs.UnwrapKey.{unwrapped_result}
-use Rattle.session_answers.specs.Login.{right_pin}
-use Rattle.session_answers.specs.InitPin.{pin_made}
-use Rattle.session_answers.specs.SetPin.{pin_changed}
-use Rattle.session_answers.specs.InitToken.{inited, reset}
-use Rattle.token_model.specs.Worlds.{value_of, reveal_by_outcome, reveals_checks, reveals_login, reveals_sessions, reveals_reset}
-use Rattle.token_store.specs.Shown.{task_of}
+use Rattle.model_views.specs.TaskResults.{Unwrapped}
+use Rattle.model_worlds.specs.WorkResults.{told_of}
+use Rattle.model_views.specs.Views.{View, Question}
+use Rattle.model_views.specs.Answering.{Answer, answered, becomes, refuses, replies, with_operation, with_mac}
+use Rattle.model_answers.specs.Answers.{answer_outcome}
+use Rattle.model_answers.specs.CipherInit.{place_for}
+use Rattle.model_answers.specs.UnwrapKey.{unwrapped_result}
+use Rattle.model_session_answers.specs.Login.{right_pin}
+use Rattle.model_session_answers.specs.InitPin.{pin_made}
+use Rattle.model_session_answers.specs.SetPin.{pin_changed}
+use Rattle.model_session_answers.specs.InitToken.{inited, reset}
+use Rattle.model_worlds.specs.Worlds.{value_of, reveal_by_outcome, reveals_checks, reveals_login, reveals_sessions, reveals_reset}
+use Rattle.serve_base.specs.Shown.{task_of}
 
 -- what the work gives is the task's value
 pub work-value : (w : Work) → told_of (outcome_of w) ≡ value_of (task_of w)
@@ -51,7 +51,7 @@ work-value (ResetToken label verifier pin) = refl
 
 -- ---- the answers
 
-module _ (v : View) (objects : List (List Entry)) (f : UserType → ℕ) (in_use : Bool) where
+module _ (v : View) (objects : List (List Entry)) (f : UserType → ℕ) (others_have_sessions : Bool) where
   -- by the outcome alone, at the session of the question
   abbrev pub ends_by : ℕ → Outcome → Answer
   ends_by s (out.Piece output stream) = becomes (Output (Data output)) (with_operation (answered v) s (place_for stream.direction) (Some (operation_of stream)))
@@ -68,12 +68,12 @@ module _ (v : View) (objects : List (List Entry)) (f : UserType → ℕ) (in_use
   ends_by s (out.RightPin who) = right_pin (answered v) who (reveals_login objects who (f who))
   ends_by s (out.PinMade made) = pin_made (answered v) made (reveals_checks (f User))
   ends_by s (out.PinChanged who made) = pin_changed (answered v) who made (reveals_checks (f who))
-  ends_by s (out.TokenMade label made) = inited (answered v) label made (reveals_sessions in_use)
-  ends_by s (out.TokenReset label) = reset (answered v) label (reveals_reset (f So) in_use)
+  ends_by s (out.TokenMade label made) = inited (answered v) label made (reveals_sessions others_have_sessions)
+  ends_by s (out.TokenReset label) = reset (answered v) label (reveals_reset (f So) others_have_sessions)
 
   module _ (q : Question) where
     abbrev pub answer_by : Work → Outcome → Answer
-    answer_by w x = answer_outcome v q (task_of w) (told_of x) (reveal_by_outcome (task_of w) (told_of x) objects f in_use)
+    answer_by w x = answer_outcome v q (task_of w) (told_of x) (reveal_by_outcome (task_of w) (told_of x) objects f others_have_sessions)
 
     pub answer-ends : (w : Work) → answer_by w (outcome_of w) ≡ ends_by q.session (outcome_of w)
     answer-ends (Cipher stream Update input) = refl
@@ -83,7 +83,7 @@ module _ (v : View) (objects : List (List Entry)) (f : UserType → ℕ) (in_use
       step (Some output) = refl
     answer-ends (Take p mac input) = refl
     answer-ends (Sign mac input) = refl
-    answer-ends (Verify mac input signature) = step (bytes_eq signature (code_of (longer mac input))) where
+    answer-ends (Verify mac input signature) = step (bytes_eq signature (tag_of (longer mac input))) where
       step : (b : Bool) → answer_by (Verify mac input signature) (cond b out.RightSignature out.WrongSignature) ≡ ends_by q.session (cond b out.RightSignature out.WrongSignature)
       step true = refl
       step false = refl

@@ -4,7 +4,7 @@ use Rattle.std.specs.Prelude.{if◌then◌else◌}
 use Rattle.std.specs.Str.{bytes_eq}
 use Rattle.ck_types.specs.declared.entry.Entry.{Entry}
 use Rattle.macs.specs.Authentication.{longer}
-use Rattle.macs.specs.Codes.{code_of}
+use Rattle.macs.specs.Tags.{tag_of}
 use Rattle.mech.specs.declared.outcome.Outcome.{Outcome}
 use Rattle.mech.specs.declared.outcome.Outcome.TheVariants as out
 use Rattle.mech.specs.declared.work.Work.{Work}
@@ -13,8 +13,8 @@ use Rattle.mech.specs.Rooms.{HasRoom, given_of}
 use Rattle.mech.specs.Works.{outcome_of, key_of}
 use Rattle.mech.specs.Wrappings.{value_wrapped_in}
 use Rattle.pin_record.specs.Verifiers.{accepts, new_rounds, verifier_for}
-use Rattle.token_store.specs.Short.{IsShortTask}
-use Rattle.token_store.specs.Shown.{task_of}
+use Rattle.serve_base.specs.Short.{IsShortTask}
+use Rattle.serve_base.specs.Shown.{task_of}
 use Rattle.token.specs.Endings.{IsShortOutcome}
 
 nothing-short : (x : Outcome) → given_of x ≡ [] → IsShortOutcome x
@@ -33,7 +33,7 @@ outcome-short (Cipher stream part input) x is room few = omega (arith, room, few
 outcome-short (Sign mac input) x is room few = omega (arith, room)
 outcome-short (Wrap key value) x is room few = omega (arith, room, few)
 outcome-short (Take place mac input) x is room few = nothing-short x (ap given_of is)
-outcome-short (Verify mac input signature) x is room few = nothing-short x (ap given_of is ∙ either-none (bytes_eq signature (code_of (longer mac input))) out.RightSignature out.WrongSignature refl refl)
+outcome-short (Verify mac input signature) x is room few = nothing-short x (ap given_of is ∙ either-none (bytes_eq signature (tag_of (longer mac input))) out.RightSignature out.WrongSignature refl refl)
 outcome-short (Unwrap key bytes state template random) x is room few = nothing-short x (ap given_of is ∙ key-none template random (value_wrapped_in key bytes))
 outcome-short (CheckPin who verifier pin) x is room few = nothing-short x (ap given_of is ∙ either-none (accepts verifier pin) (out.RightPin who) out.WrongPin refl refl)
 outcome-short (MakePin pin salt) x is room few = nothing-short x (ap given_of is)

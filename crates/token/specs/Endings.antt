@@ -1,30 +1,30 @@
--- The end of a question at its desk, by what the other applications have under way.
+-- The end of a question at its desk, by what the other applications have in progress.
 use Rattle.std.specs.Prelude.{◌≡◌, ℕ, ◌≤◌, Result, Ok, Err, length}
 use Rattle.ck_types.specs.declared.rv.Rv.TheVariants as rv
 use Rattle.ck_types.specs.declared.user_type.UserType.{UserType}
 use Rattle.ck_types.specs.declared.user_type.UserType.TheVariants.{So, User}
 use Rattle.ck_calls.specs.declared.reply.Reply.{Reply}
 use Rattle.ck_calls.specs.declared.reply.Reply.TheVariants.{Code}
-use Rattle.precede.specs.Row.{code_of}
+use Rattle.precede.specs.Condition.{code_of}
 use Rattle.keep.specs.Keeping.{Terms}
 use Rattle.mech.specs.declared.outcome.Outcome.{Outcome}
 use Rattle.mech.specs.declared.work.Work.{Work}
 use Rattle.mech.specs.Rooms.{given_of}
 use Rattle.mech.specs.Works.{outcome_of}
 use Rattle.desk.specs.Desks.{DeskState}
-use Rattle.views.specs.declared.fault.Fault.{Fault}
-use Rattle.views.specs.declared.fault.Fault.TheVariants as faults
-use Rattle.token_model.specs.WorkResults.{told_of}
-use Rattle.views.specs.Views.{Question}
-use Rattle.views.specs.Answering.{Replies}
-use Rattle.answers.specs.Answers.{answer_outcome}
-use Rattle.token_model.specs.Worlds.{reveal_by_outcome}
-use Rattle.token_store.specs.declared.refusal.Refusal.{Refusal}
-use Rattle.token_store.specs.declared.refusal.Refusal.TheVariants as refusals
-use Rattle.token_store.specs.Refusing.{IsDoneIf}
-use Rattle.token_store.specs.Short.{most_data}
-use Rattle.token_store.specs.Shown.{objects_of, task_of}
-use Rattle.token_store.specs.Stores.{StoreState}
+use Rattle.model_views.specs.declared.fault.Fault.{Fault}
+use Rattle.model_views.specs.declared.fault.Fault.TheVariants as faults
+use Rattle.model_worlds.specs.WorkResults.{told_of}
+use Rattle.model_views.specs.Views.{Question}
+use Rattle.model_views.specs.Answering.{Replies}
+use Rattle.model_answers.specs.Answers.{answer_outcome}
+use Rattle.model_worlds.specs.Worlds.{reveal_by_outcome}
+use Rattle.serve_base.specs.declared.refusal.Refusal.{Refusal}
+use Rattle.serve_base.specs.declared.refusal.Refusal.TheVariants as refusals
+use Rattle.serve_base.specs.Refusing.{IsDoneIf}
+use Rattle.serve_base.specs.Short.{most_data}
+use Rattle.serve_base.specs.Shown.{objects_of, task_of}
+use Rattle.serve_base.specs.Stores.{StoreState}
 use Rattle.token.specs.declared.ending.Others.{Others}
 
 -- how many others check the PIN
@@ -40,12 +40,12 @@ IsShortOutcome outcome = length (given_of outcome) ≤ most_data
 abbrev pub EndsBy : {K : Type 0} → Terms K → ℕ → Outcome → Others → StoreState K → StoreState K → DeskState → Result Reply Refusal → DeskState → Type 0
 EndsBy terms session outcome others old new before result desk =
     (work : Work) (q : Question) → outcome ≡ outcome_of work → q.session ≡ session
-    → IsDoneIf (IsShortOutcome outcome) terms Replies 1 (λ c v. answer_outcome v q (task_of work) (told_of outcome) (reveal_by_outcome (task_of work) (told_of outcome) (objects_of c) (under_way_of others) others.in_session)) old new before result desk
+    → IsDoneIf (IsShortOutcome outcome) terms Replies 1 (λ c v. answer_outcome v q (task_of work) (told_of outcome) (reveal_by_outcome (task_of work) (told_of outcome) (objects_of c) (under_way_of others) others.others_have_sessions)) old new before result desk
 
 -- what is told of it
 abbrev pub settled_reply : Result Reply Refusal → Result Reply Fault
 settled_reply (Ok reply) = Ok reply
-settled_reply (Err (refusals.Row row)) = Ok (Code (code_of rv.Ok row))
+settled_reply (Err (refusals.Condition row)) = Ok (Code (code_of rv.Ok row))
 settled_reply (Err (refusals.Code code)) = Ok (Code code)
 settled_reply (Err refusals.Memory) = Err faults.Memory
 settled_reply (Err refusals.Device) = Err faults.Device

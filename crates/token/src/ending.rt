@@ -1,7 +1,7 @@
-//! The result of a pending question, at its desk: the one place where an outcome finds the function that takes it.
+//! The result of a pending call, at its desk: the one place where an outcome finds the function that takes it.
 
 ghost use Rattle.std.specs.Prelude.{◌≡◌, None};
-ghost use Rattle.token_states.specs.Applications.{Finishes, reveal_by_job};
+ghost use Rattle.model_runs.specs.Applications.{Finishes, reveal_by_job};
 ghost use Rattle.token.specs.Endings.{EndsBy, settled_reply, under_way_of};
 
 use ck_calls::{Output, Reply};
@@ -9,21 +9,21 @@ use ck_types::{Rv, UserType};
 use desk::Desk;
 use keep::Keep;
 use mech::{Done, Outcome};
+use model_views::Fault;
+use serve_base::{Refusal, Store};
 use serve_ciphers::cipher;
 use serve_keys::unwrap_key;
 use serve_macs::mac;
 use serve_sessions::{init_pin, init_token, login, set_pin};
-use token_store::{Refusal, Store};
-use views::Fault;
 
-/// What the other applications have under way.
+/// What the other applications have in progress.
 #[derive(Clone, Copy, Debug)]
 pub(crate) struct Others {
     /// How many of them check the SO's PIN, and the user's.
     pub so_checks: usize,
     pub user_checks: usize,
     /// Whether one has a session.
-    pub in_session: bool,
+    pub others_have_sessions: bool,
 }
 
 impl Others {
@@ -37,14 +37,14 @@ impl Others {
     }
 }
 
-/// The result of the pending question, which is over then.
+/// The result of the pending call, which is over then.
 pub(crate) fn finish_at<K: Keep>(
     desk: &mut Desk,
     store: &mut Store<K>,
     done: Done,
     others: &Others,
 ) -> Result<Reply, Fault>
-    ensures { Finishes K.terms done.job.value (reveal_by_job done.job.value (under_way_of others.now) others.now.in_session) store.old store.new desk.old result desk.new }
+    ensures { Finishes K.terms done.job.value (reveal_by_job done.job.value (under_way_of others.now) others.now.others_have_sessions) store.old store.new desk.old result desk.new }
 {
     let session = match desk.question() {
         Some(question) => question.session(),
@@ -90,10 +90,16 @@ fn serve_outcome<K: Keep>(
             set_pin::changed(desk, store, who, verifier, others.checks(who))
         }
         Outcome::TokenMade { label, verifier } => {
-            init_token::made(desk, store, label, verifier, others.in_session)
+            init_token::made(desk, store, label, verifier, others.others_have_sessions)
         }
         Outcome::TokenReset { label } => {
-            init_token::reset(desk, store, label, others.so_checks, others.in_session)
+            init_token::reset(
+                desk,
+                store,
+                label,
+                others.so_checks,
+                others.others_have_sessions,
+            )
         }
     }
 }
@@ -104,7 +110,7 @@ fn settle_reply(outcome: Result<Reply, Refusal>) -> Result<Reply, Fault>
 {
     match outcome {
         Ok(reply) => Ok(reply),
-        Err(Refusal::Row(row)) => Ok(Reply::Code(row.code(Rv::Ok))),
+        Err(Refusal::Condition(row)) => Ok(Reply::Code(row.code(Rv::Ok))),
         Err(Refusal::Code(code)) => Ok(Reply::Code(code)),
         Err(Refusal::Memory) => Err(Fault::Memory),
         Err(Refusal::Device) => Err(Fault::Device),

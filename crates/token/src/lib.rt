@@ -7,9 +7,9 @@
 //!
 //! # What is promised
 //!
-//! An application is answered from what it sees of the token (`views/specs/Views.antt`) and by nothing else: by
-//! `answers/specs`, a definition for each call. Each event makes of all that the token is to all applications
-//! (`token_model/specs/Worlds.antt`) what its answer says, or it is refused and changes nothing but that a question is
+//! An application is answered from what it sees of the token (`model_views/specs/Views.antt`) and by nothing else: by
+//! `model_answers/specs`, a definition for each call. Each event makes of all that the token is to all applications
+//! (`model_worlds/specs/Worlds.antt`) what its answer says, or it is refused and changes nothing but that a question is
 //! over (`Token::{call, finish, gone, run}`). Of a whole run that gives: an application that met no refusal
 //! was told what its own trace tells, whatever the others do (`IsRun`, and the laws of `laws`, which speak
 //! of the definitions alone). An event tries at most one write; what a crash may leave is told in the same
@@ -36,7 +36,7 @@ mod serving;
 mod token;
 
 pub use mech::{Done, Job};
+pub use model_worlds::{Check, Event, laws};
 pub use ran::Ran;
+pub use serve_base::Out;
 pub use token::Token;
-pub use token_model::{Check, Event, laws};
-pub use token_store::Out;

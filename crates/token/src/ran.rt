@@ -2,7 +2,7 @@
 
 use ck_calls::Reply;
 use mech::Job;
-use token_model::Event;
+use model_worlds::Event;
 
 /// What came of a list of events.
 #[derive(Drop)]

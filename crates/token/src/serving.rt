@@ -3,20 +3,22 @@
 ghost use Rattle.std.specs.Prelude.{◌≡◌, false, length};
 ghost use Rattle.ck_calls.specs.Need.{random_bytes};
 ghost use Rattle.desk.specs.Desks.{is_busy};
-ghost use Rattle.token_model.specs.Worlds.{reveal_by_call};
-ghost use Rattle.answers.specs.Answers.{answer, answer_to};
+ghost use Rattle.model_worlds.specs.Worlds.{reveal_by_call};
+ghost use Rattle.model_answers.specs.Answers.{answer, answer_to};
 ghost use Rattle.token.specs.Dispatching.{is_on_sessions};
-ghost use Rattle.token_store.specs.Refusing.{IsServedIf};
-ghost use Rattle.token_store.specs.Short.{IsShortCall};
-ghost use Rattle.token_store.specs.Shown.{IsFor};
+ghost use Rattle.serve_base.specs.Refusing.{IsServedIf};
+ghost use Rattle.serve_base.specs.Short.{IsShortCall};
+ghost use Rattle.serve_base.specs.Shown.{IsFor};
 
 use aes_modes::Direction;
 use ck_calls::{Call, Reply};
 use ck_types::Rv;
 use desk::Desk;
 use keep::Keep;
+use model_views::Fault;
 use ops::MacPlace;
-use precede::Row;
+use precede::Condition;
+use serve_base::{Out, Store, settle, settle_asking};
 use serve_ciphers::{cipher, cipher_init};
 use serve_keys::{
     copy_object, create_object, destroy_object, generate_key, generate_random, get_attribute_value,
@@ -29,8 +31,6 @@ use serve_sessions::{
     init_pin, init_token, login, logout, open_session, set_pin,
 };
 use std::alloc::Global;
-use token_store::{Out, Store, settle, settle_asking};
-use views::Fault;
 
 /// A call with its random bytes.
 pub(crate) fn serve<K: Keep>(
@@ -40,13 +40,13 @@ pub(crate) fn serve<K: Keep>(
     store: &mut Store<K>,
     call: Call,
     random: &[u8],
-    in_use: bool,
+    others_have_sessions: bool,
 ) -> Result<Out, Fault>
     requires { length random.now ≡ random_bytes call }
-    ensures { IsServedIf (IsShortCall call) K.terms (IsFor app) (λ v. answer v call random.now (reveal_by_call call in_use)) store.old store.new desk.old result desk.new }
+    ensures { IsServedIf (IsShortCall call) K.terms (IsFor app) (λ v. answer v call random.now (reveal_by_call call others_have_sessions)) store.old store.new desk.old result desk.new }
 {
     if desk.is_busy() {
-        return Ok(Out::Reply(Reply::Code(Row::Busy.code(Rv::Ok))));
+        return Ok(Out::Reply(Reply::Code(Condition::Busy.code(Rv::Ok))));
     }
     match call {
         // Session management (PKCS #11 v3.1, 5.6).
@@ -54,7 +54,7 @@ pub(crate) fn serve<K: Keep>(
         Call::CloseSession { session } => settle(close_session::serve(desk, session)),
         Call::CloseAllSessions { slot } => settle(close_session::serve_all(desk, slot)),
         Call::GetSessionInfo { session } => settle(get_session_info::serve(desk, session)),
-        call => dispatch(alloc, app, desk, store, call, random, in_use),
+        call => dispatch(alloc, app, desk, store, call, random, others_have_sessions),
     }
 }
 
@@ -67,12 +67,12 @@ fn dispatch<K: Keep>(
     store: &mut Store<K>,
     call: Call,
     random: &[u8],
-    in_use: bool,
+    others_have_sessions: bool,
 ) -> Result<Out, Fault>
     requires random { length random.now ≡ random_bytes call }
     requires free { is_busy desk.old ≡ false }
     requires other { is_on_sessions call ≡ false }
-    ensures { IsServedIf (IsShortCall call) K.terms (IsFor app) (λ v. answer_to v call random.now (reveal_by_call call in_use)) store.old store.new desk.old result desk.new }
+    ensures { IsServedIf (IsShortCall call) K.terms (IsFor app) (λ v. answer_to v call random.now (reveal_by_call call others_have_sessions)) store.old store.new desk.old result desk.new }
 {
     match call {
         // Slot and token management (PKCS #11 v3.1, 5.5).
@@ -82,7 +82,15 @@ fn dispatch<K: Keep>(
             settle(get_mechanism_info::serve(slot, mechanism))
         }
         Call::InitToken { slot, pin, label } => settle_asking(init_token::serve(
-            alloc, app, desk, store, slot, pin, label, random, in_use,
+            alloc,
+            app,
+            desk,
+            store,
+            slot,
+            pin,
+            label,
+            random,
+            others_have_sessions,
         )),
         Call::InitPin { session, pin } => {
             settle_asking(init_pin::serve(alloc, app, desk, session, pin, random))
@@ -146,7 +154,7 @@ fn dispatch<K: Keep>(
             alloc,
             desk,
             store,
-            Direction::Encipher,
+            Direction::Encrypt,
             session,
             mechanism,
             key,
@@ -154,31 +162,34 @@ fn dispatch<K: Keep>(
         Call::Encrypt {
             session,
             data,
-            room,
+            buffer_len,
         } => settle_asking(cipher::single(
             alloc,
             app,
             desk,
-            Direction::Encipher,
+            Direction::Encrypt,
             session,
             data,
-            room,
+            buffer_len,
         )),
         Call::EncryptUpdate {
             session,
             part,
-            room,
+            buffer_len,
         } => settle_asking(cipher::update(
             alloc,
             app,
             desk,
-            Direction::Encipher,
+            Direction::Encrypt,
             session,
             part,
-            room,
+            buffer_len,
         )),
-        Call::EncryptFinal { session, room } => {
-            settle_asking(cipher::last(alloc, app, desk, Direction::Encipher, session, room))
+        Call::EncryptFinal {
+            session,
+            buffer_len,
+        } => {
+            settle_asking(cipher::last(alloc, app, desk, Direction::Encrypt, session, buffer_len))
         }
         // Decryption (5.10).
         Call::DecryptInit {
@@ -189,7 +200,7 @@ fn dispatch<K: Keep>(
             alloc,
             desk,
             store,
-            Direction::Decipher,
+            Direction::Decrypt,
             session,
             mechanism,
             key,
@@ -197,31 +208,34 @@ fn dispatch<K: Keep>(
         Call::Decrypt {
             session,
             encrypted_data,
-            room,
+            buffer_len,
         } => settle_asking(cipher::single(
             alloc,
             app,
             desk,
-            Direction::Decipher,
+            Direction::Decrypt,
             session,
             encrypted_data,
-            room,
+            buffer_len,
         )),
         Call::DecryptUpdate {
             session,
             encrypted_part,
-            room,
+            buffer_len,
         } => settle_asking(cipher::update(
             alloc,
             app,
             desk,
-            Direction::Decipher,
+            Direction::Decrypt,
             session,
             encrypted_part,
-            room,
+            buffer_len,
         )),
-        Call::DecryptFinal { session, room } => {
-            settle_asking(cipher::last(alloc, app, desk, Direction::Decipher, session, room))
+        Call::DecryptFinal {
+            session,
+            buffer_len,
+        } => {
+            settle_asking(cipher::last(alloc, app, desk, Direction::Decrypt, session, buffer_len))
         }
         // Signing and MACing (5.13).
         Call::SignInit {
@@ -232,14 +246,15 @@ fn dispatch<K: Keep>(
         Call::Sign {
             session,
             data,
-            room,
-        } => settle_asking(mac::sign(alloc, app, desk, session, data, room)),
+            buffer_len,
+        } => settle_asking(mac::sign(alloc, app, desk, session, data, buffer_len)),
         Call::SignUpdate { session, part } => {
             settle_asking(mac::update(alloc, app, desk, MacPlace::Sign, session, part))
         }
-        Call::SignFinal { session, room } => {
-            settle_asking(mac::sign_final(alloc, app, desk, session, room))
-        }
+        Call::SignFinal {
+            session,
+            buffer_len,
+        } => { settle_asking(mac::sign_final(alloc, app, desk, session, buffer_len)) }
         // Verifying signatures and MACs (5.15).
         Call::VerifyInit {
             session,
@@ -276,7 +291,7 @@ fn dispatch<K: Keep>(
             mechanism,
             wrapping_key,
             key,
-            room,
+            buffer_len,
         } => settle_asking(wrap_key::serve(
             alloc,
             app,
@@ -286,7 +301,7 @@ fn dispatch<K: Keep>(
             mechanism,
             wrapping_key,
             key,
-            room,
+            buffer_len,
         )),
         Call::UnwrapKey {
             session,

@@ -13,20 +13,20 @@ ghost use Rattle.keep.specs.Contents.{Contents};
 ghost use Rattle.pin_record.specs.Charges.{is_same};
 ghost use Rattle.pin_record.specs.Records.{tries_limit, tries_of};
 ghost use Rattle.keep.specs.Keeping.{Counted, Rises, Stays};
-ghost use Rattle.token_model.specs.declared.event.Event.TheVariants.{Finish, Gone};
-ghost use Rattle.token_store.specs.declared.out.Out.TheVariants.{Reply as OutReply};
-ghost use Rattle.token_model.specs.Events.{HasRandom};
-ghost use Rattle.views.specs.declared.fault.Fault.TheVariants.{Device};
-ghost use Rattle.views.specs.Answering.{pin_checked_in};
-ghost use Rattle.answers.specs.Answers.{answer};
-ghost use Rattle.views.specs.Refusals.{apart, refusal, set_apart};
-ghost use Rattle.token_model.specs.Worlds.{World, called, checks_of, goes, happens, is_init_token, others_checking, reply_to, reveal_by_call, says_called, without_checks};
-ghost use Rattle.token_model.specs.Tries.{IsSound};
-ghost use Rattle.token_store.specs.Shown.{IsFor, over, said_of, task_of};
-ghost use Rattle.token_store.specs.Short.{IsShort, IsShortCall, IsShortSaid, IsShortTask};
-ghost use Rattle.token_states.specs.Applications.{Finishes, HasJobs, reveal_by_job, checks_after, has_session_at, others_seated, HasNumbers, IsOpen, IsOther, TakesJob, desk_at, is_answer, move_of, opening, told_as, told_result, Shows};
-ghost use Rattle.token_store.specs.Stores.{Served};
-ghost use Rattle.token_states.specs.Runs.{AccountsFor, Advances, IsRun, IsStep, IsTakenBy, Lasting, LeavesBy, LeftBy, MayLeave, call_change};
+ghost use Rattle.model_worlds.specs.declared.event.Event.TheVariants.{Finish, Gone};
+ghost use Rattle.serve_base.specs.declared.out.Out.TheVariants.{Reply as OutReply};
+ghost use Rattle.model_worlds.specs.Events.{HasRandom};
+ghost use Rattle.model_views.specs.declared.fault.Fault.TheVariants.{Device};
+ghost use Rattle.model_views.specs.Answering.{pin_checked_in};
+ghost use Rattle.model_answers.specs.Answers.{answer};
+ghost use Rattle.model_views.specs.Refusals.{resource_error_in, refusal, resource_error};
+ghost use Rattle.model_worlds.specs.Worlds.{World, called, checks_of, goes, happens, is_init_token, others_checking, reply_to, reveal_by_call, says_called, without_checks};
+ghost use Rattle.model_worlds.specs.Tries.{IsSound};
+ghost use Rattle.serve_base.specs.Shown.{IsFor, over, said_of, task_of};
+ghost use Rattle.serve_base.specs.Short.{IsShort, IsShortCall, IsShortSaid, IsShortTask};
+ghost use Rattle.model_runs.specs.Applications.{Finishes, HasJobs, reveal_by_job, checks_after, has_session_at, are_others_in_session, HasNumbers, IsOpen, IsOther, TakesJob, desk_at, is_answer, move_of, opening, told_as, told_result, Shows};
+ghost use Rattle.serve_base.specs.Stores.{Served};
+ghost use Rattle.model_runs.specs.Runs.{AccountsFor, Advances, IsRun, IsStep, IsTakenBy, Lasting, LeavesBy, LeftBy, MayLeave, call_change};
 
 use crate::ending::{Others, finish_at};
 use crate::ran::Ran;
@@ -36,12 +36,12 @@ use ck_types::{Rv, UserType};
 use desk::{Desk, Question};
 use keep::{Keep, KeepFault};
 use mech::{Done, Job, Work};
+use model_views::Fault;
+use model_worlds::{Check, Event};
+use serve_base::{Out, Store};
 use std::alloc::{AllocError, Global};
 use std::collections::BTreeMap;
 use std::marker::Model;
-use token_model::{Check, Event};
-use token_store::{Out, Store};
-use views::Fault;
 
 /// A token with one slot, over a keeper, for several applications, each of which is a number.
 #[derive(Drop)]
@@ -52,7 +52,7 @@ pub struct Token<K: Keep> {
 }
 
 impl<K: Keep> Model for Token<K> {
-    ghost use Rattle.token_states.specs.Applications.{TokenState};
+    ghost use Rattle.model_runs.specs.Applications.{TokenState};
 
     ghost Value = { TokenState K };
 
@@ -93,20 +93,20 @@ impl<K: Keep> Token<K> {
     pub fn call(&mut self, alloc: Global, app: u64, call: Call, random: &[u8]) -> Out
         requires { length random.now ≡ random_bytes call }
         // The token shows the world after the call.
-        ensures world { K.terms.doubt self.new.store.keep ≡ 0 → (w : World) → Shows K.terms self.old w → Shows K.terms self.new (called w app call random.now (apart (said_of result))) }
-        // What is said is the answer to what the application sees, or a refusal set apart.
-        ensures says { K.terms.doubt self.new.store.keep ≡ 0 → (w : World) → Shows K.terms self.old w → said_of result ≡ says_called w app call random.now (apart (said_of result)) }
+        ensures world { K.terms.doubt self.new.store.keep ≡ 0 → (w : World) → Shows K.terms self.old w → Shows K.terms self.new (called w app call random.now (resource_error_in (said_of result))) }
+        // What is said is the answer to what the application sees, or a resource error.
+        ensures says { K.terms.doubt self.new.store.keep ≡ 0 → (w : World) → Shows K.terms self.old w → said_of result ≡ says_called w app call random.now (resource_error_in (said_of result)) }
         // A job is the application's.
         ensures asker { IsFor app result }
         // A crash leaves the change of the call alone, or after a refusal what it could leave before, or the change.
-        ensures leaves { K.terms.doubt self.new.store.keep ≡ 0 → (w : World) → Shows K.terms self.old w → (l : Option Lasting) → MayLeave K.terms self.new l → LeavesBy (MayLeave K.terms self.old) (call_change w app call random.now) (called w app call random.now None) (apart (said_of result)) l }
+        ensures leaves { K.terms.doubt self.new.store.keep ≡ 0 → (w : World) → Shows K.terms self.old w → (l : Option Lasting) → MayLeave K.terms self.new l → LeavesBy (MayLeave K.terms self.old) (call_change w app call random.now) (called w app call random.now None) (resource_error_in (said_of result)) l }
         // At most one write is tried.
         ensures counts { Counted K.terms self.old.store.keep self.new.store.keep 0 1 }
         // CKR_DEVICE_ERROR comes only where a failure of the keeper was counted.
         ensures cause { result ≡ OutReply (Code DeviceError) → Rises (K.terms.failures self.old.store.keep) (K.terms.failures self.new.store.keep) }
         // Of the other applications nothing changes, nor where it is refused of this one, but the memory at hand.
         ensures others { (b : ℕ) → b ≢ app → SameDesk (desk_at self.old.desks b) (desk_at self.new.desks b) }
-        ensures stays { IsSome (apart (said_of result)) → SameDesk (desk_at self.old.desks app) (desk_at self.new.desks app) }
+        ensures stays { IsSome (resource_error_in (said_of result)) → SameDesk (desk_at self.old.desks app) (desk_at self.new.desks app) }
         // A call with data that a frame has room for is told of as shortly, or asks for what is.
         ensures short { IsShortCall call → IsShortSaid (said_of result) }
     {
@@ -122,14 +122,14 @@ impl<K: Keep> Token<K> {
     }
 
     /// The end of an application's question. A `Done` of another application, question or function, or
-    /// without a pending question, answers `CKR_FUNCTION_FAILED` and changes nothing. Where memory was
+    /// without a pending call, answers `CKR_FUNCTION_FAILED` and changes nothing. Where memory was
     /// refused, in the job too, the reply is `CKR_HOST_MEMORY`; the question is over.
     pub fn finish(&mut self, _alloc: Global, app: u64, done: Done) -> Reply
         // The token shows the world after the result.
         ensures world { K.terms.doubt self.new.store.keep ≡ 0 → (w : World) → Shows K.terms self.old w → IsOpen w app done.job.value → Shows K.terms self.new (happens w (move_of (Finish app) (OutReply result))) }
-        // What is told is the answer to the result of the question, or a refusal set apart.
+        // What is told is the answer to the result of the question, or a resource error.
         ensures told { K.terms.doubt self.new.store.keep ≡ 0 → (w : World) → Shows K.terms self.old w → IsOpen w app done.job.value → reply_to w (move_of (Finish app) (OutReply result)) ≡ (app, result) ∷ [] }
-        // A result that has the pending question's numbers is taken by its own value, whatever job it is of.
+        // A result that has the pending call's numbers is taken by its own value, whatever job it is of.
         ensures taken { K.terms.doubt self.new.store.keep ≡ 0 → (w : World) → Shows K.terms self.old w → HasNumbers (w.views app).question app done.job.value → IsTakenBy (Shows K.terms self.new) (MayLeave K.terms self.old) (MayLeave K.terms self.new) w app done.job.value result }
         ensures other { (w : World) → Shows K.terms self.old w → IsOther (w.views app).question app done.job.value → (result ≡ Code FunctionFailed) × (self.new ≡ self.old) }
         // A crash leaves the change of the result alone, or after a refusal what it could leave before, or the change.
@@ -140,11 +140,11 @@ impl<K: Keep> Token<K> {
         ensures cause { result ≡ Code DeviceError → Rises (K.terms.failures self.old.store.keep) (K.terms.failures self.new.store.keep) }
         // Of the other applications nothing changes, nor where it is refused of this one, but its question and the memory at hand.
         ensures others { (b : ℕ) → b ≢ app → desk_at self.new.desks b ≡ desk_at self.old.desks b }
-        ensures stays { IsSome (set_apart result) → SameDesk (over (desk_at self.old.desks app)) (desk_at self.new.desks app) }
+        ensures stays { IsSome (resource_error result) → SameDesk (over (desk_at self.old.desks app)) (desk_at self.new.desks app) }
         // What is told of a short job is short.
         ensures short { IsShortTask (task_of done.job.value.work.value) → IsShort result }
     {
-        if !is_open(&self.desks, app, &done) {
+        if !is_pending_job(&self.desks, app, &done) {
             return Reply::Code(Rv::FunctionFailed);
         }
         let reply = told_result(finish_app(
@@ -233,7 +233,7 @@ impl<K: Keep> Token<K> {
     }
 
     /// Takes the events in turn, as long as there is memory for the replies and jobs. `out` has the
-    /// job of each pending question, once, and nothing else.
+    /// job of each pending call, once, and nothing else.
     pub fn run(&mut self, alloc: Global, mut events: Vec<Event>, mut out: Vec<(u64, Job)>) -> Ran
         requires random { All HasRandom events.items }
         requires jobs { (w : World) → Shows K.terms self.old w → HasJobs w out.items }
@@ -302,19 +302,19 @@ fn serve_app<K: Keep>(
     random: &[u8],
 ) -> Result<Out, Fault>
     requires { length random.now ≡ random_bytes call }
-    ensures serves { Served K.terms said_of (λ v. answer v call random.now (reveal_by_call call (others_seated desks.old.entries app))) store.old store.new (desk_at desks.old.entries app) (desk_at desks.old.entries app) result (desk_at desks.new.entries app) }
+    ensures serves { Served K.terms said_of (λ v. answer v call random.now (reveal_by_call call (are_others_in_session desks.old.entries app))) store.old store.new (desk_at desks.old.entries app) (desk_at desks.old.entries app) result (desk_at desks.new.entries app) }
     ensures others { (b : ℕ) → b ≢ app → SameDesk (desk_at desks.old.entries b) (desk_at desks.new.entries b) }
     ensures checks { checks.new.items ≡ checks_after app result checks.old.items }
     ensures asker { IfOk result (IsFor app) }
     ensures counts { Counted K.terms store.old.keep store.new.keep 0 1 }
     ensures cause { IsErrOf result Device → Rises (K.terms.failures store.old.keep) (K.terms.failures store.new.keep) }
-    ensures plain { IfOk result (λ out. apart (said_of out) ≡ None) }
+    ensures plain { IfOk result (λ out. resource_error_in (said_of out) ≡ None) }
     ensures stays { IfErr result (λ fault. SameDesk (desk_at desks.old.entries app) (desk_at desks.new.entries app)) }
     ensures short { IsShortCall call → IfOk result (λ out. IsShortSaid (said_of out)) }
 {
     checks.reserve(1)?;
-    let in_use = is_in_use_for(desks, app, &call);
-    let outcome = serve_seated(alloc, app, desks, store, call, random, in_use);
+    let others_have_sessions = is_in_use_for(desks, app, &call);
+    let outcome = serve_seated(alloc, app, desks, store, call, random, others_have_sessions);
     if let Ok(out) = &outcome {
         note_check(checks, app, out);
     }
@@ -329,30 +329,30 @@ fn serve_seated<K: Keep>(
     store: &mut Store<K>,
     call: Call,
     random: &[u8],
-    in_use: bool,
+    others_have_sessions: bool,
 ) -> Result<Out, Fault>
     requires { length random.now ≡ random_bytes call }
-    ensures serves { Served K.terms said_of (λ v. answer v call random.now (reveal_by_call call in_use)) store.old store.new (desk_at desks.old.entries app) (desk_at desks.old.entries app) result (desk_at desks.new.entries app) }
+    ensures serves { Served K.terms said_of (λ v. answer v call random.now (reveal_by_call call others_have_sessions)) store.old store.new (desk_at desks.old.entries app) (desk_at desks.old.entries app) result (desk_at desks.new.entries app) }
     ensures others { (b : ℕ) → b ≢ app → SameDesk (desk_at desks.old.entries b) (desk_at desks.new.entries b) }
     ensures asker { IfOk result (IsFor app) }
     ensures counts { Counted K.terms store.old.keep store.new.keep 0 1 }
     ensures cause { IsErrOf result Device → Rises (K.terms.failures store.old.keep) (K.terms.failures store.new.keep) }
-    ensures plain { IfOk result (λ out. apart (said_of out) ≡ None) }
+    ensures plain { IfOk result (λ out. resource_error_in (said_of out) ≡ None) }
     ensures stays { IfErr result (λ fault. SameDesk (desk_at desks.old.entries app) (desk_at desks.new.entries app)) }
     ensures short { IsShortCall call → IfOk result (λ out. IsShortSaid (said_of out)) }
 {
-    seat(alloc, desks, app)?;
+    add_desk(alloc, desks, app)?;
     match desks.get_mut(&app) {
-        Some(desk) => serve(alloc, app, desk, store, call, random, in_use),
+        Some(desk) => serve(alloc, app, desk, store, call, random, others_have_sessions),
         None => unreachable!(),
     }
 }
 
 /// Whether another application has a session, where the call asks.
 fn is_in_use_for(desks: &BTreeMap<u64, Desk>, app: u64, call: &Call) -> bool
-    ensures { reveal_by_call call.now result ≡ reveal_by_call call.now (others_seated desks.now.entries app) }
+    ensures { reveal_by_call call.now result ≡ reveal_by_call call.now (are_others_in_session desks.now.entries app) }
 {
-    is_init_token(Function::of(call)) && others_seated(desks, app)
+    is_init_token(Function::of(call)) && are_others_in_session(desks, app)
 }
 
 fn is_init_token(function: Function) -> bool
@@ -362,8 +362,8 @@ fn is_init_token(function: Function) -> bool
 }
 
 /// Whether another application has a session.
-fn others_seated(desks: &BTreeMap<u64, Desk>, app: u64) -> bool
-    ensures { result ≡ others_seated desks.now.entries app }
+fn are_others_in_session(desks: &BTreeMap<u64, Desk>, app: u64) -> bool
+    ensures { result ≡ are_others_in_session desks.now.entries app }
 {
     desks.keys().any(|b| *b != app && has_session_at(desks, *b))
 }
@@ -377,7 +377,7 @@ fn has_session_at(desks: &BTreeMap<u64, Desk>, app: u64) -> bool
     }
 }
 
-/// A check that a call has begun is under way.
+/// A check that a call has begun is in progress.
 fn note_check(checks: &mut Vec<Check>, app: u64, out: &Out)
     requires { vec_len checks.old < vec_capacity checks.old }
     ensures { checks.new.items ≡ checks.old.items ++ checks_of app (pin_checked_in (said_of out.now)) }
@@ -409,7 +409,7 @@ fn pin_checked(out: &Out) -> Option<UserType>
 }
 
 /// Sees that the application has a desk.
-fn seat(alloc: Global, desks: &mut BTreeMap<u64, Desk>, app: u64) -> Result<(), Fault>
+fn add_desk(alloc: Global, desks: &mut BTreeMap<u64, Desk>, app: u64) -> Result<(), Fault>
     ensures same { (b : ℕ) → SameDesk (desk_at desks.old.entries b) (desk_at desks.new.entries b) }
     ensures there { OnOk result (IsSome (get nat_cmp desks.new app)) }
     ensures cause { IfErr result (λ fault. fault ≡ Fault.Memory) }
@@ -431,8 +431,8 @@ fn is_of(done: &Done, app: u64, question: &Question) -> bool
         && done.function() == question.function()
 }
 
-/// Whether a job that was run is of the application's pending question.
-fn is_open(desks: &BTreeMap<u64, Desk>, app: u64, done: &Done) -> bool
+/// Whether a job that was run is of the application's pending call.
+fn is_pending_job(desks: &BTreeMap<u64, Desk>, app: u64, done: &Done) -> bool
     ensures { result ≡ is_answer (desk_at desks.now.entries app).question app done.now.job.value }
 {
     match desks.get(&app) {
@@ -444,7 +444,7 @@ fn is_open(desks: &BTreeMap<u64, Desk>, app: u64, done: &Done) -> bool
     }
 }
 
-/// The result of the application's pending question.
+/// The result of the application's pending call.
 fn finish_app<K: Keep>(
     desks: &mut BTreeMap<u64, Desk>,
     store: &mut Store<K>,
@@ -452,13 +452,13 @@ fn finish_app<K: Keep>(
     app: u64,
     done: Done,
 ) -> Result<Reply, Fault>
-    ensures finishes { Finishes K.terms done.job.value (reveal_by_job done.job.value (others_checking checks.now app) (others_seated desks.old.entries app)) store.old store.new (desk_at desks.old.entries app) result (desk_at desks.new.entries app) }
+    ensures finishes { Finishes K.terms done.job.value (reveal_by_job done.job.value (others_checking checks.now app) (are_others_in_session desks.old.entries app)) store.old store.new (desk_at desks.old.entries app) result (desk_at desks.new.entries app) }
     ensures others { (b : ℕ) → b ≢ app → desk_at desks.new.entries b ≡ desk_at desks.old.entries b }
 {
     let others = Others {
         so_checks: others_checking(checks, app, UserType::So),
         user_checks: others_checking(checks, app, UserType::User),
-        in_session: others_seated(desks, app),
+        others_have_sessions: are_others_in_session(desks, app),
     };
     match desks.get_mut(&app) {
         Some(desk) => finish_at(desk, store, done, &others),
@@ -511,12 +511,12 @@ fn retain_others(checks: &mut Vec<Check>, app: u64)
 fn take_job(out: &mut Vec<(u64, Job)>, app: u64) -> Option<Job>
     ensures { TakesJob app out.old.items result out.new.items }
 {
-    let place = place_of_job(out, app)?;
+    let place = index_of_job(out, app)?;
     Some(out.remove(place).1)
 }
 
 /// The place of the application's job.
-fn place_of_job(out: &[(u64, Job)], app: u64) -> Option<usize>
+fn index_of_job(out: &[(u64, Job)], app: u64) -> Option<usize>
     ensures { result ≡ position (λ j. app == j.0) out.now }
 {
     out.iter().position(|job| app == job.0)

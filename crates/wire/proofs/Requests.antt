@@ -10,7 +10,7 @@ use Rattle.ck_calls.specs.declared.function.Function.TheVariants as functions
 use Rattle.ck_calls.specs.declared.call.Call.{Call}
 use Rattle.ck_calls.specs.declared.call.Call.TheVariants as calls
 use Rattle.ck_calls.specs.Functions.{function_number, function_of, functions_all, function_at}
-use Rattle.ck_calls.specs.Fields.{mechanism, template, query, room, mechanism_canonical, optional_mechanism_canonical, template_canonical, query_canonical, room_canonical}
+use Rattle.ck_calls.specs.Fields.{mechanism, template, query, buffer_len, mechanism_canonical, optional_mechanism_canonical, template_canonical, query_canonical, buffer_len_canonical}
 use Rattle.wire.specs.Requests.{number_only, two_numbers, number_and_strings, number_and_string, numbers_and_string, number_and_template, numbers_and_template, numbers_and_query, init_fields, data_fields, final_fields, generate_fields, wrap_fields, unwrap_fields, encode_fields, Fits-fields, decode_fields}
 
 number_only_canonical : IsCanonical number_only
@@ -41,16 +41,16 @@ init_fields_canonical : IsCanonical init_fields
 init_fields_canonical = pair_canonical number64 (pair (optional mechanism) number64) number64_canonical (pair_canonical (optional mechanism) number64 optional_mechanism_canonical number64_canonical)
 
 data_fields_canonical : IsCanonical data_fields
-data_fields_canonical = pair_canonical number64 (pair byte_string room) number64_canonical (pair_canonical byte_string room byte_string_canonical room_canonical)
+data_fields_canonical = pair_canonical number64 (pair byte_string buffer_len) number64_canonical (pair_canonical byte_string buffer_len byte_string_canonical buffer_len_canonical)
 
 final_fields_canonical : IsCanonical final_fields
-final_fields_canonical = pair_canonical number64 room number64_canonical room_canonical
+final_fields_canonical = pair_canonical number64 buffer_len number64_canonical buffer_len_canonical
 
 generate_fields_canonical : IsCanonical generate_fields
 generate_fields_canonical = pair_canonical number64 (pair mechanism template) number64_canonical (pair_canonical mechanism template mechanism_canonical template_canonical)
 
 wrap_fields_canonical : IsCanonical wrap_fields
-wrap_fields_canonical = pair_canonical number64 (pair mechanism (pair number64 (pair number64 room))) number64_canonical (pair_canonical mechanism (pair number64 (pair number64 room)) mechanism_canonical (pair_canonical number64 (pair number64 room) number64_canonical (pair_canonical number64 room number64_canonical room_canonical)))
+wrap_fields_canonical = pair_canonical number64 (pair mechanism (pair number64 (pair number64 buffer_len))) number64_canonical (pair_canonical mechanism (pair number64 (pair number64 buffer_len)) mechanism_canonical (pair_canonical number64 (pair number64 buffer_len) number64_canonical (pair_canonical number64 buffer_len number64_canonical buffer_len_canonical)))
 
 unwrap_fields_canonical : IsCanonical unwrap_fields
 unwrap_fields_canonical = pair_canonical number64 (pair mechanism (pair number64 (pair byte_string template))) number64_canonical (pair_canonical mechanism (pair number64 (pair byte_string template)) mechanism_canonical (pair_canonical number64 (pair byte_string template) number64_canonical (pair_canonical byte_string template byte_string_canonical template_canonical)))
@@ -131,23 +131,23 @@ fields_complete (calls.FindObjectsInit session template) fits = made_complete nu
 fields_complete (calls.FindObjects session max_count) fits = made_complete two_numbers (λ x. calls.FindObjects x.0 x.1) two_numbers_canonical (session, max_count) fits
 fields_complete (calls.FindObjectsFinal session) fits = made_complete number_only (λ x. calls.FindObjectsFinal x) number_only_canonical session fits
 fields_complete (calls.EncryptInit session mechanism key) fits = made_complete init_fields (λ x. calls.EncryptInit x.0 x.1.0 x.1.1) init_fields_canonical (session, (mechanism, key)) fits
-fields_complete (calls.Encrypt session «data» room) fits = made_complete data_fields (λ x. calls.Encrypt x.0 x.1.0 x.1.1) data_fields_canonical (session, («data», room)) fits
-fields_complete (calls.EncryptUpdate session part room) fits = made_complete data_fields (λ x. calls.EncryptUpdate x.0 x.1.0 x.1.1) data_fields_canonical (session, (part, room)) fits
-fields_complete (calls.EncryptFinal session room) fits = made_complete final_fields (λ x. calls.EncryptFinal x.0 x.1) final_fields_canonical (session, room) fits
+fields_complete (calls.Encrypt session «data» buffer_len) fits = made_complete data_fields (λ x. calls.Encrypt x.0 x.1.0 x.1.1) data_fields_canonical (session, («data», buffer_len)) fits
+fields_complete (calls.EncryptUpdate session part buffer_len) fits = made_complete data_fields (λ x. calls.EncryptUpdate x.0 x.1.0 x.1.1) data_fields_canonical (session, (part, buffer_len)) fits
+fields_complete (calls.EncryptFinal session buffer_len) fits = made_complete final_fields (λ x. calls.EncryptFinal x.0 x.1) final_fields_canonical (session, buffer_len) fits
 fields_complete (calls.DecryptInit session mechanism key) fits = made_complete init_fields (λ x. calls.DecryptInit x.0 x.1.0 x.1.1) init_fields_canonical (session, (mechanism, key)) fits
-fields_complete (calls.Decrypt session encrypted_data room) fits = made_complete data_fields (λ x. calls.Decrypt x.0 x.1.0 x.1.1) data_fields_canonical (session, (encrypted_data, room)) fits
-fields_complete (calls.DecryptUpdate session encrypted_part room) fits = made_complete data_fields (λ x. calls.DecryptUpdate x.0 x.1.0 x.1.1) data_fields_canonical (session, (encrypted_part, room)) fits
-fields_complete (calls.DecryptFinal session room) fits = made_complete final_fields (λ x. calls.DecryptFinal x.0 x.1) final_fields_canonical (session, room) fits
+fields_complete (calls.Decrypt session encrypted_data buffer_len) fits = made_complete data_fields (λ x. calls.Decrypt x.0 x.1.0 x.1.1) data_fields_canonical (session, (encrypted_data, buffer_len)) fits
+fields_complete (calls.DecryptUpdate session encrypted_part buffer_len) fits = made_complete data_fields (λ x. calls.DecryptUpdate x.0 x.1.0 x.1.1) data_fields_canonical (session, (encrypted_part, buffer_len)) fits
+fields_complete (calls.DecryptFinal session buffer_len) fits = made_complete final_fields (λ x. calls.DecryptFinal x.0 x.1) final_fields_canonical (session, buffer_len) fits
 fields_complete (calls.SignInit session mechanism key) fits = made_complete init_fields (λ x. calls.SignInit x.0 x.1.0 x.1.1) init_fields_canonical (session, (mechanism, key)) fits
-fields_complete (calls.Sign session «data» room) fits = made_complete data_fields (λ x. calls.Sign x.0 x.1.0 x.1.1) data_fields_canonical (session, («data», room)) fits
+fields_complete (calls.Sign session «data» buffer_len) fits = made_complete data_fields (λ x. calls.Sign x.0 x.1.0 x.1.1) data_fields_canonical (session, («data», buffer_len)) fits
 fields_complete (calls.SignUpdate session part) fits = made_complete number_and_string (λ x. calls.SignUpdate x.0 x.1) number_and_string_canonical (session, part) fits
-fields_complete (calls.SignFinal session room) fits = made_complete final_fields (λ x. calls.SignFinal x.0 x.1) final_fields_canonical (session, room) fits
+fields_complete (calls.SignFinal session buffer_len) fits = made_complete final_fields (λ x. calls.SignFinal x.0 x.1) final_fields_canonical (session, buffer_len) fits
 fields_complete (calls.VerifyInit session mechanism key) fits = made_complete init_fields (λ x. calls.VerifyInit x.0 x.1.0 x.1.1) init_fields_canonical (session, (mechanism, key)) fits
 fields_complete (calls.Verify session «data» signature) fits = made_complete number_and_strings (λ x. calls.Verify x.0 x.1.0 x.1.1) number_and_strings_canonical (session, («data», signature)) fits
 fields_complete (calls.VerifyUpdate session part) fits = made_complete number_and_string (λ x. calls.VerifyUpdate x.0 x.1) number_and_string_canonical (session, part) fits
 fields_complete (calls.VerifyFinal session signature) fits = made_complete number_and_string (λ x. calls.VerifyFinal x.0 x.1) number_and_string_canonical (session, signature) fits
 fields_complete (calls.GenerateKey session mechanism template) fits = made_complete generate_fields (λ x. calls.GenerateKey x.0 x.1.0 x.1.1) generate_fields_canonical (session, (mechanism, template)) fits
-fields_complete (calls.WrapKey session mechanism wrapping_key key room) fits = made_complete wrap_fields (λ x. calls.WrapKey x.0 x.1.0 x.1.1.0 x.1.1.1.0 x.1.1.1.1) wrap_fields_canonical (session, (mechanism, (wrapping_key, (key, room)))) fits
+fields_complete (calls.WrapKey session mechanism wrapping_key key buffer_len) fits = made_complete wrap_fields (λ x. calls.WrapKey x.0 x.1.0 x.1.1.0 x.1.1.1.0 x.1.1.1.1) wrap_fields_canonical (session, (mechanism, (wrapping_key, (key, buffer_len)))) fits
 fields_complete (calls.UnwrapKey session mechanism unwrapping_key wrapped_key template) fits = made_complete unwrap_fields (λ x. calls.UnwrapKey x.0 x.1.0 x.1.1.0 x.1.1.1.0 x.1.1.1.1) unwrap_fields_canonical (session, (mechanism, (unwrapping_key, (wrapped_key, template)))) fits
 fields_complete (calls.GenerateRandom session len) fits = made_complete two_numbers (λ x. calls.GenerateRandom x.0 x.1) two_numbers_canonical (session, len) fits
 

@@ -8,7 +8,7 @@ use Rattle.ck_calls.specs.declared.function.Function.{Function}
 use Rattle.ck_calls.specs.declared.function.Function.TheVariants as functions
 use Rattle.ck_calls.specs.declared.call.Call.{Call}
 use Rattle.ck_calls.specs.declared.call.Call.TheVariants as calls
-use Rattle.ck_calls.specs.Fields.{mechanism, template, query, room}
+use Rattle.ck_calls.specs.Fields.{mechanism, template, query, buffer_len}
 
 -- the shapes of a request's fields, in their order
 
@@ -40,16 +40,16 @@ abbrev pub init_fields : Format (ℕ × ((Option Mechanism) × ℕ))
 init_fields = pair number64 (pair (optional mechanism) number64)
 
 abbrev pub data_fields : Format (ℕ × ((List ℕ) × (Option ℕ)))
-data_fields = pair number64 (pair byte_string room)
+data_fields = pair number64 (pair byte_string buffer_len)
 
 abbrev pub final_fields : Format (ℕ × (Option ℕ))
-final_fields = pair number64 room
+final_fields = pair number64 buffer_len
 
 abbrev pub generate_fields : Format (ℕ × (Mechanism × (List Entry)))
 generate_fields = pair number64 (pair mechanism template)
 
 abbrev pub wrap_fields : Format (ℕ × (Mechanism × (ℕ × (ℕ × (Option ℕ)))))
-wrap_fields = pair number64 (pair mechanism (pair number64 (pair number64 room)))
+wrap_fields = pair number64 (pair mechanism (pair number64 (pair number64 buffer_len)))
 
 abbrev pub unwrap_fields : Format (ℕ × (Mechanism × (ℕ × ((List ℕ) × (List Entry)))))
 unwrap_fields = pair number64 (pair mechanism (pair number64 (pair byte_string template)))
@@ -78,23 +78,23 @@ encode_fields (calls.FindObjectsInit session template) = number_and_template.enc
 encode_fields (calls.FindObjects session max_count) = two_numbers.encode (session, max_count)
 encode_fields (calls.FindObjectsFinal session) = number_only.encode session
 encode_fields (calls.EncryptInit session mechanism key) = init_fields.encode (session, (mechanism, key))
-encode_fields (calls.Encrypt session «data» room) = data_fields.encode (session, («data», room))
-encode_fields (calls.EncryptUpdate session part room) = data_fields.encode (session, (part, room))
-encode_fields (calls.EncryptFinal session room) = final_fields.encode (session, room)
+encode_fields (calls.Encrypt session «data» buffer_len) = data_fields.encode (session, («data», buffer_len))
+encode_fields (calls.EncryptUpdate session part buffer_len) = data_fields.encode (session, (part, buffer_len))
+encode_fields (calls.EncryptFinal session buffer_len) = final_fields.encode (session, buffer_len)
 encode_fields (calls.DecryptInit session mechanism key) = init_fields.encode (session, (mechanism, key))
-encode_fields (calls.Decrypt session encrypted_data room) = data_fields.encode (session, (encrypted_data, room))
-encode_fields (calls.DecryptUpdate session encrypted_part room) = data_fields.encode (session, (encrypted_part, room))
-encode_fields (calls.DecryptFinal session room) = final_fields.encode (session, room)
+encode_fields (calls.Decrypt session encrypted_data buffer_len) = data_fields.encode (session, (encrypted_data, buffer_len))
+encode_fields (calls.DecryptUpdate session encrypted_part buffer_len) = data_fields.encode (session, (encrypted_part, buffer_len))
+encode_fields (calls.DecryptFinal session buffer_len) = final_fields.encode (session, buffer_len)
 encode_fields (calls.SignInit session mechanism key) = init_fields.encode (session, (mechanism, key))
-encode_fields (calls.Sign session «data» room) = data_fields.encode (session, («data», room))
+encode_fields (calls.Sign session «data» buffer_len) = data_fields.encode (session, («data», buffer_len))
 encode_fields (calls.SignUpdate session part) = number_and_string.encode (session, part)
-encode_fields (calls.SignFinal session room) = final_fields.encode (session, room)
+encode_fields (calls.SignFinal session buffer_len) = final_fields.encode (session, buffer_len)
 encode_fields (calls.VerifyInit session mechanism key) = init_fields.encode (session, (mechanism, key))
 encode_fields (calls.Verify session «data» signature) = number_and_strings.encode (session, («data», signature))
 encode_fields (calls.VerifyUpdate session part) = number_and_string.encode (session, part)
 encode_fields (calls.VerifyFinal session signature) = number_and_string.encode (session, signature)
 encode_fields (calls.GenerateKey session mechanism template) = generate_fields.encode (session, (mechanism, template))
-encode_fields (calls.WrapKey session mechanism wrapping_key key room) = wrap_fields.encode (session, (mechanism, (wrapping_key, (key, room))))
+encode_fields (calls.WrapKey session mechanism wrapping_key key buffer_len) = wrap_fields.encode (session, (mechanism, (wrapping_key, (key, buffer_len))))
 encode_fields (calls.UnwrapKey session mechanism unwrapping_key wrapped_key template) = unwrap_fields.encode (session, (mechanism, (unwrapping_key, (wrapped_key, template))))
 encode_fields (calls.GenerateRandom session len) = two_numbers.encode (session, len)
 
@@ -122,23 +122,23 @@ Fits-fields (calls.FindObjectsInit session template) = number_and_template.Fits 
 Fits-fields (calls.FindObjects session max_count) = two_numbers.Fits (session, max_count)
 Fits-fields (calls.FindObjectsFinal session) = number_only.Fits session
 Fits-fields (calls.EncryptInit session mechanism key) = init_fields.Fits (session, (mechanism, key))
-Fits-fields (calls.Encrypt session «data» room) = data_fields.Fits (session, («data», room))
-Fits-fields (calls.EncryptUpdate session part room) = data_fields.Fits (session, (part, room))
-Fits-fields (calls.EncryptFinal session room) = final_fields.Fits (session, room)
+Fits-fields (calls.Encrypt session «data» buffer_len) = data_fields.Fits (session, («data», buffer_len))
+Fits-fields (calls.EncryptUpdate session part buffer_len) = data_fields.Fits (session, (part, buffer_len))
+Fits-fields (calls.EncryptFinal session buffer_len) = final_fields.Fits (session, buffer_len)
 Fits-fields (calls.DecryptInit session mechanism key) = init_fields.Fits (session, (mechanism, key))
-Fits-fields (calls.Decrypt session encrypted_data room) = data_fields.Fits (session, (encrypted_data, room))
-Fits-fields (calls.DecryptUpdate session encrypted_part room) = data_fields.Fits (session, (encrypted_part, room))
-Fits-fields (calls.DecryptFinal session room) = final_fields.Fits (session, room)
+Fits-fields (calls.Decrypt session encrypted_data buffer_len) = data_fields.Fits (session, (encrypted_data, buffer_len))
+Fits-fields (calls.DecryptUpdate session encrypted_part buffer_len) = data_fields.Fits (session, (encrypted_part, buffer_len))
+Fits-fields (calls.DecryptFinal session buffer_len) = final_fields.Fits (session, buffer_len)
 Fits-fields (calls.SignInit session mechanism key) = init_fields.Fits (session, (mechanism, key))
-Fits-fields (calls.Sign session «data» room) = data_fields.Fits (session, («data», room))
+Fits-fields (calls.Sign session «data» buffer_len) = data_fields.Fits (session, («data», buffer_len))
 Fits-fields (calls.SignUpdate session part) = number_and_string.Fits (session, part)
-Fits-fields (calls.SignFinal session room) = final_fields.Fits (session, room)
+Fits-fields (calls.SignFinal session buffer_len) = final_fields.Fits (session, buffer_len)
 Fits-fields (calls.VerifyInit session mechanism key) = init_fields.Fits (session, (mechanism, key))
 Fits-fields (calls.Verify session «data» signature) = number_and_strings.Fits (session, («data», signature))
 Fits-fields (calls.VerifyUpdate session part) = number_and_string.Fits (session, part)
 Fits-fields (calls.VerifyFinal session signature) = number_and_string.Fits (session, signature)
 Fits-fields (calls.GenerateKey session mechanism template) = generate_fields.Fits (session, (mechanism, template))
-Fits-fields (calls.WrapKey session mechanism wrapping_key key room) = wrap_fields.Fits (session, (mechanism, (wrapping_key, (key, room))))
+Fits-fields (calls.WrapKey session mechanism wrapping_key key buffer_len) = wrap_fields.Fits (session, (mechanism, (wrapping_key, (key, buffer_len))))
 Fits-fields (calls.UnwrapKey session mechanism unwrapping_key wrapped_key template) = unwrap_fields.Fits (session, (mechanism, (unwrapping_key, (wrapped_key, template))))
 Fits-fields (calls.GenerateRandom session len) = two_numbers.Fits (session, len)
 

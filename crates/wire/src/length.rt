@@ -81,7 +81,7 @@ impl EncodedLen for AttributeQuery {
     ghost layout = { attribute_query };
 
     fn encoded_len(&self) -> usize {
-        self.room.encoded_len().saturating_add(8)
+        self.buffer_len.encoded_len().saturating_add(8)
     }
 }
 
@@ -185,14 +185,17 @@ pub(crate) fn fields_len(call: &Call) -> usize
         Call::Encrypt {
             session,
             data,
-            room,
-        } => len_3(session, data, room),
+            buffer_len,
+        } => len_3(session, data, buffer_len),
         Call::EncryptUpdate {
             session,
             part,
-            room,
-        } => len_3(session, part, room),
-        Call::EncryptFinal { session, room } => len_2(session, room),
+            buffer_len,
+        } => len_3(session, part, buffer_len),
+        Call::EncryptFinal {
+            session,
+            buffer_len,
+        } => len_2(session, buffer_len),
         Call::DecryptInit {
             session,
             mechanism,
@@ -201,14 +204,17 @@ pub(crate) fn fields_len(call: &Call) -> usize
         Call::Decrypt {
             session,
             encrypted_data,
-            room,
-        } => len_3(session, encrypted_data, room),
+            buffer_len,
+        } => len_3(session, encrypted_data, buffer_len),
         Call::DecryptUpdate {
             session,
             encrypted_part,
-            room,
-        } => len_3(session, encrypted_part, room),
-        Call::DecryptFinal { session, room } => len_2(session, room),
+            buffer_len,
+        } => len_3(session, encrypted_part, buffer_len),
+        Call::DecryptFinal {
+            session,
+            buffer_len,
+        } => len_2(session, buffer_len),
         Call::SignInit {
             session,
             mechanism,
@@ -217,10 +223,13 @@ pub(crate) fn fields_len(call: &Call) -> usize
         Call::Sign {
             session,
             data,
-            room,
-        } => len_3(session, data, room),
+            buffer_len,
+        } => len_3(session, data, buffer_len),
         Call::SignUpdate { session, part } => len_2(session, part),
-        Call::SignFinal { session, room } => len_2(session, room),
+        Call::SignFinal {
+            session,
+            buffer_len,
+        } => len_2(session, buffer_len),
         Call::VerifyInit {
             session,
             mechanism,
@@ -243,8 +252,8 @@ pub(crate) fn fields_len(call: &Call) -> usize
             mechanism,
             wrapping_key,
             key,
-            room,
-        } => len_5(session, mechanism, wrapping_key, key, room),
+            buffer_len,
+        } => len_5(session, mechanism, wrapping_key, key, buffer_len),
         Call::UnwrapKey {
             session,
             mechanism,

@@ -7,7 +7,7 @@
 //! - `read_call` and `read_reply` read just what `write_call` and `write_reply` write: what is read is
 //!   encoded so, what is encoded so is read, and each fault comes just where its condition stands.
 //! - `FrameReader` gives the payloads of a stream that comes in pieces, however it is cut, and no
-//!   others. `front` shows the next where it lies, and `pass` lets it go. After a length above the limit it
+//!   others. `peek` shows the next where it lies, and `consume` lets it go. After a length above the limit it
 //!   answers `TooLong` for ever.
 //! - `write_reply_over` writes a reply's frame over the last one, whose memory it takes.
 //!

@@ -139,28 +139,31 @@ pub(crate) fn decode_fields(
             })
         }
         Function::Encrypt => {
-            let (session, (data, room)) = decode_whole::<(u64, (Bytes, Option<u64>))>(
+            let (session, (data, buffer_len)) = decode_whole::<(u64, (Bytes, Option<u64>))>(
                 alloc, bytes,
             )?;
             Ok(Call::Encrypt {
                 session,
                 data,
-                room,
+                buffer_len,
             })
         }
         Function::EncryptUpdate => {
-            let (session, (part, room)) = decode_whole::<(u64, (Bytes, Option<u64>))>(
+            let (session, (part, buffer_len)) = decode_whole::<(u64, (Bytes, Option<u64>))>(
                 alloc, bytes,
             )?;
             Ok(Call::EncryptUpdate {
                 session,
                 part,
-                room,
+                buffer_len,
             })
         }
         Function::EncryptFinal => {
-            let (session, room) = decode_whole::<(u64, Option<u64>)>(alloc, bytes)?;
-            Ok(Call::EncryptFinal { session, room })
+            let (session, buffer_len) = decode_whole::<(u64, Option<u64>)>(alloc, bytes)?;
+            Ok(Call::EncryptFinal {
+                session,
+                buffer_len,
+            })
         }
         Function::DecryptInit => {
             let (session, (mechanism, key)) = decode_whole::<(u64, (Option<Mechanism>, u64))>(
@@ -173,28 +176,31 @@ pub(crate) fn decode_fields(
             })
         }
         Function::Decrypt => {
-            let (session, (encrypted_data, room)) = decode_whole::<(u64, (Bytes, Option<u64>))>(
-                alloc, bytes,
-            )?;
+            let (session, (encrypted_data, buffer_len)) = decode_whole::<
+                (u64, (Bytes, Option<u64>)),
+            >(alloc, bytes)?;
             Ok(Call::Decrypt {
                 session,
                 encrypted_data,
-                room,
+                buffer_len,
             })
         }
         Function::DecryptUpdate => {
-            let (session, (encrypted_part, room)) = decode_whole::<(u64, (Bytes, Option<u64>))>(
-                alloc, bytes,
-            )?;
+            let (session, (encrypted_part, buffer_len)) = decode_whole::<
+                (u64, (Bytes, Option<u64>)),
+            >(alloc, bytes)?;
             Ok(Call::DecryptUpdate {
                 session,
                 encrypted_part,
-                room,
+                buffer_len,
             })
         }
         Function::DecryptFinal => {
-            let (session, room) = decode_whole::<(u64, Option<u64>)>(alloc, bytes)?;
-            Ok(Call::DecryptFinal { session, room })
+            let (session, buffer_len) = decode_whole::<(u64, Option<u64>)>(alloc, bytes)?;
+            Ok(Call::DecryptFinal {
+                session,
+                buffer_len,
+            })
         }
         Function::SignInit => {
             let (session, (mechanism, key)) = decode_whole::<(u64, (Option<Mechanism>, u64))>(
@@ -207,13 +213,13 @@ pub(crate) fn decode_fields(
             })
         }
         Function::Sign => {
-            let (session, (data, room)) = decode_whole::<(u64, (Bytes, Option<u64>))>(
+            let (session, (data, buffer_len)) = decode_whole::<(u64, (Bytes, Option<u64>))>(
                 alloc, bytes,
             )?;
             Ok(Call::Sign {
                 session,
                 data,
-                room,
+                buffer_len,
             })
         }
         Function::SignUpdate => {
@@ -221,8 +227,11 @@ pub(crate) fn decode_fields(
             Ok(Call::SignUpdate { session, part })
         }
         Function::SignFinal => {
-            let (session, room) = decode_whole::<(u64, Option<u64>)>(alloc, bytes)?;
-            Ok(Call::SignFinal { session, room })
+            let (session, buffer_len) = decode_whole::<(u64, Option<u64>)>(alloc, bytes)?;
+            Ok(Call::SignFinal {
+                session,
+                buffer_len,
+            })
         }
         Function::VerifyInit => {
             let (session, (mechanism, key)) = decode_whole::<(u64, (Option<Mechanism>, u64))>(
@@ -261,7 +270,7 @@ pub(crate) fn decode_fields(
             })
         }
         Function::WrapKey => {
-            let (session, (mechanism, (wrapping_key, (key, room)))) = decode_whole::<
+            let (session, (mechanism, (wrapping_key, (key, buffer_len)))) = decode_whole::<
                 (u64, (Mechanism, (u64, (u64, Option<u64>)))),
             >(alloc, bytes)?;
             Ok(Call::WrapKey {
@@ -269,7 +278,7 @@ pub(crate) fn decode_fields(
                 mechanism,
                 wrapping_key,
                 key,
-                room,
+                buffer_len,
             })
         }
         Function::UnwrapKey => {
@@ -345,14 +354,17 @@ pub(crate) fn encode_fields(call: &Call, out: &mut Vec<u8>) -> Result<(), CodecF
         Call::Encrypt {
             session,
             data,
-            room,
-        } => encode_3(session, data, room, out),
+            buffer_len,
+        } => encode_3(session, data, buffer_len, out),
         Call::EncryptUpdate {
             session,
             part,
-            room,
-        } => encode_3(session, part, room, out),
-        Call::EncryptFinal { session, room } => encode_2(session, room, out),
+            buffer_len,
+        } => encode_3(session, part, buffer_len, out),
+        Call::EncryptFinal {
+            session,
+            buffer_len,
+        } => encode_2(session, buffer_len, out),
         Call::DecryptInit {
             session,
             mechanism,
@@ -361,14 +373,17 @@ pub(crate) fn encode_fields(call: &Call, out: &mut Vec<u8>) -> Result<(), CodecF
         Call::Decrypt {
             session,
             encrypted_data,
-            room,
-        } => encode_3(session, encrypted_data, room, out),
+            buffer_len,
+        } => encode_3(session, encrypted_data, buffer_len, out),
         Call::DecryptUpdate {
             session,
             encrypted_part,
-            room,
-        } => encode_3(session, encrypted_part, room, out),
-        Call::DecryptFinal { session, room } => encode_2(session, room, out),
+            buffer_len,
+        } => encode_3(session, encrypted_part, buffer_len, out),
+        Call::DecryptFinal {
+            session,
+            buffer_len,
+        } => encode_2(session, buffer_len, out),
         Call::SignInit {
             session,
             mechanism,
@@ -377,10 +392,13 @@ pub(crate) fn encode_fields(call: &Call, out: &mut Vec<u8>) -> Result<(), CodecF
         Call::Sign {
             session,
             data,
-            room,
-        } => encode_3(session, data, room, out),
+            buffer_len,
+        } => encode_3(session, data, buffer_len, out),
         Call::SignUpdate { session, part } => encode_2(session, part, out),
-        Call::SignFinal { session, room } => encode_2(session, room, out),
+        Call::SignFinal {
+            session,
+            buffer_len,
+        } => encode_2(session, buffer_len, out),
         Call::VerifyInit {
             session,
             mechanism,
@@ -403,8 +421,8 @@ pub(crate) fn encode_fields(call: &Call, out: &mut Vec<u8>) -> Result<(), CodecF
             mechanism,
             wrapping_key,
             key,
-            room,
-        } => encode_5(session, mechanism, wrapping_key, key, room, out),
+            buffer_len,
+        } => encode_5(session, mechanism, wrapping_key, key, buffer_len, out),
         Call::UnwrapKey {
             session,
             mechanism,

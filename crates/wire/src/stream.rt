@@ -100,12 +100,12 @@ impl FrameReader {
         Ok(())
     }
 
-    /// The next whole payload, or none yet. It stays, where it is, until `pass` lets it go.
+    /// The next whole payload, or none yet. It stays, where it is, until `consume` lets it go.
     ///
     /// # Errors
     ///
     /// `TooLong` for a length above the limit, and where the reader has failed.
-    pub fn front(&self) -> Result<Option<&[u8]>, WireFault>
+    pub fn peek(&self) -> Result<Option<&[u8]>, WireFault>
         ensures { Shows self.now result }
     {
         if self.failed {
@@ -114,11 +114,11 @@ impl FrameReader {
         payload_at(&self.pending[self.start..])
     }
 
-    /// Lets the payload go that `front` shows. Where it shows none, nothing changes.
-    pub fn pass(&mut self)
+    /// Lets the payload go that `peek` shows. Where it shows none, nothing changes.
+    pub fn consume(&mut self)
         ensures { Passes self.old self.new }
     {
-        if let Ok(Some(payload)) = self.front() {
+        if let Ok(Some(payload)) = self.peek() {
             self.start += 4 + payload.len();
         }
     }
@@ -132,7 +132,7 @@ impl FrameReader {
     pub fn next(&mut self, alloc: Global) -> Result<Option<Vec<u8>>, WireFault>
         ensures { Nexts self.old self.new result }
     {
-        let payload = match self.front() {
+        let payload = match self.peek() {
             Ok(None) => return Ok(None),
             Ok(Some(payload)) => Vec::from_slice(alloc, payload)?,
             Err(fault) => {
@@ -140,7 +140,7 @@ impl FrameReader {
                 return Err(fault);
             }
         };
-        self.pass();
+        self.consume();
         Ok(Some(payload))
     }
 }

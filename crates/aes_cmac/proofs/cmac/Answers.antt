@@ -12,6 +12,6 @@ returns c =
     let n : ℕ = c.saturating_sub-before.result / 16 in
     let before = ap (λ l. l / 16) c.saturating_sub-before.ensures ∙ blocks_before message in
     let sum : 0 + n ≡ n = omega arith in
-    c.code_of_end.ensures message
+    c.tag_of_end.ensures message
     (c.chained_on-chain.ensures message 0 refl refl ∙ ap (chained key message) (sum ∙ before))
     (take_rest message (16 * n) ∙ ap (λ k. drop (16 * k) message) before)

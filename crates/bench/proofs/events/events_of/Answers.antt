@@ -1,5 +1,5 @@
 use Rattle.std.proofs.lemmas.List.Elements.{All-push}
-use Rattle.token_model.specs.Events.{HasRandom}
+use Rattle.model_worlds.specs.Events.{HasRandom}
 use Rattle.bench.proofs.events.events_of.Goals as goal
 
 pub loop-number-preserved : goal.loop-number-preserved

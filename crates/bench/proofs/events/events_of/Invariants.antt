@@ -1,5 +1,5 @@
 use Rattle.std.proofs.Common.{All}
-use Rattle.token_model.specs.Events.{HasRandom}
+use Rattle.model_worlds.specs.Events.{HasRandom}
 use Rattle.bench.proofs.events.events_of.Given as goal
 
 abbrev pub invariant-loop-number : goal.invariant-loop-number

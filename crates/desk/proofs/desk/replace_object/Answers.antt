@@ -37,7 +37,7 @@ pub returns-in-Some-clause-items : goal.returns-in-Some-clause-items
 returns-in-Some-clause-items c =
     let own = c.args.own.now.items in
     let e = c.index_mut.result.now in
-    let at : position (test c.args.handle c.args.object) own ≡ Some c.in-Some.place = rw c.deref.ensures.value at (sym c.place_of_handle.ensures ∙ c.in-Some.is) in
+    let at : position (test c.args.handle c.args.object) own ≡ Some c.in-Some.place = rw c.deref.ensures.value at (sym c.index_of_handle.ensures ∙ c.in-Some.is) in
     let put = some c.args.handle c.args.object 0 own c.in-Some.place e (from_zero c.args.handle c.args.object own (Some c.in-Some.place) at) in
     let same : c.in-Some.place ≡ put.0 = omega (arith, put.1) in
     ap (λ x. set own c.in-Some.place (with_object c.args.handle c.args.object x)) c.index_mut.ensures.value ∙ rw same put.2
@@ -45,5 +45,5 @@ returns-in-Some-clause-items c =
 pub returns-in_default-clause-items : goal.returns-in_default-clause-items
 returns-in_default-clause-items c =
     let own = c.args.own.now.items in
-    let at : position (test c.args.handle c.args.object) own ≡ None = rw c.deref.ensures.value at (sym c.place_of_handle.ensures ∙ c.in_default.is) in
+    let at : position (test c.args.handle c.args.object) own ≡ None = rw c.deref.ensures.value at (sym c.index_of_handle.ensures ∙ c.in_default.is) in
     none c.args.handle c.args.object 0 own (from_zero c.args.handle c.args.object own None at)

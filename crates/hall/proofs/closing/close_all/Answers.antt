@@ -1,6 +1,6 @@
 use Rattle.std.proofs.Common.{◌++◌, ◌∷◌, [], ◌∙◌, ap, length}
 use Rattle.crossbeam_channel.specs.Claims.{view}
-use Rattle.channels.specs.Inward.{taken_of}
+use Rattle.hall_channels.specs.Inward.{taken_of}
 use Rattle.hall.specs.Exchanges.{events}
 use Rattle.hall.proofs.Joins.{FourSent, four_sent, surely}
 use Rattle.hall.proofs.closing.close_all.Goals as goal

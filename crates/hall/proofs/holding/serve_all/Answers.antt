@@ -1,6 +1,6 @@
 use Rattle.std.proofs.Common.{◌∙◌}
 use Rattle.crossbeam_channel.specs.Claims.{view}
-use Rattle.channels.specs.Inward.{taken_of}
+use Rattle.hall_channels.specs.Inward.{taken_of}
 use Rattle.hall.proofs.Joins.{assembled}
 use Rattle.hall.proofs.MoreHistory.{history_is}
 use Rattle.hall.proofs.holding.serve_all.Goals as goal

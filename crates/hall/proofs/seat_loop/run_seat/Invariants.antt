@@ -1,5 +1,5 @@
 use Rattle.std.proofs.Common.{◌≡◌}
-use Rattle.channels.specs.Same.{SamePort}
+use Rattle.hall_channels.specs.Same.{SamePort}
 use Rattle.hall.proofs.ProperExchanges.{HasDone}
 use Rattle.hall.proofs.seat_loop.run_seat.Given as goal
 

@@ -1,5 +1,5 @@
 use Rattle.std.proofs.Common.{◌∙◌, ap, sym, subst, List, ◌∷◌, [], refl, Some, None, append-nil}
-use Rattle.channels.specs.declared.messages.Event.TheVariants.{Gone}
+use Rattle.hall_channels.specs.declared.messages.Event.TheVariants.{Gone}
 use Rattle.hall.specs.declared.seats.SeatEvent.{SeatEvent}
 use Rattle.hall.specs.SeatEvents.{IsTurn}
 use Rattle.hall.specs.Exchanges.{Exchange}

@@ -1,6 +1,6 @@
 use denote.Exit as exits
 use denote.Param.Send.{param_send, arg_send}
-use Rattle.channels.proofs.EndsCross.{seat_ends_send}
+use Rattle.hall_channels.proofs.EndsCross.{seat_ends_send}
 use Rattle.hall.proofs.seat_thread.start.Lts as lts
 use Rattle.hall.proofs.seat_thread.start.Goals as goal
 

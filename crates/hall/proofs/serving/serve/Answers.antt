@@ -1,7 +1,7 @@
 use Rattle.std.proofs.Common.{sym, subst, Option, Some, None, [], append-nil}
-use Rattle.token_store.specs.declared.out.Out.{Out}
-use Rattle.token_store.specs.declared.out.Out.TheVariants.{Reply}
-use Rattle.channels.specs.declared.messages.Event.{Event}
+use Rattle.serve_base.specs.declared.out.Out.{Out}
+use Rattle.serve_base.specs.declared.out.Out.TheVariants.{Reply}
+use Rattle.hall_channels.specs.declared.messages.Event.{Event}
 use Rattle.hall.specs.Exchanges.{Suits, app_of}
 use Rattle.hall.specs.Histories.{Allowed, Counts, Takes, replies_in, told_by}
 use Rattle.hall.proofs.serving.serve.Goals as goal

@@ -1,9 +1,9 @@
 use Rattle.std.proofs.Common.{◌≡◌, ◌<◌, ◌++◌, ◌∷◌, [], ◌∙◌, ap, sym, refl, rules, length, get_or}
 use Rattle.std.proofs.lemmas.Option.{slice_get-get_or}
 use Rattle.crossbeam_channel.specs.Claims.{view}
-use Rattle.channels.specs.Letters.{event_of}
-use Rattle.channels.specs.Inward.{taken_of, happened, each_of}
-use Rattle.channels.specs.declared.messages.Inward.TheVariants.{Put}
+use Rattle.hall_channels.specs.MessageContents.{event_of}
+use Rattle.hall_channels.specs.Inward.{taken_of, happened, each_of}
+use Rattle.hall_channels.specs.declared.messages.Inward.TheVariants.{Put}
 use Rattle.hall.specs.Histories.{taken_in}
 use Rattle.hall.proofs.MoreHistory.{outboxes_gave, same_outboxes, served_more, served_none, taken_in-append}
 use Rattle.hall.proofs.serving.serve_seats.Goals as goal
@@ -28,7 +28,7 @@ loop-preserved g c =
     let outbox = get_or c.loop.outboxes seat c.index-outboxes-at.result in
     let at = slice_get-get_or c.loop.outboxes seat c.index-outboxes-at.result within in
     let did = c.serve.ensures.did c.if-not-serve.false in
-    let message : taken_of (view c.take.new.self.inward_pass) ≡ taken_of (view c.loop.inbox.inward_pass) ++ happened (Put seat c.in-Some-Put.letter) = rw c.in-Some-Put.field-0-is at c.in-Some-Put.ensures.taken in
+    let message : taken_of (view c.take.new.self.inward_pass) ≡ taken_of (view c.loop.inbox.inward_pass) ++ happened (Put seat c.in-Some-Put.message) = rw c.in-Some-Put.field-0-is at c.in-Some-Put.ensures.taken in
     let taken : taken_of (view c.take.new.self.inward_pass) ≡ taken_of (view c.loop.inbox.inward_pass) ++ (seat, event) ∷ [] = message ∙ ap (λ es. taken_of (view c.loop.inbox.inward_pass) ++ each_of seat es) (ap event_of (sym c.deref_mut.ensures.value) ∙ c.in-Some-taken_out.ensures) in (
       tt,
       tt,

@@ -1,7 +1,7 @@
 use Rattle.std.proofs.Common.{◌≡◌}
 use Rattle.crossbeam_channel.specs.Claims.{view}
 use Rattle.crossbeam_channel.specs.Ends.{sends_on}
-use Rattle.channels.specs.Inward.{seats_of, taken_of, ended_of}
+use Rattle.hall_channels.specs.Inward.{seats_of, taken_of, ended_of}
 use Rattle.hall.specs.Histories.{HasServed, History, taken_in}
 use Rattle.hall.specs.Outboxes.{OutboxesGave, SameOutboxes}
 use Rattle.hall.proofs.serving.serve_seats.Given as goal

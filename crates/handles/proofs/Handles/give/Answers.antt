@@ -3,16 +3,16 @@ use Rattle.handles.proofs.HandleLemmas.{number_of-push}
 use Rattle.handles.proofs.StoredLemmas.{IsStored-KeysRise, IsStored-found, IsStored-absent, IsStored-length, IsStored-push}
 use Rattle.handles.proofs.Handles.give.Goals as goal
 
-pub place_of_id-requires : goal.place_of_id-requires
-place_of_id-requires c = rw c.deref.ensures.value (IsStored-KeysRise c.self.inside.next_number c.self.inside.entries.items _ c.self.invariant)
+pub index_of_id-requires : goal.index_of_id-requires
+index_of_id-requires c = rw c.deref.ensures.value (IsStored-KeysRise c.self.inside.next_number c.self.inside.entries.items _ c.self.invariant)
 
-pub returns-in-Ok-clause-number : goal.returns-in-Ok-clause-number
-returns-in-Ok-clause-number c =
+pub returns-in-Ok-clause-handle : goal.returns-in-Ok-clause-handle
+returns-in-Ok-clause-handle c =
     let found = rw c.deref.ensures.value at c.in-Ok.ensures in
     rw (← c.self.view_is) (IsStored-found c.self.inside.next_number c.args.id c.in-Ok.at _ _ _ c.self.invariant (found.1 c.index.result.now) c.index.ensures)
 
 pub returns-in-Ok-clause-given : goal.returns-in-Ok-clause-given
-returns-in-Ok-clause-given c = rw (returns-in-Ok-clause-number c) refl
+returns-in-Ok-clause-given c = rw (returns-in-Ok-clause-handle c) refl
 
 pub insert_reserved-requires-clause-room : goal.insert_reserved-requires-clause-room
 insert_reserved-requires-clause-room c =
@@ -23,7 +23,7 @@ pub invariant_of-self : goal.invariant_of-self
 invariant_of-self c =
     let gap = rw c.deref.ensures.value at c.in-Err.ensures in
     let none = IsStored-absent c.self.inside.next_number c.args.id _ _ c.self.invariant gap.1 in
-    rw (c.push_reserved.ensures.items, c.insert_reserved.ensures.items, ← gap.2 (record { number = c.self.inside.next_number; id = c.args.id; private = c.args.private }) refl) (IsStored-push c.self.inside.next_number c.args.id c.args.private _ _ none c.self.invariant)
+    rw (c.push_reserved.ensures.items, c.insert_reserved.ensures.items, ← gap.2 (record { handle = c.self.inside.next_number; id = c.args.id; private = c.args.private }) refl) (IsStored-push c.self.inside.next_number c.args.id c.args.private _ _ none c.self.invariant)
 
 pub returns-clause-given : goal.returns-clause-given
 returns-clause-given c =
@@ -31,8 +31,8 @@ returns-clause-given c =
     let none = IsStored-absent c.self.inside.next_number c.args.id _ _ c.self.invariant gap.1 in
     rw (← c.self.view_is, none, c.push_reserved.ensures.items, c.push_reserved.ensures.capacity, c.insert_reserved.ensures.capacity) refl
 
-pub returns-clause-number : goal.returns-clause-number
-returns-clause-number c =
+pub returns-clause-handle : goal.returns-clause-handle
+returns-clause-handle c =
     let gap = rw c.deref.ensures.value at c.in-Err.ensures in
     let none = IsStored-absent c.self.inside.next_number c.args.id _ _ c.self.invariant gap.1 in
-    rw c.push_reserved.ensures.items (number_of-push _ (record { number = c.self.inside.next_number; id = c.args.id; private = c.args.private }) none)
+    rw c.push_reserved.ensures.items (number_of-push _ (record { handle = c.self.inside.next_number; id = c.args.id; private = c.args.private }) none)

@@ -22,8 +22,8 @@ rounds-preserved c =
     let salt = c.args.salt.now in
     let n = c.rounds._round in
     let next : suc n ≡ n + 1 = omega arith in
-    let last = c.code_from-iterate.ensures password c.new-start.ensures ∙ ap (hmac256 password) c.rounds.invariant.last in
-    let total = c.xor_into.ensures ∙ ap (λ l. xor_bytes c.rounds.sum c.code_from-iterate.result ++ l) (drop_all _ c.rounds.sum (omega arith))
+    let last = c.tag_from-iterate.ensures password c.new-start.ensures ∙ ap (hmac256 password) c.rounds.invariant.last in
+    let total = c.xor_into.ensures ∙ ap (λ l. xor_bytes c.rounds.sum c.tag_from-iterate.result ++ l) (drop_all _ c.rounds.sum (omega arith))
     ∙ append-nil _
     ∙ (λ i. xor_bytes (c.rounds.invariant.total i) (last i))
     ∙ sym (block-suc hmac256 password salt n 1 c.rounds.auto._round) in

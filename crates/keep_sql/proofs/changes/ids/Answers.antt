@@ -1,9 +1,9 @@
 use Rattle.std.proofs.Common.{◌∙◌, arith}
 use Rattle.sqlite.specs.State.{HasCleanDisk}
 use Rattle.sqlite.specs.Held.{state}
-use Rattle.table_statements.specs.Bodies as tables
-use Rattle.stored_contents.proofs.Opens.{if_found, on_ok}
-use Rattle.stored_contents.proofs.Lifts.{bodies_of, hold_rows, same_ids, stayed}
+use Rattle.sql_statements.specs.Bodies as tables
+use Rattle.keep_sql_model.proofs.Opens.{if_found, on_ok}
+use Rattle.keep_sql_model.proofs.Lifts.{bodies_of, hold_rows, same_ids, stayed}
 use Rattle.keep_sql.proofs.changes.ids.Goals as goal
 
 pub returns-in-Ok-clause-ids : goal.returns-in-Ok-clause-ids

@@ -1,9 +1,9 @@
 use Rattle.std.proofs.Common.{◌∙◌}
 use Rattle.sqlite.specs.Held.{state}
 use Rattle.keep.specs.Contents.{with_object}
-use Rattle.stored_contents.proofs.Calls.{unsent_if}
-use Rattle.stored_contents.proofs.Bytes.{object_bytes}
-use Rattle.stored_contents.proofs.Lifts.{bodies_of, changed, failed, hold_rows, insert_step}
+use Rattle.keep_sql_model.proofs.Calls.{unsent_if}
+use Rattle.keep_sql_model.proofs.Bytes.{object_bytes}
+use Rattle.keep_sql_model.proofs.Lifts.{bodies_of, changed, failed, hold_rows, insert_step}
 use Rattle.keep_sql.proofs.changes.insert.Goals as goal
 
 pub returns-in_err-bytes-clause-err : goal.returns-in_err-bytes-clause-err

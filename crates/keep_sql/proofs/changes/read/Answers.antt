@@ -1,7 +1,7 @@
 use Rattle.std.proofs.Common.{arith}
 use Rattle.sqlite.specs.State.{HasCleanDisk}
 use Rattle.sqlite.specs.Held.{state}
-use Rattle.stored_contents.proofs.Lifts.{bodies_of, hold_rows, shows_object, stayed}
+use Rattle.keep_sql_model.proofs.Lifts.{bodies_of, hold_rows, shows_object, stayed}
 use Rattle.keep_sql.proofs.changes.read.Goals as goal
 
 pub returns-in-Ok-clause-found : goal.returns-in-Ok-clause-found

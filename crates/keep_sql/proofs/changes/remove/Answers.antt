@@ -2,9 +2,9 @@ use Rattle.std.proofs.Common.{arith}
 use Rattle.sqlite.specs.State.{HasCleanDisk}
 use Rattle.sqlite.specs.Held.{state}
 use Rattle.keep.specs.Contents.{without_object}
-use Rattle.stored_contents.proofs.Calls.{stayed_then, stayed_fails, only_read}
-use Rattle.stored_contents.proofs.Bytes.{some_of}
-use Rattle.stored_contents.proofs.Lifts.{bodies_of, changed, failed, hold_rows, remove_step, shows_object, stayed}
+use Rattle.keep_sql_model.proofs.Calls.{stayed_then, stayed_fails, only_read}
+use Rattle.keep_sql_model.proofs.Bytes.{some_of}
+use Rattle.keep_sql_model.proofs.Lifts.{bodies_of, changed, failed, hold_rows, remove_step, shows_object, stayed}
 use Rattle.keep_sql.proofs.changes.remove.Goals as goal
 
 pub returns-in-Err-clause-err : goal.returns-in-Err-clause-err

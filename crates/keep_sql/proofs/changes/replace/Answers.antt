@@ -2,9 +2,9 @@ use Rattle.std.proofs.Common.{◌∙◌, arith}
 use Rattle.sqlite.specs.State.{HasCleanDisk}
 use Rattle.sqlite.specs.Held.{state}
 use Rattle.keep.specs.Contents.{with_replacement}
-use Rattle.stored_contents.proofs.Calls.{stayed_then, stayed_fails, only_read, unsent_if}
-use Rattle.stored_contents.proofs.Bytes.{object_bytes, some_of}
-use Rattle.stored_contents.proofs.Lifts.{bodies_of, changed, failed, hold_rows, replace_step, shows_object, stayed}
+use Rattle.keep_sql_model.proofs.Calls.{stayed_then, stayed_fails, only_read, unsent_if}
+use Rattle.keep_sql_model.proofs.Bytes.{object_bytes, some_of}
+use Rattle.keep_sql_model.proofs.Lifts.{bodies_of, changed, failed, hold_rows, replace_step, shows_object, stayed}
 use Rattle.keep_sql.proofs.changes.replace.Goals as goal
 
 pub returns-in_err-bytes-clause-err : goal.returns-in_err-bytes-clause-err

@@ -1,9 +1,9 @@
 use Rattle.std.proofs.Common.{◌∙◌}
 use Rattle.sqlite.specs.Held.{state}
 use Rattle.keep.specs.Contents.{after_reset}
-use Rattle.stored_contents.proofs.Calls.{unsent_if}
-use Rattle.stored_contents.proofs.Bytes.{record_bytes}
-use Rattle.stored_contents.proofs.Lifts.{changed, failed, reset_step}
+use Rattle.keep_sql_model.proofs.Calls.{unsent_if}
+use Rattle.keep_sql_model.proofs.Bytes.{record_bytes}
+use Rattle.keep_sql_model.proofs.Lifts.{changed, failed, reset_step}
 use Rattle.keep_sql.proofs.changes.reset.Goals as goal
 
 pub returns-in_err-bytes-clause-err : goal.returns-in_err-bytes-clause-err

@@ -3,8 +3,8 @@ use Rattle.sqlite.specs.Held.{Held}
 use Rattle.sqlite.specs.Files.{file_state}
 use Rattle.pin_record.specs.Records.{TokenRecord, new_record}
 use Rattle.keep.specs.Contents.{new_contents}
-use Rattle.stored_contents.specs.Opening.{Opened}
-use Rattle.stored_contents.proofs.Copies.{opened_copy}
+use Rattle.keep_sql_model.specs.Opening.{Opened}
+use Rattle.keep_sql_model.proofs.Copies.{opened_copy}
 use Rattle.keep_sql.proofs.files.settle.Goals as goal
 
 pub returns-in-Err-clause-leaves : goal.returns-in-Err-clause-leaves

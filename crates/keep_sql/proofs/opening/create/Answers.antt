@@ -1,7 +1,7 @@
 use Rattle.std.proofs.Common.{◌∙◌}
 use Rattle.sqlite.specs.Held.{state}
-use Rattle.stored_contents.proofs.Bytes.{record_bytes}
-use Rattle.stored_contents.proofs.Lifts.{created, left_new}
+use Rattle.keep_sql_model.proofs.Bytes.{record_bytes}
+use Rattle.keep_sql_model.proofs.Lifts.{created, left_new}
 use Rattle.keep_sql.proofs.opening.create.Goals as goal
 
 pub returns-in-Ok-true-clause-made : goal.returns-in-Ok-true-clause-made

@@ -1,8 +1,8 @@
 use Rattle.std.proofs.Common.{◌≡◌, ◌∙◌, ap, sym, Err}
 use Rattle.sqlite_value.specs.declared.value.Value.TheVariants.{Blob}
 use Rattle.sqlite_value.specs.Order.{column}
-use Rattle.stored_contents.proofs.Bytes.{if_new, if_old, same_bytes}
-use Rattle.stored_contents.proofs.Opens.{same_fault}
+use Rattle.keep_sql_model.proofs.Bytes.{if_new, if_old, same_bytes}
+use Rattle.keep_sql_model.proofs.Opens.{same_fault}
 use Rattle.keep_sql.proofs.rows.check_body.Goals as goal
 
 pub returns-in_err-renew_body-clause-undamaged : goal.returns-in_err-renew_body-clause-undamaged

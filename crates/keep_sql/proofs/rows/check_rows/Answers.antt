@@ -2,7 +2,7 @@ use Rattle.std.proofs.Common.{arith, ap, ◌∙◌}
 use Rattle.std.specs.Prelude.{Vec}
 use Rattle.std.specs.declared.alloc.Global.{Global}
 use Rattle.sql_tables.specs.declared.renewals.Renewal.{Renewal}
-use Rattle.stored_contents.proofs.Covers.{all_covered, covered_more, none_covered, none_owned, owned_more, same_covered}
+use Rattle.keep_sql_model.proofs.Covers.{all_covered, covered_more, none_covered, none_owned, owned_more, same_covered}
 use Rattle.keep_sql.proofs.rows.check_rows.Goals.{in-Some+in_ok-push-in-Some, in-None}
 use Rattle.keep_sql.proofs.rows.check_rows.Goals as goal
 

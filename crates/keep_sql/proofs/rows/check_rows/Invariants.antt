@@ -1,5 +1,5 @@
 use Rattle.std.proofs.Common.{All, take}
-use Rattle.stored_contents.specs.Renewals.{IsCovered, IsOfRow}
+use Rattle.keep_sql_model.specs.Renewals.{IsCovered, IsOfRow}
 use Rattle.keep_sql.proofs.rows.check_rows.Given as goal
 
 abbrev pub invariant-loop-row : goal.invariant-loop-row

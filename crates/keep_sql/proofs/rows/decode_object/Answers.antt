@@ -2,7 +2,7 @@ use Rattle.std.proofs.Common.{◌≡◌, ◌∙◌, sym, subst, true, false}
 use Rattle.ck_types.specs.declared.attr_type.AttrType.TheVariants as attr
 use Rattle.attrs.specs.Objects.{IsObject, flag}
 use Rattle.attrs.specs.declared.fault.DecodeFault.TheVariants.{Form}
-use Rattle.stored_contents.proofs.Bytes.{as_stored, object_bytes, one_object, no_form}
+use Rattle.keep_sql_model.proofs.Bytes.{as_stored, object_bytes, one_object, no_form}
 use Rattle.keep_sql.proofs.rows.decode_object.Goals as goal
 
 pub returns-then-flag-clause-ok : goal.returns-then-flag-clause-ok

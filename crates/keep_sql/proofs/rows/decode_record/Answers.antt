@@ -1,5 +1,5 @@
 use Rattle.std.proofs.Common.{◌∙◌, sym}
-use Rattle.stored_contents.proofs.Bytes.{if_new_record, if_old_record, no_old_record, no_record, old_record_bytes, record_bytes}
+use Rattle.keep_sql_model.proofs.Bytes.{if_new_record, if_old_record, no_old_record, no_record, old_record_bytes, record_bytes}
 use Rattle.keep_sql.proofs.rows.decode_record.Goals as goal
 
 pub returns-in-Ok-clause-ok : goal.returns-in-Ok-clause-ok

@@ -1,5 +1,5 @@
 use Rattle.std.proofs.Common.{arith}
-use Rattle.stored_contents.proofs.Bytes.{ids_are}
+use Rattle.keep_sql_model.proofs.Bytes.{ids_are}
 use Rattle.keep_sql.proofs.rows.ids_of.Goals as goal
 
 pub returns-clause-ids : goal.returns-clause-ids

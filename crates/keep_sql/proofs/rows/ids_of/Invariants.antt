@@ -1,5 +1,5 @@
 use Rattle.std.proofs.Common.{◌≡◌, map, take}
-use Rattle.stored_contents.specs.Rows.{first_number}
+use Rattle.keep_sql_model.specs.Rows.{first_number}
 use Rattle.keep_sql.proofs.rows.ids_of.Given as goal
 
 abbrev pub invariant-loop-row : goal.invariant-loop-row

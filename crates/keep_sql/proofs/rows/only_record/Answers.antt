@@ -1,10 +1,10 @@
 use Rattle.std.proofs.Common.{◌≡◌, ◌∙◌, sym, ap, subst, List, ℕ}
 use Rattle.sqlite_value.specs.declared.value.Value.TheVariants.{Blob}
 use Rattle.sqlite_value.specs.Order.{Row, column}
-use Rattle.stored_contents.specs.Formats.{IsRecordBody}
-use Rattle.stored_contents.specs.Renewals.{FindsRecord, IsStoredAs}
-use Rattle.stored_contents.proofs.Bytes.{one_row, same_bytes, same_row}
-use Rattle.stored_contents.proofs.Opens.{if_found}
+use Rattle.keep_sql_model.specs.Formats.{IsRecordBody}
+use Rattle.keep_sql_model.specs.Renewals.{FindsRecord, IsStoredAs}
+use Rattle.keep_sql_model.proofs.Bytes.{one_row, same_bytes, same_row}
+use Rattle.keep_sql_model.proofs.Opens.{if_found}
 use Rattle.keep_sql.proofs.rows.only_record.Goals as goal
 
 pub returns-in-Ok-Blob-clause-ok : goal.returns-in-Ok-Blob-clause-ok

@@ -1,4 +1,4 @@
-use Rattle.stored_contents.proofs.Bytes.{object_bytes}
+use Rattle.keep_sql_model.proofs.Bytes.{object_bytes}
 use Rattle.keep_sql.proofs.rows.renew_body.Goals as goal
 
 pub returns-in_ok-encode-in-Ok-clause-ok : goal.returns-in_ok-encode-in-Ok-clause-ok

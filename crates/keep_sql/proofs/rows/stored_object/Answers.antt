@@ -1,4 +1,4 @@
-use Rattle.stored_contents.proofs.Bytes.{shown_bytes, found_ok}
+use Rattle.keep_sql_model.proofs.Bytes.{shown_bytes, found_ok}
 use Rattle.keep_sql.proofs.rows.stored_object.Goals as goal
 
 pub returns-in-Ok-clause-found : goal.returns-in-Ok-clause-found

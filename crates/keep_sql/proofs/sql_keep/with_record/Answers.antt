@@ -1,4 +1,4 @@
-use Rattle.stored_contents.specs.SqlState.{SqlState}
+use Rattle.keep_sql_model.specs.SqlState.{SqlState}
 use Rattle.keep_sql.proofs.Outcomes.{adopts}
 use Rattle.keep_sql.proofs.sql_keep.with_record.Goals as goal
 

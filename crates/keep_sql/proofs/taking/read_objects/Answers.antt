@@ -1,4 +1,4 @@
-use Rattle.stored_contents.proofs.Opens.{objects_covered, objects_owned, objects_shown, if_found, on_ok}
+use Rattle.keep_sql_model.proofs.Opens.{objects_covered, objects_owned, objects_shown, if_found, on_ok}
 use Rattle.keep_sql.proofs.taking.read_objects.Goals as goal
 
 pub returns-in-Ok-clause-same : goal.returns-in-Ok-clause-same

@@ -1,4 +1,4 @@
-use Rattle.stored_contents.proofs.Opens.{record_found, record_shown, if_found}
+use Rattle.keep_sql_model.proofs.Opens.{record_found, record_shown, if_found}
 use Rattle.keep_sql.proofs.taking.read_record.Goals as goal
 
 pub returns-in-Ok-clause-same : goal.returns-in-Ok-clause-same

@@ -1,7 +1,7 @@
 use Rattle.std.proofs.Common.{ap, Err, arith}
 use Rattle.sqlite.specs.State.{HasCleanDisk}
 use Rattle.sqlite.specs.Held.{state}
-use Rattle.stored_contents.proofs.Opens.{reads_then, same_fault}
+use Rattle.keep_sql_model.proofs.Opens.{reads_then, same_fault}
 use Rattle.keep_sql.proofs.taking.read_store.Goals as goal
 
 pub returns-in_err-token_record-clause-undamaged : goal.returns-in_err-token_record-clause-undamaged

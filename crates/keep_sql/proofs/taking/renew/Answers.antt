@@ -1,6 +1,6 @@
 use Rattle.std.proofs.Common.{◌∙◌}
 use Rattle.sqlite.specs.Held.{state}
-use Rattle.stored_contents.proofs.Bytes.{record_bytes}
+use Rattle.keep_sql_model.proofs.Bytes.{record_bytes}
 use Rattle.keep_sql.proofs.Takes.{at_old_rows, natural_ids, old_rows, renewed_at, renewed_left}
 use Rattle.keep_sql.proofs.taking.renew.Goals as goal
 

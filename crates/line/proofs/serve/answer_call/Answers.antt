@@ -1,7 +1,7 @@
 use Rattle.std.proofs.Common.{◌≡◌, Some, None, [], ◌∷◌, sym, ◌∙◌, ap, arith}
-use Rattle.token_model.specs.Worlds.{World, called}
-use Rattle.token_store.specs.declared.out.Out.TheVariants.{Reply as OutReply}
-use Rattle.token_store.specs.Shown.{question_of}
+use Rattle.model_worlds.specs.Worlds.{World, called}
+use Rattle.serve_base.specs.declared.out.Out.TheVariants.{Reply as OutReply}
+use Rattle.serve_base.specs.Shown.{question_of}
 use Rattle.token.proofs.States.{accounts-none, accounts-more, accounts-one}
 use Rattle.token.specs.States.{IsOpen}
 use Rattle.line.proofs.Moving.{idle, moved-reply, moved-ask}

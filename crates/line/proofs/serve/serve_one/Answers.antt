@@ -1,5 +1,5 @@
 use Rattle.std.proofs.Common.{◌≤◌, ℕ, ap, sym, subst}
-use Rattle.token_store.specs.Stores.{StoreState}
+use Rattle.serve_base.specs.Stores.{StoreState}
 use Rattle.line.specs.Lines.{messages}
 use Rattle.line.proofs.Serving.{serves-as}
 use Rattle.line.proofs.Going.{leads-away, idle-after}

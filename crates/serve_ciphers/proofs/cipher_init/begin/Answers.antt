@@ -1,12 +1,12 @@
 use Rattle.std.proofs.Common.{◌≡◌, Ok, is_none, sym, ◌∙◌, ap, subst}
-use Rattle.precede.specs.declared.row.Row.TheVariants.{NoKey}
+use Rattle.precede.specs.declared.condition.Condition.TheVariants.{NoKey}
 use Rattle.keep.specs.Contents.{Contents}
-use Rattle.views.specs.Answering.{Replies, object_at, refuses_by}
-use Rattle.answers.specs.CipherInit.{cipher_init}
-use Rattle.token_store.specs.Found.{IsFound}
-use Rattle.token_store.specs.Shown.{view_of}
-use Rattle.token_store.proofs.Reading.{done-read, done-row, done-row-first, row-of}
-use Rattle.token_store.proofs.Seated.{seated}
+use Rattle.model_views.specs.Answering.{Replies, object_at, refuses_by}
+use Rattle.model_answers.specs.CipherInit.{cipher_init}
+use Rattle.serve_base.specs.Found.{IsFound}
+use Rattle.serve_base.specs.Shown.{view_of}
+use Rattle.serve_base.proofs.Reading.{done-read, done-row, done-row-first, row-of}
+use Rattle.serve_base.proofs.InSession.{in_session}
 use Rattle.serve_ciphers.specs.Beginning.{by_key}
 use Rattle.serve_ciphers.proofs.Beginning.{begins_by, init-is, quiet-key}
 use Rattle.serve_ciphers.proofs.cipher_init.begin.Goals as goal
@@ -16,7 +16,7 @@ use Rattle.serve_ciphers.proofs.cipher_init.begin.Goals.{After-cipher_for}
 for-mechanism : (g : _) (c : After-cipher_for g) (x : Contents) → cipher_init c.args.direction (view_of x c.args.desk.now) c.args.session c.args.mechanism.now c.args.key ≡ begins_by c.args.direction (view_of x c.args.desk.now) c.args.session c.cipher_for.result (object_at (view_of x c.args.desk.now) c.args.key)
 for-mechanism g c x =
     let v = view_of x c.args.desk.now in
-    let s = seated _ _ c.state.result _ c.state.ensures c.in_ok-ok_or.ensures.ok_part in
+    let s = in_session _ _ c.state.result _ c.state.ensures c.in_ok-ok_or.ensures.ok_part in
     ap (λ m. cipher_init c.args.direction v c.args.session m c.args.key) c.in-Some.is ∙ init-is v c.args.session c.in-Some.mechanism c.args.key (ap is_none s.1) c.args.direction c.cipher_for.result (sym c.cipher_for.ensures)
 
 pub returns-in_err-cipher : goal.returns-in_err-cipher

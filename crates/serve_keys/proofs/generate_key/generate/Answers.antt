@@ -1,9 +1,9 @@
 use Rattle.std.proofs.Common.{rules, arith, sym, ◌∙◌}
-use Rattle.token_store.specs.Shown.{view_of}
-use Rattle.answers.proofs.Templates.{fault-plain}
-use Rattle.token_store.proofs.Plain.{plain-made}
-use Rattle.token_store.proofs.Refusals.{does-is}
-use Rattle.token_store.proofs.Seated.{seated}
+use Rattle.serve_base.specs.Shown.{view_of}
+use Rattle.model_answers.proofs.Templates.{fault-plain}
+use Rattle.serve_base.proofs.Plain.{plain-made}
+use Rattle.serve_base.proofs.Refusals.{does-is}
+use Rattle.serve_base.proofs.InSession.{in_session}
 use Rattle.serve_objects.proofs.Making.{made-object}
 use Rattle.serve_keys.proofs.Generating.{asked-len, generate-is}
 use Rattle.serve_keys.proofs.generate_key.generate.Goals as goal
@@ -18,7 +18,7 @@ pub returns : goal.returns
 returns g c = record {
   serves = λ sure k h fits.
       let d = c.args.desk.now in
-      let s = seated _ _ c.state.result _ c.state.ensures c.in_ok-state.ensures.ok_part in
+      let s = in_session _ _ c.state.result _ c.state.ensures c.in_ok-state.ensures.ok_part in
       let made = made-object _ _ c.in_ok-object.object c.in_ok-object.ensures in
       does-is _ _ _ k _ _ d c.add_object.new.desk c.add_object.result
       (generate-is (view_of k d) c.args.session c.args.mechanism.now c.args.template.now s.0 s.1 c.in_ok-generation.generation (sym c.find_for.ensures ∙ c.in_ok-generation.ensures.ok_part) (sym c.has_parameter.ensures ∙ c.if-has_parameter.false) c.args.random.now c.in_ok-object.object (rw s.2 made.0) made.1)

@@ -1,12 +1,12 @@
 use Rattle.std.proofs.Common.{◌-◌, [], length, true, ap, refl}
-use Rattle.views.specs.Checked.{state_in}
-use Rattle.templates.specs.declared.call.Call.TheVariants.{Unwrap}
+use Rattle.model_views.specs.Checked.{state_in}
+use Rattle.templates.specs.declared.making.Making.TheVariants.{Unwrap}
 use Rattle.templates.specs.Faults.{template_fault}
-use Rattle.answers.specs.UnwrapKey.{unwrap_key, unwraps}
-use Rattle.answers.proofs.Proper.UnwrapKey.{fair-unwraps}
-use Rattle.token_store.specs.Shown.{said_of, view_of}
+use Rattle.model_answers.specs.UnwrapKey.{unwrap_key, unwraps}
+use Rattle.model_answers.proofs.Proper.UnwrapKey.{fair-unwraps}
+use Rattle.serve_base.specs.Shown.{said_of, view_of}
 use Rattle.serve_keys.specs.Objects.{object_in}
-use Rattle.token_store.proofs.Reading.{done-read}
+use Rattle.serve_base.proofs.Reading.{done-read}
 use Rattle.serve_keys.proofs.Reading.{found-is}
 use Rattle.serve_keys.proofs.unwrap_key.serve.Goals as goal
 

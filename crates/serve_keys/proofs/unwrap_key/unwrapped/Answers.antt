@@ -1,7 +1,7 @@
 use Rattle.std.proofs.Common.{rules}
-use Rattle.token_store.specs.Shown.{view_of}
-use Rattle.token_store.proofs.Refusals.{does-is}
-use Rattle.token_store.proofs.Seated.{seated}
+use Rattle.serve_base.specs.Shown.{view_of}
+use Rattle.serve_base.proofs.Refusals.{does-is}
+use Rattle.serve_base.proofs.InSession.{in_session}
 use Rattle.serve_keys.proofs.Reading.{unwrapped-is}
 use Rattle.serve_keys.proofs.unwrap_key.unwrapped.Goals as goal
 
@@ -9,7 +9,7 @@ pub returns-then-next_handle-lt-NUMBER_LIMIT : goal.returns-then-next_handle-lt-
 returns-then-next_handle-lt-NUMBER_LIMIT g c = record {
   serves = λ sure k h fits.
       let d = c.args.desk.now in
-      let s = seated _ _ c.state.result _ c.state.ensures c.in-Some.is in
+      let s = in_session _ _ c.state.result _ c.state.ensures c.in-Some.is in
       does-is _ _ _ k _ _ d c.add_object.new.desk c.add_object.result
       (unwrapped-is (view_of k d) c.args.session s.0 s.1 c.args.object (rw c.next_handle.ensures at c.if-next_handle-lt-NUMBER_LIMIT.true))
       (rw s.2 (c.add_object.ensures.serves sure k h fits));

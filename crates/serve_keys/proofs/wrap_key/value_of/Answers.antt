@@ -1,7 +1,7 @@
 use Rattle.std.proofs.Common.{IfSome, subst, ◌≤◌, length}
 use Rattle.ck_types.specs.declared.attr_type.AttrType.TheVariants as attr
 use Rattle.ck_types.specs.Numbers.{attr_type_number}
-use Rattle.token_store.proofs.Lengths.{values-short}
+use Rattle.serve_base.proofs.Lengths.{values-short}
 use Rattle.serve_keys.proofs.wrap_key.value_of.Goals as goal
 
 pub returns-clause-within : goal.returns-clause-within

@@ -3,10 +3,10 @@ use Rattle.std.specs.Prelude.{option_map}
 use Rattle.std.specs.Option.{option_copied}
 use Rattle.sessions.specs.Sessions.{session_at}
 use Rattle.ops.specs.Operations.{mac_in, mac_of}
-use Rattle.views.specs.Views.{Takes}
-use Rattle.views.specs.Answering.{asks}
-use Rattle.answers.specs.Mac.{mac_update_function}
-use Rattle.token_store.specs.Shown.{view_of}
+use Rattle.model_views.specs.Views.{Takes}
+use Rattle.model_views.specs.Answering.{asks}
+use Rattle.model_answers.specs.Mac.{mac_update_function}
+use Rattle.serve_base.specs.Shown.{view_of}
 use Rattle.serve_macs.proofs.Signing.{update-asks, gives-is}
 use Rattle.serve_macs.proofs.mac.update.Goals as goal
 

@@ -1,6 +1,6 @@
 use Rattle.std.proofs.Common.{refl, rules}
 use Rattle.keep.specs.Contents.{with_object}
-use Rattle.token_store.proofs.Gaves.{gave-change}
+use Rattle.serve_base.proofs.Gaves.{gave-change}
 use Rattle.serve_objects.proofs.Creating.{gives-added}
 use Rattle.serve_objects.proofs.adding.add_token_object.Goals as goal
 

@@ -1,11 +1,11 @@
 use Rattle.std.proofs.Common.{◌≡◌, rules, not, arith, sym, ◌∙◌, ap, subst}
-use Rattle.token_store.specs.Found.{IsFound}
-use Rattle.token_store.specs.Shown.{view_of}
-use Rattle.answers.proofs.Templates.{fault-plain}
-use Rattle.token_store.proofs.Plain.{plain-made}
-use Rattle.token_store.proofs.Refusals.{does-is, does-after}
-use Rattle.token_store.proofs.Seated.{seated}
-use Rattle.token_store.proofs.Storing.{has-still}
+use Rattle.serve_base.specs.Found.{IsFound}
+use Rattle.serve_base.specs.Shown.{view_of}
+use Rattle.model_answers.proofs.Templates.{fault-plain}
+use Rattle.serve_base.proofs.Plain.{plain-made}
+use Rattle.serve_base.proofs.Refusals.{does-is, does-after}
+use Rattle.serve_base.proofs.InSession.{in_session}
+use Rattle.serve_base.proofs.Storing.{has-still}
 use Rattle.serve_objects.proofs.Making.{made-object, copy-is}
 use Rattle.serve_objects.proofs.copy_object.serve.Goals as goal
 
@@ -16,7 +16,7 @@ returns g c = record {
       let clean : g.K.Keep.terms.doubt c.find.new.store.keep ≡ 0 = omega (arith, c.add_object.ensures.counts.doubt, sure) in
       let found = subst (λ x. IsFound k d c.args.handle x) c.in_ok-found.ensures.ok_part (c.in_ok-find.ensures.found clean k h fits) in
       let held = has-still _ _ _ k c.find.ensures.same c.find.ensures.ids h in
-      let s = seated _ _ c.state.result _ c.state.ensures c.in_ok-state.ensures.ok_part in
+      let s = in_session _ _ c.state.result _ c.state.ensures c.in_ok-state.ensures.ok_part in
       let made = made-object _ _ c.in_ok-object.object c.in_ok-object.ensures.made in
       does-is _ _ _ k _ _ d c.add_object.new.desk c.add_object.result
       (copy-is (view_of k d) c.args.session c.args.template.now s.0 s.1 c.args.handle c.in_ok-found.found.object found.0 c.args.random.now (ap not (sym c.flag.ensures ∙ c.if-not-flag.false)) c.in_ok-object.object (rw s.2 made.0) made.1)

@@ -1,12 +1,12 @@
 use Rattle.std.proofs.Common.{refl, subst, inl, inr}
 use Rattle.keep.specs.Contents.{without_object}
-use Rattle.token_store.specs.Found.{IsAt}
-use Rattle.views.specs.Answering.{Answer, place_of}
-use Rattle.answers.specs.DestroyObject.{destroyed}
-use Rattle.token_store.specs.Shown.{view_of}
-use Rattle.token_store.proofs.Gaves.{gave-change, gave-quiet}
-use Rattle.token_store.proofs.Plain.{plain-fault}
-use Rattle.token_store.proofs.Refusals.{does-refused, fault-of}
+use Rattle.serve_base.specs.Found.{IsAt}
+use Rattle.model_views.specs.Answering.{Answer, index_of}
+use Rattle.model_answers.specs.DestroyObject.{destroyed}
+use Rattle.serve_base.specs.Shown.{view_of}
+use Rattle.serve_base.proofs.Gaves.{gave-change, gave-quiet}
+use Rattle.serve_base.proofs.Plain.{plain-fault}
+use Rattle.serve_base.proofs.Refusals.{does-refused, fault-of}
 use Rattle.serve_objects.proofs.Destroying.{gives-kept, gives-own, stays-own}
 use Rattle.serve_objects.proofs.destroy_object.destroy.Goals as goal
 
@@ -30,7 +30,7 @@ returns-in_err-remove-in-Some-clause-serves g c = λ o sure k h fits at.
     let there = subst (λ i. IsAt k d c.args.handle o i) c.in-Some.is at in
     let gone = gives-kept k d _ c.args.handle c.requires o c.in-Some.id there h.sound fits in
     let v = view_of k d in
-    let a : Answer = destroyed v c.args.handle (place_of v.tokens c.args.handle) in
+    let a : Answer = destroyed v c.args.handle (index_of v.tokens c.args.handle) in
     does-refused _ a k _ _ d d c.from_residual.result (fault-of c.from_residual.result _ c.from_residual.ensures.1) (record {
       has = c.in_err-remove-in-Some.ensures.same k h;
       same = refl;

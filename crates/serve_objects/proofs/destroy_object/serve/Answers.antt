@@ -1,10 +1,10 @@
 use Rattle.std.proofs.Common.{◌≡◌, rules, not, arith, false, refl, sym, ◌∙◌, ap, subst}
 use Rattle.std.specs.Prelude.{◌&&◌}
-use Rattle.token_store.specs.Found.{IsFound}
-use Rattle.token_store.specs.Shown.{view_of}
-use Rattle.token_store.proofs.Refusals.{does-is, does-after}
-use Rattle.token_store.proofs.Seated.{seated}
-use Rattle.token_store.proofs.Storing.{has-still}
+use Rattle.serve_base.specs.Found.{IsFound}
+use Rattle.serve_base.specs.Shown.{view_of}
+use Rattle.serve_base.proofs.Refusals.{does-is, does-after}
+use Rattle.serve_base.proofs.InSession.{in_session}
+use Rattle.serve_base.proofs.Storing.{has-still}
 use Rattle.serve_objects.proofs.Destroying.{IsFree, destroy-is}
 use Rattle.serve_objects.proofs.destroy_object.serve.Goals as goal
 use Rattle.serve_objects.proofs.destroy_object.serve.Goals.{else-flag-via-then-flag+else-not-read_write, else-flag-via-else-flag}
@@ -17,7 +17,7 @@ returns g c = record {
       let clean : g.K.Keep.terms.doubt c.find.new.store.keep ≡ 0 = omega (arith, c.destroy.ensures.counts.doubt, sure) in
       let found = subst (λ x. IsFound k d c.args.handle x) c.in_ok-found.ensures.ok_part (c.in_ok-find.ensures.found clean k h fits) in
       let held = has-still _ _ _ k c.find.ensures.same c.find.ensures.ids h in
-      let s = seated _ _ c.is_read_write.result _ c.is_read_write.ensures c.in_ok-read_write.ensures.ok_part in
+      let s = in_session _ _ c.is_read_write.result _ c.is_read_write.ensures c.in_ok-read_write.ensures.ok_part in
       let test : (c.flag.result && not c.in_ok-read_write.read_write) ≡ false = elim c.else-flag.branch [
         | else-flag-via-then-flag+else-not-read_write w ↦ rw (w.if-flag.true, w.if-not-read_write.false) refl
         | else-flag-via-else-flag w ↦ rw w.if-flag.false refl

@@ -1,6 +1,6 @@
 use Rattle.std.proofs.Common.{◌∙◌, ap, take, length-take, arith}
 use Rattle.serve_objects.proofs.Short.{told-short}
-use Rattle.answers.proofs.Telling.{codes-more, values-more}
+use Rattle.model_answers.proofs.Telling.{codes-more, values-more}
 use Rattle.serve_objects.proofs.get_attribute_value.tell.Goals as goal
 
 pub loop-asked-preserved : goal.loop-asked-preserved

@@ -1,6 +1,6 @@
 use Rattle.std.proofs.Common.{◌≡◌, take}
 use Rattle.std.specs.Prelude.{map}
-use Rattle.answers.specs.GetAttributeValue.{attribute_told, code_of_all}
+use Rattle.model_answers.specs.GetAttributeValue.{attribute_told, code_of_all}
 use Rattle.serve_objects.proofs.get_attribute_value.tell.Given as goal
 
 abbrev pub invariant-loop-asked : goal.invariant-loop-asked

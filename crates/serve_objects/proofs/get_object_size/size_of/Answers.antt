@@ -1,5 +1,5 @@
 use Rattle.std.proofs.Common.{◌∙◌}
-use Rattle.answers.proofs.Sizes.{stored-size}
+use Rattle.model_answers.proofs.Sizes.{stored-size}
 use Rattle.serve_objects.proofs.get_object_size.size_of.Goals as goal
 
 pub returns-clause-told : goal.returns-clause-told

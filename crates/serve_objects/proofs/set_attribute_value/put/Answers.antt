@@ -1,12 +1,12 @@
 use Rattle.std.proofs.Common.{refl, subst, inl, inr}
 use Rattle.keep.specs.Contents.{with_replacement}
-use Rattle.token_store.specs.Found.{IsAt}
-use Rattle.views.specs.Answering.{Answer, place_of}
-use Rattle.answers.specs.SetAttributeValue.{puts}
-use Rattle.token_store.specs.Shown.{view_of}
-use Rattle.token_store.proofs.Gaves.{gave-change, gave-quiet}
-use Rattle.token_store.proofs.Plain.{plain-fault}
-use Rattle.token_store.proofs.Refusals.{does-refused, fault-of}
+use Rattle.serve_base.specs.Found.{IsAt}
+use Rattle.model_views.specs.Answering.{Answer, index_of}
+use Rattle.model_answers.specs.SetAttributeValue.{puts}
+use Rattle.serve_base.specs.Shown.{view_of}
+use Rattle.serve_base.proofs.Gaves.{gave-change, gave-quiet}
+use Rattle.serve_base.proofs.Plain.{plain-fault}
+use Rattle.serve_base.proofs.Refusals.{does-refused, fault-of}
 use Rattle.serve_objects.proofs.Setting.{gives-put, gives-put_own, stays-own}
 use Rattle.serve_objects.proofs.set_attribute_value.put.Goals as goal
 
@@ -32,7 +32,7 @@ returns-in_err-replace-in-Some-clause-serves g c = λ old public sure k h fits a
     let there = subst (λ i. IsAt k d c.args.handle old i) c.in-Some.is at in
     let put = gives-put k d _ c.args.handle c.requires.table old c.args.object c.in-Some.id public there h.sound fits in
     let v = view_of k d in
-    let a : Answer = puts v c.args.handle c.args.object (place_of v.tokens c.args.handle) in
+    let a : Answer = puts v c.args.handle c.args.object (index_of v.tokens c.args.handle) in
     does-refused _ a k _ _ d d c.from_residual.result (fault-of c.from_residual.result _ c.from_residual.ensures.1) (record {
       has = c.in_err-replace-in-Some.ensures.same k h;
       same = refl;

@@ -1,13 +1,13 @@
 use Rattle.std.proofs.Common.{◌≡◌, rules, not, arith, false, refl, sym, ◌∙◌, ap, subst}
 use Rattle.std.specs.Prelude.{◌&&◌}
 use Rattle.guard.specs.Access.{is_rw}
-use Rattle.token_store.specs.Found.{IsFound}
-use Rattle.token_store.specs.Shown.{view_of}
-use Rattle.answers.proofs.Templates.{fault-plain}
-use Rattle.token_store.proofs.Plain.{plain-made}
-use Rattle.token_store.proofs.Refusals.{does-is, does-after}
-use Rattle.token_store.proofs.Seated.{seated}
-use Rattle.token_store.proofs.Storing.{has-still}
+use Rattle.serve_base.specs.Found.{IsFound}
+use Rattle.serve_base.specs.Shown.{view_of}
+use Rattle.model_answers.proofs.Templates.{fault-plain}
+use Rattle.serve_base.proofs.Plain.{plain-made}
+use Rattle.serve_base.proofs.Refusals.{does-is, does-after}
+use Rattle.serve_base.proofs.InSession.{in_session}
+use Rattle.serve_base.proofs.Storing.{has-still}
 use Rattle.serve_objects.proofs.Making.{made-object, set-is}
 use Rattle.serve_objects.proofs.set_attribute_value.serve.Goals as goal
 use Rattle.serve_objects.proofs.set_attribute_value.serve.Goals.{else-flag-via-then-flag+else-not-is_read_write, else-flag-via-else-flag}
@@ -19,7 +19,7 @@ returns g c = record {
       let clean : g.K.Keep.terms.doubt c.find.new.store.keep ≡ 0 = omega (arith, c.put.ensures.counts.doubt, sure) in
       let found = subst (λ x. IsFound k d c.args.handle x) c.in_ok-found.ensures.ok_part (c.in_ok-find.ensures.found clean k h fits) in
       let held = has-still _ _ _ k c.find.ensures.same c.find.ensures.ids h in
-      let s = seated _ _ c.state.result _ c.state.ensures c.in_ok-state.ensures.ok_part in
+      let s = in_session _ _ c.state.result _ c.state.ensures c.in_ok-state.ensures.ok_part in
       let o = c.in_ok-found.found.object in
       let test : (c.flag.result && not (is_rw c.in_ok-state.state)) ≡ false = elim c.else-flag.branch [
         | else-flag-via-then-flag+else-not-is_read_write w ↦ rw (w.if-flag.true, ← w.is_read_write.ensures, w.if-not-is_read_write.false) refl

@@ -1,4 +1,4 @@
-use Rattle.token_store.specs.Searching.{MayFind}
+use Rattle.serve_base.specs.Searching.{MayFind}
 use Rattle.serve_search.proofs.Numbering.{own-handles, all-own}
 use Rattle.serve_search.proofs.find_objects_init.find_all.Goals as goal
 

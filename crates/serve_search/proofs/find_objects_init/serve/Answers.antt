@@ -1,9 +1,9 @@
 use Rattle.std.proofs.Common.{refl, rules, sym, ap, ◌∙◌, is_none}
-use Rattle.token_store.proofs.Gaves.{gave-is, gave-quiet}
-use Rattle.token_store.proofs.Seated.{seated}
-use Rattle.token_store.proofs.Storing.{has-still}
-use Rattle.token_store.specs.Shown.{view_of}
-use Rattle.answers.specs.FindObjectsInit.{searches}
+use Rattle.serve_base.proofs.Gaves.{gave-is, gave-quiet}
+use Rattle.serve_base.proofs.InSession.{in_session}
+use Rattle.serve_base.proofs.Storing.{has-still}
+use Rattle.serve_base.specs.Shown.{view_of}
+use Rattle.model_answers.specs.FindObjectsInit.{searches}
 use Rattle.serve_search.proofs.Searches.{none-is, begins-is, gives-search}
 use Rattle.serve_search.proofs.find_objects_init.serve.Goals as goal
 
@@ -11,7 +11,7 @@ pub returns : goal.returns
 returns g c = record {
   serves = λ sure k h fits.
       let d = c.args.desk.now in
-      let s = seated _ _ c.state.result _ c.state.ensures c.in_ok-ok_or.ensures.ok_part in
+      let s = in_session _ _ c.state.result _ c.state.ensures c.in_ok-ok_or.ensures.ok_part in
       let idle = none-is c.search.result _ c.search.ensures (sym c.is_some.ensures ∙ c.if-is_some.false) in
       let is = begins-is (view_of k d) c.args.session c.args.template.now (ap is_none s.1) idle in
       rw (c.set_search.ensures, c.new.ensures) (gave-is _ _ (searches (view_of k d) c.args.session c.args.template.now) _ k _ _ _ _ is

@@ -1,7 +1,7 @@
 use Rattle.std.proofs.Common.{◌≡◌, ◌+◌, ◌<◌, ◌≤◌, ◌^◌, ◌++◌, drop, length, vec_len, vec_capacity}
 use Rattle.std.specs.List.{AllByRecursion}
 use Rattle.handles.specs.Handles.{HasRoomFor}
-use Rattle.token_store.specs.Searching.{MayFind}
+use Rattle.serve_base.specs.Searching.{MayFind}
 use Rattle.serve_search.specs.Giving.{given, numbers}
 use Rattle.serve_search.proofs.giving.give_handles.Given as goal
 

@@ -1,13 +1,13 @@
 use Rattle.std.proofs.Common.{rules, ap}
 use Rattle.std.specs.Prelude.{is_none}
-use Rattle.token_store.proofs.Seated.{seated}
+use Rattle.serve_base.proofs.InSession.{in_session}
 use Rattle.serve_sessions.proofs.Closing.{gives-closed}
 use Rattle.serve_sessions.proofs.close_session.serve.Goals as goal
 
 pub returns : goal.returns
 returns c = record {
   serves = λ k fits.
-      let there = seated _ _ c.state.result _ c.state.ensures c.in_ok-ok_or.ensures.ok_part in
+      let there = in_session _ _ c.state.result _ c.state.ensures c.in_ok-ok_or.ensures.ok_part in
       rw c.close.ensures (gives-closed k c.args.desk.now c.args.session (ap is_none there.1) fits);
   cause = search rules;
   short = search rules;

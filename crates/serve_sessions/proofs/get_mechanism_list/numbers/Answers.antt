@@ -2,7 +2,7 @@ use Rattle.std.proofs.Common.{◌++◌, ◌∙◌, ap, sym}
 use Rattle.std.specs.Prelude.{map}
 use Rattle.std.proofs.lemmas.List.{append_assoc, drop_more}
 use Rattle.ck_types.specs.Numbers.{mech_type_number}
-use Rattle.mechanisms.specs.Table.{listed}
+use Rattle.ck_mechanisms.specs.Table.{listed}
 use Rattle.serve_sessions.proofs.get_mechanism_list.numbers.Goals as goal
 
 pub loop-mechanism-preserved : goal.loop-mechanism-preserved

@@ -1,11 +1,11 @@
 use Rattle.std.proofs.Common.{◌≡◌, true, false, rules, refl, sym, ◌∙◌}
 use Rattle.keep.specs.Contents.{with_record}
 use Rattle.pin_record.specs.Records.{with_tries}
-use Rattle.session_answers.specs.Login.{may_log_in}
-use Rattle.session_answers.specs.Pins.{is_charged}
-use Rattle.token_store.specs.Shown.{view_of}
-use Rattle.token_store.proofs.Gaves.{gave-change}
-use Rattle.token_store.proofs.Refusals.{does-is}
+use Rattle.model_session_answers.specs.Login.{may_log_in}
+use Rattle.model_session_answers.specs.Pins.{is_charged}
+use Rattle.serve_base.specs.Shown.{view_of}
+use Rattle.serve_base.proofs.Gaves.{gave-change}
+use Rattle.serve_base.proofs.Refusals.{does-is}
 use Rattle.serve_sessions.proofs.LoggingIn.{gives-logged-in, right-refused}
 use Rattle.serve_sessions.proofs.login.right.Goals as goal
 

@@ -1,10 +1,10 @@
 use Rattle.std.proofs.Common.{refl, rules}
 use Rattle.pin_record.specs.Records.{charged}
 use Rattle.keep.specs.Contents.{with_record}
-use Rattle.token_store.specs.Shown.{view_of, said_of, task_of}
-use Rattle.token_store.proofs.Gaves.{gave-change}
-use Rattle.token_store.proofs.Plain.{plain_as-fault}
-use Rattle.token_store.proofs.Refusals.{does_as-refused, fault-of}
+use Rattle.serve_base.specs.Shown.{view_of, said_of, task_of}
+use Rattle.serve_base.proofs.Gaves.{gave-change}
+use Rattle.serve_base.proofs.Plain.{plain_as-fault}
+use Rattle.serve_base.proofs.Refusals.{does_as-refused, fault-of}
 use Rattle.serve_sessions.specs.Recording.{asks_charged}
 use Rattle.serve_sessions.proofs.Charging.{gives-charged, refused-recorded}
 use Rattle.serve_sessions.proofs.recording.ask_charged.Goals as goal

@@ -1,10 +1,10 @@
 use Rattle.std.proofs.Common.{refl, rules}
 use Rattle.keep.specs.Contents.{after_reset}
-use Rattle.token_store.specs.Shown.{view_of}
-use Rattle.token_store.proofs.Gaves.{gave-change}
-use Rattle.token_store.proofs.Plain.{plain-fault}
-use Rattle.token_store.proofs.Refusals.{does-refused, fault-of}
-use Rattle.session_answers.specs.Pins.{resets}
+use Rattle.serve_base.specs.Shown.{view_of}
+use Rattle.serve_base.proofs.Gaves.{gave-change}
+use Rattle.serve_base.proofs.Plain.{plain-fault}
+use Rattle.serve_base.proofs.Refusals.{does-refused, fault-of}
+use Rattle.model_session_answers.specs.Pins.{resets}
 use Rattle.serve_sessions.proofs.Charging.{gives-reset, refused-reset}
 use Rattle.serve_sessions.proofs.recording.reset_to.Goals as goal
 

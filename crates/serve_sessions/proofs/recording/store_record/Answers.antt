@@ -1,9 +1,9 @@
 use Rattle.std.proofs.Common.{refl, rules}
 use Rattle.keep.specs.Contents.{with_record}
-use Rattle.token_store.specs.Shown.{view_of}
-use Rattle.token_store.proofs.Gaves.{gave-change}
-use Rattle.token_store.proofs.Plain.{plain-fault}
-use Rattle.token_store.proofs.Refusals.{does-refused, fault-of}
+use Rattle.serve_base.specs.Shown.{view_of}
+use Rattle.serve_base.proofs.Gaves.{gave-change}
+use Rattle.serve_base.proofs.Plain.{plain-fault}
+use Rattle.serve_base.proofs.Refusals.{does-refused, fault-of}
 use Rattle.serve_sessions.specs.Recording.{codes_with}
 use Rattle.serve_sessions.proofs.Charging.{gives-stored, refused-recorded}
 use Rattle.serve_sessions.proofs.recording.store_record.Goals as goal

@@ -1,5 +1,5 @@
 use Rattle.sqlite.specs.Held.{state}
-use Rattle.table_statements.proofs.Queries.{all_reads, all_shown, reads_kept, first_of_both, second_of_both}
+use Rattle.sql_statements.proofs.Queries.{all_reads, all_shown, reads_kept, first_of_both, second_of_both}
 use Rattle.sql_tables.proofs.listing.read_all.Goals as goal
 
 pub returns-in_err-ensure_open-clause-same : goal.returns-in_err-ensure_open-clause-same

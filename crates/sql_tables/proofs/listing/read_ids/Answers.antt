@@ -1,6 +1,6 @@
 use Rattle.sqlite.specs.Held.{state}
-use Rattle.table_statements.proofs.Queries.{reads_stay, sees_held}
-use Rattle.table_statements.proofs.ListedIds.{ids_is_query, ids_found}
+use Rattle.sql_statements.proofs.Queries.{reads_stay, sees_held}
+use Rattle.sql_statements.proofs.ListedIds.{ids_is_query, ids_found}
 use Rattle.sql_tables.proofs.listing.read_ids.Goals as goal
 
 pub returns-clause-ids : goal.returns-clause-ids

@@ -1,4 +1,4 @@
-use Rattle.table_statements.proofs.ListedIds.{objects_is_query, objects_listed}
+use Rattle.sql_statements.proofs.ListedIds.{objects_is_query, objects_listed}
 use Rattle.sql_tables.proofs.listing.read_ids_and_bodies.Goals as goal
 
 pub returns-clause-rows : goal.returns-clause-rows

@@ -1,4 +1,4 @@
-use Rattle.table_statements.proofs.ListedIds.{record_is_query, record_listed}
+use Rattle.sql_statements.proofs.ListedIds.{record_is_query, record_listed}
 use Rattle.sql_tables.proofs.listing.read_record_bodies.Goals as goal
 
 pub returns-clause-rows : goal.returns-clause-rows

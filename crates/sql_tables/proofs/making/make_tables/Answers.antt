@@ -1,9 +1,9 @@
 use Rattle.sqlite.specs.Held.{state}
-use Rattle.table_statements.specs.Bodies.{new_bodies}
-use Rattle.table_statements.specs.Ran.{RanThree}
-use Rattle.table_statements.specs.Tables.{record_text, objects_text}
-use Rattle.table_statements.proofs.First.{first_text, creates_is}
-use Rattle.table_statements.proofs.Whole.{whole_if, whole_left, refused_shows, stopped_shows}
+use Rattle.sql_statements.specs.Bodies.{new_bodies}
+use Rattle.sql_statements.specs.Ran.{RanThree}
+use Rattle.sql_statements.specs.Tables.{record_text, objects_text}
+use Rattle.sql_statements.proofs.First.{first_text, creates_is}
+use Rattle.sql_statements.proofs.Whole.{whole_if, whole_left, refused_shows, stopped_shows}
 use Rattle.sql_tables.proofs.making.make_tables.Goals as goal
 
 pub returns-clause-made : goal.returns-clause-made

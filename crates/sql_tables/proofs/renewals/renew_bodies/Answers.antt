@@ -2,7 +2,7 @@ use Rattle.sqlite.specs.Held.{state}
 use Rattle.sql_tables.specs.RanEach.{RanRenewals}
 use Rattle.sql_tables.specs.Renewed.{renewed}
 use Rattle.sql_tables.proofs.Renews.{renews_is}
-use Rattle.table_statements.proofs.Whole.{whole_if, whole_left, refused_shows, stopped_shows}
+use Rattle.sql_statements.proofs.Whole.{whole_if, whole_left, refused_shows, stopped_shows}
 use Rattle.sql_tables.proofs.renewals.renew_bodies.Goals as goal
 
 pub returns-clause-made : goal.returns-clause-made

@@ -1,6 +1,6 @@
 use Rattle.std.proofs.lemmas.Result.{err_from_is_err_and}
 use Rattle.sqlite.specs.Held.{state}
-use Rattle.table_statements.proofs.Lift.{kept, prepared}
+use Rattle.sql_statements.proofs.Lift.{kept, prepared}
 use Rattle.sql_tables.proofs.Shut.{shut_if_closed}
 use Rattle.sql_tables.proofs.statements.ensure_open.Goals as goal
 

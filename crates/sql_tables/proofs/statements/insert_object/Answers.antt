@@ -1,6 +1,6 @@
 use Rattle.sqlite.specs.Held.{state}
-use Rattle.table_statements.specs.Bodies.{with_body}
-use Rattle.table_statements.proofs.Lift.{then_done, then_undone, not_sent_if, failed_if, held_on}
+use Rattle.sql_statements.specs.Bodies.{with_body}
+use Rattle.sql_statements.proofs.Lift.{then_done, then_undone, not_sent_if, failed_if, held_on}
 use Rattle.sql_tables.proofs.statements.insert_object.Goals as goal
 
 pub returns-in_err-ensure_open-clause-err : goal.returns-in_err-ensure_open-clause-err

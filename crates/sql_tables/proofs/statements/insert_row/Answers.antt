@@ -1,10 +1,10 @@
 use Rattle.std.proofs.Common.{arith, OnOk, OnErr}
 use Rattle.sqlite.specs.Held.{state}
 use Rattle.sqlite.specs.State.{HasCleanDisk}
-use Rattle.table_statements.specs.Bodies.{with_body}
-use Rattle.table_statements.specs.Store.{Committed, Uncommitted}
-use Rattle.table_statements.proofs.Lift.{ends}
-use Rattle.table_statements.proofs.Steps.{insert_step, insert_id}
+use Rattle.sql_statements.specs.Bodies.{with_body}
+use Rattle.sql_statements.specs.Store.{Committed, Uncommitted}
+use Rattle.sql_statements.proofs.Lift.{ends}
+use Rattle.sql_statements.proofs.Steps.{insert_step, insert_id}
 use Rattle.sql_tables.proofs.statements.insert_row.Goals as goal
 
 both : (g : _) (c : goal.After-execute g)

@@ -1,7 +1,7 @@
 use Rattle.std.proofs.Common.{arith}
 use Rattle.sqlite.specs.State.{HasCleanDisk}
 use Rattle.sqlite.specs.Held.{state}
-use Rattle.table_statements.proofs.Queries.{on_ok, read_found, read_stays, kept_stays}
+use Rattle.sql_statements.proofs.Queries.{on_ok, read_found, read_stays, kept_stays}
 use Rattle.sql_tables.proofs.statements.read_row.Goals as goal
 
 pub returns-in_err-ensure_open-clause-same : goal.returns-in_err-ensure_open-clause-same

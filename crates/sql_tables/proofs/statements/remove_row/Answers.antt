@@ -1,9 +1,9 @@
 use Rattle.std.proofs.Common.{OnOk, OnErr}
 use Rattle.sqlite.specs.Held.{state}
-use Rattle.table_statements.specs.Bodies.{without_body}
-use Rattle.table_statements.specs.Store.{Committed, Uncommitted}
-use Rattle.table_statements.proofs.Lift.{ends}
-use Rattle.table_statements.proofs.Take.{remove_step}
+use Rattle.sql_statements.specs.Bodies.{without_body}
+use Rattle.sql_statements.specs.Store.{Committed, Uncommitted}
+use Rattle.sql_statements.proofs.Lift.{ends}
+use Rattle.sql_statements.proofs.Take.{remove_step}
 use Rattle.sql_tables.proofs.statements.remove_row.Goals as goal
 
 both : (g : _) (c : goal.After-delete_by g)

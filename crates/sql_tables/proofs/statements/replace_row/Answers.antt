@@ -1,9 +1,9 @@
 use Rattle.std.proofs.Common.{OnOk, OnErr}
 use Rattle.sqlite.specs.Held.{state}
-use Rattle.table_statements.specs.Bodies.{with_body_at}
-use Rattle.table_statements.specs.Store.{Committed, Uncommitted}
-use Rattle.table_statements.proofs.Lift.{ends}
-use Rattle.table_statements.proofs.Replace.{replace_step}
+use Rattle.sql_statements.specs.Bodies.{with_body_at}
+use Rattle.sql_statements.specs.Store.{Committed, Uncommitted}
+use Rattle.sql_statements.proofs.Lift.{ends}
+use Rattle.sql_statements.proofs.Replace.{replace_step}
 use Rattle.sql_tables.proofs.statements.replace_row.Goals as goal
 
 both : (g : _) (c : goal.After-replace_by g)

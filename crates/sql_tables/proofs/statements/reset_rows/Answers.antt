@@ -1,9 +1,9 @@
 use Rattle.std.proofs.Common.{◌≡◌, false, OnErr, IfOk, IsTrue}
 use Rattle.sqlite.specs.Held.{state}
-use Rattle.table_statements.specs.Bodies.{after_reset}
-use Rattle.table_statements.specs.Store.{RowsChanged, RowsFailed}
-use Rattle.table_statements.proofs.Pairs.{pair_ends}
-use Rattle.table_statements.proofs.Lift.{not_sent_if}
+use Rattle.sql_statements.specs.Bodies.{after_reset}
+use Rattle.sql_statements.specs.Store.{RowsChanged, RowsFailed}
+use Rattle.sql_statements.proofs.Pairs.{pair_ends}
+use Rattle.sql_statements.proofs.Lift.{not_sent_if}
 use Rattle.sql_tables.proofs.statements.reset_rows.Goals as goal
 
 all : (g : _) (c : goal.After-run_all g)

@@ -1,12 +1,12 @@
 use Rattle.std.proofs.Common.{refl, sym, ◌∙◌}
-use Rattle.token_states.specs.Applications.{reveal_by_job}
+use Rattle.model_runs.specs.Applications.{reveal_by_job}
 use Rattle.token.specs.Endings.{under_way_of}
 use Rattle.token.proofs.Endings.{finishes-by, finishes-none}
 use Rattle.token.proofs.ending.finish_at.Goals as goal
 
 pub returns-in-None : goal.returns-in-None
 returns-in-None g c =
-    finishes-none g.K.Keep.terms c.args.done.job.value (reveal_by_job c.args.done.job.value (under_way_of c.args.others.now) c.args.others.now.in_session) c.args.store.now c.args.desk.now (sym c.question.ensures ∙ rw c.in-None.is refl)
+    finishes-none g.K.Keep.terms c.args.done.job.value (reveal_by_job c.args.done.job.value (under_way_of c.args.others.now) c.args.others.now.others_have_sessions) c.args.store.now c.args.desk.now (sym c.question.ensures ∙ rw c.in-None.is refl)
 
 pub returns-in-Ok : goal.returns-in-Ok
 returns-in-Ok g c =

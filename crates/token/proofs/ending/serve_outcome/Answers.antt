@@ -5,10 +5,10 @@ use Rattle.ck_calls.specs.declared.reply.Reply.TheVariants.{Code, Output}
 use Rattle.mech.specs.declared.outcome.Outcome.TheVariants as out
 use Rattle.ops.specs.declared.place.MacPlace.TheVariants as place
 use Rattle.ops.specs.Operations.{operation_of, mac_of}
-use Rattle.views.specs.Outcomes.{Unwrapped}
-use Rattle.views.specs.Answering.{becomes, replies, with_operation, with_mac}
-use Rattle.answers.specs.CipherInit.{place_for}
-use Rattle.answers.specs.UnwrapKey.{unwrapped_result}
+use Rattle.model_views.specs.TaskResults.{Unwrapped}
+use Rattle.model_views.specs.Answering.{becomes, replies, with_operation, with_mac}
+use Rattle.model_answers.specs.CipherInit.{place_for}
+use Rattle.model_answers.specs.UnwrapKey.{unwrapped_result}
 use Rattle.serve_ciphers.proofs.Ciphering as ciphering
 use Rattle.serve_macs.proofs.Signing as signing
 use Rattle.token.proofs.Endings.{ends-as, done-at-desk, done-code, done-over}

@@ -1,6 +1,6 @@
 use Rattle.std.proofs.Common.{◌≡◌, rules, refl}
 use Rattle.desk.specs.Desks.{empty_desk}
-use Rattle.token_states.specs.Applications.{desk_at}
+use Rattle.model_runs.specs.Applications.{desk_at}
 use Rattle.token.proofs.Endings.{finishes-none}
 use Rattle.token.proofs.token.finish_app.Goals as goal
 

@@ -1,5 +1,5 @@
 use Rattle.std.proofs.Common.{◌∙◌}
-use Rattle.token_states.proofs.Seats.{others-counted}
+use Rattle.model_runs.proofs.Seats.{others-counted}
 use Rattle.token.proofs.token.others_checking.Goals as goal
 
 pub returns : goal.returns

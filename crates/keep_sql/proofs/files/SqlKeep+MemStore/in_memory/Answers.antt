@@ -1,5 +1,5 @@
 use Rattle.sqlite.proofs.Callers.{memory_is_clean}
-use Rattle.stored_contents.proofs.Places.{memory_opened}
+use Rattle.keep_sql_model.proofs.Places.{memory_opened}
 use Rattle.keep_sql.proofs.files.SqlKeep+MemStore.in_memory.Goals as goal
 
 pub returns-in-Ok-clause-begins : goal.returns-in-Ok-clause-begins

@@ -1,7 +1,7 @@
 use Rattle.std.proofs.Common.{◌≡◌, ◌⊎◌, ℕ, Bool, cond, List, Result, Ok, Err, IfOk, IfErr, sym, ap₂, subst, inl, inr}
 use Rattle.sqlite_disk.specs.Events.{Event, replay}
 use Rattle.sqlite_wal.specs.Recovery.{Image}
-use Rattle.stored_contents.specs.OpenedFile.{OpenedFile}
+use Rattle.keep_sql_model.specs.OpenedFile.{OpenedFile}
 use Rattle.keep_sql.proofs.path.SqlKeep+FileStore+FileFrom+S.open.Goals as goal
 
 abbrev image : List ℕ → List ℕ → Image

@@ -1,6 +1,6 @@
 use Rattle.keep.specs.Contents.{new_contents}
 use Rattle.pin_record.specs.Records.{new_record}
-use Rattle.stored_contents.specs.SqlState.{SqlState}
+use Rattle.keep_sql_model.specs.SqlState.{SqlState}
 use Rattle.keep_sql.proofs.Outcomes.{adopts}
 use Rattle.keep_sql.proofs.sql_keep.SqlKeep.from_connection.Goals as goal
 

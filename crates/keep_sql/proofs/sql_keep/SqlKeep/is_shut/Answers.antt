@@ -1,7 +1,7 @@
 use Rattle.std.proofs.Common.{◌∙◌, ap, sym, subst}
 use Rattle.sqlite.specs.Held.{state}
-use Rattle.table_statements.specs.Store.{Unwritten}
-use Rattle.stored_contents.specs.SqlState.{SqlState}
+use Rattle.sql_statements.specs.Store.{Unwritten}
+use Rattle.keep_sql_model.specs.SqlState.{SqlState}
 use Rattle.keep_sql.proofs.Unwritten.{unwritten_stayed}
 use Rattle.keep_sql.proofs.sql_keep.SqlKeep.is_shut.Goals as goal
 

@@ -1,7 +1,7 @@
 use Rattle.std.proofs.Common.{◌∙◌, ap, sym, subst}
 use Rattle.sqlite.specs.Held.{state}
-use Rattle.stored_contents.specs.Store.{Holds, Stayed}
-use Rattle.stored_contents.specs.SqlState.{SqlState}
+use Rattle.keep_sql_model.specs.Store.{Holds, Stayed}
+use Rattle.keep_sql_model.specs.SqlState.{SqlState}
 use Rattle.keep_sql.proofs.sql_keep.SqlKeepKeep.ids.Goals as goal
 
 pub returns-in-Ok-clause-same : goal.returns-in-Ok-clause-same

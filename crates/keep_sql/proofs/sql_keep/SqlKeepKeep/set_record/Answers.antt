@@ -1,8 +1,8 @@
 use Rattle.std.proofs.Common.{◌∙◌, refl, ap, subst}
 use Rattle.sqlite.specs.Held.{state}
 use Rattle.keep.specs.Contents.{with_record}
-use Rattle.stored_contents.specs.Store.{Changed, Failed}
-use Rattle.stored_contents.specs.SqlState.{SqlState}
+use Rattle.keep_sql_model.specs.Store.{Changed, Failed}
+use Rattle.keep_sql_model.specs.SqlState.{SqlState}
 use Rattle.keep_sql.proofs.sql_keep.SqlKeepKeep.set_record.Goals as goal
 
 pub returns-in-Ok-clause-ok : goal.returns-in-Ok-clause-ok

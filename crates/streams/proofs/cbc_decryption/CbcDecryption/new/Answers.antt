@@ -1,7 +1,7 @@
 use Rattle.std.proofs.Common.{◌++◌, ◌∙◌, ap, sym, subst, arith}
 use Rattle.fips_197.specs.Bytes.{IsBlock}
-use Rattle.mode_flows.proofs.CbcBackLaw.{cbc_begun_back, begun_chain_back}
-use Rattle.mode_flows.proofs.Pieces.{begun_held}
+use Rattle.streams_model.proofs.CbcBackLaw.{cbc_begun_back, begun_chain_back}
+use Rattle.streams_model.proofs.Pieces.{begun_held}
 use Rattle.streams.proofs.cbc_decryption.CbcDecryption.new.Goals as goal
 
 pub invariant_of-result : goal.invariant_of-result

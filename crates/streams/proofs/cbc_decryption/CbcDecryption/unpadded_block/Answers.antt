@@ -1,11 +1,11 @@
 use Rattle.std.proofs.Common.{◌<◌, ◌-◌, ◌≡◌, ◌*◌, ◌++◌, refl, ap, sym, subst, arith, ◌∙◌, length, take, drop}
 use Rattle.fips_197.specs.Bytes.{AreBytes}
-use Rattle.aes_modes.specs.Modes.{cbc_pad_enciphered}
-use Rattle.mode_flows.specs.Flows.{blocks_done}
+use Rattle.aes_modes.specs.Modes.{cbc_pad_encrypted}
+use Rattle.streams_model.specs.Flows.{blocks_done}
 use Rattle.std.proofs.lemmas.List.{length-take}
 use Rattle.std.proofs.lemmas.List.Elements.{All-append, All-take}
-use Rattle.mode_flows.proofs.CbcPadLaw.{ended_value, ended_only, ended_none}
-use Rattle.mode_flows.proofs.Pieces.{waiting-held}
+use Rattle.streams_model.proofs.CbcPadLaw.{ended_value, ended_only, ended_none}
+use Rattle.streams_model.proofs.Pieces.{waiting-held}
 use Rattle.streams.proofs.cbc_decryption.CbcDecryption.unpadded_block.Goals as goal
 
 pub returns-in_default-clause-bad_pad : goal.returns-in_default-clause-bad_pad
@@ -18,7 +18,7 @@ returns-in_default-clause-bad_pad c = λ _ x bytes e.
     (ended_none s.key s.iv.bytes s.passed.given.bytes s.passed.taken.bytes s.chain s.passed.kept c.decipher.result c.xor_blocks-last.result c.block.result s.held
     h.given h.chain h.kept one c.block.ensures c.decipher.ensures.back x_is.value c.decipher.ensures.blocks.1.size x_is.blocks.1.size x_is.blocks.2.size
     x_is.blocks.2.bytes x bytes
-    ((λ t. cbc_pad_enciphered (c.self.view_is t).key (c.self.view_is t).iv x) ∙ e ∙ sym (ap (λ f. f.taken) c.self.view_is)))
+    ((λ t. cbc_pad_encrypted (c.self.view_is t).key (c.self.view_is t).iv x) ∙ e ∙ sym (ap (λ f. f.taken) c.self.view_is)))
 
 pub returns-clause-value : goal.returns-clause-value
 returns-clause-value c =
@@ -30,7 +30,7 @@ returns-clause-value c =
     let all = ended_value s.key s.iv.bytes s.passed.given.bytes s.passed.taken.bytes s.chain s.passed.kept c.decipher.result c.xor_blocks-last.result c.block.result s.held
     h.given h.chain h.kept one c.block.ensures c.decipher.ensures.back x_is.value c.decipher.ensures.blocks.1.size x_is.blocks.1.size x_is.blocks.2.size
     (take c.in-Some.len c.xor_blocks-last.result) c.in-Some.ensures.found in
-    (λ t. cbc_pad_enciphered (sym c.self.view_is t).key (sym c.self.view_is t).iv ((sym c.self.view_is t).given ++ out t))
+    (λ t. cbc_pad_encrypted (sym c.self.view_is t).key (sym c.self.view_is t).iv ((sym c.self.view_is t).given ++ out t))
     ∙ all ∙ ap (λ f. f.taken) c.self.view_is
 
 pub returns-clause-only : goal.returns-clause-only
@@ -44,7 +44,7 @@ returns-clause-only c = λ x bytes e.
     ended_only s.key s.iv.bytes s.passed.given.bytes s.passed.taken.bytes s.chain s.passed.kept c.decipher.result last c.block.result s.held
     h.given h.chain h.kept one c.block.ensures c.decipher.ensures.back x_is.value c.decipher.ensures.blocks.1.size x_is.blocks.1.size x_is.blocks.2.size
     (take c.in-Some.len last) c.in-Some.ensures.found (All-take (λ b. b < 256) c.in-Some.len last x_is.blocks.2.bytes) x bytes
-    ((λ t. cbc_pad_enciphered (c.self.view_is t).key (c.self.view_is t).iv x) ∙ e ∙ sym (ap (λ f. f.taken) c.self.view_is))
+    ((λ t. cbc_pad_encrypted (c.self.view_is t).key (c.self.view_is t).iv x) ∙ e ∙ sym (ap (λ f. f.taken) c.self.view_is))
     ∙ (λ t. (c.self.view_is t).given ++ sym out t)
 
 pub returns-clause-size : goal.returns-clause-size

@@ -1,6 +1,6 @@
 use Rattle.std.proofs.Common.{refl, ap, ◌∙◌, ◌++◌}
-use Rattle.mode_flows.proofs.CbcBackLaw.{chain_further, cbc_further_back}
-use Rattle.mode_flows.proofs.Pieces.{kept_held}
+use Rattle.streams_model.proofs.CbcBackLaw.{chain_further, cbc_further_back}
+use Rattle.streams_model.proofs.Pieces.{kept_held}
 use Rattle.streams.proofs.cbc_decryption.CbcDecryption.update.Goals as goal
 
 pub invariant_of-self : goal.invariant_of-self

@@ -1,6 +1,6 @@
 use Rattle.std.proofs.Common.{◌++◌, ◌∙◌, ap, sym}
-use Rattle.mode_flows.proofs.CbcLaw.{begun_chain, cbc_begun}
-use Rattle.mode_flows.proofs.Pieces.{begun_kept}
+use Rattle.streams_model.proofs.CbcLaw.{begun_chain, cbc_begun}
+use Rattle.streams_model.proofs.Pieces.{begun_kept}
 use Rattle.streams.proofs.cbc_encryption.CbcEncryption.new.Goals as goal
 
 pub invariant_of-result : goal.invariant_of-result

@@ -1,6 +1,6 @@
 use Rattle.std.proofs.Common.{refl, ap, ◌∙◌, ◌++◌}
-use Rattle.mode_flows.proofs.CbcLaw.{chain_after, cbc_further}
-use Rattle.mode_flows.proofs.Pieces.{kept_after}
+use Rattle.streams_model.proofs.CbcLaw.{chain_after, cbc_further}
+use Rattle.streams_model.proofs.Pieces.{kept_after}
 use Rattle.streams.proofs.cbc_encryption.CbcEncryption.update.Goals as goal
 
 pub invariant_of-self : goal.invariant_of-self

@@ -1,5 +1,5 @@
 use Rattle.std.proofs.Common.{◌∙◌, ap, ◌-◌, length}
-use Rattle.mode_flows.proofs.Pieces.{waiting-whole}
+use Rattle.streams_model.proofs.Pieces.{waiting-whole}
 use Rattle.streams.proofs.cbc_encryption.CbcEncryption.waiting.Goals as goal
 
 pub returns-clause-value : goal.returns-clause-value

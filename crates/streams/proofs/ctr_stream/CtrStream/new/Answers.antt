@@ -1,6 +1,6 @@
 use Rattle.std.proofs.Common.{◌++◌, ◌≤◌, ◌*◌, ◌∙◌, ap, sym, arith, drop}
-use Rattle.mode_flows.specs.Flows.{blocks_done}
-use Rattle.mode_flows.proofs.CtrLaw.{begun_left, begun_number, begun_output}
+use Rattle.streams_model.specs.Flows.{blocks_done}
+use Rattle.streams_model.proofs.CtrLaw.{begun_left, begun_number, begun_output}
 use Rattle.streams.proofs.ctr_stream.CtrStream.new.Goals as goal
 
 pub invariant_of-result : goal.invariant_of-result

@@ -1,10 +1,10 @@
 use Rattle.std.proofs.Common.{◌≤◌, ◌+◌, ◌-◌, ◌/◌, ◌++◌, ◌∙◌, ap, sym, subst, refl, arith, length, ◌<◌}
 use Rattle.std.proofs.lemmas.List.Elements.{All-append}
 use Rattle.fips_197.specs.Bytes.{AreBytes}
-use Rattle.mode_flows.specs.Flows.{blocks_done}
-use Rattle.mode_flows.specs.Countings.{ctr_output}
-use Rattle.mode_flows.proofs.CtrLaw.{fits_further, number_further, left_further, output_further}
-use Rattle.mode_flows.proofs.Pieces.{kept_held}
+use Rattle.streams_model.specs.Flows.{blocks_done}
+use Rattle.streams_model.specs.Countings.{ctr_output}
+use Rattle.streams_model.proofs.CtrLaw.{fits_further, number_further, left_further, output_further}
+use Rattle.streams_model.proofs.Pieces.{kept_held}
 use Rattle.streams.proofs.ctr_stream.CtrStream.update.Goals as goal
 
 pub joined_counters-requires : goal.joined_counters-requires

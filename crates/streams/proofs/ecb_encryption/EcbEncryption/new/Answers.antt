@@ -1,5 +1,5 @@
-use Rattle.mode_flows.proofs.EcbLaw.{ecb_begun}
-use Rattle.mode_flows.proofs.Pieces.{begun_kept}
+use Rattle.streams_model.proofs.EcbLaw.{ecb_begun}
+use Rattle.streams_model.proofs.Pieces.{begun_kept}
 use Rattle.streams.proofs.ecb_encryption.EcbEncryption.new.Goals as goal
 
 pub invariant_of-result : goal.invariant_of-result

@@ -1,6 +1,6 @@
 use Rattle.std.proofs.Common.{refl, ap, ◌∙◌, ◌++◌}
-use Rattle.mode_flows.proofs.EcbLaw.{ecb_further}
-use Rattle.mode_flows.proofs.Pieces.{kept_after}
+use Rattle.streams_model.proofs.EcbLaw.{ecb_further}
+use Rattle.streams_model.proofs.Pieces.{kept_after}
 use Rattle.streams.proofs.ecb_encryption.EcbEncryption.update.Goals as goal
 
 pub invariant_of-self : goal.invariant_of-self

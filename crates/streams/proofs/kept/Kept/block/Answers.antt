@@ -1,7 +1,7 @@
 use Rattle.std.proofs.Common.{◌≡◌, ◌+◌, ◌++◌, ◌*◌, ◌≤◌, ◌∙◌, ap, sym, arith, length, take}
 use Rattle.std.proofs.lemmas.List.{length-take-le}
 use Rattle.aes_block.specs.Texts.{block_of}
-use Rattle.mode_flows.proofs.Pieces.{block_of-first, block_of-past}
+use Rattle.streams_model.proofs.Pieces.{block_of-first, block_of-past}
 use Rattle.streams.proofs.kept.Kept.block.Goals as goal
 
 pub returns-then-i-eq0 : goal.returns-then-i-eq0

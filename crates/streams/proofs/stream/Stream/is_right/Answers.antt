@@ -1,5 +1,5 @@
 use Rattle.std.proofs.Common.{◌≡◌, ◌∙◌, ap, sym, subst}
-use Rattle.mode_flows.specs.Countings.{ctr_output}
+use Rattle.streams_model.specs.Countings.{ctr_output}
 use Rattle.streams.specs.Right.{IsRight}
 use Rattle.streams.specs.Outputs.{output_so_far}
 use Rattle.streams.specs.States.{streamed}

@@ -1,9 +1,9 @@
 use Rattle.std.proofs.Common.{refl, [], ◌∷◌, sym, ◌∙◌}
 use Rattle.std.specs.Prelude.{map}
 use Rattle.std.proofs.lemmas.List.{reverse-append}
-use Rattle.lists.proofs.PlaceLemmas.{append_nil}
+use Rattle.lists.proofs.IndexLemmas.{append_nil}
 use Rattle.lists.proofs.ListLemmas.{map-push}
-use Rattle.token_states.proofs.Accounts.{accounts-more}
+use Rattle.model_runs.proofs.Accounts.{accounts-more}
 use Rattle.token.proofs.token.Token.advance.Goals as goal
 
 pub returns-in-Some-event-clause-ok : goal.returns-in-Some-event-clause-ok

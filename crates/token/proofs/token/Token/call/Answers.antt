@@ -1,6 +1,6 @@
 use Rattle.std.proofs.Common.{sym, ◌∙◌}
-use Rattle.token_states.specs.Applications.{desk_at}
-use Rattle.token_states.proofs.Called.{shows-called, says-called, leaves-called, blames-device, stays-called, short-called}
+use Rattle.model_runs.specs.Applications.{desk_at}
+use Rattle.model_runs.proofs.Called.{shows-called, says-called, leaves-called, blames-device, stays-called, short-called}
 use Rattle.token.proofs.token.Token.call.Goals as goal
 
 pub returns-clause-world : goal.returns-clause-world

@@ -1,7 +1,7 @@
 use Rattle.std.proofs.Common.{sym, ap, arith}
-use Rattle.token_store.specs.declared.out.Out.TheVariants.{Reply as OutReply}
-use Rattle.token_states.proofs.Jobs.{step_reply, step_ask, step_finish, step_pass, step_gone, open_is, no_question, none-left}
-use Rattle.token_states.proofs.Accounts.{accounts-one, accounts-none}
+use Rattle.serve_base.specs.declared.out.Out.TheVariants.{Reply as OutReply}
+use Rattle.model_runs.proofs.Jobs.{step_reply, step_ask, step_finish, step_pass, step_gone, open_is, no_question, none-left}
+use Rattle.model_runs.proofs.Accounts.{accounts-one, accounts-none}
 use Rattle.token.proofs.token.Token.event.Goals as goal
 
 pub returns-in-Reply-clause-step : goal.returns-in-Reply-clause-step

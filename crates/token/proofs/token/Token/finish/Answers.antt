@@ -1,9 +1,9 @@
 use Rattle.std.proofs.Common.{refl, sym, ◌∙◌}
 use Rattle.std.proofs.lemmas.Bool.{true≢false}
-use Rattle.token_states.specs.Applications.{desk_at}
+use Rattle.model_runs.specs.Applications.{desk_at}
 use Rattle.token.proofs.Endings.{blames-device, short-result, stays-finished}
-use Rattle.token_states.proofs.Jobs.{asked-of, told-has, told-other}
-use Rattle.token_states.proofs.Resulted.{taken, open-numbers, shows-open, tells-open, leaves-open}
+use Rattle.model_runs.proofs.Jobs.{asked-of, told-has, told-other}
+use Rattle.model_runs.proofs.Resulted.{taken, open-numbers, shows-open, tells-open, leaves-open}
 use Rattle.token.proofs.token.Token.finish.Goals as goal
 
 pub returns-clause-taken : goal.returns-clause-taken
@@ -31,24 +31,24 @@ returns-clause-stays g c = λ some. rw (← c.self.view_is) (stays-finished g.K.
 pub returns-clause-short : goal.returns-clause-short
 returns-clause-short g c = λ few. rw c.told_result-reply.ensures (short-result c.finish_app.result (c.finish_app.ensures.finishes.short few))
 
--- ---- a job of no pending question, and one that has its numbers
+-- ---- a job of no pending call, and one that has its numbers
 
 pub returns-clause-other : goal.returns-clause-other
 returns-clause-other g c = λ w s other.
-    absurd (true≢false (sym c.if-not-is_open.false ∙ c.is_open.ensures ∙ told-other _ _ _ _ c.args.app c.args.done.job.value w (rw (← c.self.view_is) at s) other))
+    absurd (true≢false (sym c.if-not-is_pending_job.false ∙ c.is_pending_job.ensures ∙ told-other _ _ _ _ c.args.app c.args.done.job.value w (rw (← c.self.view_is) at s) other))
 
-pub returns-then-not-is_open-clause-taken : goal.returns-then-not-is_open-clause-taken
-returns-then-not-is_open-clause-taken g c = λ sure w s has.
-    absurd (true≢false (sym (told-has _ _ _ _ c.args.app c.args.done.job.value w (rw (← c.self.view_is) at s) has) ∙ sym c.is_open.ensures ∙ c.if-not-is_open.true))
+pub returns-then-not-is_pending_job-clause-taken : goal.returns-then-not-is_pending_job-clause-taken
+returns-then-not-is_pending_job-clause-taken g c = λ sure w s has.
+    absurd (true≢false (sym (told-has _ _ _ _ c.args.app c.args.done.job.value w (rw (← c.self.view_is) at s) has) ∙ sym c.is_pending_job.ensures ∙ c.if-not-is_pending_job.true))
 
-pub returns-then-not-is_open-clause-world : goal.returns-then-not-is_open-clause-world
-returns-then-not-is_open-clause-world g c = λ sure w s is.
-    absurd (true≢false (sym (told-has _ _ _ _ c.args.app c.args.done.job.value w (rw (← c.self.view_is) at s) (open-numbers w c.args.app c.args.done.job.value is)) ∙ sym c.is_open.ensures ∙ c.if-not-is_open.true))
+pub returns-then-not-is_pending_job-clause-world : goal.returns-then-not-is_pending_job-clause-world
+returns-then-not-is_pending_job-clause-world g c = λ sure w s is.
+    absurd (true≢false (sym (told-has _ _ _ _ c.args.app c.args.done.job.value w (rw (← c.self.view_is) at s) (open-numbers w c.args.app c.args.done.job.value is)) ∙ sym c.is_pending_job.ensures ∙ c.if-not-is_pending_job.true))
 
-pub returns-then-not-is_open-clause-told : goal.returns-then-not-is_open-clause-told
-returns-then-not-is_open-clause-told g c = λ sure w s is.
-    absurd (true≢false (sym (told-has _ _ _ _ c.args.app c.args.done.job.value w (rw (← c.self.view_is) at s) (open-numbers w c.args.app c.args.done.job.value is)) ∙ sym c.is_open.ensures ∙ c.if-not-is_open.true))
+pub returns-then-not-is_pending_job-clause-told : goal.returns-then-not-is_pending_job-clause-told
+returns-then-not-is_pending_job-clause-told g c = λ sure w s is.
+    absurd (true≢false (sym (told-has _ _ _ _ c.args.app c.args.done.job.value w (rw (← c.self.view_is) at s) (open-numbers w c.args.app c.args.done.job.value is)) ∙ sym c.is_pending_job.ensures ∙ c.if-not-is_pending_job.true))
 
-pub returns-then-not-is_open-clause-leaves : goal.returns-then-not-is_open-clause-leaves
-returns-then-not-is_open-clause-leaves g c = λ sure w s is.
-    absurd (true≢false (sym (told-has _ _ _ _ c.args.app c.args.done.job.value w (rw (← c.self.view_is) at s) (open-numbers w c.args.app c.args.done.job.value is)) ∙ sym c.is_open.ensures ∙ c.if-not-is_open.true))
+pub returns-then-not-is_pending_job-clause-leaves : goal.returns-then-not-is_pending_job-clause-leaves
+returns-then-not-is_pending_job-clause-leaves g c = λ sure w s is.
+    absurd (true≢false (sym (told-has _ _ _ _ c.args.app c.args.done.job.value w (rw (← c.self.view_is) at s) (open-numbers w c.args.app c.args.done.job.value is)) ∙ sym c.is_pending_job.ensures ∙ c.if-not-is_pending_job.true))

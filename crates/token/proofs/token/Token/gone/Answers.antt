@@ -1,4 +1,4 @@
-use Rattle.token_states.proofs.Resulted.{shows-gone}
+use Rattle.model_runs.proofs.Resulted.{shows-gone}
 use Rattle.token.proofs.token.Token.gone.Goals as goal
 
 pub returns-clause-world : goal.returns-clause-world

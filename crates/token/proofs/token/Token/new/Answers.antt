@@ -1,4 +1,4 @@
-use Rattle.token_states.proofs.Resulted.{shows-opening, no-jobs, sound-new}
+use Rattle.model_runs.proofs.Resulted.{shows-opening, no-jobs, sound-new}
 use Rattle.token.proofs.token.Token.new.Goals as goal
 
 pub returns-clause-shows : goal.returns-clause-shows

@@ -1,9 +1,9 @@
 use Rattle.std.proofs.Common.{arith, ◌≡◌}
 use Rattle.std.proofs.lemmas.List.{reverse-reverse}
-use Rattle.token_model.specs.Events.{HasRandom}
+use Rattle.model_worlds.specs.Events.{HasRandom}
 use Rattle.lists.proofs.Turning.{All-reverse}
-use Rattle.token_states.proofs.Accounts.{accounts-none}
-use Rattle.token_states.proofs.Runs.{nothing_yet, one_more}
+use Rattle.model_runs.proofs.Accounts.{accounts-none}
+use Rattle.model_runs.proofs.Runs.{nothing_yet, one_more}
 use Rattle.token.proofs.token.Token.run.Goals as goal
 use Rattle.token.proofs.token.Token.run.Goals.{else-events-test, then-events-test+in-Err}
 

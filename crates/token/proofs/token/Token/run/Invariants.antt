@@ -1,9 +1,9 @@
 use Rattle.std.proofs.Common.{◌≡◌, ◌≤◌, All, length}
 use Rattle.std.specs.Prelude.{map, reverse}
-use Rattle.token_model.specs.Events.{HasRandom}
-use Rattle.token_model.specs.Worlds.{World}
-use Rattle.token_states.specs.Applications.{Shows}
-use Rattle.token_states.specs.Runs.{MayLeave, IsRun, AccountsFor}
+use Rattle.model_worlds.specs.Events.{HasRandom}
+use Rattle.model_worlds.specs.Worlds.{World}
+use Rattle.model_runs.specs.Applications.{Shows}
+use Rattle.model_runs.specs.Runs.{MayLeave, IsRun, AccountsFor}
 use Rattle.token.proofs.token.Token.run.Given as goal
 
 abbrev pub invariant-events : goal.invariant-events

@@ -1,0 +1,22 @@
+//! What all applications are to each other: the definitions of the isolation theorem, and its laws.
+//!
+//! `specs/Worlds.antt` says what an event makes of all that the token is to all applications, each of which is answered
+//! from its view (`model_answers`); `specs/Traces.antt` what comes to one of them, `specs/Tries.antt` how the tries of PINs go.
+//! The laws (`laws`) speak of these definitions alone, for any worlds and any runs; the crates above prove that the
+//! token's code keeps to them.
+//!
+//! ```text
+//! match event {
+//!     Event::Call { app, call, words } => token.call(alloc, app, call, &words),
+//!     Event::Finish { app } => ..,
+//!     Event::Gone { app } => token.gone(app),
+//! }
+//! ```
+#![tactic(auto)]
+
+mod check;
+mod event;
+pub mod laws;
+
+pub use check::Check;
+pub use event::Event;

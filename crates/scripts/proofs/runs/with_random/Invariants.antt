@@ -1,6 +1,0 @@
-use Rattle.std.proofs.Common.{All}
-use Rattle.token_model.specs.Events.{HasRandom}
-use Rattle.scripts.proofs.runs.with_random.Given as goal
-
-abbrev pub invariant-loop-event : goal.invariant-loop-event
-invariant-loop-event l = All HasRandom l.ready.items

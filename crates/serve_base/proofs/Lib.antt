@@ -1,0 +1,12 @@
+pub mod Changing
+pub mod Storing
+pub mod Gaves
+pub mod Refusals
+pub mod Plain
+pub mod Serving
+pub mod Seeing
+pub mod InSession
+pub mod Listing
+mod Searched
+pub mod Lengths
+pub mod Reading

@@ -1,0 +1,46 @@
+-- What a call does, and what is told of it, in one clause.
+use Rattle.std.proofs.Common.{◌≡◌, ℕ, ◌≤◌, Result, Ok, Err, refl, sym, subst, arith}
+use Rattle.std.specs.Prelude.{IfOk}
+use Rattle.keep.specs.Keeping.{Terms}
+use Rattle.desk.specs.Desks.{DeskState}
+use Rattle.model_views.specs.declared.fault.Fault.TheVariants as faults
+use Rattle.model_views.specs.Views.{View}
+use Rattle.model_views.specs.Answering.{Said, Answer}
+use Rattle.serve_base.specs.declared.out.Out.{Out}
+use Rattle.serve_base.specs.declared.refusal.Refusal.{Refusal}
+use Rattle.serve_base.specs.declared.refusal.Refusal.TheVariants as refusals
+use Rattle.serve_base.specs.Refusing.{IsDoneIf, IsServedIf, refused_as, settled}
+use Rattle.serve_base.specs.Short.{IsShortSaid}
+use Rattle.serve_base.specs.Shown.{said_of, view_of}
+use Rattle.serve_base.specs.Stores.{StoreState}
+use Rattle.serve_base.proofs.Plain.{plain-done_as, stays-settled}
+use Rattle.serve_base.proofs.Refusals.{serves-done_as}
+
+-- the device is blamed for a failed keeper alone
+pub blamed : {T : Type 0} (as_out : T → Out) (r : Result T Refusal) → settled as_out r ≡ Err faults.Device → r ≡ Err refusals.Device
+blamed as_out (Ok t) is = let k : Ok (as_out t) ≡ Err faults.Device = is in cc
+blamed as_out (Err (refusals.Condition row)) is = let k : refused_as (refusals.Condition row) ≡ Err faults.Device = is in cc
+blamed as_out (Err (refusals.Code code)) is = let k : refused_as (refusals.Code code) ≡ Err faults.Device = is in cc
+blamed as_out (Err refusals.Memory) is = let k : refused_as refusals.Memory ≡ Err faults.Device = is in cc
+blamed as_out (Err refusals.Device) is = refl
+
+-- what is short is told so, and a refusal is
+pub short-settled : {T : Type 0} (tell : T → Said) (as_out : T → Out) (r : Result T Refusal) → ((t : T) → said_of (as_out t) ≡ tell t) → IfOk r (λ t. IsShortSaid (tell t)) → IfOk (settled as_out r) (λ out. IsShortSaid (said_of out))
+short-settled tell as_out (Ok t) same short = subst IsShortSaid (sym (same t)) short
+short-settled tell as_out (Err (refusals.Condition row)) same short = tt
+short-settled tell as_out (Err (refusals.Code code)) same short = tt
+short-settled tell as_out (Err refusals.Memory) same short = tt
+short-settled tell as_out (Err refusals.Device) same short = tt
+
+-- a call that replies or asks, and tries one write at most
+pub served-as : {given : Type 0} {K T : Type 0} (terms : Terms K) (tell : T → Said) (as_out : T → Out) (kind : Out → Type 0) (writes : ℕ) (f : View → Answer) (old new : StoreState K) (before desk : DeskState) (r : Result T Refusal) → ((t : T) → said_of (as_out t) ≡ tell t) → writes ≤ 1 → IfOk (settled as_out r) kind
+    → IsDoneIf given terms tell writes (λ c. f) old new before r desk → IsServedIf given terms kind f old new before (settled as_out r) desk
+served-as terms tell as_out kind writes f old new before desk r same few says done = record {
+  serves = λ sure c h fits. serves-done_as terms tell as_out (f (view_of c before)) c old new before desk r same fits (done.serves sure c h fits);
+  says = says;
+  counts = record { steady = done.counts.steady; doubt = done.counts.doubt; failures = done.counts.failures; tried = done.counts.tried; bounded = (let k = done.counts.bounded in omega (arith, few, k)) };
+  cause = λ device. done.cause (blamed as_out r device);
+  plain = plain-done_as tell as_out r same done.plain;
+  stays = stays-settled as_out before desk r done.stays;
+  short = λ is. short-settled tell as_out r same (done.short is);
+}

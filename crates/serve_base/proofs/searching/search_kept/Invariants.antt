@@ -1,0 +1,14 @@
+use Rattle.std.proofs.Common.{◌≡◌, ◌++◌, drop}
+use Rattle.std.specs.List.{AllByRecursion}
+use Rattle.keep.specs.Contents.{Contents, object_at}
+use Rattle.keep.specs.Keeping.{Counted, Stays}
+use Rattle.serve_base.specs.Searching.{found_at, MayFind}
+use Rattle.serve_base.proofs.searching.search_kept.Given as goal
+
+abbrev pub invariant-loop-id : goal.invariant-loop-id
+invariant-loop-id g l = record {
+  same : Stays g.K.Keep.terms l.fn.keep l.keep;
+  counts : Counted g.K.Keep.terms l.fn.keep l.keep 0 0;
+  found : g.K.Keep.terms.doubt l.keep ≡ 0 → (c : Contents) → g.K.Keep.terms.holds l.fn.keep c → l.found.items ++ found_at l.login l.template (object_at c) (drop l.id-index l.ids) ≡ l.fn.found.items ++ found_at l.login l.template (object_at c) l.ids;
+  may : AllByRecursion (MayFind l.login) l.fn.found.items → AllByRecursion (MayFind l.login) l.found.items;
+}

@@ -1,0 +1,22 @@
+use Rattle.std.proofs.Common.{refl}
+use Rattle.keep.specs.Contents.{with_record}
+use Rattle.serve_base.specs.Stores.{LeavesOr}
+use Rattle.serve_base.proofs.Storing.{has-recorded, on_err}
+use Rattle.serve_base.proofs.store.Store.set_record.Goals as goal
+
+pub returns-in_err-set_record-clause-leaves_or : goal.returns-in_err-set_record-clause-leaves_or
+returns-in_err-set_record-clause-leaves_or g c = λ k h.
+    rw (← c.self.view_is) (
+    let t = rw (← c.self.view_is) at h in
+    let p : LeavesOr g.K.Keep.terms (record { keep = c.self.inside.keep; ids = c.self.inside.ids.items }) (record { keep = c.set_record.new.self; ids = c.self.inside.ids.items }) (with_record c.args.token_record k) = (λ d may. c.in_err-set_record.ensures.err.crash k d t.held may) in
+    on_err c.from_residual.result p)
+
+pub returns-clause-has : goal.returns-clause-has
+returns-clause-has g c = λ k h.
+    let t = rw (← c.self.view_is) at h in
+    has-recorded _ _ _ k c.args.token_record t (c.in_ok-set_record.ensures.ok.held k t.held) refl
+
+pub returns-clause-leaves : goal.returns-clause-leaves
+returns-clause-leaves g c = λ k h left may.
+    let t = rw (← c.self.view_is) at h in
+    c.in_ok-set_record.ensures.ok.crash k left t.held may

@@ -1,0 +1,39 @@
+-- What a search finds among the token objects (PKCS #11 v3.1, 5.7.5).
+use Rattle.std.specs.Prelude.{◌≡◌, ℕ, Bool, true, ◌&&◌, List, [], ◌∷◌, ◌++◌, map, filter, Option, Some, None, if◌then◌else◌}
+use Rattle.ck_types.specs.declared.entry.Entry.{Entry}
+use Rattle.ck_types.specs.declared.attr_type.AttrType.TheVariants as attr
+use Rattle.ck_types.specs.declared.user_type.UserType.{UserType}
+use Rattle.attrs.specs.Objects.{flag}
+use Rattle.find.specs.Matching.{template_matches}
+use Rattle.guard.specs.Access.{is_user_in}
+use Rattle.keep.specs.Contents.{Kept}
+use Rattle.model_views.specs.Views.{sees}
+use Rattle.serve_base.specs.declared.searching.Match.{Match}
+use Rattle.serve_base.specs.declared.searching.Match.TheVariants.{TokenObject, SessionObject}
+
+module _ (login : Option UserType) (template : List Entry) where
+  -- one who is logged in so sees the object, and the template finds it
+  abbrev pub finds : List Entry → Bool
+  finds o = sees login o && template_matches template o
+
+  abbrev pub token_match : ℕ → List Entry → Match
+  token_match id o = TokenObject id (flag o attr.Private)
+
+  -- what is found of the token objects, in the order of their creation
+  abbrev pub tokens_found : List Kept → List Match
+  tokens_found es = map (λ e. token_match e.0 e.1) (filter (λ e. finds e.1) es)
+
+  -- ---- by their ids
+
+  abbrev pub found_of : ℕ → Option (List Entry) → List Match
+  found_of id None = []
+  found_of id (Some o) = if finds o then token_match id o ∷ [] else []
+
+  abbrev pub found_at : (ℕ → Option (List Entry)) → List ℕ → List Match
+  found_at object_of [] = []
+  found_at object_of (id ∷ ids) = found_of id (object_of id) ++ found_at object_of ids
+
+-- private objects are found for the user alone
+abbrev pub MayFind : Option UserType → Match → Type 0
+MayFind login (TokenObject id private) = private ≡ true → is_user_in login ≡ true
+MayFind login (SessionObject handle) = Unit {0}

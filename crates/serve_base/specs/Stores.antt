@@ -1,0 +1,67 @@
+-- A keeper with the ids that the token has of it, and what the token shows by it.
+use Rattle.std.specs.Prelude.{◌≡◌, ◌⊎◌, ℕ, List, Option, Some, Result, Ok, Err}
+use Rattle.ck_types.specs.declared.user_type.UserType.{UserType}
+use Rattle.keep.specs.Contents.{Contents, ids_of, IsSound}
+use Rattle.keep.specs.Keeping.{Terms}
+use Rattle.desk.specs.Desks.{DeskState, SameDesk}
+use Rattle.model_views.specs.Views.{View, sees}
+use Rattle.model_views.specs.Changes.{Change, Stays, in_list}
+use Rattle.model_views.specs.Answering.{Said, Answer}
+use Rattle.serve_base.specs.Shown.{view_of, objects_of, Changes, Gives, Fits}
+
+pub record StoreState (K : Type 0) : Type 0 where
+  pub keep : K
+  pub ids : List ℕ
+
+-- the keeper holds the contents, and the ids are theirs
+pub record Has {K : Type 0} (terms : Terms K) (s : StoreState K) (c : Contents) : Type 0 where
+  pub held : terms.holds s.keep c
+  pub ids : s.ids ≡ ids_of c
+  pub sound : IsSound c
+
+-- ---- what a crash may leave
+module _ {K : Type 0} (terms : Terms K) where
+  -- the contents alone
+  abbrev pub LeavesAlone : StoreState K → Contents → Type 0
+  LeavesAlone new c = (left : Option Contents) → terms.may_leave new.keep left → left ≡ Some c
+
+  -- what it could leave before
+  abbrev pub LeavesAsBefore : StoreState K → StoreState K → Type 0
+  LeavesAsBefore old new = (left : Option Contents) → terms.may_leave new.keep left → terms.may_leave old.keep left
+
+  -- what it could leave before, or the contents
+  abbrev pub LeavesOr : StoreState K → StoreState K → Contents → Type 0
+  LeavesOr old new c = (left : Option Contents) → terms.may_leave new.keep left → terms.may_leave old.keep left ⊎ (left ≡ Some c)
+
+  -- after an answer: its change alone, and what it could leave before where nothing changes
+  abbrev pub LeavesChange : Change → StoreState K → StoreState K → Contents → Type 0
+  LeavesChange change old new c = (left : Option Contents) → terms.may_leave new.keep left → (terms.may_leave old.keep left × (change ≡ Stays)) ⊎ (left ≡ Some c)
+
+  -- after a refusal: what it could leave before, or the change of the answer
+  abbrev pub LeavesTried : Change → StoreState K → StoreState K → Contents → Type 0
+  LeavesTried change old new c = (left : Option Contents) → terms.may_leave new.keep left → terms.may_leave old.keep left ⊎ ((d : Contents) × (left ≡ Some d) × Changes change c d)
+
+-- ---- an event at one desk
+module _ {K : Type 0} (terms : Terms K) where
+  -- the answer is given to one who was logged in so
+  pub record Gave (a : Answer) (login : Option UserType) (c : Contents) (old new : StoreState K) (said : Said) (desk : DeskState) : Type 0 where
+    pub contents : Contents
+    pub has : Has terms new contents
+    pub gives : Gives a login c said contents desk
+    pub leaves : LeavesChange terms (in_list (sees login) (objects_of c) a.change) old new contents
+
+  -- it is refused, and leaves the desk as it is then
+  pub record Refused (a : Answer) (login : Option UserType) (c : Contents) (old new : StoreState K) (over desk : DeskState) : Type 0 where
+    pub has : Has terms new c
+    pub same : SameDesk over desk
+    pub leaves : LeavesTried terms (in_list (sees login) (objects_of c) a.change) old new c
+
+  -- `over` is what a refusal leaves of the desk: at a call the desk itself, at a result the desk without its question
+  abbrev pub Serves : {T E : Type 0} → (T → Said) → Answer → Contents → StoreState K → StoreState K → DeskState → DeskState → Result T E → DeskState → Type 0
+  Serves tell a c old new before over (Ok out) desk = Gave a before.sessions.login c old new (tell out) desk
+  Serves tell a c old new before over (Err fault) desk = Refused a before.sessions.login c old new over desk
+
+-- An event is served by the answer to the view, while the store is honest.
+abbrev pub Served : {K : Type 0} → Terms K → {T E : Type 0} → (T → Said) → (View → Answer) → StoreState K → StoreState K → DeskState → DeskState → Result T E → DeskState → Type 0
+Served terms tell f old new before over result desk =
+    terms.doubt new.keep ≡ 0 → (c : Contents) → Has terms old c → Fits c before.handles.entries → Serves terms tell (f (view_of c before)) c old new before over result desk

@@ -1,0 +1,33 @@
+//! One desk over the store: what the crates that serve calls stand on.
+//!
+//! `Store` is the keeper of the token objects with their ids in the order of their creation; `find` copies the object
+//! that an application sees under a handle, and `Store::search` notes those that a template finds. A call answers `Result<Reply, Refusal>` or, where it may return a job,
+//! `Result<Out, Refusal>`: an `Err` always means that nothing has changed. `settle` makes of it what is told.
+//!
+//! Contracts speak of what an application sees (`specs/Shown.antt`: `view_of`), of what the store has and what a crash
+//! may leave (`specs/Stores.antt`), and of what a call does in one clause: `IsDone` where it reads or writes the store,
+//! `AtDesk` where it doesn't, and `IsDoneAs` where it returns a job and writes, or where something of the answer is told
+//! by what the store has (`specs/Refusing.antt`).
+//!
+//! ```text
+//! let _ = desk.state(session).ok_or(Condition::NoSession)?;
+//! let found = find(alloc, desk, store, handle)?.ok_or(Condition::NoObject)?;
+//! Ok(Reply::ObjectSize(size(&found.object)))
+//! ```
+#![tactic(auto)]
+
+mod asking;
+mod finding;
+mod keys;
+mod out;
+mod refusal;
+mod searching;
+mod store;
+
+pub use asking::{ask, ask_within, new_job, random_block};
+pub use finding::{Found, find};
+pub use keys::{aes_key, is_aes, is_of_type, is_secret_key};
+pub use out::Out;
+pub use refusal::{Refusal, settle, settle_asking};
+pub use searching::Match;
+pub use store::Store;

@@ -1,0 +1,186 @@
+//! The keeper, with the ids of its objects in the order of their creation.
+
+ghost use Rattle.std.specs.Prelude.{◌≡◌, ◌==◌, ◌+◌, ◌++◌, not, filter, Option, IfOk, IfErr, OnOk, OnErr, IfSome};
+ghost use Rattle.std.specs.List.{AllByRecursion, list_any};
+ghost use Rattle.keep.specs.Contents.{Contents, IsTokenObject, after_reset, object_at, with_object, with_record, with_replacement, without_object};
+ghost use Rattle.keep.specs.Keeping.{Stays, HasCause, Counted};
+ghost use Rattle.lists.specs.Bisection.{IsIndexOf, KeysRise};
+ghost use Rattle.serve_base.specs.Searching.{tokens_found, MayFind};
+ghost use Rattle.serve_base.specs.Stores.{Has, LeavesAlone, LeavesOr};
+
+use crate::searching::{Match, search_kept};
+use attrs::{Object, Template};
+use ck_types::UserType;
+use keep::{Keep, KeepFault};
+use pin_record::Record;
+use std::alloc::Global;
+use std::marker::Model;
+
+/// A keeper and the ids of its objects. The keeper is asked for no id that it doesn't have.
+#[derive(Drop)]
+pub struct Store<K: Keep> {
+    keep: K,
+    ids: Vec<u64>,
+}
+
+impl<K: Keep> Model for Store<K> {
+    ghost use Rattle.serve_base.specs.Stores.{StoreState};
+
+    ghost Value = { StoreState K };
+
+    ghost view = { λ s. record { keep = s.keep; ids = s.ids.items } };
+}
+
+impl<K: Keep> Store<K> {
+    /// Reads the ids of a keeper. One that refuses comes back beside its fault.
+    pub fn adopt(alloc: Global, mut keep: K) -> Result<Store<K>, (KeepFault, K)>
+        ensures has { (c : Contents) → K.terms.holds keep c → IfOk result (λ s. K.terms.doubt s.keep ≡ 0 → Has K.terms s c) }
+        ensures leaves { (c : Contents) → K.terms.holds keep c → IfOk result (λ s. (left : Option Contents) → K.terms.may_leave s.keep left → K.terms.may_leave keep left) }
+        ensures back { IfErr result (λ e. Stays K.terms keep e.1) }
+    {
+        match keep.ids(alloc) {
+            Ok(ids) => Ok(Store { keep, ids }),
+            Err(fault) => Err((fault, keep)),
+        }
+    }
+
+    pub fn into_keep(self) -> K
+        ensures { result ≡ self.keep }
+    {
+        let Store { keep, .. } = self;
+        keep
+    }
+
+    /// The record. It is at hand, so nothing is read and no memory is taken.
+    pub fn get_record(&self) -> Record
+        ensures { (c : Contents) → Has K.terms self.now c → result ≡ c.token_record }
+    {
+        self.keep.get_record()
+    }
+
+    /// Puts another record in the place of the one held. The objects stay.
+    pub fn set_record(&mut self, token_record: Record) -> Result<(), KeepFault>
+        ensures has { (c : Contents) → Has K.terms self.old c → OnOk result (Has K.terms self.new (with_record token_record c)) }
+        ensures leaves { (c : Contents) → Has K.terms self.old c → OnOk result (LeavesAlone K.terms self.new (with_record token_record c)) }
+        ensures same { (c : Contents) → Has K.terms self.old c → OnErr result (Has K.terms self.new c) }
+        ensures leaves_or { (c : Contents) → Has K.terms self.old c → OnErr result (LeavesOr K.terms self.old self.new (with_record token_record c)) }
+        ensures counts { Counted K.terms self.old.keep self.new.keep 0 1 }
+        ensures cause { HasCause (K.terms.failures self.old.keep) (K.terms.failures self.new.keep) result }
+    {
+        self.keep.set_record(token_record)?;
+        Ok(())
+    }
+
+    /// Takes all objects away and puts another record in the place of the one held, as one change. Ids go on.
+    pub fn reset(&mut self, token_record: Record) -> Result<(), KeepFault>
+        ensures has { (c : Contents) → Has K.terms self.old c → OnOk result (Has K.terms self.new (after_reset token_record c)) }
+        ensures leaves { (c : Contents) → Has K.terms self.old c → OnOk result (LeavesAlone K.terms self.new (after_reset token_record c)) }
+        ensures same { (c : Contents) → Has K.terms self.old c → OnErr result (Has K.terms self.new c) }
+        ensures leaves_or { (c : Contents) → Has K.terms self.old c → OnErr result (LeavesOr K.terms self.old self.new (after_reset token_record c)) }
+        ensures counts { Counted K.terms self.old.keep self.new.keep 0 1 }
+        ensures cause { HasCause (K.terms.failures self.old.keep) (K.terms.failures self.new.keep) result }
+    {
+        self.keep.reset(token_record)?;
+        self.ids.clear();
+        Ok(())
+    }
+
+    /// Whether there is an object under the id, where the ids rise.
+    fn has_id(&self, id: u64) -> bool
+        ensures { KeysRise (λ i. i) self.now.ids → result ≡ list_any (λ i. i == id) self.now.ids }
+    {
+        index_of_id(&self.ids, id).is_ok()
+    }
+
+    /// A copy of the object under an id.
+    pub fn object(&mut self, alloc: Global, id: u64) -> Result<Option<Object>, KeepFault>
+        ensures object { K.terms.doubt self.new.keep ≡ 0 → (c : Contents) → Has K.terms self.old c → IfOk result (λ found. found ≡ object_at c id) }
+        ensures token { IfOk result (λ found. IfSome found IsTokenObject) }
+        ensures same { Stays K.terms self.old.keep self.new.keep }
+        ensures ids { self.new.ids ≡ self.old.ids }
+        ensures counts { Counted K.terms self.old.keep self.new.keep 0 0 }
+        ensures cause { HasCause (K.terms.failures self.old.keep) (K.terms.failures self.new.keep) result }
+    {
+        if !self.has_id(id) {
+            return Ok(None);
+        }
+        Ok(Some(self.keep.object(alloc, id)?))
+    }
+
+    /// Finds the token objects that one who is logged in so sees and the template finds, in the order of their creation, and
+    /// notes them after what was found before. Each object is read once.
+    pub fn search(
+        &mut self,
+        alloc: Global,
+        login: Option<UserType>,
+        template: &Template,
+        found: &mut Vec<Match>,
+    ) -> Result<(), KeepFault>
+        ensures found { K.terms.doubt self.new.keep ≡ 0 → (c : Contents) → Has K.terms self.old c → OnOk result (found.new.items ≡ found.old.items ++ tokens_found login template.now c.objects) }
+        ensures may { AllByRecursion (MayFind login) found.old.items → OnOk result (AllByRecursion (MayFind login) found.new.items) }
+        ensures same { Stays K.terms self.old.keep self.new.keep }
+        ensures ids { self.new.ids ≡ self.old.ids }
+        ensures counts { Counted K.terms self.old.keep self.new.keep 0 0 }
+        ensures cause { HasCause (K.terms.failures self.old.keep) (K.terms.failures self.new.keep) result }
+    {
+        search_kept(alloc, &mut self.keep, &self.ids, login, template, found)
+    }
+
+    /// Adds a token object at the end. There is room for its id before it is written.
+    pub fn insert(&mut self, object: &Object) -> Result<u64, KeepFault>
+        requires { IsTokenObject object.now }
+        ensures id { K.terms.doubt self.new.keep ≡ 0 → (c : Contents) → Has K.terms self.old c → IfOk result (λ id. id ≡ c.last_id + 1) }
+        ensures has { K.terms.doubt self.new.keep ≡ 0 → (c : Contents) → Has K.terms self.old c → OnOk result (Has K.terms self.new (with_object object.now c)) }
+        ensures leaves { (c : Contents) → Has K.terms self.old c → OnOk result (LeavesAlone K.terms self.new (with_object object.now c)) }
+        ensures same { (c : Contents) → Has K.terms self.old c → OnErr result (Has K.terms self.new c) }
+        ensures leaves_or { (c : Contents) → Has K.terms self.old c → OnErr result (LeavesOr K.terms self.old self.new (with_object object.now c)) }
+        ensures counts { Counted K.terms self.old.keep self.new.keep 0 1 }
+        ensures cause { HasCause (K.terms.failures self.old.keep) (K.terms.failures self.new.keep) result }
+    {
+        self.ids.reserve(1)?;
+        let id = self.keep.insert(object)?;
+        self.ids.push_reserved(id);
+        Ok(id)
+    }
+
+    /// Puts another token object in the place of the one under an id.
+    pub fn replace(&mut self, id: u64, object: &Object) -> Result<(), KeepFault>
+        requires { IsTokenObject object.now }
+        ensures has { (c : Contents) → Has K.terms self.old c → OnOk result (Has K.terms self.new (with_replacement id object.now c)) }
+        ensures leaves { (c : Contents) → Has K.terms self.old c → OnOk result (LeavesAlone K.terms self.new (with_replacement id object.now c)) }
+        ensures same { (c : Contents) → Has K.terms self.old c → OnErr result (Has K.terms self.new c) }
+        ensures leaves_or { (c : Contents) → Has K.terms self.old c → OnErr result (LeavesOr K.terms self.old self.new (with_replacement id object.now c)) }
+        ensures counts { Counted K.terms self.old.keep self.new.keep 0 1 }
+        ensures cause { HasCause (K.terms.failures self.old.keep) (K.terms.failures self.new.keep) result }
+    {
+        self.keep.replace(id, object)?;
+        Ok(())
+    }
+
+    /// Removes the object under an id.
+    pub fn remove(&mut self, id: u64) -> Result<(), KeepFault>
+        ensures has { (c : Contents) → Has K.terms self.old c → OnOk result (Has K.terms self.new (without_object id c)) }
+        ensures leaves { (c : Contents) → Has K.terms self.old c → OnOk result (LeavesAlone K.terms self.new (without_object id c)) }
+        ensures same { (c : Contents) → Has K.terms self.old c → OnErr result (Has K.terms self.new c) }
+        ensures leaves_or { (c : Contents) → Has K.terms self.old c → OnErr result (LeavesOr K.terms self.old self.new (without_object id c)) }
+        ensures counts { Counted K.terms self.old.keep self.new.keep 0 1 }
+        ensures cause { HasCause (K.terms.failures self.old.keep) (K.terms.failures self.new.keep) result }
+    {
+        self.keep.remove(id)?;
+        remove_id(&mut self.ids, id);
+        Ok(())
+    }
+}
+
+/// Where an id stands among ids that rise, or where it would go.
+fn index_of_id(ids: &[u64], id: u64) -> Result<usize, usize>
+    ensures { KeysRise (λ i. i) ids.now → IsIndexOf (λ i. i) ids.now id result }
+{
+    ids.binary_search_by_key(&id, |i| *i)
+}
+
+fn remove_id(ids: &mut Vec<u64>, id: u64)
+    ensures { ids.new.items ≡ filter (λ i. not (i == id)) ids.old.items }
+{
+    ids.retain(|i| *i != id);
+}

@@ -1,0 +1,146 @@
+//! A thread that is not started.
+
+ghost use Rattle.std.specs.Prelude.{◌≡◌, None, true, IfOk};
+
+use ck_calls::{Call, Reply};
+use hall::{Gate, HallFault, Held, Seat, SeatEvent, hold_with};
+use keep::{Keep, ListKeep};
+use pin_record::Record;
+use std::alloc::Global;
+use std::sync::atomic::{AtomicBool, Ordering};
+use std::sync::{Arc, Wait};
+use std::test::*;
+use std::thread::Threads;
+use test_scripts::{Token, opened_session, token_over, told_code};
+
+/// A seat that has no event, and notes that it was asked for one.
+#[derive(Drop)]
+struct Silent {
+    number: u64,
+    is_asked: Arc<AtomicBool, Global>,
+    has_ended: bool,
+}
+
+impl Silent {
+    fn new(number: u64, is_asked: &Arc<AtomicBool, Global>) -> Result<Silent, Fail>
+        ensures { IfOk result (λ seat. seat.number ≡ number) }
+    {
+        Ok(Silent {
+            number,
+            is_asked: Arc::try_clone(is_asked)?,
+            has_ended: false,
+        })
+    }
+}
+
+impl Seat for Silent {
+    ghost number = { λ s. s.number };
+
+    ghost over = { λ s. s.has_ended ≡ true };
+
+    ghost gone = { λ s app. Unit {0} };
+
+    ghost ready = { λ s. Unit {0} };
+
+    ghost asked = { λ s. None };
+
+    ghost heard = { λ s. None };
+
+    fn next(&mut self) -> Option<SeatEvent> {
+        self.is_asked.store(true, Ordering::SeqCst);
+        self.has_ended = true;
+        None
+    }
+
+    fn take(&mut self, _app: u64, _reply: Reply) {}
+}
+
+#[derive(Drop)]
+struct Open;
+
+impl Gate for Open {
+    fn pass(&self, _seat: usize, _app: u64) {}
+}
+
+/// A token with one session, of application 1.
+fn token_with_session<K: Keep>(alloc: Global, keep: K) -> Result<Token<K>, Fail> {
+    let mut token = token_over(alloc, keep)?;
+    match opened_session(alloc, &mut token, 1) {
+        Ok(_) => Ok(token),
+        Err(fault) => {
+            drop(token);
+            Err(fault)
+        }
+    }
+}
+
+/// Whether application 1 has its session.
+fn has_session<K: Keep>(alloc: Global, token: &mut Token<K>) -> Result<bool, Fail> {
+    let ask = Call::GetSessionInfo { session: 1 };
+    Ok(told_code(alloc, token, 1, ask)?.is_none())
+}
+
+/// Sees whether all seats were asked, where no stack is too large; or that none was, that this is told, and that the token comes
+/// back as it was.
+fn expect_asked<K: Keep, R: Threads + Wait + Copy + Send + Drop + 'static>(
+    rt: R,
+    alloc: Global,
+    keep: K,
+    stacks: (usize, usize, usize, usize),
+    is_started: bool,
+) -> Result<(), Fail> {
+    let is_asked = Arc::new(alloc, AtomicBool::new(false))?;
+    let seats = (
+        Silent::new(0, &is_asked)?,
+        Silent::new(1, &is_asked)?,
+        Silent::new(2, &is_asked)?,
+        Silent::new(3, &is_asked)?,
+    );
+    let gate = Arc::new(alloc, Open)?;
+    let token = token_with_session(alloc, keep)?;
+    let (was_started, mut token) = match hold_with(rt, alloc, token, seats, &gate, stacks) {
+        Ok(
+            Held {
+                token,
+                seats,
+                passes,
+            },
+        ) => {
+            drop(seats);
+            drop(passes);
+            (true, token)
+        }
+        Err((fault, token)) => (fault != HallFault::Thread, token),
+    };
+    let has_session = has_session(alloc, &mut token);
+    drop(token);
+    if !has_session? {
+        return Err("the token is another one".into());
+    }
+    if was_started == is_started && is_asked.load(Ordering::SeqCst) == is_started {
+        Ok(())
+    } else {
+        Err("seats were asked, or none".into())
+    }
+}
+
+/// A stack that no thread has room for.
+const LARGE: usize = usize::MAX;
+
+const STACKS: &[(usize, usize, usize, usize)] = &[
+    (LARGE, 0, 0, 0),
+    (0, LARGE, 0, 0),
+    (0, 0, LARGE, 0),
+    (0, 0, 0, LARGE),
+];
+
+#[test]
+fn no_seat_is_asked_where_a_thread_is_not_started(rt: HostRuntime) -> Result<(), Fail> {
+    let alloc = rt.alloc();
+    for stacks in STACKS {
+        let keep = ListKeep::new(alloc, Record::new());
+        expect_asked(rt, alloc, keep, *stacks, false)?;
+    }
+    let keep = ListKeep::new(alloc, Record::new());
+    expect_asked(rt, alloc, keep, (0, 0, 0, 0), true)
+}

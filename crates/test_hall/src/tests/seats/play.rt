@@ -1,0 +1,151 @@
+//! Rows that four seats play.
+
+ghost use Rattle.std.specs.Prelude.{◌≡◌, IfOk};
+
+use super::gate::TurnGate;
+use super::seat::TurnSeat;
+use super::turns::Turns;
+use ck_calls::Reply;
+use hall::{Held, hold};
+use keep::{Keep, ListKeep};
+use pin_record::Record;
+use std::alloc::Global;
+use std::sync::{Arc, Wait};
+use std::test::Fail;
+use std::thread::Threads;
+use std::time::Clock;
+use test_scripts::{Row, Script, cached_list, reply_of, token_over};
+
+type Seats<R> = (TurnSeat<R>, TurnSeat<R>, TurnSeat<R>, TurnSeat<R>);
+
+/// What the applications of a seat were told.
+type Told = Vec<(u64, Reply)>;
+
+/// Sees it over a list with this record, and over one behind a cache.
+pub(crate) fn hold_over_lists<R: Threads + Wait + Clock + Copy + Send + Sync + Drop + 'static>(
+    rt: R,
+    alloc: Global,
+    record: Record,
+    script: Script<'_>,
+) -> Result<(), Fail> {
+    hold_rows(rt, alloc, ListKeep::new(alloc, record), script)?;
+    hold_rows(rt, alloc, cached_list(alloc, record)?, script)
+}
+
+/// Sees that four seats that play the rows of a script before a new token over the keeper are told what these say, and that each
+/// row had its turn. An application makes no step while its own question is pending, and none where another one of its seat waits.
+pub(crate) fn hold_rows<K: Keep, R: Threads + Wait + Clock + Copy + Send + Sync + Drop + 'static>(
+    rt: R,
+    alloc: Global,
+    keep: K,
+    (name, rows): Script<'_>,
+) -> Result<(), Fail> {
+    let turns = Arc::new(alloc, Turns::new(Vec::from_slice(alloc, rows)?))?;
+    expect_all(
+        alloc,
+        (name, rows),
+        told_by_seats(rt, alloc, keep, rows, &turns)?,
+    )?;
+    if turns.went_on() {
+        Ok(())
+    } else {
+        Err(Fail::new(format_args!("{name}: a turn never came")))
+    }
+}
+
+/// What the applications of each seat were told.
+fn told_by_seats<K: Keep, R: Threads + Wait + Clock + Copy + Send + Sync + Drop + 'static>(
+    rt: R,
+    alloc: Global,
+    keep: K,
+    rows: &[Row],
+    turns: &Arc<Turns, Global>,
+) -> Result<(Told, Told, Told, Told), Fail> {
+    let token = token_over(alloc, keep)?;
+    let gate = gate_in(rt, alloc, turns)?;
+    let seats = seats_in(rt, alloc, turns, rows)?;
+    match hold(rt, alloc, token, seats, &gate) {
+        Ok(held) => {
+            let Held { seats, .. } = held;
+            Ok(told_of(seats))
+        }
+        Err(fault) => {
+            drop(fault);
+            Err("the seats were not held".into())
+        }
+    }
+}
+
+fn gate_in<R: Clock + Copy + Drop>(
+    rt: R,
+    alloc: Global,
+    turns: &Arc<Turns, Global>,
+) -> Result<Arc<TurnGate<R>, Global>, Fail> {
+    let turns = Arc::try_clone(turns)?;
+    Ok(Arc::new(alloc, TurnGate { rt, turns })?)
+}
+
+fn seats_in<R: Clock + Copy + Drop>(
+    rt: R,
+    alloc: Global,
+    turns: &Arc<Turns, Global>,
+    rows: &[Row],
+) -> Result<Seats<R>, Fail>
+    ensures { IfOk result (λ seats. (seats.0.number ≡ 0) × (seats.1.number ≡ 1) × (seats.2.number ≡ 2) × (seats.3.number ≡ 3)) }
+{
+    let first = TurnSeat::new(rt, alloc, Arc::try_clone(turns)?, rows, 0)?;
+    let second = TurnSeat::new(rt, alloc, Arc::try_clone(turns)?, rows, 1)?;
+    let third = TurnSeat::new(rt, alloc, Arc::try_clone(turns)?, rows, 2)?;
+    let fourth = TurnSeat::new(rt, alloc, Arc::try_clone(turns)?, rows, 3)?;
+    Ok((first, second, third, fourth))
+}
+
+fn told_of<R: Clock + Drop>(seats: Seats<R>) -> (Told, Told, Told, Told) {
+    (
+        seats.0.into_told(),
+        seats.1.into_told(),
+        seats.2.into_told(),
+        seats.3.into_told(),
+    )
+}
+
+/// Sees that the applications of all seats were told what the rows say.
+fn expect_all(
+    alloc: Global,
+    script: Script<'_>,
+    told: (Told, Told, Told, Told),
+) -> Result<(), Fail> {
+    expect(alloc, script, 0, &told.0)
+        .and_then(|()| expect(alloc, script, 1, &told.1))
+        .and_then(|()| expect(alloc, script, 2, &told.2))
+        .and_then(|()| expect(alloc, script, 3, &told.3))
+}
+
+/// Sees that the applications of a seat were told what the rows say.
+fn expect(
+    alloc: Global,
+    (name, rows): Script<'_>,
+    seat: u64,
+    told: &[(u64, Reply)],
+) -> Result<(), Fail> {
+    let mut rest = told;
+    for (number, (app, step, wanted)) in rows.iter().enumerate() {
+        if app % 4 != seat {
+            continue;
+        }
+        if let Some(reply) = reply_of(alloc, *wanted)? {
+            if rest.first() != Some(&(*app, reply)) {
+                return Err(Fail::new(format_args!(
+                    "{name}, row {number} of seat {seat}: got {:?}, by {step:?}",
+                    rest.first()
+                )));
+            }
+            rest = rest.get(1..).unwrap_or(&[]);
+        }
+    }
+    if rest.is_empty() {
+        Ok(())
+    } else {
+        Err("replies that no row tells".into())
+    }
+}

@@ -1,0 +1,161 @@
+//! A seat that plays its rows of a script, each in its turn.
+
+ghost use Rattle.std.specs.Prelude.{◌≡◌, ◌%◌, None, true, IfNone, IfSome, IfOk, IsTrue};
+ghost use Rattle.hall.specs.SeatEvents.{seat_app, Notes};
+ghost use Rattle.test_hall.specs.Gone.{is_gone};
+
+use super::turns::{Turns, is_finish};
+use ck_calls::Reply;
+use hall::{AppCall, Seat, SeatEvent};
+use std::alloc::Global;
+use std::collections::LinkedList;
+use std::sync::Arc;
+use std::test::Fail;
+use std::time::Clock;
+use test_scripts::{Row, Step, call_of, random_for};
+
+#[derive(Drop)]
+pub(crate) struct TurnSeat<R: Clock + Drop> {
+    rt: R,
+    turns: Arc<Turns, Global>,
+    number: u64,
+    /// What is left to be put, each with the place of its row.
+    events: LinkedList<(usize, SeatEvent)>,
+    /// The application that goes by the row that was begun last.
+    going: Option<u64>,
+    gone: Vec<u64>,
+    told: Vec<(u64, Reply)>,
+    has_ended: bool,
+}
+
+impl<R: Clock + Drop> TurnSeat<R> {
+    /// The seat with this number, which plays those of the rows that are its own.
+    pub(crate) fn new(
+        rt: R,
+        alloc: Global,
+        turns: Arc<Turns, Global>,
+        rows: &[Row],
+        number: u64,
+    ) -> Result<TurnSeat<R>, Fail>
+        ensures { IfOk result (λ seat. seat.number ≡ number) }
+    {
+        let events = events_of(alloc, rows, number)?;
+        Ok(TurnSeat {
+            rt,
+            turns,
+            number,
+            events,
+            going: None,
+            gone: Vec::new(alloc),
+            told: Vec::new(alloc),
+            has_ended: false,
+        })
+    }
+
+    /// What its applications were told, in order.
+    pub(crate) fn into_told(self) -> Vec<(u64, Reply)> {
+        self.told
+    }
+
+    /// The next of its events, in its turn.
+    fn next_event(&mut self) -> Option<SeatEvent>
+        ensures number { self.new.number ≡ self.old.number }
+        ensures gone { self.new.gone ≡ self.old.gone }
+    {
+        if let Some(app) = self.going.take() {
+            self.turns.go_on(app);
+        }
+        let (place, event) = self.events.pop_front()?;
+        if self.turns.wait_for(&self.rt, place) {
+            Some(event)
+        } else {
+            drop(event);
+            None
+        }
+    }
+
+    /// Whether the event is one of its applications, and none that has gone before. Of an application that goes this is noted;
+    /// false where memory ran out.
+    fn may_put(&mut self, event: &SeatEvent) -> bool
+        ensures number { self.new.number ≡ self.old.number }
+        ensures own { IsTrue result → seat_app event.now % 4 ≡ self.old.number }
+        ensures there { IsTrue result → ¬ IsTrue (is_gone self.old.gone.items (seat_app event.now)) }
+        ensures goes { IsTrue result → Notes (λ gone. IsTrue (is_gone self.new.gone.items gone)) event.now }
+        ensures gone { (app : _) → IsTrue (is_gone self.old.gone.items app) → IsTrue (is_gone self.new.gone.items app) }
+    {
+        let app = app_of(event);
+        if app % 4 != self.number || self.gone.contains(&app) {
+            return false;
+        }
+        match event {
+            SeatEvent::Call(_) => true,
+            SeatEvent::Gone { app } => {
+                self.going = Some(*app);
+                self.gone.push(*app).is_ok()
+            }
+        }
+    }
+}
+
+fn app_of(event: &SeatEvent) -> u64
+    ensures { result ≡ seat_app event.now }
+{
+    match event {
+        SeatEvent::Call(call) => call.app,
+        SeatEvent::Gone { app } => *app,
+    }
+}
+
+/// The events of the rows that a seat begins, each with the place of its row. A question is begun by its call.
+fn events_of(
+    alloc: Global,
+    rows: &[Row],
+    number: u64,
+) -> Result<LinkedList<(usize, SeatEvent)>, Fail> {
+    let mut events = LinkedList::new(alloc);
+    for (place, (app, step, _)) in rows.iter().enumerate() {
+        if app % 4 == number && !is_finish(*step) {
+            events.push_back((place, event_of(alloc, *app, *step)?))?;
+        }
+    }
+    Ok(events)
+}
+
+fn event_of(alloc: Global, app: u64, step: Step) -> Result<SeatEvent, Fail> {
+    if let Step::Goes = step {
+        return Ok(SeatEvent::Gone { app });
+    }
+    let call = call_of(alloc, step)?;
+    let words = random_for(alloc, &call)?;
+    Ok(SeatEvent::Call(AppCall { app, call, words }))
+}
+
+impl<R: Clock + Drop> Seat for TurnSeat<R> {
+    ghost number = { λ s. s.number };
+
+    ghost over = { λ s. s.has_ended ≡ true };
+
+    ghost gone = { λ s app. IsTrue (is_gone s.gone.items app) };
+
+    ghost ready = { λ s. Unit {0} };
+
+    ghost asked = { λ s. None };
+
+    ghost heard = { λ s. None };
+
+    fn next(&mut self) -> Option<SeatEvent> {
+        if let Some(event) = self.next_event() {
+            if self.may_put(&event) {
+                return Some(event);
+            }
+            drop(event);
+        }
+        self.has_ended = true;
+        None
+    }
+
+    fn take(&mut self, app: u64, reply: Reply) {
+        let _ = self.told.push((app, reply));
+        self.turns.go_on(app);
+    }
+}

@@ -1,0 +1,10 @@
+use Rattle.std.proofs.Common.{◌≡◌, sym, ap, subst}
+use Rattle.test_keepers.proofs.unread_keep.UnreadKeepKeep.set_record.Goals as goal
+
+pub returns-in-Ok-clause-ok : goal.returns-in-Ok-clause-ok
+returns-in-Ok-clause-ok g c =
+    let same : c.self.inside.keep ≡ c.args.self.now.keep = ap (λ u. u.keep) c.self.view_is in
+    record {
+      held = λ k h. c.in-Ok.ensures.ok.held k (subst (λ x. g.K.Keep.terms.holds x k) (sym same) h);
+      crash = λ k left h may. c.in-Ok.ensures.ok.crash k left (subst (λ x. g.K.Keep.terms.holds x k) (sym same) h) may;
+    }

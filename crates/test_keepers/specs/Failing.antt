@@ -1,0 +1,18 @@
+-- What contracts see of a keeper that fails.
+use Rattle.std.specs.Prelude.{ℕ}
+use Rattle.test_keepers.specs.declared.Failure.{Failure}
+
+pub record FailingState (K : Type 0) : Type 0 where
+  -- the keeper that is asked
+  pub keep : K
+  -- how many calls there are up to the one that fails, 0 where none does any more
+  pub left : ℕ
+  pub failure : Failure
+  pub failures : ℕ
+  -- how many writes were tried
+  pub tried : ℕ
+
+pub record UnreadState (K : Type 0) : Type 0 where
+  -- the keeper that is asked
+  pub keep : K
+  pub failures : ℕ

@@ -1,0 +1,166 @@
+//! Peers of the daemon that cut their streams, send lengths above the limit, or are gone before their reply.
+
+use super::daemon::{clear, connect, expect, expect_end, start_for};
+use super::{OPEN_SESSION, SESSION_ONE};
+use hall::{Seat, SeatEvent};
+use log::sink::Discard;
+use programs::SocketSeat;
+use std::io::{Read, Write};
+use std::net::Shutdown;
+use std::os::unix::net::{UnixListener, UnixStream};
+use std::sync::Arc;
+use std::sync::atomic::{AtomicBool, Ordering};
+use std::test::*;
+use test_scripts::{FIRST_REPLIES, FIRST_RUN};
+use wire::read_reply;
+
+/// The files of each test.
+const CUT: &[&str] = &["cut.seed", "cut.sock"];
+
+const TOO_LONG: &[&str] = &["long.seed", "long.sock"];
+
+const UNREAD: &[&str] = &["unread.sock"];
+
+const STOPPED: &[&str] = &["stopped.sock"];
+
+/// All that is answered to a connection of which these bytes come and no more.
+fn answered(rt: &HostRuntime, socket: &str, sent: &[u8]) -> Result<Vec<u8>, Fail> {
+    let mut stream = connect(rt, socket)?;
+    stream.write_all(sent)?;
+    stream.shutdown(Shutdown::Write)?;
+    let mut got = Vec::new(rt.alloc());
+    stream.read_to_end(&mut got)?;
+    Ok(got)
+}
+
+/// How many bytes of the first run's replies answer its whole frames among so many bytes.
+fn replied(cut: usize) -> usize {
+    let mut len = 0;
+    for (calls, replies) in [(22, 20), (121, 40), (156, 52), (199, 85)] {
+        if calls <= cut {
+            len = replies;
+        }
+    }
+    len
+}
+
+#[test]
+fn a_stream_that_is_cut_gets_the_replies_of_its_whole_frames(rt: HostRuntime) -> Result<(), Fail> {
+    clear(&rt, CUT);
+    // 200 connections, after each number of bytes from 0 to 199.
+    let daemon = start_for(&rt, rt, ":memory:", "cut.sock", "cut.seed", "50")?;
+    for cut in 0..200 {
+        let got = answered(&rt, "cut.sock", FIRST_RUN.get(..cut).unwrap_or(&[]))?;
+        let is_so = FIRST_REPLIES.get(..replied(cut)) == Some(got.as_slice());
+        assert!(rt; is_so, "after {cut} bytes");
+    }
+    expect_end(rt, daemon)?;
+    clear(&rt, CUT);
+    Ok(())
+}
+
+#[test]
+fn a_length_above_the_limit_ends_its_connection_alone(rt: HostRuntime) -> Result<(), Fail> {
+    clear(&rt, TOO_LONG);
+    let daemon = start_for(&rt, rt, ":memory:", "long.sock", "long.seed", "1")?;
+    for length in [
+        b"\x00\x10\x00\x01",
+        b"\x7f\xff\xff\xff",
+        b"\xff\xff\xff\xff",
+    ] {
+        let mut sent = Vec::from_slice(rt.alloc(), OPEN_SESSION)?;
+        sent.extend_from_slice(length)?;
+        sent.extend_from_slice(OPEN_SESSION)?;
+        let got = answered(&rt, "long.sock", &sent)?;
+        assert_eq!(rt; got.as_slice(), SESSION_ONE);
+    }
+    expect(&rt, "long.sock", FIRST_RUN, FIRST_REPLIES)?;
+    expect_end(rt, daemon)?;
+    clear(&rt, TOO_LONG);
+    Ok(())
+}
+
+/// What a seat asks, and of which application.
+#[derive(Clone, Copy, Debug, PartialEq, Eq)]
+enum Asks {
+    Call(u64),
+    Gone(u64),
+    Nothing,
+}
+
+fn what_is_asked(event: Option<SeatEvent>) -> Asks {
+    match event {
+        Some(SeatEvent::Call(call)) => {
+            let app = call.app;
+            drop(call);
+            Asks::Call(app)
+        }
+        Some(SeatEvent::Gone { app }) => Asks::Gone(app),
+        None => Asks::Nothing,
+    }
+}
+
+/// A peer that has sent two calls.
+fn send_twice(rt: &HostRuntime, socket: &str) -> Result<UnixStream, Fail> {
+    let mut peer = UnixStream::connect(rt, socket)?;
+    peer.write_all(OPEN_SESSION)?;
+    peer.write_all(OPEN_SESSION)?;
+    Ok(peer)
+}
+
+/// Gives a seat a reply.
+fn give(rt: &HostRuntime, seat: &mut SocketSeat<Discard>) -> Result<(), Fail> {
+    let reply = read_reply(rt.alloc(), 7, SESSION_ONE.get(4..).unwrap_or(&[]))?;
+    seat.take(3, reply);
+    Ok(())
+}
+
+/// What a seat asks whose peer is gone before its reply: before that, and after.
+fn asked_of(rt: &HostRuntime, seat: &mut SocketSeat<Discard>) -> Result<(Asks, Asks, Asks), Fail> {
+    let peer = send_twice(rt, "unread.sock")?;
+    let first = what_is_asked(seat.next());
+    drop(peer);
+    give(rt, seat)?;
+    let then = what_is_asked(seat.next());
+    Ok((first, then, what_is_asked(seat.next())))
+}
+
+#[test]
+fn a_reply_that_cannot_be_written_is_followed_by_gone(rt: HostRuntime) -> Result<(), Fail> {
+    clear(&rt, UNREAD);
+    let listener = UnixListener::bind(&rt, "unread.sock")?;
+    let is_stopping = Arc::new(rt.alloc(), AtomicBool::new(false))?;
+    let mut seat = SocketSeat::new(rt.alloc(), Discard, is_stopping, listener, [0; 32], 3, 1);
+    let asked = asked_of(&rt, &mut seat);
+    let has_failed = seat.has_failed();
+    drop(seat);
+    clear(&rt, UNREAD);
+    assert!(rt; !has_failed);
+    assert!(rt; asked? == (Asks::Call(3), Asks::Gone(3), Asks::Nothing));
+    Ok(())
+}
+
+/// What a seat does that is told to stop while a connection waits, and how it ended.
+fn stopped(rt: &HostRuntime) -> Result<(Asks, Asks, Asks, bool), Fail> {
+    let listener = UnixListener::bind(rt, "stopped.sock")?;
+    let is_stopping = Arc::new(rt.alloc(), AtomicBool::new(false))?;
+    let told = Arc::try_clone(&is_stopping)?;
+    let mut seat = SocketSeat::new(rt.alloc(), Discard, is_stopping, listener, [0; 32], 3, 5);
+    let peer = send_twice(rt, "stopped.sock")?;
+    let first = what_is_asked(seat.next());
+    told.store(true, Ordering::SeqCst);
+    give(rt, &mut seat)?;
+    let then = what_is_asked(seat.next());
+    drop(peer);
+    Ok((first, then, what_is_asked(seat.next()), seat.has_failed()))
+}
+
+#[test]
+fn a_seat_that_is_told_to_stop_reads_and_accepts_no_more(rt: HostRuntime) -> Result<(), Fail> {
+    clear(&rt, STOPPED);
+    let ended = stopped(&rt);
+    clear(&rt, STOPPED);
+    // The second call is not asked, though it has come, and the seat is over before its five connections.
+    assert!(rt; ended? == (Asks::Call(3), Asks::Gone(3), Asks::Nothing, false));
+    Ok(())
+}

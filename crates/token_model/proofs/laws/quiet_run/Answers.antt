@@ -1,5 +1,0 @@
-use Rattle.token_model.proofs.RunLaws.{quiet-replies, quiet-run-views}
-use Rattle.token_model.proofs.laws.quiet_run.Goals as goal
-
-pub returns : goal.returns
-returns c = record { replies = quiet-replies; views = quiet-run-views }

@@ -1,5 +1,0 @@
-use Rattle.token_model.proofs.Seen.{left-out, nothing-saw}
-use Rattle.token_model.proofs.laws.seen_changes.Goals as goal
-
-pub returns : goal.returns
-returns c = record { left_out = left-out; only = nothing-saw }

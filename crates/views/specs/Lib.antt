@@ -1,7 +1,0 @@
-pub mod Outcomes
-pub mod Views
-pub mod Changes
-pub mod Answering
-pub mod Refusals
-pub mod Checked
-pub mod Calls
