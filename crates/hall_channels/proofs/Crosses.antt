@@ -42,7 +42,7 @@ use Rattle.hall_channels.specs.contracts.messages.Event as Event
 use Rattle.hall_channels.specs.contracts.messages.Message as Message
 use Rattle.hall_channels.specs.contracts.messages.Inward as Inward
 use Rattle.hall_channels.specs.contracts.messages.Outward as Outward
-use Rattle.noted.specs.contracts.GhostBytes as GhostBytes
+use Rattle.lists.specs.contracts.ghost_bytes.GhostBytes as GhostBytes
 use Rattle.streams.specs.contracts.stream.Stream.TheInside as Inside
 use Rattle.aes_block.specs.contracts.Key as Key
 use Rattle.hall_channels.specs.contracts.messages.AppCall as AppCall

@@ -7,7 +7,7 @@ ghost use Rattle.macs.specs.KeyedMessage.{empty_message, longer_message};
 
 use aes_block::{BLOCK_SIZE, Block, Key};
 use aes_cmac::{chained_on, tag_of_end};
-use noted::GhostBytes;
+use lists::GhostBytes;
 use std::marker::Model;
 
 /// A CMAC of a message in parts. It keeps what the blocks before the last are chained to, and the

@@ -5,7 +5,7 @@ ghost use Rattle.hmac_sha2.specs.Hmac.{hmac};
 ghost use Rattle.macs.specs.KeyedMessage.{empty_message, longer_message};
 
 use hmac_sha2::{HashFunction, Hmac};
-use noted::GhostBytes;
+use lists::GhostBytes;
 use std::marker::Model;
 
 /// An HMAC of a message in parts under any of the hash functions. It keeps the states of two

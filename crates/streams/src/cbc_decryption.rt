@@ -10,7 +10,7 @@ use crate::kept::Kept;
 use crate::passed::Passed;
 use aes_block::{BLOCK_SIZE, Block, Key, are_bytes, xor_blocks};
 use aes_modes::{ModeFault, unpadded_len};
-use noted::GhostBytes;
+use lists::GhostBytes;
 use std::alloc::{AllocError, Global};
 use std::marker::Model;
 

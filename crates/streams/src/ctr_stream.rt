@@ -10,7 +10,7 @@ ghost use Rattle.streams_model.specs.Countings.{begun_counting, counted_further,
 use crate::kept::Kept;
 use aes_block::{BLOCK_SIZE, Block, Key, are_bytes};
 use aes_modes::{CounterBits, ModeFault, filled_block, push_number, xor_number};
-use noted::GhostBytes;
+use lists::GhostBytes;
 use std::alloc::{AllocError, Global};
 use std::marker::Model;
 

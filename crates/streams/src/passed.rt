@@ -3,7 +3,7 @@
 ghost use Rattle.std.specs.Prelude.{◌≡◌, ◌+◌, ◌*◌, ◌≤◌, ◌++◌, [], length, drop};
 
 use crate::kept::Kept;
-use noted::GhostBytes;
+use lists::GhostBytes;
 
 /// All data that a stream took and all bytes that it gave, of which contracts alone speak, and the
 /// data that it has yet to work on.

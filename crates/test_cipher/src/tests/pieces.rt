@@ -1,7 +1,7 @@
 use crate::tests::given::{TEXT, bytes_of, key_of};
 use aes_block::{Block, Key};
 use aes_modes::{CounterBits, Direction, ModeFault, cbc, cbc_pad, ctr, ecb};
-use noted::GhostBytes;
+use lists::GhostBytes;
 use std::alloc::Global;
 use std::mem::size_of;
 use std::test::Fail;

@@ -29,12 +29,12 @@ use denote.Triple.Entry.{on_entry, alive}
 use denote.Triple.Spec.{Meets, triple_of}
 use denote.Triple.Table.{entered}
 use denote.Triple.Walked.{says, Stays, stay_dropped, walk_of, ends_at, Goes-dropped, walk_Meets}
-use Rattle.noted.specs.declared.GhostBytes.{GhostBytes}
-use Rattle.noted.specs.contracts.GhostBytes as T
-use Rattle.noted.specs.contracts.GhostBytes.copied.Key.{name as #it}
-use Rattle.noted.specs.contracts.GhostBytes.copied as it
-use Rattle.noted.proofs.GhostBytes.copied.Statement as stated
-use Rattle.noted.proofs.GhostBytes.copied.Code as code
+use Rattle.lists.specs.declared.ghost_bytes.GhostBytes.{GhostBytes}
+use Rattle.lists.specs.contracts.ghost_bytes.GhostBytes as T
+use Rattle.lists.specs.contracts.ghost_bytes.GhostBytes.copied.Key.{name as #it}
+use Rattle.lists.specs.contracts.ghost_bytes.GhostBytes.copied as it
+use Rattle.lists.proofs.ghost_bytes.GhostBytes.copied.Statement as stated
+use Rattle.lists.proofs.ghost_bytes.GhostBytes.copied.Code as code
 
 abbrev stayed : Stays (it.ended).signature.params (it.ended).kept
 stayed = (stay_dropped (RefOf (0 ∷ []) tt (plain (λ _. T.the_row)) (λ _. tt)) yes, tt)

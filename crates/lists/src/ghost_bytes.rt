@@ -5,15 +5,6 @@
 //!
 //! What a `GhostBytes` holds is worth what an invariant beside it says: a clause on the bytes alone is met
 //! by a body that does nothing else.
-//!
-//! ```rust
-//! use noted::GhostBytes;
-//!
-//! let mut taken = GhostBytes::new();
-//! taken.push(b"abc");
-//! let same = taken.copied();
-//! ```
-#![tactic(auto)]
 
 ghost use Rattle.std.specs.Prelude.{◌≡◌, ℕ, List, [], ◌++◌};
 ghost use Rattle.std.specs.Borrow.{ftrue};
