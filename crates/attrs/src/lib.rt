@@ -32,7 +32,6 @@ pub use check::{
     attribute_in, class_from, class_in, find_attribute, fits_form, fits_key_type, key_type_from,
     key_type_in, number_in,
 };
-pub use ck_types::Template;
 pub use fault::DecodeFault;
 pub use object::Object;
 pub use old_stored::decode_old;

@@ -3,10 +3,10 @@
 use ck_calls::{Call, Reply, need};
 use ck_types::Rv;
 use keep::ListKeep;
-use line::{Out, Token};
 use pin_record::Record;
 use std::alloc::Global;
 use std::io;
+use token::{Out, Token};
 
 /// The application, and the number of its session.
 const APP: u64 = 1;

@@ -7,11 +7,11 @@ use crate::calls::failed;
 use crate::run::{Run, Unit};
 use ck_calls::Call;
 use keep::ListKeep;
-use line::{Event, Token};
 use pin_record::Record;
 use std::alloc::{AllocError, Global};
 use std::io;
 use std::time::CpuClock;
+use token::{Event, Token};
 
 // The call of the event of this number: each of two applications opens a session, and then asks after it.
 fn event(alloc: Global, number: u32) -> Event

@@ -6,11 +6,11 @@ use ck_calls::Call;
 use ck_types::Bytes;
 use hmac_sha2::pbkdf2;
 use keep::ListKeep;
-use line::Token;
 use pin_record::ROUNDS;
 use std::alloc::Global;
 use std::io;
 use std::time::CpuClock;
+use token::Token;
 
 /// The user types CKU_SO and CKU_USER, and their PINs.
 const SO: u64 = 0;

@@ -18,12 +18,25 @@
 //!
 //! With the argument `small` it works on 64 KiB, 4,096 keys, one text or 100 rounds a row, and
 //! prints the exclusive or of the blocks that were made, or the last block, in place of times: they
-//! are the same on each machine, so that the gate can run it.
+//! are the same on each machine, so that CI can run it. Last it echoes a few times over a socket
+//! `bench.sock` in the folder that it is run in, and prints how often.
 //!
 //! With the argument `pieces` it gives 64 MiB a row to a token, by CBC and by CTR, both ways: as pieces of 65,536 bytes of one
 //! operation (C_EncryptUpdate, C_DecryptUpdate), beside operations of one call each (C_Encrypt, C_Decrypt). With `small` there
 //! are two calls a row. With the argument `memory` it gives a token 1 GiB by C_EncryptUpdate, and prints what memory the
 //! system says it has resident before, amid and after.
+//!
+//! With the arguments `calls SOCKET` it asks a daemon (`tokend serve`) that listens there, whose token may be new and which is not to
+//! serve others meanwhile. It prints round trips a second, and each as a part of a plain echo's:
+//!
+//! - an echo of 32 bytes, by a thread of this program on a socket `SOCKET.echo`;
+//! - C_GetSessionInfo;
+//! - C_EncryptInit by CKM_AES_ECB and C_Encrypt of 16 bytes, counted as one;
+//! - C_EncryptInit by CKM_AES_CBC_PAD and C_Encrypt of 16 KiB, counted as one;
+//! - C_GetSessionInfo by four clients together, each in a thread of its own, beside one.
+//!
+//! With the arguments `objects SOCKET` it makes 10,000 keys of the daemon's token, which stay, and prints how many of them a second.
+//! Then it prints how many reads of a hundred of them, which the daemon's cache holds, and of each in turn, which the store is asked for.
 //!
 //! OpenSSL measures the same ciphers, in processor time too, without the AES instructions of the
 //! processor where the bits that announce these and the carry-less product are masked. Its ECB is
@@ -36,9 +49,13 @@
 #![tactic(auto)]
 
 mod calls;
+mod client;
+mod echo;
 mod events;
 mod frames;
 mod logins;
+mod measures;
+mod objects;
 mod pieces;
 mod reading;
 mod run;
@@ -49,11 +66,14 @@ use aes_modes::Direction;
 use events::events;
 use frames::{cipher, frames};
 use logins::{derivations, logins};
+use measures::{print_calls, print_echo};
+use objects::print_objects;
 use pieces::{print_memory, print_pieces};
 use reading::reading;
 use run::{Report, blocks_apart, chain, chain_back, keys_for_a_block, keys_kept};
 use searching::searching;
 use std::alloc::Global;
+use std::thread::Threads;
 use std::time::CpuClock;
 use std::{env, io};
 use texts::{Work, derivation, over_texts};
@@ -134,25 +154,6 @@ const THROUGH: &[(&str, u32, u32, usize)] = &[
 /// The lengths of keys in bytes.
 const KEY_SIZES: &[usize] = &[16, 24, 32];
 
-/// What is asked for, by the one argument or by none.
-enum Wanted {
-    All(Scale),
-    Pieces,
-    Memory,
-}
-
-fn read_word(rt: &HostRuntime) -> io::Result<Wanted> {
-    let mut words = env::args(rt)?;
-    words.next();
-    match words.next() {
-        None => Ok(Wanted::All(FULL)),
-        Some(word) if word.as_str() == "small" => Ok(Wanted::All(SMALL)),
-        Some(word) if word.as_str() == "pieces" => Ok(Wanted::Pieces),
-        Some(word) if word.as_str() == "memory" => Ok(Wanted::Memory),
-        Some(_) => Err(io::Error::from(io::ErrorKind::InvalidInput)),
-    }
-}
-
 // The rows of a key length.
 fn print_ciphers(
     rt: &(impl CpuClock + Print),
@@ -227,27 +228,52 @@ fn print_head(rt: &impl Print, report: Report) -> io::Result<()> {
     }
 }
 
-fn main(rt: HostRuntime) -> io::Result<()> {
-    let scale = match read_word(&rt)? {
-        Wanted::All(scale) => scale,
-        Wanted::Pieces => {
-            print_head(&rt, Report::Times)?;
-            return print_pieces(&rt, rt.alloc(), Report::Times);
-        }
-        Wanted::Memory => return print_memory(&rt, rt.alloc()),
-    };
-    print_head(&rt, scale.report)?;
+/// Measures all that needs no daemon.
+fn print_all(rt: &HostRuntime, scale: Scale) -> io::Result<()> {
+    print_head(rt, scale.report)?;
     for size in KEY_SIZES {
-        print_ciphers(&rt, rt.alloc(), *size, scale)?;
+        print_ciphers(rt, rt.alloc(), *size, scale)?;
     }
-    over_texts(&rt, rt.alloc(), Work::Hmac, 32, scale.texts)?.print(&rt, 32, scale.report)?;
-    derivation(&rt, scale.rounds)?.print(&rt, 8, scale.report)?;
-    print_logins(&rt, rt.alloc(), scale)?;
-    print_readings(&rt, rt.alloc(), scale)?;
-    print_searches(&rt, rt.alloc(), scale)?;
-    print_lines(&rt, rt.alloc(), scale)?;
+    over_texts(rt, rt.alloc(), Work::Hmac, 32, scale.texts)?.print(rt, 32, scale.report)?;
+    derivation(rt, scale.rounds)?.print(rt, 8, scale.report)?;
+    print_logins(rt, rt.alloc(), scale)?;
+    print_readings(rt, rt.alloc(), scale)?;
+    print_searches(rt, rt.alloc(), scale)?;
+    print_lines(rt, rt.alloc(), scale)?;
     if let Report::Sums = scale.report {
-        print_pieces(&rt, rt.alloc(), Report::Sums)?;
+        print_pieces(rt, rt.alloc(), Report::Sums)?;
     }
-    events(&rt, rt.alloc(), scale.events)?.print(&rt, 0, scale.report)
+    events(rt, rt.alloc(), scale.events)?.print(rt, 0, scale.report)
+}
+
+fn print_usage(rt: &impl Print) -> io::Result<()> {
+    println!(rt; "bench: nothing, or small, pieces, memory, calls SOCKET, objects SOCKET")?;
+    Err(io::Error::from(io::ErrorKind::InvalidInput))
+}
+
+/// Does what the words say, after the program's name.
+fn run<T: Threads>(rt: HostRuntime, threads: &T, words: &[String]) -> io::Result<()> {
+    match words {
+        [_] => print_all(&rt, FULL),
+        [_, what] if what.as_str() == "small" => {
+            print_all(&rt, SMALL)?;
+            print_echo(rt, threads, "bench.sock")
+        }
+        [_, what] if what.as_str() == "pieces" => {
+            print_head(&rt, Report::Times)?;
+            print_pieces(&rt, rt.alloc(), Report::Times)
+        }
+        [_, what] if what.as_str() == "memory" => print_memory(&rt, rt.alloc()),
+        [_, what, socket] if what.as_str() == "calls" => print_calls(rt, threads, socket.as_str()),
+        [_, what, socket] if what.as_str() == "objects" => print_objects(&rt, socket.as_str()),
+        _ => print_usage(&rt),
+    }
+}
+
+fn main(rt: HostRuntime) -> io::Result<()> {
+    let mut words = Vec::new(rt.alloc());
+    for word in env::args(&rt)? {
+        words.push(word)?;
+    }
+    run(rt, &rt, &words)
 }

@@ -7,11 +7,11 @@ use aes_modes::Direction;
 use ck_calls::{Call, Mechanism, Output, Reply};
 use ck_types::{Bytes, MechType};
 use keep::ListKeep;
-use line::Token;
 use std::alloc::Global;
 use std::rt::Files;
 use std::time::CpuClock;
 use std::{fs, io};
+use token::Token;
 
 /// The handle of the key.
 const OBJECT: u64 = 1;

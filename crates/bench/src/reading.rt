@@ -5,10 +5,10 @@ use crate::run::{Run, Unit};
 use ck_calls::{AttributeQuery, Call, Query};
 use ck_types::{AttrType, Bytes, Entry, Template};
 use keep::ListKeep;
-use line::Token;
 use std::alloc::{AllocError, Global};
 use std::io;
 use std::time::CpuClock;
+use token::Token;
 
 /// A public data object of the token.
 const DATA: [(AttrType, &[u8]); 3] = [

@@ -6,10 +6,10 @@ use crate::run::{Run, Unit};
 use ck_calls::{Call, Reply};
 use ck_types::{AttrType, Bytes, Entry, Template};
 use keep::ListKeep;
-use line::Token;
 use std::alloc::{AllocError, Global};
 use std::io;
 use std::time::CpuClock;
+use token::Token;
 
 /// The label of one object in a hundred, and of the others.
 const WANTED: &[u8] = b"wanted";

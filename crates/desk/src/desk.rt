@@ -19,11 +19,13 @@ use attrs::Object;
 use ck_types::{AttrType, SessionState, UserType};
 use handles::Handles;
 use lists::NUMBER_LIMIT;
+use macs::Mac;
 use mech::Job;
-use ops::{Mac, MacPlace, Place, Places, Search, Stream};
+use ops::{MacPlace, Place, Places, Search};
 use sessions::Sessions;
 use std::alloc::{AllocError, Global};
 use std::marker::Model;
+use streams::Stream;
 
 /// How many session objects an application has at most.
 pub const SESSION_OBJECT_LIMIT: usize = 256;

@@ -22,8 +22,5 @@ mod own_object;
 mod question;
 
 pub use desk::{Desk, SESSION_OBJECT_LIMIT};
-pub use lists::NUMBER_LIMIT;
-pub use mech::{Job, Work};
-pub use ops::{Place, Places};
 pub use own_object::OwnObject;
 pub use question::Question;

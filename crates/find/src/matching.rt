@@ -4,8 +4,8 @@ ghost use Rattle.std.specs.Prelude.{◌≡◌};
 ghost use Rattle.attrs.specs.Masking.{mask};
 ghost use Rattle.find.specs.Matching.{entry_matches, template_matches};
 
-use attrs::{Object, Template, find_attribute};
-use ck_types::Entry;
+use attrs::{Object, find_attribute};
+use ck_types::{Entry, Template};
 use guard::reveals_number;
 
 fn matches_entry(entry: &Entry, object: &Object) -> bool

@@ -5,7 +5,8 @@ ghost use Rattle.attrs.specs.Masking.{mask};
 ghost use Rattle.find.specs.Matching.{searched};
 
 use crate::matching::matches;
-use attrs::{Object, Template};
+use attrs::Object;
+use ck_types::Template;
 use std::alloc::AllocError;
 
 /// Takes an object into what a search has found so far, as the last: its note stands for it. An object that the template

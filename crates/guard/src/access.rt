@@ -2,12 +2,13 @@
 
 ghost use Rattle.std.specs.Prelude.{◌≡◌};
 ghost use Rattle.attrs.specs.Masking.{mask};
-ghost use Rattle.guard.specs.Access.{is_rw, is_user, is_visible, is_writable};
+ghost use Rattle.guard.specs.Access.{is_rw, is_user, is_visible, is_writable, may_write};
 
 use attrs::Object;
 use ck_types::{AttrType, SessionState};
 
-fn is_user_state(state: SessionState) -> bool
+/// Whether the user is logged in, by a session's state (PKCS #11 v3.1, 5.6).
+pub fn is_user(state: SessionState) -> bool
     ensures { result ≡ is_user state }
 {
     match state {
@@ -26,12 +27,19 @@ pub fn is_read_write(state: SessionState) -> bool
     }
 }
 
+/// Whether a session in a state may write token objects, or, where `is_token` is false, session objects (PKCS #11 v3.1, 3.3).
+pub fn may_write(state: SessionState, is_token: bool) -> bool
+    ensures { result ≡ may_write state is_token }
+{
+    !is_token || is_read_write(state)
+}
+
 /// Whether a session in a state sees the object (PKCS #11 v3.1, 4.4, CKA_PRIVATE).
 pub fn visible(state: SessionState, object: &Object) -> bool
     ensures access { result ≡ is_visible state object.now }
     ensures on_mask { result ≡ is_visible state (mask object.now) }
 {
-    is_user_state(state) || !object.flag(AttrType::Private)
+    is_user(state) || !object.flag(AttrType::Private)
 }
 
 /// Whether a session in a state may change the object or destroy it (PKCS #11 v3.1, 4.4, CKA_TOKEN).
@@ -39,5 +47,5 @@ pub fn writable(state: SessionState, object: &Object) -> bool
     ensures access { result ≡ is_writable state object.now }
     ensures on_mask { result ≡ is_writable state (mask object.now) }
 {
-    visible(state, object) && (is_read_write(state) || !object.flag(AttrType::Token))
+    visible(state, object) && may_write(state, object.flag(AttrType::Token))
 }

@@ -46,4 +46,3 @@ pub use hall_channels::messages::AppCall;
 pub use holding::{Held, hold, hold_with};
 pub use machine::Machine;
 pub use seats::{Gate, Seat, SeatEvent};
-pub use token::Token;

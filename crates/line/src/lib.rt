@@ -26,6 +26,5 @@ mod words;
 pub use fault::LineFault;
 pub use refusal::reply_to_fault;
 pub use serve::serve_one;
-pub use token::{Event, Out, Token};
 pub use watched::Watched;
 pub use words::Words;

@@ -16,13 +16,14 @@ use crate::key_wrapping::{key_unwrapped, wrapped};
 use crate::message_tags::{signed, taken, verified};
 use crate::outcome::Outcome;
 use crate::work::Work;
+use aes_modes::ModeFault;
 use ck_calls::Function;
 use ck_types::{Bytes, Label, UserType};
-use ops::{ModeFault, Part, Stream};
 use pin_record::Verifier;
 use std::alloc::Global;
 use std::mem;
 use std::snapshot::Snapshot;
+use streams::{Part, Stream};
 
 /// A job that was run, with what came of it in its slot. The job itself is for contracts alone, and takes no bytes.
 #[derive(Drop)]

@@ -8,7 +8,8 @@ ghost use Rattle.mech.specs.Works.{outcome_of};
 use crate::outcome::Outcome;
 use crate::work::Work;
 use ck_types::Bytes;
-use ops::{Mac, MacPlace};
+use macs::Mac;
+use ops::MacPlace;
 use std::alloc::Global;
 
 /// Takes a piece. No memory is taken.

@@ -1,9 +1,12 @@
 //! What work gives.
 
+use aes_modes::Direction;
 use attrs::Object;
 use ck_types::{Bytes, Label, UserType};
-use ops::{Direction, Mac, MacPlace, Stream};
+use macs::Mac;
+use ops::MacPlace;
 use pin_record::Verifier;
+use streams::Stream;
 
 /// What work gives. A verifier in it is new, with `pin_record::ROUNDS`.
 #[derive(Drop)]

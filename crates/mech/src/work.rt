@@ -2,8 +2,10 @@
 
 use aes_block::Key;
 use ck_types::{Bytes, Label, SessionState, Template, UserType};
-use ops::{Mac, MacPlace, Part, Stream};
+use macs::Mac;
+use ops::MacPlace;
 use pin_record::Verifier;
+use streams::{Part, Stream};
 
 /// What is to be done, with all that it needs. A PIN is its bytes, of any number: the limits of a PIN's length are the
 /// call's to test. A salt is the 16 bytes of the verifier that is made, and a label has 32 bytes.

@@ -14,8 +14,6 @@ mod place;
 mod places;
 mod search;
 
-pub use macs::Mac;
 pub use place::{MacPlace, Place};
 pub use places::Places;
 pub use search::Search;
-pub use streams::{Direction, ModeFault, Part, Stream};

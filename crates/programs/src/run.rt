@@ -14,13 +14,14 @@ use crate::upkeep::{backup, check};
 use clap::error::ErrorKind;
 use clap::{ArgMatches, Error};
 use keep::ListKeep;
-use line::{Token, Watched, Words, serve_one};
+use line::{Watched, Words, serve_one};
 use pin_record::Record;
 use std::alloc::Global;
 use std::io::{Read, Write};
 use std::os::unix::net::UnixStream;
 use std::sync::Wait;
 use std::thread::Threads;
+use token::Token;
 
 /// The application of standard input.
 const STDIO_APP: u64 = 0;

@@ -15,7 +15,7 @@ use crate::seed::daemon_seed;
 use crate::store::{FileKeep, keep_private, open_store};
 use cache::Cached;
 use clap::ArgMatches;
-use hall::{Gate, Seat, Token, hold};
+use hall::{Gate, Seat, hold};
 use keep::{Keep, ListKeep};
 use log::{Level, LevelFilter, Log};
 use pin_record::Record;
@@ -26,6 +26,7 @@ use std::os::unix::net::UnixListener;
 use std::sync::atomic::{AtomicBool, Ordering};
 use std::sync::{Arc, Wait};
 use std::thread::Threads;
+use token::Token;
 
 /// How many objects the cache has room for.
 const CAPACITY: usize = 128;

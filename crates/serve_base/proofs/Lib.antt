@@ -10,3 +10,4 @@ pub mod Listing
 mod Searched
 pub mod Lengths
 pub mod Reading
+pub mod Adding

@@ -11,7 +11,8 @@ ghost use Rattle.serve_base.specs.Shown.{Fits, Gives, IsFor, question_of, said_o
 
 use crate::out::Out;
 use ck_calls::{Function, Output, Reply};
-use desk::{Desk, Job, Work};
+use desk::Desk;
+use mech::{Job, Work};
 use std::alloc::{AllocError, Global};
 
 /// The job of a call, for the next question. It allocates.

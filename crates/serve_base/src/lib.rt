@@ -16,6 +16,7 @@
 //! ```
 #![tactic(auto)]
 
+mod adding;
 mod asking;
 mod finding;
 mod keys;
@@ -24,6 +25,7 @@ mod refusal;
 mod searching;
 mod store;
 
+pub use adding::add_object;
 pub use asking::{ask, ask_within, new_job, random_block};
 pub use finding::{Found, find};
 pub use keys::{aes_key, is_aes, is_of_type, is_secret_key};

@@ -1,7 +1,7 @@
 //! What a call gives.
 
 use ck_calls::Reply;
-use desk::Job;
+use mech::Job;
 
 /// What a call gives.
 #[derive(Drop)]

@@ -8,8 +8,8 @@ ghost use Rattle.serve_base.specs.Searching.{found_at, found_of, MayFind};
 ghost use Rattle.std.specs.Prelude.{Some};
 
 use crate::finding::sees;
-use attrs::{Object, Template};
-use ck_types::{AttrType, UserType};
+use attrs::Object;
+use ck_types::{AttrType, Template, UserType};
 use find::search;
 use keep::{Keep, KeepFault};
 use std::alloc::{AllocError, Global};

@@ -9,8 +9,8 @@ ghost use Rattle.serve_base.specs.Searching.{tokens_found, MayFind};
 ghost use Rattle.serve_base.specs.Stores.{Has, LeavesAlone, LeavesOr};
 
 use crate::searching::{Match, search_kept};
-use attrs::{Object, Template};
-use ck_types::UserType;
+use attrs::Object;
+use ck_types::{Template, UserType};
 use keep::{Keep, KeepFault};
 use pin_record::Record;
 use std::alloc::Global;

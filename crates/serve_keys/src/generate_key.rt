@@ -11,8 +11,7 @@ use ck_types::Template;
 use desk::Desk;
 use keep::Keep;
 use precede::Condition;
-use serve_base::{Refusal, Store};
-use serve_objects::add_object;
+use serve_base::{Refusal, Store, add_object};
 use std::alloc::Global;
 use templates::generated;
 

@@ -4,9 +4,6 @@
 //! what the application sees, or that it was refused and nothing has changed: `AtDesk` where no store is asked, `IsDone`
 //! where one is, `IsDoneAs` where the call may return a job. `unwrap_key::unwrapped` answers the outcome of its question.
 //!
-//! The calls on objects, of which some of these make one, are shown here under the same names, so that the token names this crate
-//! alone.
-//!
 //! ```text
 //! settle(generate_random::serve(alloc, desk, session, len, random))
 //! ```
@@ -17,8 +14,3 @@ pub mod generate_key;
 pub mod generate_random;
 pub mod unwrap_key;
 pub mod wrap_key;
-
-pub use serve_objects::{
-    copy_object, create_object, destroy_object, get_attribute_value, get_object_size,
-    set_attribute_value,
-};

@@ -1,7 +1,6 @@
 //! C_UnwrapKey (PKCS #11 v3.1, 5.18).
 
 ghost use Rattle.std.specs.Prelude.{◌≡◌, ◌<◌, ◌^◌, ◌-◌, ◌&&◌, not, [], IfOk, length, true};
-ghost use Rattle.guard.specs.Access.{is_rw, is_user};
 ghost use Rattle.model_views.specs.TaskResults.{Unwrapped};
 ghost use Rattle.model_answers.specs.UnwrapKey.{is_wrapped_length, unwrap_key, unwraps, unwrapped_result};
 ghost use Rattle.templates.specs.declared.making.Making.TheVariants as templates_call;
@@ -19,13 +18,14 @@ use ck_calls::{Function, Mechanism, Reply};
 use ck_mechanisms::{Purpose, find_for};
 use ck_types::{AttrType, Bytes, Rv, SessionState, Template};
 use desk::Desk;
-use guard::is_read_write;
+use guard::{is_user, may_write};
 use keep::Keep;
 use lists::NUMBER_LIMIT;
 use mech::Work;
 use precede::Condition;
-use serve_base::{Found, Out, Refusal, Store, aes_key, ask, find, is_aes, random_block};
-use serve_objects::add_object;
+use serve_base::{
+    Found, Out, Refusal, Store, add_object, aes_key, ask, find, is_aes, random_block,
+};
 use std::alloc::Global;
 use templates::{unwrap_fault, unwraps_private_key, unwraps_token_key};
 
@@ -119,29 +119,12 @@ fn is_wrapped_length(len: usize) -> bool
     24 <= len && len <= 520 && len % 8 == 0
 }
 
-/// Whether the user is logged in.
-fn is_user(state: SessionState) -> bool
-    ensures { result ≡ is_user state }
-{
-    match state {
-        SessionState::RoUser | SessionState::RwUser => true,
-        SessionState::RoPublic | SessionState::RwPublic | SessionState::RwSo => false,
-    }
-}
-
 /// Why a template makes no key of so many wrapped bytes, if it makes none: its value is 8 bytes shorter.
 fn fault_of(state: SessionState, template: &Template, wrapped_len: usize) -> Option<Rv>
     requires { is_wrapped_length wrapped_len ≡ true }
     ensures { result ≡ template_fault (templates_call.Unwrap (wrapped_len - 8)) state [] template.now }
 {
     unwrap_fault(state, template, wrapped_len - 8)
-}
-
-/// Whether a session in this state may have no such key: a token object is made in a R/W session.
-fn needs_read_write(is_token: bool, state: SessionState) -> bool
-    ensures { result ≡ (is_token && not (is_rw state)) }
-{
-    is_token && !is_read_write(state)
 }
 
 /// Asks for the key of a template, where the template makes one, a session in this state may and there is room.
@@ -166,7 +149,7 @@ fn ask_for_key(
         return Err(Refusal::Code(code));
     }
     let is_token = unwraps_token_key(&template);
-    if needs_read_write(is_token, state) {
+    if !may_write(state, is_token) {
         return Err(Refusal::Condition(Condition::TokenObjectReadOnly));
     }
     if unwraps_private_key(&template) && !is_user(state) {

@@ -1,5 +1,7 @@
 pub mod Making
-pub mod Creating
 pub mod Destroying
 pub mod Setting
 mod Short
+pub mod Numbering
+pub mod Fitting
+pub mod Searches

@@ -9,7 +9,7 @@ use Rattle.attrs.specs.Objects.{flag}
 use Rattle.guard.specs.Access.{is_rw}
 use Rattle.templates.specs.declared.making.Making.TheVariants.{Create, Copy, Set}
 use Rattle.templates.specs.Faults.{template_fault}
-use Rattle.templates.specs.Made.{object_made, given_value, Answers as IsAnswered}
+use Rattle.templates.specs.Made.{object_made, given_value}
 use Rattle.sessions.specs.declared.Session.{Session}
 use Rattle.sessions.specs.Sessions.{state_of}
 use Rattle.ops.specs.Operations.{Operations}
@@ -19,10 +19,6 @@ use Rattle.model_answers.specs.CreateObject.{create_object}
 use Rattle.model_answers.specs.CopyObject.{copy_object}
 use Rattle.model_answers.specs.SetAttributeValue.{puts, set_attribute_value}
 use Rattle.model_answers.specs.CreateObject.{adds_where}
-
-pub made-object : (fault : Option Rv) (made o : List Entry) → IsAnswered (Ok o) fault made → (fault ≡ None) × (made ≡ o)
-made-object (Some code) made o a = absurd a
-made-object None made o a = (refl, sym a)
 
 -- ---- the answers
 

@@ -4,13 +4,12 @@ ghost use Rattle.std.specs.Prelude.{◌<◌, ◌≤◌, ◌^◌, length};
 ghost use Rattle.model_answers.specs.CopyObject.{copy_object};
 ghost use Rattle.serve_base.specs.Refusing.{IsDone};
 
-use crate::adding::add_object;
 use ck_calls::Reply;
 use ck_types::{AttrType, Template};
 use desk::Desk;
 use keep::Keep;
 use precede::Condition;
-use serve_base::{Refusal, Store, find};
+use serve_base::{Refusal, Store, add_object, find};
 use std::alloc::Global;
 use templates::copied;
 

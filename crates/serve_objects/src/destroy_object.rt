@@ -18,6 +18,7 @@ ghost use Rattle.serve_base.specs.Stores.{Has};
 use ck_calls::Reply;
 use ck_types::{AttrType, Rv};
 use desk::Desk;
+use guard::may_write;
 use keep::Keep;
 use precede::Condition;
 use serve_base::{Refusal, Store, find};
@@ -33,9 +34,9 @@ pub fn serve<K: Keep>(
 ) -> Result<Reply, Refusal>
     ensures { IsDone K.terms 1 (λ v. destroy_object v session handle) store.old store.new desk.old result desk.new }
 {
-    let read_write = desk.is_read_write(session).ok_or(Condition::NoSession)?;
+    let state = desk.state(session).ok_or(Condition::NoSession)?;
     let found = find(alloc, desk, store, handle)?.ok_or(Condition::NoObject)?;
-    if found.object.flag(AttrType::Token) && !read_write {
+    if !may_write(state, found.object.flag(AttrType::Token)) {
         return Err(Refusal::Condition(Condition::TokenObjectReadOnly));
     }
     if !found.object.flag(AttrType::Destroyable) {

@@ -10,12 +10,9 @@
 //! ```
 #![tactic(auto)]
 
-mod adding;
 pub mod copy_object;
 pub mod create_object;
 pub mod destroy_object;
 pub mod get_attribute_value;
 pub mod get_object_size;
 pub mod set_attribute_value;
-
-pub use adding::add_object;

@@ -54,7 +54,6 @@ mod rooms;
 mod state;
 mod stream;
 
-pub use aes_modes::{Direction, ModeFault};
 pub use mechanism::Mechanism;
 pub use part::Part;
 pub use stream::Stream;

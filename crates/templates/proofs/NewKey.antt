@@ -19,7 +19,7 @@ use Rattle.attrs.specs.Table.{attribute_table, rows_of}
 use Rattle.attrs.specs.Objects.{attribute_of, class_of, class_at, number_of, key_type_of, key_type_at, is_key_len, IsObject, fits_rows, flag, is_true}
 use Rattle.attrs.specs.ObjectLaws.{class_at-none, key_type_at-none}
 use Rattle.templates.specs.declared.making.Making.TheVariants as making
-use Rattle.templates.specs.Making.{generated_type}
+use Rattle.ck_mechanisms.specs.Table.{key_type_of as key_type_for}
 use Rattle.templates.specs.Faults.{form_in, fits_form_of, is_ill_formed, is_other, is_of_other_class, is_missing, is_bad_len, len_of}
 use Rattle.templates.specs.Made.{made_entries, truth, number_bytes, given_value, generated_len, asked_len}
 use Rattle.templates.proofs.Entries.{both_false, not_false}
@@ -129,7 +129,7 @@ parts_create : (template : List Entry) (random value : List ℕ) → HasParts (m
 unfolding attribute_table
 parts_create template random value = record { class_is = refl; type_is = refl; value_is = refl; len_is = refl }
 
-parts_generate : (m : MechType) (template : List Entry) (random value : List ℕ) → HasParts (made_entries (making.Generate m) SecretKey [] template random value) (unwrap_or (attribute_of template attr.Class) (number_bytes 4)) (unwrap_or (attribute_of template attr.KeyType) (number_bytes (key_type_number (generated_type m))))
+parts_generate : (m : MechType) (template : List Entry) (random value : List ℕ) → HasParts (made_entries (making.Generate m) SecretKey [] template random value) (unwrap_or (attribute_of template attr.Class) (number_bytes 4)) (unwrap_or (attribute_of template attr.KeyType) (number_bytes (key_type_number (key_type_for m))))
     (unwrap_or (attribute_of template attr.Value) value) (unwrap_or (attribute_of template attr.ValueLen) (number_bytes (length value)))
 unfolding attribute_table
 parts_generate m template random value = record { class_is = refl; type_is = refl; value_is = refl; len_is = refl }
@@ -191,7 +191,7 @@ asked_is n small = ap (λ (b : Bool). cond b n 0) (le-leb n 512 small)
 pub generated_is_object : (m : MechType) (s : SessionState) (template : List Entry) (random value : List ℕ) → length value ≡ generated_len template → IsFaultless (making.Generate m) s [] template
     → IsObject (made_entries (making.Generate m) SecretKey [] template random value)
 generated_is_object m s template random value len_is ok =
-    let t = generated_type m in
+    let t = key_type_for m in
     let two = both_false (is_of_other_class template) (is_other (number_of (attribute_of template attr.KeyType)) (key_type_number t)) ok.agrees in
     let given = is_given (attribute_of template attr.ValueLen) (len_required m template (class_of template) refl two.0 ok.complete) in
     let n = from_be_bytes w64 given.0 in

@@ -1,5 +1,5 @@
 -- What a call answers, by what it makes.
-use Rattle.std.proofs.Common.{◌≡◌, List, Option, Some, None, Result, Ok, Err, sym, subst, ◌∙◌}
+use Rattle.std.proofs.Common.{◌≡◌, List, Option, Some, None, Result, Ok, Err, refl, sym, subst, ◌∙◌}
 use Rattle.std.specs.Prelude.{MatchResult, IfOk}
 use Rattle.ck_types.specs.declared.entry.Entry.{Entry}
 use Rattle.ck_types.specs.declared.rv.Rv.{Rv}
@@ -17,3 +17,7 @@ answers_so (Ok o) None made whole none same is = is ∙ same
 answers_so (Ok o) (Some code) made whole none same is = absurd cc
 answers_so (Err fault) None made whole none same is = is
 answers_so (Err fault) (Some code) made whole none same is = absurd cc
+
+pub made-object : (fault : Option Rv) (made o : List Entry) → Answers (Ok o) fault made → (fault ≡ None) × (made ≡ o)
+made-object (Some code) made o a = absurd a
+made-object None made o a = (refl, sym a)

@@ -22,7 +22,8 @@ use Rattle.attrs.specs.Table.{attribute_table, row_number, is_held_by}
 use Rattle.attrs.specs.Objects.{attribute, attribute_of, is_true, number_of, class_at, class_of, key_type_at, key_type_of, is_key_len, has_form}
 use Rattle.templates.specs.declared.making.Making.{Making}
 use Rattle.templates.specs.declared.making.Making.TheVariants as making
-use Rattle.templates.specs.Making.{rule, generated_type}
+use Rattle.ck_mechanisms.specs.Table.{key_type_of as key_type_for}
+use Rattle.templates.specs.Making.{rule}
 
 -- whether the objects of a class have the attribute, or where no class is known some objects
 abbrev pub is_held : Option ObjectClass → AttributeRow → Bool
@@ -111,7 +112,7 @@ is_of_other_class template = is_other (number_of (attribute_of template attr.Cla
 abbrev pub disagrees : Making → List Entry → Bool
 disagrees making.Create template = list_any (is_unknown (class_of template)) template
 disagrees (making.Generate mechanism) template =
-    is_of_other_class template || is_other (number_of (attribute_of template attr.KeyType)) (key_type_number (generated_type mechanism))
+    is_of_other_class template || is_other (number_of (attribute_of template attr.KeyType)) (key_type_number (key_type_for mechanism))
 disagrees (making.Unwrap len) template =
     is_of_other_class template || is_other (number_of (attribute_of template attr.ValueLen)) len
 disagrees making.Copy template = false
@@ -143,7 +144,7 @@ len_of (Some value) = Some (length value)
 
 abbrev pub has_bad_len : Making → List Entry → Bool
 has_bad_len making.Create template = is_bad_len (key_type_of template) (len_of (attribute_of template attr.Value))
-has_bad_len (making.Generate mechanism) template = is_bad_len (Some (generated_type mechanism)) (number_of (attribute_of template attr.ValueLen))
+has_bad_len (making.Generate mechanism) template = is_bad_len (Some (key_type_for mechanism)) (number_of (attribute_of template attr.ValueLen))
 has_bad_len (making.Unwrap len) template = false
 has_bad_len making.Copy template = false
 has_bad_len making.Set template = false

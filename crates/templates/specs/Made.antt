@@ -21,7 +21,7 @@ use Rattle.templates.specs.declared.making.Making.{Making}
 use Rattle.templates.specs.declared.making.Making.TheVariants as making
 use Rattle.templates.specs.declared.fault.MakeFault.{MakeFault}
 use Rattle.templates.specs.declared.fault.MakeFault.TheVariants.{Refused, Memory}
-use Rattle.templates.specs.Making.{generated_type}
+use Rattle.ck_mechanisms.specs.Table.{key_type_of as key_type_for}
 
 abbrev pub truth : Bool → List ℕ
 truth true = 1 ∷ []
@@ -59,7 +59,7 @@ generator making.Set = 0xffff_ffff_ffff_ffff
 -- the key type where the template needn't give one
 abbrev pub type_by_making : Making → KeyType
 type_by_making making.Create = GenericSecret
-type_by_making (making.Generate mechanism) = generated_type mechanism
+type_by_making (making.Generate mechanism) = key_type_for mechanism
 type_by_making (making.Unwrap len) = GenericSecret
 type_by_making making.Copy = GenericSecret
 type_by_making making.Set = GenericSecret

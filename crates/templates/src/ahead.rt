@@ -10,8 +10,7 @@ ghost use Rattle.templates.specs.Made.{object_made};
 use crate::fault::find_fault;
 use crate::making::Making;
 use crate::value::flag_or;
-use attrs::Template;
-use ck_types::{AttrType, Rv, SessionState};
+use ck_types::{AttrType, Rv, SessionState, Template};
 
 /// Why C_UnwrapKey doesn't take a template for a value of `len` bytes, which needn't be known yet:
 /// `unwrapped` answers the same code for a value of that length. It takes no memory.

@@ -7,11 +7,12 @@ ghost use Rattle.attrs.specs.Objects.{class_of};
 ghost use Rattle.attrs.specs.Table.{attribute_table};
 ghost use Rattle.templates.specs.Faults.{contradicts, disagrees, fits_form_of, form_in, has_bad_len, has_bad_unwrapped_len, is_about, is_bad_len, is_excluded, is_held, is_ill_formed, is_inconsistent, is_missing, is_of_other_class, is_other, is_present, is_read_only, is_required, is_set, is_so, is_unknown, is_unlisted, len_of, refuses};
 
-use crate::making::{Making, generated_type_of, rule_of};
+use crate::making::{Making, rule_of};
 use attrs::{
     AttributeRow, Form, Rule, attribute_in, attributes, class_from, class_in, find_attribute,
     fits_form, fits_key_type, key_type_from, key_type_in, number_in,
 };
+use ck_mechanisms::key_type_of;
 use ck_types::{AttrType, Entry, KeyType, ObjectClass, SessionState};
 
 fn is_held_in(class: Option<ObjectClass>, row: &AttributeRow) -> bool
@@ -226,7 +227,7 @@ pub(crate) fn is_disagreeing(making: Making, template: &[Entry]) -> bool
         Making::Generate(mechanism) => {
             let number = number_in(attribute_in(template, AttrType::KeyType));
             is_of_another_class(template)
-                || is_other_number(number, generated_type_of(mechanism).number())
+                || is_other_number(number, key_type_of(mechanism).number())
         }
         Making::Unwrap(len) => {
             let number = number_in(attribute_in(template, AttrType::ValueLen));
@@ -287,7 +288,7 @@ pub(crate) fn is_of_bad_len(making: Making, template: &[Entry]) -> bool
             len_in(attribute_in(template, AttrType::Value)),
         ),
         Making::Generate(mechanism) => is_bad_len_of(
-            Some(generated_type_of(mechanism)),
+            Some(key_type_of(mechanism)),
             number_in(attribute_in(template, AttrType::ValueLen)),
         ),
         Making::Unwrap(_) | Making::Copy | Making::Set => false,

@@ -12,9 +12,10 @@ ghost use Rattle.templates.specs.Made.{alters, Answers, asked_len, generated_len
 use crate::fault::{MakeFault, find_fault};
 use crate::making::Making;
 use crate::value::{Recipe, value_made};
-use attrs::{AttributeRow, Object, Template, attribute_in, attributes, class_in, number_in};
+use attrs::{AttributeRow, Object, attribute_in, attributes, class_in, number_in};
 use ck_types::{
-    AttrType, Entry, Items, MAX_SECRET_LEN, MechType, ObjectClass, SessionState, UNIQUE_ID_BYTES,
+    AttrType, Entry, Items, MAX_SECRET_LEN, MechType, ObjectClass, SessionState, Template,
+    UNIQUE_ID_BYTES,
 };
 use std::alloc::{AllocError, Global};
 

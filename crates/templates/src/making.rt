@@ -1,10 +1,10 @@
 //! The calls that a template is given to.
 
 ghost use Rattle.std.specs.Prelude.{◌≡◌};
-ghost use Rattle.templates.specs.Making.{generated_type, rule};
+ghost use Rattle.templates.specs.Making.{rule};
 
 use attrs::{AttributeRow, Rule};
-use ck_types::{KeyType, MechType};
+use ck_types::MechType;
 
 /// A call that makes or changes an object, and what it says beside the template.
 #[derive(Clone, Copy, Debug, PartialEq, Eq)]
@@ -28,15 +28,5 @@ pub(crate) fn rule_of(making: Making, row: &AttributeRow) -> Rule
         Making::Unwrap(_) => row.unwrap,
         Making::Copy => row.copy,
         Making::Set => row.set,
-    }
-}
-
-/// The type of the keys that a mechanism generates: AES for CKM_AES_KEY_GEN, else generic secret.
-pub(crate) fn generated_type_of(mechanism: MechType) -> KeyType
-    ensures { result ≡ generated_type mechanism }
-{
-    match mechanism {
-        MechType::AesKeyGen => KeyType::Aes,
-        _ => KeyType::GenericSecret,
     }
 }

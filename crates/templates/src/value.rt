@@ -5,8 +5,9 @@ ghost use Rattle.attrs.specs.Objects.{attribute, attribute_of, is_true};
 ghost use Rattle.attrs.specs.Table.{row_number};
 ghost use Rattle.templates.specs.Made.{by_default, by_token, generator, is_extractable, is_generate, is_key_class, is_sensitive, is_renewed, is_unwrap, made_value, not_given, number_bytes, renews, truth, type_by_making};
 
-use crate::making::{Making, generated_type_of};
+use crate::making::Making;
 use attrs::{AttributeRow, DefaultValue, attribute_in, find_attribute};
+use ck_mechanisms::key_type_of;
 use ck_types::{AttrType, Bytes, Entry, KeyType, ObjectClass, UNAVAILABLE_INFORMATION};
 use std::alloc::{AllocError, Global};
 
@@ -80,7 +81,7 @@ fn key_type_by_call(making: Making) -> KeyType
     ensures { result ≡ type_by_making making }
 {
     match making {
-        Making::Generate(mechanism) => generated_type_of(mechanism),
+        Making::Generate(mechanism) => key_type_of(mechanism),
         Making::Create | Making::Unwrap(_) | Making::Copy | Making::Set => KeyType::GenericSecret,
     }
 }

@@ -10,7 +10,8 @@ use pin_record::Record;
 use std::alloc::Global;
 use std::io::{self, ErrorKind, Read, Write};
 use std::test::*;
-use test_scripts::{Out, Token, token_over};
+use test_scripts::token_over;
+use token::{Out, Token};
 use wire::{FrameReader, WireFault, read_reply, write_call};
 
 const OPEN_SESSION: &[u8] =

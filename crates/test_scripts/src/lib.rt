@@ -57,5 +57,4 @@ pub use runs::{
 pub use steps::{Asked, Given, GivenMechanism, Row, Step, Told, Values};
 pub use stored::record_with;
 pub use texts::{NewToken, Server, add_output, expect_each_mechanism, expect_long_chain};
-pub use token::{Event, Job, Out, Token};
 pub use tokens::{opened_session, token_over, told_at_once, told_code};

@@ -11,7 +11,8 @@ use std::sync::atomic::{AtomicBool, Ordering};
 use std::sync::{Arc, Wait};
 use std::test::*;
 use std::thread::Threads;
-use test_scripts::{Token, opened_session, token_over, told_code};
+use test_scripts::{opened_session, token_over, told_code};
+use token::Token;
 
 /// A seat that has no event, and notes that it was asked for one.
 #[derive(Drop)]

@@ -1,6 +1,6 @@
 use super::given::{Given, object_of};
-use attrs::{Object, Template};
-use ck_types::{AttrType, Bytes, Entry, Items, ObjectClass};
+use attrs::Object;
+use ck_types::{AttrType, Bytes, Entry, Items, ObjectClass, Template};
 use find::*;
 use std::alloc::{AllocError, Global};
 use std::test::Fail;

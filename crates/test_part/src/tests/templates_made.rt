@@ -1,5 +1,5 @@
-use attrs::{Object, Template, encode};
-use ck_types::{AttrType, Bytes, Entry, Items, MechType, Rv, SessionState};
+use attrs::{Object, encode};
+use ck_types::{AttrType, Bytes, Entry, Items, MechType, Rv, SessionState, Template};
 use std::alloc::{AllocError, Global};
 use std::process::Abort;
 use std::test::Fail;

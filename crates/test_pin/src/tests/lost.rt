@@ -8,7 +8,8 @@ use keep::{Keep, ListKeep};
 use std::alloc::Global;
 use std::test::*;
 use test_scripts::given::*;
-use test_scripts::{Job, Out, Row, Step, Token, Told, call_of, token_over};
+use test_scripts::{Row, Step, Told, call_of, token_over};
+use token::{Job, Out, Token};
 
 #[test]
 fn a_charge_stays_when_its_application_goes(rt: HostRuntime) -> Result<(), Fail> {

@@ -14,8 +14,9 @@ use test_scripts::Step::{
 };
 use test_scripts::given::*;
 use test_scripts::{
-    FIRST_REPLIES, FIRST_RUN, Given, Row, Token, Told, opened_session, play_over, told_code,
+    FIRST_REPLIES, FIRST_RUN, Given, Row, Told, opened_session, play_over, told_code,
 };
+use token::Token;
 
 /// What a line takes, how it ends, and what it writes.
 #[derive(Clone, Copy)]

@@ -13,7 +13,8 @@ use test_scripts::Step::{
     SetAttributeValue,
 };
 use test_scripts::given::*;
-use test_scripts::{Event, Given, Row, Told, call_of, replies_to, reply_of};
+use test_scripts::{Given, Row, Told, call_of, replies_to, reply_of};
+use token::Event;
 
 const COUNT: u8 = 129;
 

@@ -5,7 +5,8 @@ use keep::Keep;
 use line::{LineFault, Watched, Words, serve_one};
 use std::alloc::Global;
 use std::test::*;
-use test_scripts::{Row, Step, Token, call_of, expect_row, token_over};
+use test_scripts::{Row, Step, call_of, expect_row, token_over};
+use token::Token;
 use wire::{FrameReader, read_reply, write_call};
 
 /// A line that has ended: how, what it wrote, and the token after it.

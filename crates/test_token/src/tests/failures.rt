@@ -10,7 +10,8 @@ use std::process::Abort;
 use std::test::*;
 use test_keepers::{FailingKeep, Failure};
 use test_scripts::given::*;
-use test_scripts::{Asked, BenchOver, Row, Step, Token, Told, Values, expect_row, run_over};
+use test_scripts::{Asked, BenchOver, Row, Step, Told, Values, expect_row, run_over};
+use token::Token;
 
 const ASKED: Asked = &[(LABEL, Some(2))];
 

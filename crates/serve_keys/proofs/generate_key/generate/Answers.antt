@@ -4,7 +4,7 @@ use Rattle.model_answers.proofs.Templates.{fault-plain}
 use Rattle.serve_base.proofs.Plain.{plain-made}
 use Rattle.serve_base.proofs.Refusals.{does-is}
 use Rattle.serve_base.proofs.InSession.{in_session}
-use Rattle.serve_objects.proofs.Making.{made-object}
+use Rattle.templates.proofs.Results.{made-object}
 use Rattle.serve_keys.proofs.Generating.{asked-len, generate-is}
 use Rattle.serve_keys.proofs.generate_key.generate.Goals as goal
 

@@ -6,7 +6,8 @@ use Rattle.serve_base.proofs.Plain.{plain-made}
 use Rattle.serve_base.proofs.Refusals.{does-is, does-after}
 use Rattle.serve_base.proofs.InSession.{in_session}
 use Rattle.serve_base.proofs.Storing.{has-still}
-use Rattle.serve_objects.proofs.Making.{made-object, copy-is}
+use Rattle.templates.proofs.Results.{made-object}
+use Rattle.serve_objects.proofs.Making.{copy-is}
 use Rattle.serve_objects.proofs.copy_object.serve.Goals as goal
 
 pub returns : goal.returns

@@ -4,7 +4,8 @@ use Rattle.model_answers.proofs.Templates.{fault-plain}
 use Rattle.serve_base.proofs.Plain.{plain-made}
 use Rattle.serve_base.proofs.Refusals.{does-is}
 use Rattle.serve_base.proofs.InSession.{in_session}
-use Rattle.serve_objects.proofs.Making.{made-object, create-is}
+use Rattle.templates.proofs.Results.{made-object}
+use Rattle.serve_objects.proofs.Making.{create-is}
 use Rattle.serve_objects.proofs.create_object.serve.Goals as goal
 
 pub returns : goal.returns

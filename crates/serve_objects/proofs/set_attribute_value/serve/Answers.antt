@@ -8,7 +8,8 @@ use Rattle.serve_base.proofs.Plain.{plain-made}
 use Rattle.serve_base.proofs.Refusals.{does-is, does-after}
 use Rattle.serve_base.proofs.InSession.{in_session}
 use Rattle.serve_base.proofs.Storing.{has-still}
-use Rattle.serve_objects.proofs.Making.{made-object, set-is}
+use Rattle.templates.proofs.Results.{made-object}
+use Rattle.serve_objects.proofs.Making.{set-is}
 use Rattle.serve_objects.proofs.set_attribute_value.serve.Goals as goal
 use Rattle.serve_objects.proofs.set_attribute_value.serve.Goals.{else-flag-via-then-flag+else-not-is_read_write, else-flag-via-else-flag}
 

@@ -9,8 +9,8 @@ use Rattle.model_views.specs.TaskResults.{Unwrapped}
 use Rattle.model_views.specs.Answering.{becomes, replies, with_operation, with_mac}
 use Rattle.model_answers.specs.CipherInit.{place_for}
 use Rattle.model_answers.specs.UnwrapKey.{unwrapped_result}
-use Rattle.serve_ciphers.proofs.Ciphering as ciphering
-use Rattle.serve_macs.proofs.Signing as signing
+use Rattle.serve_operations.proofs.Ciphering as ciphering
+use Rattle.serve_operations.proofs.Signing as signing
 use Rattle.token.proofs.Endings.{ends-as, done-at-desk, done-code, done-over}
 use Rattle.token.proofs.ending.serve_outcome.Goals as goal
 

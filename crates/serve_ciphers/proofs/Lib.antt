@@ -1,3 +1,0 @@
-pub mod Ciphering
-mod Bounds
-pub mod Beginning

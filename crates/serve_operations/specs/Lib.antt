@@ -1,0 +1,3 @@
+pub mod Steps
+pub mod CipherBeginning
+pub mod MacBeginning
