@@ -37,9 +37,5 @@ is_session_object es = not (flag es attr.Token)
 abbrev pub is_visible : SessionState → List Entry → Bool
 is_visible state es = is_public es || is_user state
 
--- token objects are written in a R/W session alone (PKCS #11 v3.1, 3.3)
-abbrev pub may_write : SessionState → Bool → Bool
-may_write state is_token = not is_token || is_rw state
-
 abbrev pub is_writable : SessionState → List Entry → Bool
 is_writable state es = is_visible state es && (is_session_object es || is_rw state)

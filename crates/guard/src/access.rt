@@ -1,8 +1,8 @@
 //! The access table.
 
-ghost use Rattle.std.specs.Prelude.{◌≡◌};
+ghost use Rattle.std.specs.Prelude.{◌≡◌, ◌&&◌, not};
 ghost use Rattle.attrs.specs.Masking.{mask};
-ghost use Rattle.guard.specs.Access.{is_rw, is_user, is_visible, is_writable, may_write};
+ghost use Rattle.guard.specs.Access.{is_rw, is_user, is_visible, is_writable};
 
 use attrs::Object;
 use ck_types::{AttrType, SessionState};
@@ -27,11 +27,12 @@ pub fn is_read_write(state: SessionState) -> bool
     }
 }
 
-/// Whether a session in a state may write token objects, or, where `is_token` is false, session objects (PKCS #11 v3.1, 3.3).
-pub fn may_write(state: SessionState, is_token: bool) -> bool
-    ensures { result ≡ may_write state is_token }
+/// Whether a session in a state may not write an object, since a token object is written in a R/W session alone (PKCS #11
+/// v3.1, 3.3).
+pub fn needs_read_write(state: SessionState, is_token: bool) -> bool
+    ensures { result ≡ (is_token && not (is_rw state)) }
 {
-    !is_token || is_read_write(state)
+    is_token && !is_read_write(state)
 }
 
 /// Whether a session in a state sees the object (PKCS #11 v3.1, 4.4, CKA_PRIVATE).
@@ -47,5 +48,5 @@ pub fn writable(state: SessionState, object: &Object) -> bool
     ensures access { result ≡ is_writable state object.now }
     ensures on_mask { result ≡ is_writable state (mask object.now) }
 {
-    visible(state, object) && may_write(state, object.flag(AttrType::Token))
+    visible(state, object) && !needs_read_write(state, object.flag(AttrType::Token))
 }

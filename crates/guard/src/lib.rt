@@ -21,5 +21,5 @@
 mod access;
 mod masking;
 
-pub use access::{is_read_write, is_user, may_write, visible, writable};
+pub use access::{is_read_write, is_user, needs_read_write, visible, writable};
 pub use masking::{masked, reveals, reveals_number};

@@ -1,18 +1,21 @@
-//! Calls on objects (PKCS #11 v3.1, 5.7): they make, copy, read, change and destroy session and token objects.
+//! Calls on objects (PKCS #11 v3.1, 5.7): they make, copy, read, change, destroy and find session and token objects.
 //!
-//! Each function answers by the rows of its call's table. Its one clause (`IsDone`) says that the answer is the written
-//! one to what the application sees, or that it was refused and nothing has changed; how many writes it tries; and
-//! that the device is to blame only where a failure of the keeper was counted. What is wanted of memory is had before
-//! the one write, and what follows the write can't fail.
+//! Each function returns the code of the first check of its call's table that fails. Its one clause (`IsDone`, or `AtDesk`
+//! where no object is read) says that the answer is the model's to what the application sees, or that it was refused and
+//! nothing has changed. It says how many writes are tried, and that CKR_DEVICE_ERROR comes only where a failure of the
+//! keeper was counted. All memory is allocated before the one write, or before the first handle is given; what follows
+//! can't fail.
 //!
-//! ```text
-//! settle(create_object::serve(alloc, desk, store, session, &template, random))
-//! ```
+//! C_FindObjectsInit reads each object that the application sees once, and gives handles to those that its template
+//! matches and that have none. C_FindObjects returns the handles, a part at a time, and C_FindObjectsFinal ends the search.
 #![tactic(auto)]
 
 pub mod copy_object;
 pub mod create_object;
 pub mod destroy_object;
+pub mod find_objects;
+pub mod find_objects_init;
 pub mod get_attribute_value;
 pub mod get_object_size;
+mod giving;
 pub mod set_attribute_value;
