@@ -1,3 +1,4 @@
 pub mod Found
+pub mod Faults
 pub mod Refusal
 pub mod CrashThenOpen

@@ -27,7 +27,7 @@ const NO_MEMORY: OpenFault = OpenFault::Sqlite(Error::SqliteFailure(ErrorCode::O
 const BUSY: OpenFault = OpenFault::Sqlite(Error::SqliteFailure(ErrorCode::DatabaseBusy));
 
 /// The permission bits of a file that is made: its owner may read and write it, and nobody else.
-const OWN_MODE: u32 = 0o600;
+pub const OWN_MODE: u32 = 0o600;
 
 /// Whether there is no file at the path, and a log beside it that is not empty.
 fn is_log_alone(rt: &HostRuntime, path: &str) -> Result<bool, OpenFault> {

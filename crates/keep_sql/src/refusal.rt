@@ -1,6 +1,7 @@
 //! Why a store in files isn't opened, and what is left of it.
 
 ghost use Rattle.std.specs.Prelude.{◌≡◌};
+ghost use Rattle.keep_sql.specs.Faults.{is_of_contents};
 
 use keep::KeepFault;
 use sql_log::put_back;
@@ -30,30 +31,17 @@ pub enum OpenFault {
 }
 
 impl OpenFault {
-    /// Whether the files were refused for what they hold, and not because an allocation failed or a failing disk.
-    pub fn is_damage(self) -> bool {
+    /// Whether the files were refused for what they hold, and not because an allocation failed or the disk did.
+    fn is_damage(self) -> bool
+        ensures { result ≡ is_of_contents self }
+    {
         match self {
             OpenFault::Sqlite(
                 Error::SqliteFailure(ErrorCode::NotADatabase | ErrorCode::DatabaseCorrupt),
             ) => true,
-            OpenFault::Sqlite(_) => false,
-            OpenFault::Keeper(fault) => fault == KeepFault::Damaged,
+            OpenFault::Keeper(KeepFault::Damaged) => true,
+            OpenFault::Sqlite(_) | OpenFault::Keeper(_) => false,
             OpenFault::FileLost | OpenFault::LogDamaged | OpenFault::NoTables => true,
-        }
-    }
-
-    /// The same as a keeper's refusal: `Damaged` for what the files hold, `Memory`, or else `Device`.
-    pub fn as_keep_fault(self) -> KeepFault {
-        match self {
-            OpenFault::Keeper(fault) => fault,
-            OpenFault::Sqlite(Error::SqliteFailure(ErrorCode::OutOfMemory)) => KeepFault::Memory,
-            other => {
-                if other.is_damage() {
-                    KeepFault::Damaged
-                } else {
-                    KeepFault::Device
-                }
-            }
         }
     }
 }

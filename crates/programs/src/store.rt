@@ -5,7 +5,7 @@ use crate::copying::{is_busy, read_store};
 use crate::examining::examine;
 use crate::failure::{Failure, Fault};
 use keep::KeepFault;
-use keep_sql::{OpenFault, SqlKeep};
+use keep_sql::{OWN_MODE, OpenFault, SqlKeep};
 use sqlite::{Error, ErrorCode, FileFrom, FileStore};
 use sqlite_disk::Wary;
 use std::fs::{File, OpenOptions, Permissions};
@@ -14,9 +14,6 @@ use std::{fs, io};
 
 /// The keeper over a store in a file.
 pub(crate) type FileKeep = SqlKeep<FileStore<FileFrom<Wary>>>;
-
-/// Its owner may read and write it, and nobody else.
-const OWN_MODE: u32 = 0o600;
 
 /// The permission bits of group and others.
 const SHARED_BITS: u32 = 0o077;
