@@ -11,7 +11,7 @@ pub struct Mechanism {
 }
 
 /// An attribute that is asked for, and the length of the caller's buffer, or none where the length
-/// alone is asked for (PKCS #11 v3.1, 5.7, C_GetAttributeValue).
+/// alone is asked for (PKCS #11 v3.1, 5.7.5, C_GetAttributeValue).
 #[derive(Clone, Copy, Debug, PartialEq, Eq)]
 pub struct AttributeQuery {
     pub attr_type: u64,

@@ -2,7 +2,7 @@
 //! C_GetMechanismList and C_GetMechanismInfo).
 //!
 //! A call that begins an operation, or makes or wraps a key, finds its mechanism here by the number that it was given
-//! (`find_for`), so that what is told of a mechanism is what it may be used for.
+//! (`find_for`), so that what is reported of a mechanism is what it may be used for.
 //!
 //! ```
 //! let mechanism = find_for(Purpose::Cipher, number).ok_or(Condition::WrongMechanism)?;

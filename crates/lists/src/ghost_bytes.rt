@@ -1,4 +1,4 @@
-//! Bytes that contracts alone speak of: data that was taken or given and is kept nowhere.
+//! Bytes that contracts alone speak of: data that was taken or returned, and that is stored nowhere.
 //!
 //! A struct with a field `GhostBytes` can say in its view what bytes went through it, and in its invariant
 //! what its other fields are by these bytes. The field takes no memory and no time.
@@ -11,7 +11,7 @@ ghost use Rattle.std.specs.Borrow.{ftrue};
 
 use std::marker::{Model, PhantomData};
 
-/// Bytes that were noted, for contracts alone, which read them as `bytes`.
+/// Ghost bytes, for contracts alone, which read them as `bytes`.
 #[derive(Drop)]
 pub struct GhostBytes {
     marker: PhantomData<u8>,
@@ -32,7 +32,7 @@ impl GhostBytes {
         }
     }
 
-    /// Notes a further piece, of any length. At run time it does nothing.
+    /// Adds further bytes, as many as there are. At run time it does nothing.
     #[inline(always)]
     pub fn push(&mut self, _piece: &[u8])
         ensures { self.new.bytes ≡ self.old.bytes ++ _piece.now }

@@ -21,7 +21,7 @@ capped n = min n (2 ^ 64 - 1)
 abbrev pub frame : List ℕ → List ℕ
 frame payload = to_be_bytes w32 (length payload) ++ payload
 
--- What a reader of payloads answers is what the payload says, unless memory runs out.
+-- What a reader of payloads returns is what the payload says, unless memory runs out.
 abbrev pub Reads : {X : Type 0} → Result X WireFault → Result X WireFault → Type 0
 Reads (Ok x) said = said ≡ Ok x
 Reads (Err faults.TooLong) said = said ≡ Err faults.TooLong
@@ -29,12 +29,12 @@ Reads (Err faults.Malformed) said = said ≡ Err faults.Malformed
 Reads (Err faults.UnknownFunction) said = said ≡ Err faults.UnknownFunction
 Reads (Err faults.Memory) said = Unit {0}
 
--- what a writer answers that has written into this vector
+-- what a writer returns that has written into this vector
 abbrev pub result_with : {U : Type 0} → Result U WireFault → Vec ℕ → Result (Vec ℕ) WireFault
 result_with (Ok _) v = Ok v
 result_with (Err fault) _ = Err fault
 
--- what the writer of a payload's frame answers
+-- what the writer of a payload's frame returns
 abbrev pub Frames : List ℕ → Result (Vec ℕ) WireFault → Type 0
 Frames payload (Ok v) = (v.items ≡ frame payload) × (length payload ≤ most)
 Frames payload (Err faults.TooLong) = most < length payload
@@ -42,7 +42,7 @@ Frames payload (Err faults.Malformed) = ⊥
 Frames payload (Err faults.UnknownFunction) = ⊥
 Frames payload (Err faults.Memory) = Unit {0}
 
--- What a writer of messages answers: the frame of the payload where the fields fit and the payload is
+-- What a writer of messages returns: the frame of the payload where the fields fit and the payload is
 -- within the limit, unless memory runs out. A payload above the limit is too long also where the fields
 -- don't fit.
 abbrev pub Writes : List ℕ → Type 0 → Result (Vec ℕ) WireFault → Type 0
@@ -64,12 +64,12 @@ abbrev pub or_malformed : {X : Type 0} → Option X → Result X WireFault
 or_malformed (Some x) = Ok x
 or_malformed None = Err faults.Malformed
 
--- what the fields of a function say
+-- what the fields of a function decode to
 unfoldable pub said_of : Option Function → List ℕ → Result Call WireFault
 said_of (Some function) fields = or_malformed (decode_fields function fields)
 said_of None fields = Err faults.UnknownFunction
 
--- what a payload says: a call, or why it is none
+-- what a payload decodes to: a call, or why it is none
 unfoldable pub call_in : List ℕ → Result Call WireFault
 call_in payload =
     if nat_lt most (length payload) then Err faults.TooLong

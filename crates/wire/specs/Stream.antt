@@ -8,7 +8,7 @@ use Rattle.wire.specs.declared.fault.WireFault.{WireFault}
 use Rattle.wire.specs.declared.fault.WireFault.TheVariants as faults
 use Rattle.wire.specs.Messages.{frame, most}
 
--- the length that the first four bytes say
+-- the length that the first four bytes encode
 abbrev pub length_at : List ℕ → ℕ
 length_at bytes = from_be_bytes w32 (take 4 bytes)
 
@@ -21,12 +21,12 @@ pub record IsTooLong (bytes : List ℕ) : Type 0 where
   pub has_length : 4 ≤ length bytes
   pub above : most < length_at bytes
 
--- what a reader holds: the bytes of which no payload was given yet, and whether it has failed
+-- what a reader buffers: the bytes that are not consumed yet, and whether it has failed
 pub record Held : Type 0 where
   pub bytes : List ℕ
   pub failed : Bool
 
--- a reader took a piece
+-- a reader was fed a chunk
 abbrev pub Feeds : {U : Type 0} → List ℕ → Held → Held → Result U WireFault → Type 0
 Feeds piece old new (Ok done) = (old.failed ≡ false) × (new ≡ record { bytes = old.bytes ++ piece; failed = false })
 Feeds piece old new (Err faults.Memory) = (old.failed ≡ false) × (new ≡ old)
@@ -56,7 +56,7 @@ Finds (Err faults.UnknownFunction) bytes = ⊥
 abbrev pub IsRest : List ℕ → Type 0
 IsRest bytes = IsPartial bytes ⊎ IsTooLong bytes
 
--- what a reader that is not changed answers for the next payload
+-- what a reader that is not changed returns for the next payload
 abbrev pub Shows : Held → Result (Option (Bor (List ℕ))) WireFault → Type 0
 Shows held (Ok found) = (held.failed ≡ false) × Finds (Ok found) held.bytes
 Shows held (Err faults.TooLong) = held.failed ≡ false → IsTooLong held.bytes
@@ -64,12 +64,12 @@ Shows held (Err faults.Memory) = ⊥
 Shows held (Err faults.Malformed) = ⊥
 Shows held (Err faults.UnknownFunction) = ⊥
 
--- a reader let the next payload go, if there is one
+-- a reader consumed the next payload, if there is one
 abbrev pub Passes : Held → Held → Type 0
 Passes old new =
     ((payload rest : List ℕ) → old.failed ≡ false → length payload ≤ most → old.bytes ≡ frame payload ++ rest → new ≡ record { bytes = rest; failed = false })
     × ((old.failed ≡ true) ⊎ IsRest old.bytes → new ≡ old)
 
--- a stream is the frames of these payloads, and a rest that is no whole frame
+-- a stream is the frames of these payloads, and then less than a whole frame or a length above the limit
 abbrev pub Splits : List ℕ → List (List ℕ) → List ℕ → Type 0
 Splits stream payloads rest = (stream ≡ flat_map frame payloads ++ rest) × AllByRecursion (λ p. length p ≤ most) payloads × IsRest rest

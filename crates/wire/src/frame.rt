@@ -12,7 +12,7 @@ pub const MAX_PAYLOAD_LEN: usize = 1_048_576;
 /// How many bytes the length of a payload takes.
 const LEN_BYTES: usize = 4;
 
-/// Leaves the place of a length, behind which a payload of so many bytes is to be written. Its memory is had at once.
+/// Leaves the place of a length, behind which a payload of so many bytes is to be written. It allocates once, for all of it.
 pub(crate) fn begin_frame(frame: &mut Vec<u8>, payload_len: usize) -> Result<(), AllocError>
     ensures { OnOk result (frame.new.items ≡ replicate 4 0) }
 {

@@ -1,4 +1,4 @@
-//! Payloads out of a stream that comes in pieces.
+//! Payloads out of a byte stream that comes in chunks.
 
 ghost use Rattle.std.specs.Prelude.{◌≡◌, ◌==◌, ◌+◌, ◌≤◌, ℕ, List, [], drop, length, false};
 ghost use Rattle.wire.specs.Stream.{Feeds, Finds, Nexts, Passes, Shows, Splits};
@@ -8,7 +8,7 @@ use crate::frame::MAX_PAYLOAD_LEN;
 use std::alloc::Global;
 use std::marker::Model;
 
-/// Holds what has come of a stream, and gives its payloads. After a length above the limit it has
+/// Buffers the bytes of a stream, and returns its payloads. After a length above the limit it has
 /// failed for good.
 #[derive(Debug, Drop)]
 pub struct FrameReader {
@@ -28,8 +28,8 @@ impl Model for FrameReader {
     ghost invariant = { λ r. r.start ≤ length r.pending.items };
 }
 
-/// Takes bytes off the front, no fewer than stay: those that stay fit where these were, and are copied
-/// there in one piece.
+/// Takes bytes off the front, no fewer than stay: those that stay fit where these were, and are moved
+/// there by one copy.
 fn drop_front(bytes: &mut Vec<u8>, count: usize)
     requires within { count ≤ length bytes.old.items }
     requires most { length bytes.old.items ≤ count + count }
@@ -60,7 +60,7 @@ fn payload_at(bytes: &[u8]) -> Result<Option<&[u8]>, WireFault>
 }
 
 impl FrameReader {
-    /// A reader to which nothing has come.
+    /// A reader that was fed nothing.
     pub fn new(alloc: Global) -> FrameReader
         ensures { result ≡ record { bytes = []; failed = false } }
     {
@@ -71,21 +71,21 @@ impl FrameReader {
         }
     }
 
-    /// Whether no byte is held.
+    /// Whether no byte is buffered.
     pub fn is_empty(&self) -> bool
         ensures { result ≡ (length self.now.bytes == 0) }
     {
         self.start == self.pending.len()
     }
 
-    /// Takes the next piece of the stream, of any length.
+    /// Takes the next chunk of the stream, of any length.
     ///
-    /// What is held is moved to the front only where at least as much was given before it, so that in all
-    /// no more bytes are moved than were given.
+    /// What is buffered is moved to the front only where at least as much was consumed before it, so that in all
+    /// no more bytes are moved than were consumed.
     ///
     /// # Errors
     ///
-    /// `TooLong` where the reader has failed, `Memory` with the piece not taken.
+    /// `TooLong` where the reader has failed, `Memory` with the chunk not taken.
     pub fn feed(&mut self, piece: &[u8]) -> Result<(), WireFault>
         ensures { Feeds piece.now self.old self.new result }
     {
@@ -100,7 +100,7 @@ impl FrameReader {
         Ok(())
     }
 
-    /// The next whole payload, or none yet. It stays, where it is, until `consume` lets it go.
+    /// The next whole payload, or none yet. It stays, where it is, until `consume` drops it.
     ///
     /// # Errors
     ///
@@ -114,7 +114,7 @@ impl FrameReader {
         payload_at(&self.pending[self.start..])
     }
 
-    /// Lets the payload go that `peek` shows. Where it shows none, nothing changes.
+    /// Drops the payload that `peek` returns. Where it returns none, nothing changes.
     pub fn consume(&mut self)
         ensures { Passes self.old self.new }
     {
@@ -145,7 +145,7 @@ impl FrameReader {
     }
 }
 
-/// A stream is split in one way only, however it came in pieces.
+/// A stream is split in one way only, in whatever chunks it came.
 pub fn one_split()
     ensures { (stream : List ℕ) (ps qs : List (List ℕ)) (a b : List ℕ) → Splits stream ps a → Splits stream qs b → (ps ≡ qs) × (a ≡ b) }
 {}
