@@ -27,7 +27,7 @@ first_subkey key = doubled (encrypted_block key (replicate 16 0))
 unfoldable pub second_subkey : List ℕ → List ℕ
 second_subkey key = doubled (first_subkey key)
 
--- ---- the code (6.2)
+-- ---- the tag (6.2)
 
 -- n, how many blocks the message has: at least one, of which the last may be shorter (step 2)
 abbrev pub block_count : List ℕ → ℕ

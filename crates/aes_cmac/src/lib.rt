@@ -1,17 +1,7 @@
 //! CMAC with AES, the message authentication code of SP 800-38B (May 2005), at its whole length of
 //! 16 bytes.
 //!
-//! ```rust
-//! use aes_block::Key;
-//! use aes_cmac::cmac;
-//!
-//! let Some(key) = Key::new(b"sixteen byte key") else {
-//!     return;
-//! };
-//! let code: [u8; 16] = cmac(&key, b"a message of any length");
-//! ```
-//!
-//! Proved, for every key and every message: the code is that of `specs/Cmac.antt`, which writes the
+//! Proved, for every key and every message: the tag is that of `specs/Cmac.antt`, which writes the
 //! standard down, over the block cipher of `aes_block`. `cmac` takes no memory and cannot fail.
 //!
 //! `chained_on` and `tag_of_end` are its two parts, for a message that comes in parts: the blocks

@@ -64,7 +64,7 @@ where
         }
     }
 
-    /// Adds `piece` to the message (step 5).
+    /// Adds `piece`, one more part, to the message (step 5).
     pub fn update(&mut self, piece: &[u8])
         ensures { (key message : List ℕ)
             → HoldsMessage D.holds D.hash D.BLOCK_SIZE self.old key message

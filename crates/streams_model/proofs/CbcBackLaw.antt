@@ -1,4 +1,4 @@
--- CBC decrypted over data and a piece more, from what was kept of the data.
+-- CBC decrypted over data and one more part, from what was kept of the data.
 use Rattle.std.proofs.Common.{◌≡◌, ℕ, ◌+◌, ◌-◌, ◌*◌, ◌/◌, ◌<◌, ◌≤◌, List, [], ◌++◌, length, take, drop, ap, sym, subst, ◌∙◌, arith}
 use Rattle.std.proofs.Math.Seq.{take-add}
 use Rattle.std.proofs.lemmas.List.{take-append-le, drop_at, length-append}

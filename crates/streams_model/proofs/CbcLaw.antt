@@ -1,4 +1,4 @@
--- CBC encrypted over data and a piece more, from what was kept of the data.
+-- CBC encrypted over data and one more part, from what was kept of the data.
 use Rattle.std.proofs.Common.{◌≡◌, ℕ, ◌+◌, ◌*◌, ◌/◌, ◌≤◌, List, [], ◌++◌, length, drop, ap, sym, ◌∙◌}
 use Rattle.aes_modes.specs.Blocks.{first_blocks}
 use Rattle.aes_modes.specs.Modes.{chained, cbc_block, cbc_blocks}
