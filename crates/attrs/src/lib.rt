@@ -1,4 +1,4 @@
-//! Objects of a PKCS #11 token: which attributes they have, and the bytes that they are stored as.
+//! The object model of a PKCS #11 token: the attributes that objects have, and the bytes that they are stored as.
 //!
 //! - `Object` is a data object or a secret key. It is a finite map from attribute types to values, and
 //!   keeps that it has just the attributes of its class, each in its form: a truth value is one byte 0

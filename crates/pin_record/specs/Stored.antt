@@ -113,7 +113,7 @@ record_stored = record_stored_in Two
 abbrev pub record_old_stored : List ℕ → Option TokenRecord
 record_old_stored = record_stored_in One
 
--- What a decoder answers is the record. It takes no memory.
+-- What a decoder returns is the record. It takes no memory.
 abbrev pub Decodes : {X : Type 0} → Result X DecodeFault → Option X → Type 0
 Decodes (Ok x) decoded = decoded ≡ Some x
 Decodes (Err faults.Form) decoded = decoded ≡ None

@@ -11,7 +11,7 @@
 //!   are still in progress; else the charge stays. So the tries are always the checks that failed since
 //!   the last right one and those in progress, however checks overlap, and no more than ten fail in a row:
 //!   `laws::ten_tries` proves it.
-//! - `token_flags` is how a token shows its PINs (PKCS #11 v3.1, 3.2: `CK_TOKEN_INFO`).
+//! - `token_flags` is how a token reports on its PINs (PKCS #11 v3.1, 3.2: `CK_TOKEN_INFO`).
 //! - `encode` and `decode` are the stored form. Each record has one, and `decode` accepts nothing else. `decode_old` reads the
 //!   form that older tokens stored.
 //!

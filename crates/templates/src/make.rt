@@ -153,7 +153,7 @@ pub fn generated(
 }
 
 /// The key that C_UnwrapKey makes of a template and the unwrapped value. The first 16 random bytes make
-/// CKA_UNIQUE_ID. Where the value isn't known yet, `unwrap_fault` tells from its length whether there
+/// CKA_UNIQUE_ID. Where the value isn't known yet, `unwrap_fault` finds from its length whether there
 /// will be a key.
 pub fn unwrapped(
     alloc: Global,
@@ -199,7 +199,7 @@ fn altered(
 }
 
 /// The copy that C_CopyObject makes of an object, with the template's changes. The first 16 random
-/// bytes make its CKA_UNIQUE_ID. A value that is kept back is kept back in the copy too.
+/// bytes make its CKA_UNIQUE_ID. A masked value is masked in the copy too.
 pub fn copied(
     alloc: Global,
     state: SessionState,
@@ -221,7 +221,7 @@ pub fn copied(
     )
 }
 
-/// What C_SetAttributeValue makes of an object, with the template's changes. A value that is kept back
+/// What C_SetAttributeValue makes of an object, with the template's changes. A masked value
 /// stays so, and so does a token object, and a private one.
 pub fn changed(
     alloc: Global,
