@@ -1,4 +1,4 @@
-//! What rows say.
+//! What rows contain.
 
 ghost use Rattle.std.specs.Prelude.{◌≡◌, ◌≢◌, ℕ, false, List, Some, pos, All, [], ◌∷◌, map, IfOk, OnOk, IfSome, IsSome, IsErrOf};
 ghost use Rattle.sqlite_value.specs.declared.value.Value.TheVariants.{Int};

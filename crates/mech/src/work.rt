@@ -9,14 +9,14 @@ use pin_record::Verifier;
 /// call's to test. A salt is the 16 bytes of the verifier that is made, and a label has 32 bytes.
 #[derive(Drop)]
 pub enum Work {
-    /// Data of an operation that encrypts or decrypts, as a piece or as the last (PKCS #11 v3.1, 5.8 and 5.10). The
+    /// Data of an operation that encrypts or decrypts, as a part or as the last (PKCS #11 v3.1, 5.8 and 5.10). The
     /// stream is a copy: the operation's own stands where it was.
     Cipher {
         stream: Stream,
         part: Part,
         input: Bytes,
     },
-    /// A piece for the operation at a place that signs or verifies (PKCS #11 v3.1, 5.13 and 5.15). The operation is a copy,
+    /// A part for the operation at a place that signs or verifies (PKCS #11 v3.1, 5.13 and 5.15). The operation is a copy,
     /// as that of a cipher.
     Take {
         place: MacPlace,
