@@ -45,8 +45,8 @@ fn encrypted(
 /// low bits count. The result has the text's length in bytes, and both directions are one.
 ///
 /// `CounterEnd` where the number of those bits and the blocks that the text begins come to more
-/// than 2 to the `bits`, so that a counter would come again, and `Memory` where the result gets no
-/// memory.
+/// than 2 to the `bits`, so that a counter would come again. `Memory` where the allocation of the
+/// result fails.
 pub fn ctr(
     alloc: Global,
     key: &Key,

@@ -1,4 +1,4 @@
-//! The modes ECB, CBC and CTR of SP 800-38A (2001) with AES, over whole texts, and CBC with the
+//! The modes ECB, CBC and CTR of SP 800-38A (2001) with AES, over whole texts. CBC is there too with the
 //! padding of PKCS #7 (RFC 5652, 6.3).
 //!
 //! Proved, for every key, text and parameter:
@@ -9,10 +9,12 @@
 //!   `CounterEnd` exactly where counter blocks would repeat. `BadPad` comes only where no text is
 //!   encrypted to the one given. But for these there is only `Memory`, for a failed allocation.
 //!
-//! A proof above may cite of the definitions, from `proofs/`: no two texts are encrypted to one,
-//! and how long they become (`Only`), CTR twice is the text again (`CounterTexts`), and the first
-//! blocks of a text are encrypted alike whatever follows, and the further ones from the block
-//! before (`Texts`, `Chains`).
+//! A proof above may cite of the definitions, from `proofs/`:
+//!
+//! - No two texts are encrypted to one, and how long they become (`Only`).
+//! - CTR twice is the text again (`CounterTexts`).
+//! - The first blocks of a text are encrypted alike whatever follows, and the further ones from the block
+//!   before (`Texts`, `Chains`).
 //!
 //! `filled_block`, `xor_number`, `push_number` and `unpadded_len` are for `streams`, which works in parts.
 //!

@@ -6,8 +6,8 @@
 //! and a reset forgets all. Where an allocation fails to remember an object, or to copy one that is remembered,
 //! it returns what the keeper behind it does.
 //!
-//! Each clause of `Keep` holds of it, in the words of the keeper behind it. It holds what that keeper holds, and
-//! as long as the disk is faithful each object that is remembered is the one held under its id
+//! Each clause of `Keep` holds of it, in the words of the keeper behind it. It holds what that keeper holds. As long
+//! as the disk is faithful each object that is remembered is the one held under its id
 //! (`specs/CachedState.antt`). Which objects are remembered, how many, and that any are, is in no clause, so
 //! nothing may rely upon it.
 //!

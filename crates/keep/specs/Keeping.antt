@@ -36,8 +36,8 @@ module _ {K : Type 0} (terms : Terms K) (old new : K) where
     pub held : (c : Contents) → terms.holds old c → terms.holds new c
     pub crash : (c : Contents) (left : Option Contents) → terms.holds old c → terms.may_leave new left → terms.may_leave old left ⊎ (left ≡ Some (step c))
 
-  -- no fault of the disk and no failure is forgotten, a keeper that is steady stays so, and at least and at most so many writes
-  -- were tried
+  -- No fault of the disk and no failure is forgotten, and a keeper that is steady stays so. At least and at most so many writes
+  -- were tried.
   pub record Counted (least most : ℕ) : Type 0 where
     pub steady : terms.is_steady old → terms.is_steady new
     pub doubt : terms.doubt old ≤ terms.doubt new

@@ -1,6 +1,6 @@
 //! Bytes that contracts alone speak of: data that was taken or returned, and that is stored nowhere.
 //!
-//! A struct with a field `GhostBytes` can say in its view what bytes went through it, and in its invariant
+//! A struct with a field `GhostBytes` can have in its view what bytes went through it. Its invariant can have
 //! what its other fields are by these bytes. The field takes no memory and no time.
 //!
 //! What a `GhostBytes` holds is worth what an invariant beside it says: a clause on the bytes alone is met

@@ -59,8 +59,8 @@ pub enum Work {
         pin: Bytes,
         salt: [u8; 16],
     },
-    /// A PIN is checked against the verifier that stood when the check began, and where it is right the new one's
-    /// verifier is made (C_SetPIN, PKCS #11 v3.1, 5.5).
+    /// A PIN is checked against the verifier that stood when the check began (C_SetPIN, PKCS #11 v3.1, 5.5). Where it
+    /// is right, the new one's verifier is made.
     ChangePin {
         who: UserType,
         verifier: Verifier,
@@ -68,14 +68,14 @@ pub enum Work {
         new_pin: Bytes,
         salt: [u8; 16],
     },
-    /// The verifier of the SO's first PIN is made, for a token with this label (C_InitToken on a token that isn't
-    /// initialised, PKCS #11 v3.1, 5.5).
+    /// The verifier of the SO's first PIN is made, for a token with this label. The token isn't
+    /// initialised yet (C_InitToken, PKCS #11 v3.1, 5.5).
     InitToken {
         label: Label,
         pin: Bytes,
         salt: [u8; 16],
     },
-    /// The SO's PIN is checked against the verifier that stood when the check began, for a token that is to be
+    /// The SO's PIN is checked against the verifier that stood when the check began. The token is to be
     /// initialised again with this label (C_InitToken, PKCS #11 v3.1, 5.5).
     ResetToken {
         label: Label,

@@ -1,5 +1,5 @@
--- The tries of the PINs in a world and over a run: what is stored and in progress, which events of PINs a move (transition)
--- is (`pin_record` defines what these make of the record), and what is so of every world of a run.
+-- The tries of the PINs in a world and over a run: what is stored and in progress, and which events of PINs a move
+-- (transition) is. `pin_record` defines what these make of the record. Then what is so of every world of a run.
 use Rattle.std.specs.Prelude.{◌≡◌, ℕ, ◌==◌, Bool, true, false, List, [], ◌∷◌, ◌++◌, filter, if◌then◌else◌, Option, Some, None}
 use Rattle.ck_types.specs.declared.user_type.UserType.{UserType}
 use Rattle.ck_types.specs.declared.user_type.UserType.TheVariants.{So, User}

@@ -28,8 +28,8 @@ use Rattle.model_views.specs.Answering.{Said, Replies, Asks, Answer, Reveal, rev
 use Rattle.model_views.specs.Refusals.{refusal}
 use Rattle.model_answers.specs.Answers.{answer, answer_result}
 
--- The token's record, the token objects with their values, the checks that are in progress, the applications that have a
--- session, and the full view of each application. One that isn't there has the fresh view.
+-- The token's record, the token objects with their values, the checks that are in progress, and the applications that have a
+-- session. Then the full view of each application. One that isn't there has the fresh view.
 pub record World : Type 0 where
   pub token_record : TokenRecord
   pub objects : List (List Entry)

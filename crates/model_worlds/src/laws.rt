@@ -24,7 +24,7 @@ pub fn told_by_trace()
 {}
 
 /// Two runs in which the same comes to an application, from worlds in which it sees the same, return the same
-/// to it and leave it the same view, whatever else the worlds hold.
+/// to it. They leave it the same view, whatever else the worlds hold.
 pub fn agreeing_runs()
     ensures replies { (app : ℕ) (v w : World) (ms ns : List Move) → mask (v.views app) ≡ mask (w.views app) → trace app v ms ≡ trace app w ns
         → NoResourceError app (replies v ms) → NoResourceError app (replies w ns) → replies_to app (replies v ms) ≡ replies_to app (replies w ns) }
@@ -44,8 +44,8 @@ pub fn quiet_run()
 {}
 
 /// The ten tries, over a run: the record and the checks in progress are what its events of PINs make of them
-/// (`pin_record::laws::ten_tries`). So the tries of each PIN stay the checks of it that ended wrong or abandoned since
-/// it was last entered right or set, and those in progress; and at most ten do so end. It begins so with each world in
+/// (`pin_record::laws::ten_tries`). So the tries of each PIN stay those in progress and the checks of it that ended wrong
+/// or abandoned since it was last entered right or set. At most ten do so end. It begins so with each world in
 /// which no call is pending and no check is in progress.
 pub fn ten_tries()
     ensures begins { (w : World) → w.checks ≡ [] → ((app : ℕ) → (w.views app).question ≡ None) → ((app : ℕ) → (w.views app).token_record ≡ w.token_record)

@@ -2,8 +2,8 @@
 //! its key.
 //!
 //! Contracts see an operation that encrypts or decrypts as its mechanism with parameter and direction, the data that it has
-//! taken, its output so far, and the key, which the view of an application leaves out (`specs/Operations.antt`); one
-//! that signs or verifies as its mechanism, the data and the key; and a search as the handles that it didn't return yet.
+//! taken, its output so far, and the key. The view of an application leaves the key out (`specs/Operations.antt`). They see
+//! one that signs or verifies as its mechanism, the data and the key; and a search as the handles that it didn't return yet.
 //!
 //! ```text
 //! places.set(Place::Encrypt, Some(Stream::new(mechanism, Direction::Encrypt, key)));

@@ -110,7 +110,7 @@ impl Record {
         self.pin(who).verifier()
     }
 
-    /// The tries of the PIN, at most `TRIES_LIMIT`: the checks of it that were begun since the last
+    /// The tries of the PIN, at most `TRIES_LIMIT`. They are the checks of it that were begun since the last
     /// one that ended right, or since it was set, and those that were in progress then.
     pub fn tries(&self, who: UserType) -> u8
         ensures value { result ≡ tries_of self.now who }

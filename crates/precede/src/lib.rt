@@ -1,7 +1,7 @@
 //! Error precedence: which of several faults a call of PKCS #11 returns.
 //!
 //! Cryptoki says which codes a call may return and leaves open which one comes where several faults
-//! meet. Here each of the 41 calls has one ordered table of conditions that it is checked for, `rows`, and
+//! meet. Here each of the 41 calls has one ordered table of conditions that it is checked for, `rows`.
 //! `first_fault` returns the code of the first condition that holds. Their order is this token's own profile.
 //!
 //! - `first_fault(&facts)` is `Some(code)` just where a condition of the call's table holds and none before

@@ -68,9 +68,9 @@ module _ {W : Type 0} where
   abbrev pub logged_out : W → SessionTable W → SessionTable W
   logged_out idle t = record t { sessions = map (busy_with idle) t.sessions; login = None }
 
-  -- what is true of every table: numbers count from 1 and were given once each, there are 64
-  -- sessions at most, none is read-only while the SO is logged in, and nobody is logged in without
-  -- a session
+  -- What is true of every table: numbers count from 1 and were given once each, and there are 64
+  -- sessions at most. None is read-only while the SO is logged in, and nobody is logged in without
+  -- a session.
   pub record IsTable (t : SessionTable W) : Type 0 where
     pub rising : NumbersRise (λ s. s.handle) 1 t.sessions t.next_number
     pub few : length t.sessions ≤ 64

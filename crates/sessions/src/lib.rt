@@ -259,7 +259,7 @@ fn session_state(login: Option<UserType>, read_write: bool) -> SessionState
     }
 }
 
-// A session is found by the number that it carries, so that a key which the slab gives out again is
+// A session is found by the number that it carries. So a key which the slab gives out again is
 // never taken for the session that had it before.
 fn find_session<W>(sessions: &Slab<Session<W>>, handle: u64) -> Option<(usize, &Session<W>)>
     ensures { option_map (λ e. (e.0, e.1.now)) result ≡ find (λ e. e.1.handle == handle) (entries sessions.now) }

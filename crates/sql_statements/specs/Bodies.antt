@@ -2,8 +2,8 @@
 use Rattle.std.specs.Prelude.{ℕ, ◌+◌, ◌-◌, ◌<◌, ◌≤◌, ◌^◌, ◌==◌, not, List, [], ◌∷◌, ◌++◌, map, find, filter, Option, if◌then◌else◌, ⊤}
 use Rattle.std.specs.Option.{option_map}
 
--- the bodies of the objects under their ids, in the order in which they came, the body of the record, and the greatest id that was
--- ever given, 0 where none was
+-- the bodies of the objects under their ids, in the order in which they came, and the body of the record; then the greatest id
+-- that was ever given, 0 where none was
 pub record Bodies : Type 0 where
   pub objects : List (ℕ × List ℕ)
   pub token_record : List ℕ

@@ -12,7 +12,7 @@
 //!   record's, while all objects go. `renew_bodies` writes the record's row and those of some objects.
 //! - `read_row`, `read_ids`, `read_record_bodies` and `read_ids_and_bodies` read.
 //!
-//! A body is bytes here: no function looks into one. What contracts say of the tables (`Bodies`) is the
+//! A body is bytes here: no function looks into one. Contracts see the tables (`Bodies`) as the
 //! record's body, the objects' bodies under their ids, in order, and the greatest id that was ever given. Ids rise by
 //! one, and sqlite's own table of counters keeps the last, so none returns.
 //!

@@ -15,7 +15,7 @@ use std::alloc::{AllocError, Global};
 use std::marker::Model;
 
 /// A CBC decryption that has taken data. It keeps the last block that it worked on, and buffers at most a
-/// block of data: so many bytes at least as stay buffered until the final part, which is 1 where a padding
+/// block of data. At least so many bytes stay buffered until the final part: 1 where a padding
 /// is to be taken off, and else 0.
 #[derive(Drop)]
 pub(crate) struct CbcDecryption {

@@ -1,6 +1,6 @@
-//! Texts encrypted and decrypted in parts: CKM_AES_ECB, CKM_AES_CBC, CKM_AES_CBC_PAD and
-//! CKM_AES_CTR (PKCS #11 v3.1, 5.8, 5.10, 6.10 and 6.11; SP 800-38A; the padding of PKCS #7, RFC
-//! 5652, 6.3), in memory that does not grow with the text.
+//! Texts encrypted and decrypted in parts (Update, Final), in memory that does not grow with the text. The mechanisms are
+//! CKM_AES_ECB, CKM_AES_CBC, CKM_AES_CBC_PAD and CKM_AES_CTR (PKCS #11 v3.1, 5.8, 5.10, 6.10 and 6.11; SP 800-38A;
+//! the padding of PKCS #7, RFC 5652, 6.3).
 //!
 //! Contracts see a `Stream` as one record for all mechanisms (`Streamed`): the mechanism with its
 //! parameter, the direction, the key, all data that was taken and the output so far. The
@@ -11,10 +11,10 @@
 //! - What an update returns and what the last call returns are functions of all data taken
 //!   (`update_output` and `last_output`; `specs/Outputs.antt`), by the modes over whole texts of
 //!   `aes_modes`. What is decrypted is the one text that the mode encrypts to the data.
-//! - The output so far is what the mode encrypts or decrypts so many bytes of the data to as the table of
-//!   lengths has (`IsRight`; `specs/Lengths.antt`). With the final part it is what all data is encrypted or
+//! - The output so far is what the mode encrypts or decrypts the first bytes of the data to, as many as the table
+//!   of lengths has (`IsRight`; `specs/Lengths.antt`). With the final part it is what all data is encrypted or
 //!   decrypted to (`IsRest`), and nothing else is (`IsOnlyRest`).
-//! - `LenRange` comes exactly where the data's length is that of no text, and `CounterEnd` exactly
+//! - `LenRange` comes exactly where the data's length is that of no text. `CounterEnd` comes exactly
 //!   where a counter block would come again, before anything changes. `BadPad` comes only where no
 //!   text is encrypted to the data. But for these there is only `Memory`, for a failed allocation.
 //! - A refused call, and the last one, leaves the stream as it is.

@@ -105,11 +105,11 @@ impl Stream {
 
     /// Takes one more part, of any length, and returns what it adds to the output (PKCS #11 v3.1, 5.8 and
     /// 5.10): all bytes that the data determines before its end is known. These are its whole
-    /// blocks, but for the last one where a padding is to be taken off, and of CTR as many bytes as
+    /// blocks, but for the last one where a padding is to be taken off. CTR returns as many bytes as
     /// the part has.
     ///
     /// An `Err` changes nothing: `CounterEnd` where CTR has no counter for each block of the data,
-    /// and `Memory` where the result gets no memory.
+    /// and `Memory` where the allocation of the result fails.
     pub fn update(&mut self, alloc: Global, piece: &[u8]) -> Result<Vec<u8>, ModeFault>
         ensures state { IfOk result (λ out. self.new ≡ after_piece self.old piece.now out.items) }
         ensures length { IfOk result (λ out. length out.items ≡ wanted Part.Update self.old (length piece.now)) }
@@ -211,7 +211,7 @@ impl Stream {
     ///
     /// A single-part call is the last part with all data, and a final call the last part with none.
     ///
-    /// `LenRange` where with the last part the data has a length that no text has, and `CounterEnd`
+    /// `LenRange` where with the last part the data has a length that no text has. `CounterEnd`
     /// where CTR has no counter for each block of the data.
     pub fn room_of(&self, part: Part, input: &[u8]) -> Result<usize, ModeFault>
         ensures room { IfOk result (λ room. room ≡ wanted part self.now (length input.now)) }

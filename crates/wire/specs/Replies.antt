@@ -107,8 +107,8 @@ Fits-reply (replies.Output out) = (pair return_code output).Fits (rv.Ok, out)
 Fits-reply (replies.BufferTooSmall wanted) = (pair return_code output).Fits (rv.BufferTooSmall, Length wanted)
 Fits-reply (replies.Random bytes) = (pair return_code byte_string).Fits (rv.Ok, bytes)
 
--- Whether no list and no byte string of a reply is above its limit, each value has the length beside it, and values come with
--- one of their codes. Then each part has an encoding, since the types bound its other numbers.
+-- Whether no list and no byte string of a reply is above its limit, and each value has the length beside it. Values come
+-- with one of their codes. Then each part has an encoding, since the types bound its other numbers.
 abbrev pub IsWithinLimits : Reply → Type 0
 IsWithinLimits (replies.MechanismList mechanisms) = length mechanisms ≤ 1024
 IsWithinLimits (replies.AttributeValues code values) = (carries shapes.AttributeValues code ≡ true) × (length values ≤ 32) × AllByRecursion attribute_value.Fits values
