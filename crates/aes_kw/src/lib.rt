@@ -8,7 +8,7 @@
 //!   comes only where the bytes are the wrapping of no value. But for these there is only
 //!   `Memory`, for a failed allocation.
 //!
-//! `proofs/Only.antt` shows that no two values have one wrapping.
+//! `proofs/Only.antt` proves that no two values have one wrapping.
 //!
 //! Each call makes one allocation. The time that it takes depends on secrets, as that of `aes_block`.
 #![tactic(auto)]

@@ -27,7 +27,7 @@ pub struct MechanismInfo {
     pub flags: u64,
 }
 
-/// A `CK_SESSION_INFO` (PKCS #11 v3.1, 3.3), whose flags say whether the session may write.
+/// A `CK_SESSION_INFO` (PKCS #11 v3.1, 3.3), by whose flags a caller knows whether the session may write.
 #[derive(Clone, Copy, Debug, PartialEq, Eq)]
 pub struct SessionInfo {
     pub slot: u64,

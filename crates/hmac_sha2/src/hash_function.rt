@@ -25,7 +25,7 @@ pub trait HashFunction: Digest + Clone {
     // The bytes of what a hasher returns.
     ghost bytes: { Self.Output → List ℕ };
 
-    /// The bytes of a digest, as many as `output_size` says.
+    /// The bytes of a digest, as many as `output_size` returns.
     fn as_bytes(digest: &Self::Output) -> &[u8]
         ensures { result.now ≡ bytes digest.now };
 

@@ -3,5 +3,5 @@
 //! `specs/Store.antt` is which contents the tables hold, and what a change of them is, acknowledged or refused.
 //! `specs/Formats.antt` is the same of bodies in format 1 or 2, `specs/Rows.antt` and `specs/Renewals.antt` what is read of
 //! them and written again. `specs/Opening.antt` and `specs/OpenedFile.antt` are what opening a store promises. `proofs/` lifts
-//! what `sql_statements` says of bodies to contents. `keep_sql` implements them.
+//! the facts of `sql_statements` on bodies to contents. `keep_sql` implements them.
 #![tactic(auto)]

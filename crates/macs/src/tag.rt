@@ -37,7 +37,7 @@ impl Tag {
         Tag { bytes: room, len }
     }
 
-    /// The bytes of the tag, as many as its mechanism's `tag_len` says.
+    /// The bytes of the tag, as many as its mechanism's `tag_len` returns.
     pub fn as_slice(&self) -> &[u8]
         ensures value { result.now ≡ self.now }
         ensures within { length self.now ≤ LONGEST_TAG }

@@ -1,8 +1,8 @@
 //! The work of the mechanisms and of PINs, as jobs that any worker thread may run outside the token.
 //!
-//! A call that needs work with a key or a PIN becomes a pending call of the token, and returns a `Job` for any
-//! thread that has time: it holds all that its work needs, so `Job::run` waits for nobody. What comes back is a
-//! `Done`, which keeps that its outcome is what the definition of the work makes of its job, or an allocation
+//! A call that needs work with a key or a PIN becomes a pending call of the token, and returns a `Job`. Any
+//! thread that has time may run it: it holds all that its work needs, so `Job::run` waits for nobody. What comes
+//! back is a `Done`. Its outcome is what the definition of the work makes of its job, or an allocation
 //! failure, with the work as it was.
 //!
 //! - A cipher's work is a part or the last data of a stream (PKCS #11 v3.1, 5.8 and 5.10).

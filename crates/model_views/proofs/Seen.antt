@@ -1,4 +1,4 @@
--- A change by others alters what an application sees just where `is_seen` says so.
+-- A change by others alters what an application sees just where `is_seen` is true.
 use Rattle.std.proofs.Common.{◌≡◌, ℕ, true, false, List, map, Option, Some, None, refl, sym, ◌∙◌, ap}
 use Rattle.std.specs.Prelude.{◌==◌, ◌&&◌, nat_eq, is_some}
 use Rattle.std.specs.Bool.{Decides, beq}

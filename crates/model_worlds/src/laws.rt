@@ -44,7 +44,7 @@ pub fn quiet_run()
 {}
 
 /// The ten tries, over a run: the record and the checks in progress are what its events of PINs make of them
-/// (`pin_record::laws::ten_tries`). So the tries of each PIN stay those in progress and the checks of it that ended wrong
+/// (`pin_record::laws::ten_tries`). So the tries of each PIN stay those in progress and those that ended wrong
 /// or abandoned since it was last entered right or set. At most ten do so end. It begins so with each world in
 /// which no call is pending and no check is in progress.
 pub fn ten_tries()

@@ -1,4 +1,4 @@
--- The stored form of a record. In format 2 it is a byte 2, a byte that says whether the token is initialised, and
+-- The stored form of a record. In format 2 it is a byte 2, a byte for whether the token is initialised, and
 -- the label in 32 bytes. Then come for the SO and for the user: a byte 0, or a byte 1 and the verifier, and
 -- a byte of tries. A verifier is 16 bytes of salt, the rounds in 32 bits, and 32 bytes of key. All
 -- numbers are big-endian. Older stores have format 1: its first byte is 1, and a verifier has no rounds,
@@ -71,7 +71,7 @@ pin_form version =
 abbrev pub flag_byte : Bool → ℕ
 flag_byte initialized = if initialized then 1 else 0
 
--- the byte that says whether the token is initialised, the label, and the two PINs
+-- the byte for whether the token is initialised, the label, and the two PINs
 abbrev pub Parts : Type 0
 Parts = ℕ × (List ℕ × (PinState × PinState))
 

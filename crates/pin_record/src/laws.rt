@@ -5,8 +5,8 @@ ghost use Rattle.ck_types.specs.declared.user_type.UserType.{UserType as Who};
 ghost use Rattle.pin_record.specs.Records.{TokenRecord, tries_limit, tries_of};
 ghost use Rattle.pin_record.specs.Charges.{Charges, Event, IsCharged, after, checks_of, is_under_way, opened, spent, without};
 
-/// However checks of the PINs overlap, the tries of each PIN are those in progress and the checks of it that
-/// ended wrong or abandoned since the last reset. So at most ten end wrong or abandoned
+/// However checks of the PINs overlap, the tries of each PIN are two kinds of its checks: those in progress, and
+/// those that ended wrong or abandoned since the last reset. So at most ten end wrong or abandoned
 /// between two resets. It begins so with each record that is read.
 ///
 /// Hence what `end_check`, `Record::with_pin` and `Record::initialized` require of the checks in progress:

@@ -50,7 +50,7 @@ HoldsRows s b = HasCleanDisk s → IsTrue s.is_open → IsAtRows s b
 abbrev pub IsReady : State → Type 0
 IsReady s = HasCleanDisk s → IsTrue s.is_open
 
--- an open connection shows this database, with no transaction
+-- an open connection sees this database, with no transaction
 pub record ShowsNow (s : State) (db : Database) : Type 0 where
   pub now : s.now ≡ db
   pub settled : s.committed ≡ db

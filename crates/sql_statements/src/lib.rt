@@ -1,4 +1,4 @@
-//! What each statement of a token's store does to its two tables, as sqlite's rules say it.
+//! What each statement of a token's store does to its two tables, by sqlite's rules.
 //!
 //! ```text
 //! CREATE TABLE record(id INTEGER PRIMARY KEY CHECK (id = 1), body BLOB NOT NULL) STRICT

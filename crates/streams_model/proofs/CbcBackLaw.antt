@@ -34,7 +34,7 @@ module _ (key iv given taken piece chain kept out : List ℕ) (q n : ℕ) (at : 
       cbc_blocks-add key iv all q n ∙ (λ t. first t ++ later t)
       ∙ sym (take-add (16 * q) (16 * n) (taken ++ piece)) ∙ ap (λ m. take m (taken ++ piece)) sum
 
--- a piece further
+-- one more part
 module _ (key iv given taken piece chain kept out all after : List ℕ) (held n total len : ℕ) (le : held ≤ 1)
     (g : IsCbcDecrypted (record { iv = iv; key = key; held = held; taken = taken; given = given }))
     (c : chain ≡ chained key iv given (blocks_done held taken)) (k : kept ≡ drop (16 * blocks_done held taken) taken)

@@ -170,7 +170,7 @@ begun_left start first taken m number bits le b v f none =
     ∙ ap (λ l. counter_start m start + 0 + (l + 1)) (further m start le)
     ∙ omega (arith, below)
 
--- a piece further
+-- one more part
 module _ (key start taken piece kept after : List ℕ) (m number left n total len : ℕ)
     (le : m ≤ 128) (v : number ≡ from_be_bytes w128 start + blocks_done 1 taken)
     (room : counter_start m start + blocks_done 1 taken + (left + 1) ≡ 2 ^ m)

@@ -79,7 +79,7 @@ pub waiting-held : (held : ℕ) (taken given kept : List ℕ) → length given �
     → length kept ≡ length taken - length given
 waiting-held held taken given kept g k = ap length k ∙ length-drop (16 * blocks_done held taken) taken ∙ omega (arith, g)
 
--- a piece further
+-- one more part
 module _ (taken piece kept after : List ℕ) (n len : ℕ) (k : kept ≡ drop (16 * (length taken / 16)) taken)
     (l : len ≡ length kept) (is : n ≡ (len + length piece) / 16) (a : after ≡ taken ++ piece) where
   pub whole : 16 * (length taken / 16) ≤ length taken

@@ -98,7 +98,7 @@ fn len_asked_for(template: &[Entry]) -> usize
     }
 }
 
-/// How many random bytes `generated` needs for a template: 16, and as many as CKA_VALUE_LEN says where
+/// How many random bytes `generated` needs for a template: 16, and as many as CKA_VALUE_LEN is where
 /// that is at most 512.
 pub fn random_len(template: &Template) -> usize
     ensures { result ≡ 16 + generated_len template.now }
@@ -134,7 +134,7 @@ fn make_key(
 }
 
 /// The key that C_GenerateKey makes of a template by a mechanism that generates keys. The first 16
-/// random bytes make CKA_UNIQUE_ID, those that follow are the value; `random_len` says how many.
+/// random bytes make CKA_UNIQUE_ID, those that follow are the value; `random_len` is how many.
 pub fn generated(
     alloc: Global,
     state: SessionState,

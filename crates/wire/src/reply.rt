@@ -248,7 +248,7 @@ pub fn write_reply(alloc: Global, reply: &Reply) -> Result<Vec<u8>, WireFault>
 ///
 /// # Errors
 ///
-/// As `write_reply`. What the vector then holds is not said.
+/// As `write_reply`. What the vector then holds is not specified.
 pub fn write_reply_over(frame: &mut Vec<u8>, reply: &Reply) -> Result<(), WireFault>
     ensures writes { Writes (reply_payload reply.now) (Fits-reply reply.now) (result_with result frame.new) }
     ensures fits { IsWithinLimits reply.now → Fits-reply reply.now }
