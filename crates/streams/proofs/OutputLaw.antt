@@ -31,7 +31,7 @@ so_far-le (CbcPad iv) Encrypt n = omega arith
 so_far-le (CbcPad iv) Decrypt n = omega arith
 so_far-le (Ctr bits start) d n = omega arith
 
--- ---- the whole output
+-- ---- all that is output
 
 module _ (m : Mechanism) (key taken given : List ℕ) where
   abbrev pub there : Streamed

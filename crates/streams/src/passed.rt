@@ -5,7 +5,7 @@ ghost use Rattle.std.specs.Prelude.{◌≡◌, ◌+◌, ◌*◌, ◌≤◌, ◌+
 use crate::kept::Kept;
 use lists::GhostBytes;
 
-/// All data that a stream took and its whole output, of which contracts alone speak, and the
+/// All data that a stream took and its output so far, of which contracts alone speak, and the
 /// bytes that are buffered.
 #[derive(Drop)]
 pub(crate) struct Passed {
