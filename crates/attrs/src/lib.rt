@@ -6,7 +6,7 @@
 //!   CKA_KEY_TYPE are among those known here, CKA_VALUE_LEN is the length of CKA_VALUE, and that
 //!   length is one that the key type has. Contracts see an object as the list of its attributes by
 //!   rising number, so equal objects are equal lists.
-//! - `attributes` is the table of attributes: the form of each, and which objects have it. It has too what a
+//! - `attributes` is the table of attributes: the form of each, and which objects have it. It also has what a
 //!   template may say of it in each of the calls that make or change an object.
 //! - `encode` and `decode` are the stored form. Each object has one: `decode` accepts just what
 //!   `encode` writes. `size` is its length. `decode_old` reads the form that older stores have.

@@ -2,7 +2,7 @@
 //!
 //! A handle is a number from 1 on. Numbers rise by one and never return, so a handle that was
 //! retired stays unknown for good. An object is known by its id, and has one handle at most.
-//! Each handle has whether its object is private: a logout retires those handles without reading
+//! Each handle records whether its object is private: a logout retires those handles without reading
 //! the objects, and takes no memory.
 //!
 //! Contracts see the handles as a list in the order in which they were given, with the number of
@@ -123,7 +123,7 @@ impl Handles {
         self.by_id.reserve(additional)
     }
 
-    /// The handle of an object: the one that it has, or else the next one, which has whether the
+    /// The handle of an object: the one that it has, or else the next one, which records whether the
     /// object is private. `reserve` has allocated for it, so no memory is taken.
     pub fn give(&mut self, id: u64, private: bool) -> u64
         requires fits { self.old.next_number + 1 < 2 ^ 64 }

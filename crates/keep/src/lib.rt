@@ -8,7 +8,7 @@
 //! - `ListKeep` is a keeper in memory, by an ordered map from ids to objects.
 //!
 //! Contracts see a keeper by its `terms`: which contents it holds, and what a crash at this moment may leave
-//! (contents, or what is no token's store). They also have how many writes were tried, how often the device failed, and
+//! (contents, or what is no token's store). Further, how many writes were tried, how often the device failed, and
 //! whether it is steady. `doubt` is 0 as long as the disk is faithful: it has returned what was written. A keeper
 //! that is shut, or whose disk was faulty, may hold anything, so nothing follows of it. Contents are the list
 //! of objects under their ids, the record, and the greatest id that was ever given (`specs/Contents.antt`).

@@ -21,8 +21,8 @@
 //! `KeepFault::Memory`. After a fault the store is as it was. Each call first checks that the connection is
 //! open: one that sqlite has shut after a fault of the disk is never written again.
 //!
-//! The contracts on contents hold of a store that was opened on no table or on these two, as long as nobody else writes
-//! the file and the disk is faithful. A faithful disk returns what was written: `doubt` is 0 (in memory always).
+//! The contracts on contents hold of a store that was opened on no table or on these two. They hold as long as nobody
+//! else writes the file and the disk is faithful: it returns what was written (`doubt` is 0; in memory always).
 //! After an acknowledged change a crash leaves the change alone, after a fault what
 //! it could leave before, or the whole change (`keep`).
 //!

@@ -9,8 +9,8 @@
 //! Proved, for every mechanism, key and message, however it is cut:
 //!
 //! - There is a `Mac` exactly where the key has a length of the mechanism's.
-//! - The tag is that of the whole message by the mechanism's standard, and has the mechanism's length
-//!   (`specs/Tags.antt`, over what `aes_cmac` and `hmac_sha2` write down).
+//! - The tag is that of the whole message by the mechanism's standard, and has the mechanism's length.
+//!   `specs/Tags.antt` defines it, over what `aes_cmac` and `hmac_sha2` write down.
 //! - To make a tag changes nothing: a message can go on behind it.
 //! - A copy stands where the `Mac` stands, and `has_taken` is whether it has taken a byte.
 //! - No call takes memory, and none can fail but `Mac::new`, for the key's length.

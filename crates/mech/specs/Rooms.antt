@@ -19,8 +19,8 @@ given_of (Signature signature) = signature
 given_of (Wrapped bytes) = bytes
 given_of _ = []
 
--- how many they may be: what a cipher adds, 64 bytes of a signature, and of a wrapping 8 bytes more than of the value; for
--- other work there is no bound
+-- how many they may be: what a cipher adds, 64 bytes of a signature, and of a wrapping 8 bytes more than of the value; of
+-- other work nothing is said
 abbrev pub most_of : Work → Outcome → ℕ
 most_of (Cipher stream part input) o = most_added part stream.mechanism stream.direction (length stream.taken) (length input)
 most_of (Sign mac input) o = 64

@@ -79,7 +79,7 @@ impl Done {
     }
 }
 
-/// Does a cipher's work, or returns it if an allocation fails.
+/// Does a cipher's work, or returns the work if an allocation fails.
 fn ciphered(alloc: Global, stream: Stream, part: Part, input: Bytes) -> Result<Outcome, Work>
     requires { IsTrue (is_runnable (Cipher stream part input)) }
     ensures value { IfOk result (λ o. o ≡ outcome_of (Cipher stream part input)) }
@@ -162,7 +162,7 @@ fn token_reset(label: Label, verifier: &Verifier, pin: &[u8]) -> Outcome
     }
 }
 
-/// Does the work, or returns it if an allocation fails, which the work of PINs never takes.
+/// Does the work, or returns the work if an allocation fails. The work of PINs allocates nothing.
 fn work_done(alloc: Global, work: Work) -> Result<Outcome, Work>
     requires { IsTrue (is_runnable work) }
     ensures value { IfOk result (λ o. o ≡ outcome_of work) }

@@ -11,8 +11,8 @@
 //! - What an update returns and what the last call returns are functions of all data taken
 //!   (`update_output` and `last_output`; `specs/Outputs.antt`), by the modes over whole texts of
 //!   `aes_modes`. What is decrypted is the one text that the mode encrypts to the data.
-//! - The output so far is what the mode encrypts or decrypts the first bytes of the data to, as many as in the table
-//!   of lengths (`IsRight`, `specs/Lengths.antt`). With the final part it is what all data is encrypted or
+//! - The output so far is what the mode encrypts or decrypts the first bytes of the data to (`IsRight`). How many these
+//!   are is in the table of lengths (`specs/Lengths.antt`). With the final part it is what all data is encrypted or
 //!   decrypted to (`IsRest`), and nothing else is (`IsOnlyRest`).
 //! - `LenRange` comes exactly where the data's length is that of no text. `CounterEnd` comes exactly
 //!   where a counter block would come again, before anything changes. `BadPad` comes only where no
