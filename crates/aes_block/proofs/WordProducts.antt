@@ -91,15 +91,15 @@ multiply_columns-xor p s t hs ht =
 
 -- ---- two polynomials whose product is 1
 
--- the word with x at place k and zeros beside it
+-- the word with x at index k and zeros beside it
 unfoldable alone : ℕ → ℕ → List ℕ
 alone k x = (if k == 0 then x else 0) ∷ (if k == 1 then x else 0) ∷ (if k == 2 then x else 0) ∷ (if k == 3 then x else 0) ∷ []
 
--- whether p times q times a byte at place k leaves it, for each byte
+-- whether p times q times a byte at index k leaves it, for each byte
 unfoldable undoes_at : List ℕ → List ℕ → ℕ → Bool
 undoes_at p q k = agree_below (λ x. same_word (word_product p (multiples (matrix_column q k) x)) (alone k x)) (λ _. true) 256
 
--- p times q is 1: at each place
+-- p times q is 1: at each index
 pub record Undoes (p q : List ℕ) : Type 0 where
   at0 : undoes_at p q 0 ≡ true
   at1 : undoes_at p q 1 ≡ true

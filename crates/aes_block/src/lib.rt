@@ -1,21 +1,10 @@
 //! AES, the block cipher of FIPS 197, with keys of 128, 192 and 256 bits.
 //!
-//! ```rust
-//! use aes_block::{Key, xor_blocks};
-//!
-//! let Some(key) = Key::new(b"sixteen byte key") else {
-//!     return;
-//! };
-//! let block = key.encipher(*b"exactly a block.");
-//! assert_eq!(rt; key.decipher(block), *b"exactly a block.");
-//! assert_eq!(rt; xor_blocks(block, block), [0; 16]);
-//! ```
-//!
 //! Proved, for every key and every block:
 //!
 //! - `Key::new` gives a key exactly where it is given 16, 24 or 32 bytes, and the key is those
 //!   bytes.
-//! - `encipher` is the cipher as `fips_197` writes it down from the standard. Each entry of each table is the
+//! - `encipher` is the cipher as `fips_197` writes it down from FIPS 197. Each entry of each table is the
 //!   definition's. `encrypt_number` is the same cipher on the bytes of a number, the highest first.
 //! - `decipher` gives the block that is encrypted to the one given, and no other block is.
 //! - `xor_blocks` is the exclusive or, byte by byte, and `block_at` a whole block of a text.
@@ -24,7 +13,7 @@
 //! `proofs/` shows besides that each word of the key schedule is the standard's sum of earlier ones (`KeySchedules`). A
 //! proof above may cite `IsBlock-encrypted_block` (`KeySchedules`) and what is known of a text's blocks (`TextBlocks`).
 //!
-//! The time that a call takes depends on secrets: the cipher reads tables at places that depend
+//! The time that a call takes depends on secrets: the cipher reads tables at indexes that depend
 //! on the key and the block, and so whoever shares the processor's cache may learn of both. A key
 //! is not overwritten when it is dropped.
 #![tactic(auto)]

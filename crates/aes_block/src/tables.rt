@@ -41,8 +41,8 @@ pub(crate) static INVERSE_S_BOX: [u8; 256] = [
     0x17, 0x2b, 0x04, 0x7e, 0xba, 0x77, 0xd6, 0x26, 0xe1, 0x69, 0x14, 0x63, 0x55, 0x21, 0x0c, 0x7d,
 ];
 
-/// What a byte of row r adds to a column that is mixed (5.1.3), after the S-box: entry x of row r
-/// is column r of the matrix of {03} x^3 + {01} x^2 + {01} x + {02}, times the S-box at x.
+/// What a byte of row r adds to a column that is mixed (5.1.3), after the S-box. Entry x of row r is column r of
+/// a matrix, times the S-box at x. The matrix is that of {03} x^3 + {01} x^2 + {01} x + {02}.
 pub(crate) static MIXED_ROWS: [[u32; 256]; 4] = [
     [
         0xc66363a5, 0xf87c7c84, 0xee777799, 0xf67b7b8d, 0xfff2f20d, 0xd66b6bbd, 0xde6f6fb1,
@@ -202,9 +202,9 @@ pub(crate) static MIXED_ROWS: [[u32; 256]; 4] = [
     ],
 ];
 
-/// What a byte of row r adds to a column that is mixed inversely (5.3.3), after the inverse S-box:
-/// entry x of row r is column r of the matrix of {0b} x^3 + {0d} x^2 + {09} x + {0e}, times the
-/// inverse S-box at x.
+/// What a byte of row r adds to a column that is mixed inversely (5.3.3), after the inverse S-box. Entry x of row r
+/// is column r of a matrix, times the inverse S-box at x. The matrix is that of
+/// {0b} x^3 + {0d} x^2 + {09} x + {0e}.
 pub(crate) static INVERSE_MIXED_ROWS: [[u32; 256]; 4] = [
     [
         0x51f4a750, 0x7e416553, 0x1a17a4c3, 0x3a275e96, 0x3bab6bcb, 0x1f9d45f1, 0xacfa58ab,

@@ -55,7 +55,7 @@ blocks_before message =
           further ∙ sym (ap count (ne_eqb (length message) 0 some))
     ]
 
--- ---- the last block, by the length of what is left
+-- ---- the last block, by the length of what is behind them
 
 abbrev last_by_test : List ℕ → List ℕ → Bool → List ℕ
 last_by_test key rest whole =

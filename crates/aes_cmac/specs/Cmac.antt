@@ -12,8 +12,8 @@ use Rattle.fips_197.specs.Encrypt.{encrypted_block}
 abbrev pub reduction : ℕ
 reduction = 0x87
 
--- a block, as the number whose highest bit is the block's first, one bit to the left, with R_128 added
--- where the bit that falls out is 1 (steps 2 and 3)
+-- a block, as the number whose highest bit is the block's first, one bit to the left (steps 2 and 3). R_128 is added
+-- where the bit that falls out is 1.
 unfoldable pub doubled : List ℕ → List ℕ
 doubled block =
     let number = from_be_bytes w128 block in
@@ -27,7 +27,7 @@ first_subkey key = doubled (encrypted_block key (replicate 16 0))
 unfoldable pub second_subkey : List ℕ → List ℕ
 second_subkey key = doubled (first_subkey key)
 
--- ---- the code (6.2)
+-- ---- the tag (6.2)
 
 -- n, how many blocks the message has: at least one, of which the last may be shorter (step 2)
 abbrev pub block_count : List ℕ → ℕ

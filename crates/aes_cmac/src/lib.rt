@@ -1,17 +1,7 @@
 //! CMAC with AES, the message authentication code of SP 800-38B (May 2005), at its whole length of
 //! 16 bytes.
 //!
-//! ```rust
-//! use aes_block::Key;
-//! use aes_cmac::cmac;
-//!
-//! let Some(key) = Key::new(b"sixteen byte key") else {
-//!     return;
-//! };
-//! let code: [u8; 16] = cmac(&key, b"a message of any length");
-//! ```
-//!
-//! Proved, for every key and every message: the code is that of `specs/Cmac.antt`, which writes the
+//! Proved, for every key and every message: the tag is that of `specs/Cmac.antt`, which writes the
 //! standard down, over the block cipher of `aes_block`. `cmac` takes no memory and cannot fail.
 //!
 //! `chained_on` and `tag_of_end` are its two parts, for a message that comes in parts: the blocks
@@ -38,7 +28,7 @@ pub fn cmac(key: &Key, message: &[u8]) -> [u8; 16]
     tag_of_end(key, chain, &message[BLOCK_SIZE * before..])
 }
 
-/// C_(q + n) of a message's blocks before the last (6.2, steps 5 and 6), from C_q and the message's
+/// C_(q + n) of a message's blocks before the last (6.2, steps 5 and 6). It takes C_q and the message's
 /// bytes behind its first q blocks: n is `blocks`, and C_0 is a block of zeros.
 pub fn chained_on(key: &Key, chain: Block, text: &[u8], blocks: usize) -> Block
     requires { 16 * blocks ≤ length text.now }
@@ -52,7 +42,7 @@ pub fn chained_on(key: &Key, chain: Block, text: &[u8], blocks: usize) -> Block
     chained
 }
 
-/// The tag of a message of n blocks (6.2, steps 4 and 6), from C_(n - 1), which its blocks before
+/// The tag of a message of n blocks (6.2, steps 4 and 6). It takes C_(n - 1), which its blocks before
 /// the last are chained to, and the bytes behind these blocks, at most 16.
 pub fn tag_of_end(key: &Key, chain: Block, rest: &[u8]) -> [u8; 16]
     requires { length rest.now ≤ 16 }

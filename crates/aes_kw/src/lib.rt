@@ -1,27 +1,14 @@
 //! The key wrap of RFC 3394 with AES, under its initial value of eight bytes 0xA6.
 //!
-//! ```rust
-//! use aes_block::Key;
-//! use aes_kw::{unwrap, wrap};
-//!
-//! let Some(key) = Key::new(b"sixteen byte key") else {
-//!     return Ok(());
-//! };
-//! let wrapped = wrap(alloc, &key, b"another key of 24 bytes.")?;
-//! assert_eq!(rt; wrapped.len(), 32);
-//! let value = unwrap(alloc, &key, &wrapped)?;
-//! assert_eq!(rt; value.as_slice(), b"another key of 24 bytes.");
-//! ```
-//!
 //! Proved, for every key and every value:
 //!
 //! - `wrap` gives what `specs/KeyWrap.antt` writes down from the RFC, in index form.
 //! - `unwrap` gives the value whose wrapping the bytes are.
 //! - `LenRange` comes exactly where the length is none of a value, or of a wrapping. `BadCheck`
 //!   comes only where the bytes are the wrapping of no value. But for these there is only
-//!   `Memory`, for an allocation refused.
+//!   `Memory`, for a failed allocation.
 //!
-//! `proofs/Only.antt` shows that no two values have one wrapping.
+//! `proofs/Only.antt` proves that no two values have one wrapping.
 //!
 //! Each call makes one allocation. The time that it takes depends on secrets, as that of `aes_block`.
 #![tactic(auto)]

@@ -40,8 +40,8 @@ pub fn wrap(alloc: Global, key: &Key, value: &[u8]) -> Result<Vec<u8>, KwFault>
 
 /// The value whose wrapping `bytes` is (RFC 3394, 2.2.2). It has 8 bytes less.
 ///
-/// `LenRange` where there are less than 24 bytes, or a number that 8 doesn't divide, `BadCheck`
-/// where `bytes` is the wrapping of no value, and `Memory` where the result gets no memory.
+/// `LenRange` where there are less than 24 bytes, or a number that 8 doesn't divide. `BadCheck`
+/// where `bytes` is the wrapping of no value. `Memory` where the allocation of the result fails.
 pub fn unwrap(alloc: Global, key: &Key, bytes: &[u8]) -> Result<Vec<u8>, KwFault>
     ensures length { IfOk result (λ value. length value.items + 8 ≡ length bytes.now) }
     ensures value { IfOk result (λ value. wrapped key.now value.items ≡ bytes.now) }

@@ -88,7 +88,7 @@ padded-only x y same =
 
 -- ---- a padded text by its blocks
 
--- the last block: the rest behind the whole blocks of the text, and the padding
+-- the last block: the bytes behind the whole blocks of the text, and the padding
 pub padded-last : (text : List ℕ)
     → block_of text (length text / 16) ++ replicate (16 - length text % 16) (16 - length text % 16) ≡ block_of (padded text) (length text / 16)
 unfolding padded pad_count

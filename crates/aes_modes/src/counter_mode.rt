@@ -44,9 +44,9 @@ fn encrypted(
 /// A text of any length under CTR (SP 800-38A, 6.5). The counters begin with `start`, whose `bits`
 /// low bits count. The result has the text's length in bytes, and both directions are one.
 ///
-/// `CounterEnd` where the number of those bits and the blocks that the text begins come to more
-/// than 2 to the `bits`, so that a counter would come again, and `Memory` where the result gets no
-/// memory.
+/// `CounterEnd` where a counter would come again: where the number of those bits and the blocks that the text
+/// begins come to more than 2 to the `bits`. `Memory` where the allocation of the
+/// result fails.
 pub fn ctr(
     alloc: Global,
     key: &Key,

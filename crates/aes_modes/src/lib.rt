@@ -1,23 +1,5 @@
-//! The modes ECB, CBC and CTR of SP 800-38A (2001) with AES, over whole texts, and CBC with the
+//! The modes ECB, CBC and CTR of SP 800-38A (2001) with AES, over whole texts. CBC is there too with the
 //! padding of PKCS #7 (RFC 5652, 6.3).
-//!
-//! ```rust
-//! use aes_block::Key;
-//! use aes_modes::{CounterBits, Direction, cbc_pad, ctr};
-//!
-//! let Some(key) = Key::new(b"sixteen byte key") else {
-//!     return Ok(());
-//! };
-//! let iv = [7; 16];
-//! let encrypted = cbc_pad(alloc, &key, Direction::Encrypt, iv, b"any length")?;
-//! let text = cbc_pad(alloc, &key, Direction::Decrypt, iv, &encrypted)?;
-//! assert_eq!(rt; text.as_slice(), b"any length");
-//!
-//! let Some(bits) = CounterBits::new(32) else {
-//!     return Ok(());
-//! };
-//! let encrypted = ctr(alloc, &key, Direction::Encrypt, bits, [0; 16], b"any length")?;
-//! ```
 //!
 //! Proved, for every key, text and parameter:
 //!
@@ -25,14 +7,16 @@
 //!   Decrypting gives the text that is encrypted to the one given, and there is no other.
 //! - `LenRange` comes exactly where a mode of whole blocks is given another length, and
 //!   `CounterEnd` exactly where counter blocks would repeat. `BadPad` comes only where no text is
-//!   encrypted to the one given. But for these there is only `Memory`, for an allocation refused.
+//!   encrypted to the one given. But for these there is only `Memory`, for a failed allocation.
 //!
-//! A proof above may cite of the definitions, from `proofs/`: no two texts are encrypted to one,
-//! and how long they become (`Only`), CTR twice is the text again (`CounterTexts`), and the first
-//! blocks of a text are encrypted alike whatever follows, and the further ones from the block
-//! before (`Texts`, `Chains`).
+//! A proof above may cite of the definitions, from `proofs/`:
 //!
-//! `filled_block`, `xor_number`, `push_number` and `unpadded_len` are for a crate that works in parts.
+//! - No two texts are encrypted to one, and how long they become (`Only`).
+//! - CTR twice is the text again (`CounterTexts`).
+//! - The first blocks of a text are encrypted alike whatever follows, and the further ones from the block
+//!   before (`Texts`, `Chains`).
+//!
+//! `filled_block`, `xor_number`, `push_number` and `unpadded_len` are for `streams`, which works in parts.
 //!
 //! Each call makes one allocation, of the length that it gives. The time that it takes depends on
 //! secrets, as that of `aes_block`. Nothing here is authenticated.

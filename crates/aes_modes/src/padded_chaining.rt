@@ -67,11 +67,11 @@ fn decrypted(alloc: Global, key: &Key, iv: Block, text: &[u8]) -> Result<Vec<u8>
     Ok(out)
 }
 
-/// A text of any length under CBC with padding: encrypting pads it with 1 to 16 bytes, each of
-/// which is their number, to whole blocks (RFC 5652, 6.3), and decrypting takes the padding off.
+/// A text of any length under CBC with padding (RFC 5652, 6.3). Encrypting pads it to whole blocks, with 1 to 16
+/// bytes, each of which is their number. Decrypting takes the padding off.
 ///
-/// Encrypting fails only with `Memory`, where the result gets no memory. Decrypting can fail so
-/// too, with `LenRange` where the length is 0 or no multiple of 16, and with `BadPad` where no
+/// Encrypting fails only with `Memory`, where the allocation of the result fails. Decrypting can fail so
+/// too. It also fails with `LenRange` where the length is 0 or no multiple of 16, and with `BadPad` where no
 /// text is encrypted to `text`.
 pub fn cbc_pad(
     alloc: Global,

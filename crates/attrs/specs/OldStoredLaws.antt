@@ -106,7 +106,7 @@ fits_rows-lacks n (r ∷ rs) (x ∷ es) e lack =
     let h = and_parts (not (eqb (row_number r) n)) (rows_lack n rs) lack in
     both (not (eqb x.attr_type n)) (lacks n es) (ap (λ k. not (eqb k n)) is ∙ h.0) (fits_rows-lacks n rs es a.1 h.1)
 
--- ---- attributes that stand before all others, or are not there
+-- ---- attributes that stand before all others, or are absent
 
 eqb-same : (n : ℕ) → eqb n n ≡ true
 eqb-same n = grind (arith, nat_tests)

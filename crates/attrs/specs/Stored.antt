@@ -25,7 +25,7 @@ unfoldable pub object_stored : List ℕ → Option (List Entry)
 object_stored [] = None
 object_stored (b ∷ bytes) = if b == 2 then if_object (whole stored_entries bytes) else None
 
--- what a decoder answers is the object, unless memory runs out
+-- what a decoder returns is the object, unless memory runs out
 abbrev pub Decodes : {X : Type 0} → Result X DecodeFault → Option X → Type 0
 Decodes (Ok x) o = o ≡ Some x
 Decodes (Err faults.Form) o = o ≡ None

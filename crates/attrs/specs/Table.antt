@@ -1,5 +1,5 @@
--- The attributes of data objects and secret keys (PKCS #11 v3.1, 4.2, 4.4, 4.5, 4.7 and 4.10), and
--- what a template may say of each (4.1). A column is one of the calls: C_CreateObject,
+-- The attributes of data objects and secret keys (PKCS #11 v3.1, 4.2, 4.4, 4.5, 4.7 and 4.10). For each, what
+-- a template may say of it (4.1). A column is one of the calls: C_CreateObject,
 -- C_GenerateKey, C_UnwrapKey, C_CopyObject, C_SetAttributeValue. Defaults, and which attributes may be
 -- given where the standard leaves it open, are this token's profile.
 use Rattle.std.specs.Prelude.{ℕ, Bool, true, false, List, [], ◌∷◌, filter}

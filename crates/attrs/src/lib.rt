@@ -1,4 +1,4 @@
-//! Objects of a PKCS #11 token: which attributes they have, and the bytes that they are stored as.
+//! The object model of a PKCS #11 token: the attributes that objects have, and the bytes that they are stored as.
 //!
 //! - `Object` is a data object or a secret key. It is a finite map from attribute types to values, and
 //!   keeps that it has just the attributes of its class, each in its form: a truth value is one byte 0
@@ -6,7 +6,7 @@
 //!   CKA_KEY_TYPE are among those known here, CKA_VALUE_LEN is the length of CKA_VALUE, and that
 //!   length is one that the key type has. Contracts see an object as the list of its attributes by
 //!   rising number, so equal objects are equal lists.
-//! - `attributes` is the table of attributes: the form of each, which objects have it, and what a
+//! - `attributes` is the table of attributes: the form of each, and which objects have it. It also has what a
 //!   template may say of it in each of the calls that make or change an object.
 //! - `encode` and `decode` are the stored form. Each object has one: `decode` accepts just what
 //!   `encode` writes. `size` is its length. `decode_old` reads the form that older stores have.

@@ -14,7 +14,7 @@ pub record CachedState (K : Type 0) : Type 0 where
 abbrev pub Agrees : List Kept → Contents → Type 0
 Agrees entries c = (id : ℕ) (object : List Entry) → Contains entries (id, object) → object_at c id ≡ Some object
 
--- all is said of the keeper behind the cache, and the cache agrees with what that keeper holds as long as there is no doubt
+-- all is said of the keeper behind the cache, and the cache agrees with what that keeper holds as long as the disk is faithful
 abbrev pub cached_terms : {K : Type 0} → Terms K → Terms (CachedState K)
 cached_terms terms = record {
   holds = λ k c. terms.holds k.keep c × (terms.doubt k.keep ≡ 0 → Agrees k.entries c);

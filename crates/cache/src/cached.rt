@@ -13,7 +13,7 @@ use std::alloc::Global;
 use std::marker::Model;
 use std::num::NonZeroUsize;
 
-/// A keeper that remembers objects by their ids, and else answers as the one behind it.
+/// A keeper that remembers objects by their ids, and else returns what the one behind it does.
 #[derive(Drop)]
 pub struct Cached<K: Keep> {
     keep: K,
@@ -29,8 +29,8 @@ impl<K: Keep> Model for Cached<K> {
 }
 
 impl<K: Keep> Cached<K> {
-    /// The keeper behind a cache of up to so many objects, none of which is remembered yet. Where memory for the
-    /// cache is refused, the keeper comes back as it was.
+    /// The keeper behind a cache of up to so many objects, none of which is remembered yet. Where the allocation of the
+    /// cache fails, the keeper comes back as it was.
     pub fn new(alloc: Global, keep: K, capacity: NonZeroUsize) -> Result<Self, (KeepFault, K)>
         ensures keep { IfOk result (λ k. k.keep ≡ keep) }
         ensures same { IfOk result (λ k. Inherits K.terms keep ⟦<Cached<K> as Keep>⟧.terms k) }

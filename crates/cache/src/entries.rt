@@ -1,4 +1,4 @@
-//! What is asked of the objects that are remembered.
+//! Look-ups and changes of the objects that are remembered.
 
 ghost use Rattle.std.specs.Prelude.{◌≡◌, ◌≢◌, ◌⊎◌, IfSome, Contains};
 ghost use Rattle.keep.specs.Contents.{Kept, IsTokenObject};
@@ -39,7 +39,7 @@ pub(crate) fn remember(entries: &mut LruCache<u64, Object>, id: u64, object: &Ob
 pub(crate) fn forget(entries: &mut LruCache<u64, Object>, id: u64)
     ensures { (e : Kept) → Contains entries.new.entries e → Contains entries.old.entries e × (e.0 ≢ id) }
 {
-    // its contract tells that each id is there once
+    // by its contract each id is there once
     let _len = entries.len();
     let _ = entries.pop(&id);
 }

@@ -1,14 +1,14 @@
 //! A keeper of a token's objects (`keep`) behind a cache of them.
 //!
 //! `Cached` is a keeper over any other one. It remembers objects that it has read, up to a capacity, the most
-//! recently used ones, and answers a read of these from memory. All else it asks the keeper behind it. It
+//! recently used ones, and answers a read of these from memory. All else it passes on to the keeper behind it. It
 //! remembers nothing that the keeper has not acknowledged: an object that is replaced or removed is forgotten,
-//! and a reset forgets all. Where no memory is found to remember an object, or to copy one that is remembered,
-//! it answers as the keeper behind it does.
+//! and a reset forgets all. Where an allocation fails to remember an object, or to copy one that is remembered,
+//! it returns what the keeper behind it does.
 //!
-//! Each clause of `Keep` holds of it, in the words of the keeper behind it: it holds what that keeper holds, and
-//! as long as there is no doubt each object that is remembered is the one held under its id
-//! (`specs/CachedState.antt`). Which objects are remembered, how many, and that any are, no clause tells, so
+//! Each clause of `Keep` holds of it, in the words of the keeper behind it. It holds what that keeper holds. As long
+//! as the disk is faithful each object that is remembered is the one held under its id
+//! (`specs/CachedState.antt`). Which objects are remembered, how many, and that any are, is in no clause, so
 //! nothing may rely upon it.
 //!
 //! ```text

@@ -1,6 +1,6 @@
--- How many random bytes each call takes. The rule is this project's: 16 bytes make a CKA_UNIQUE_ID or
--- the salt of a PIN's verifier, a generated key takes its length more, and C_GenerateRandom (PKCS #11
--- v3.1, 5.19) what it asks for.
+-- How many random bytes each call takes. The rule is this project's. 16 bytes make a CKA_UNIQUE_ID or
+-- the salt of a PIN's verifier, and a generated key takes its length more. C_GenerateRandom (PKCS #11
+-- v3.1, 5.19) takes what it asks for.
 use Rattle.std.specs.Prelude.{ℕ, ◌+◌, List, length, find, ◌==◌, nat_le, if◌then◌else◌}
 use Rattle.std.specs.Option.{option_map, unwrap_or}
 use Rattle.std.specs.Int.{w64, from_be_bytes}

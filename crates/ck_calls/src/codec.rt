@@ -258,7 +258,7 @@ impl Codec for AttributeValue {
     }
 }
 
-/// Values are answered to a query, so there are at most 32.
+/// Values are returned for a query, so there are at most 32.
 impl ListItem for AttributeValue {
     ghost most = { 32 };
 

@@ -1,9 +1,9 @@
-//! The calls of PKCS #11 that this token has, and what they answer.
+//! The calls of PKCS #11 that this token has, and what they return.
 //!
 //! - `Call` has a variant for each of the 41 calls, with named fields, and `Function` names them alone.
-//! - `Reply` is what a call answers: a code, or what comes with `CKR_OK`, with `CKR_BUFFER_TOO_SMALL` or
+//! - `Reply` is what a call returns: a code, or what comes with `CKR_OK`, with `CKR_BUFFER_TOO_SMALL` or
 //!   with the codes of C_GetAttributeValue.
-//! - `need` says how many random bytes a call takes, by the call alone.
+//! - `need` is how many random bytes a call takes, by the call alone.
 //!
 //! ```
 //! let call = Call::GenerateRandom { session: 1, len: 16 };

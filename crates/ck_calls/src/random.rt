@@ -7,7 +7,7 @@ use crate::call::Call;
 use byteorder::{BigEndian, ByteOrder};
 use ck_types::{AttrType, Entry, MAX_SECRET_LEN, UNIQUE_ID_BYTES};
 
-/// The greatest number of bytes that C_GenerateRandom gives at once.
+/// The greatest number of bytes that C_GenerateRandom returns in one call.
 pub const MAX_RANDOM_LEN: u64 = 32768;
 
 const VALUE_LEN: u64 = AttrType::ValueLen as u64;

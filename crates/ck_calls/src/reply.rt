@@ -10,7 +10,7 @@ pub const MAX_PIN_LEN: u64 = 64;
 
 pub const MIN_PIN_LEN: u64 = 4;
 
-/// What a token tells of itself: the parts of a `CK_TOKEN_INFO` (PKCS #11 v3.1, 3.2) that may differ.
+/// What a token reports of itself: the parts of a `CK_TOKEN_INFO` (PKCS #11 v3.1, 3.2) that may differ.
 #[derive(Clone, Copy, Debug, PartialEq, Eq)]
 pub struct TokenInfo {
     pub label: Label,
@@ -27,7 +27,7 @@ pub struct MechanismInfo {
     pub flags: u64,
 }
 
-/// A `CK_SESSION_INFO` (PKCS #11 v3.1, 3.3), whose flags tell whether the session may write.
+/// A `CK_SESSION_INFO` (PKCS #11 v3.1, 3.3), by whose flags a caller knows whether the session may write.
 #[derive(Clone, Copy, Debug, PartialEq, Eq)]
 pub struct SessionInfo {
     pub slot: u64,
@@ -35,15 +35,15 @@ pub struct SessionInfo {
     pub read_write: bool,
 }
 
-/// What is answered for an attribute: its length, all ones where it is unavailable, and its value
-/// where there was room for it (PKCS #11 v3.1, 5.7, C_GetAttributeValue).
+/// What is returned for an attribute: its length, all ones where it is unavailable, and its value where
+/// the caller's buffer is long enough for it (PKCS #11 v3.1, 5.7.5, C_GetAttributeValue).
 #[derive(Debug, Drop, PartialEq)]
 pub struct AttributeValue {
     pub len: u64,
     pub value: Option<Bytes>,
 }
 
-/// What a call that returns data answers (PKCS #11 v3.1, 5.2).
+/// What a call that returns data replies (PKCS #11 v3.1, 5.2).
 #[derive(Debug, Drop, PartialEq)]
 pub enum Output {
     /// No buffer was given: the length that is wanted.
@@ -51,7 +51,7 @@ pub enum Output {
     Data(Bytes),
 }
 
-/// The answer to a call. Where no code stands, it is `CKR_OK`.
+/// The reply to a call. Where no code stands, it is `CKR_OK`.
 #[derive(Debug, Drop, PartialEq)]
 pub enum Reply {
     /// A code, and nothing with it.
@@ -66,7 +66,7 @@ pub enum Reply {
     /// The handle of an object that was made.
     Object(u64),
     ObjectSize(u64),
-    /// What is answered for each attribute, with the code of the whole.
+    /// What is returned for each attribute, with the code of the whole.
     AttributeValues {
         code: Rv,
         values: Items<AttributeValue>,

@@ -57,7 +57,7 @@ flags_of Mac = 0x2800
 flags_of Generation = 0x8000
 flags_of Wrapping = 0x60000
 
--- AES keys have 16, 24 or 32 bytes, and secrets 1 to 512; where a generic secret is generated, its length is told in bits
+-- AES keys have 16, 24 or 32 bytes, and secrets 1 to 512; where a generic secret is generated, its length is reported in bits
 -- (2.30 and 2.36 of the mechanisms)
 abbrev pub sizes_in : Purpose → KeyType → ℕ × ℕ
 sizes_in purpose Aes = (16, 32)

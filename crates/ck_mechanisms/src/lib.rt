@@ -1,8 +1,8 @@
 //! The mechanisms of the token, as one table: for what each is, the type of its keys and their sizes (PKCS #11 v3.1, 5.5:
 //! C_GetMechanismList and C_GetMechanismInfo).
 //!
-//! A call that begins an operation, or makes or wraps a key, finds its mechanism here by the number that it was given
-//! (`find_for`), so that what is told of a mechanism is what it may be used for.
+//! A call that begins an operation, or makes or wraps a key, finds its mechanism here by its number (`find_for`). So
+//! what is reported of a mechanism is what it may be used for.
 //!
 //! ```
 //! let mechanism = find_for(Purpose::Cipher, number).ok_or(Condition::WrongMechanism)?;

@@ -83,7 +83,7 @@ fn sizes(purpose: Purpose, key_type: KeyType) -> (u64, u64)
     }
 }
 
-/// What C_GetMechanismInfo tells of a mechanism: the sizes of its keys, in bytes, or in bits where it generates secrets, and
+/// What C_GetMechanismInfo reports of a mechanism: the sizes of its keys, in bytes, or in bits where it generates secrets, and
 /// its flags (PKCS #11 v3.1, 3.5: `CK_MECHANISM_INFO`).
 pub fn info_of(mechanism: MechType) -> MechanismInfo
     ensures { result ≡ info_of mechanism }

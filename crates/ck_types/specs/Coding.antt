@@ -1,11 +1,11 @@
--- What a decoder and an encoder of a format answer.
+-- What a decoder and an encoder of a format return.
 use Rattle.std.specs.Prelude.{◌≡◌, ℕ, List, ◌++◌, Option, Some, None, Result, Ok, Err}
 use Rattle.std.specs.List.{flat_map, AllByRecursion}
 use Rattle.ck_types.specs.declared.fault.CodecFault.{CodecFault}
 use Rattle.ck_types.specs.declared.fault.CodecFault.TheVariants as faults
 use Rattle.ck_types.specs.Format.{Format}
 
--- What a decoder answers, seen by view, is what the format decodes, unless memory runs out.
+-- What a decoder returns, seen by view, is what the format decodes, unless memory runs out.
 abbrev pub Decodes : {X Y : Type 0} → (X → Y) → Result X CodecFault → Option Y → Type 0
 Decodes view (Ok x) decoded = decoded ≡ Some (view x)
 Decodes view (Err faults.Malformed) decoded = decoded ≡ None

@@ -3,9 +3,9 @@
 //! - `Rv`, `AttrType`, `MechType`, `UserType`, `SessionState`, `ObjectClass` and `KeyType` are the codes
 //!   and types of the standard that this token knows. `number` and `from_number` are each other's
 //!   inverse: `from_number(n)` is the one value with the number `n`, or none where no value has it.
-//! - `Items<T>` is a list that contracts see as a list, so that a call or a reply is itself the value
-//!   that a contract speaks of. `Bytes`, `Entry` and `Template` are made of it.
-//! - `Codec` is a value's encoding. One definition, a `Format`, says both how a value is encoded and
+//! - `Items<T>` is a list that contracts see as a list. So a call or a reply is itself the value that a
+//!   contract speaks of. `Bytes`, `Entry` and `Template` are made of it.
+//! - `Codec` is a value's encoding. One definition, a `Format`, is both how a value is encoded and
 //!   how it is decoded. Each format is canonical: what is decoded is encoded by just the bytes that
 //!   were taken, and what is encoded is decoded again, whatever follows.
 //! - `RW_SESSION`, `SERIAL_SESSION` and others are numbers that are no codes.

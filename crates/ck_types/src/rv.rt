@@ -3,7 +3,7 @@
 ghost use Rattle.std.specs.Prelude.{◌≡◌};
 ghost use Rattle.ck_types.specs.Numbers.{rv_number, IsInverse};
 
-/// What a call answers: a `CK_RV` (PKCS #11 v3.1, 3.6 and 5.1).
+/// What a call returns: a `CK_RV` (PKCS #11 v3.1, 3.6 and 5.1).
 #[derive(Clone, Copy, Debug, PartialEq, Eq)]
 pub enum Rv {
     Ok = 0x0,

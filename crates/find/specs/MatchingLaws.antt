@@ -1,4 +1,4 @@
--- What a search finds does not depend on a value that is kept back.
+-- What a search finds does not depend on a value that is masked.
 use Rattle.std.proofs.Common.{◌≡◌, ℕ, ◌&&◌, not, Bool, true, false, cond, List, [], ◌∷◌, Option, eqb, ap, refl, sym, ◌∙◌}
 use Rattle.std.proofs.lemmas.Bool.{eq-eqb}
 use Rattle.ck_types.specs.declared.entry.Entry.{Entry}

@@ -1,8 +1,9 @@
-//! Which objects a search template finds (PKCS #11 v3.1, 5.7.5 to 5.7.7: C_FindObjectsInit and on).
+//! Object search: which objects a template finds (C_FindObjectsInit, C_FindObjects and C_FindObjectsFinal; PKCS #11 v3.1,
+//! 5.7.7 to 5.7.9).
 //!
-//! `matches` says whether an object has each attribute that the template gives, with just that value,
-//! and may show it. So a search by CKA_VALUE never finds a sensitive or unextractable key, and no
-//! search tells anything of its value. An attribute of an unknown type matches nothing, and an empty
+//! `matches` is whether an object has each attribute that the template gives, with just that value,
+//! and may reveal it. So a search by CKA_VALUE never finds a sensitive or unextractable key, and no
+//! search reveals anything of its value. An attribute of an unknown type matches nothing, and an empty
 //! template matches every object.
 //!
 //! `search` reads one object at a time, and keeps no more of it than a note.

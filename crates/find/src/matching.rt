@@ -26,8 +26,8 @@ fn matches_all(template: &[Entry], object: &Object) -> bool
     template.iter().all(|entry| matches_entry(entry, object))
 }
 
-/// Whether the object has each attribute of the template, may show it, and has just the value given.
-/// The answer is the same for what may be seen of the object.
+/// Whether the object has each attribute of the template, may reveal it, and has just the value given.
+/// The result is the same for what may be seen of the object.
 pub fn matches(template: &Template, object: &Object) -> bool
     ensures value { result ≡ template_matches template.now object.now }
     ensures on_mask { result ≡ template_matches template.now (mask object.now) }

@@ -1,4 +1,4 @@
--- A test that computes at each number below a bound, and what it says at one of them.
+-- A test that computes at each number below a bound, and what follows at one of them.
 use Rattle.std.proofs.Common.{◌≡◌, ℕ, ◌<◌, ◌==◌, nat_lt, true, eqb-true, ltb-true}
 use Rattle.std.proofs.lemmas.Bool.{agree_below, agree_below_at}
 

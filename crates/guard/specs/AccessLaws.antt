@@ -1,4 +1,4 @@
--- Access does not depend on a value that is kept back.
+-- Access does not depend on a value that is masked.
 use Rattle.std.proofs.Common.{◌≡◌, ◌||◌, not, Bool, List, ap, arith, refl}
 use Rattle.ck_types.specs.declared.entry.Entry.{Entry}
 use Rattle.ck_types.specs.declared.attr_type.AttrType.TheVariants as attr

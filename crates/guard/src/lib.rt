@@ -1,15 +1,15 @@
-//! Who may see an object, who may write it, and which of its attributes are shown.
+//! Access control and redaction: who may see an object, who may write it, and which of its attributes are revealed.
 //!
 //! - `visible` and `writable` are the access table (PKCS #11 v3.1, 4.4): a session sees a public object
 //!   in any state and a private one where the user is logged in; it writes what it sees, a token object
-//!   only where it is a R/W session, which `is_read_write` tells.
-//! - `masked` says whether an object is a key whose value is kept back, since it is sensitive or
-//!   unextractable. `reveals` says whether an attribute may be shown: all but a masked key's CKA_VALUE.
-//!   Its length, CKA_VALUE_LEN, is shown. `reveals_number` says it of the attribute with a number, as a
+//!   only where it is a R/W session (`is_read_write`).
+//! - `masked` is whether an object is a key whose value is redacted, since it is sensitive or unextractable.
+//!   `reveals` is whether an attribute may be revealed: all but a masked key's CKA_VALUE. Its length,
+//!   CKA_VALUE_LEN, is revealed. `reveals_number` is the same of the attribute with a number, as a
 //!   template or a query gives it.
 //!
-//! No call takes memory. `masked`, `reveals`, `reveals_number` and what may be seen answer the same on an
-//! object without its kept-back value, so no answer depends on that value.
+//! No call takes memory. `masked`, `reveals`, `reveals_number` and what may be seen are the same for an
+//! object without its masked value, so no result depends on that value.
 //!
 //! ```
 //! if guard::visible(state, &object) && guard::reveals(&object, AttrType::Value) {

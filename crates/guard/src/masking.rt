@@ -1,4 +1,4 @@
-//! What is shown of an object.
+//! What is revealed of an object.
 
 ghost use Rattle.std.specs.Prelude.{◌≡◌, None, false};
 ghost use Rattle.ck_types.specs.Numbers.{attr_type_number};
@@ -8,7 +8,7 @@ ghost use Rattle.attrs.specs.Masking.{is_masked, mask, reveals as reveals_by_num
 use attrs::Object;
 use ck_types::{AttrType, ObjectClass};
 
-/// Whether the object is a key whose value is kept back: a sensitive or unextractable one
+/// Whether the object is a key whose value is redacted: a sensitive or unextractable one
 /// (PKCS #11 v3.1, 4.10). Data objects never are.
 pub fn masked(object: &Object) -> bool
     ensures value { result ≡ is_masked object.now }
@@ -18,7 +18,7 @@ pub fn masked(object: &Object) -> bool
         && (object.flag(AttrType::Sensitive) || !object.flag(AttrType::Extractable))
 }
 
-/// Whether the attribute may be shown, where the object has it: all but the value of a masked key.
+/// Whether the attribute may be revealed, where the object has it: all but the value of a masked key.
 pub fn reveals(object: &Object, attribute: AttrType) -> bool
     ensures value { result ≡ reveals_by_number object.now (attr_type_number attribute) }
     ensures on_mask { result ≡ reveals_by_number (mask object.now) (attr_type_number attribute) }
@@ -26,8 +26,8 @@ pub fn reveals(object: &Object, attribute: AttrType) -> bool
     reveals_number(object, attribute.number())
 }
 
-/// Whether the attribute with this number may be shown, where the object has it: all but CKA_VALUE of a
-/// masked key. The number may be that of no attribute. What may not be shown is no part of the object as
+/// Whether the attribute with this number may be revealed, where the object has it: all but CKA_VALUE of a
+/// masked key. The number may be that of no attribute. What may not be revealed is no part of the object as
 /// others may see it.
 pub fn reveals_number(object: &Object, number: u64) -> bool
     ensures value { result ≡ reveals_by_number object.now number }

@@ -5,8 +5,8 @@ use Rattle.std.specs.List.{AllByRecursion}
 use Rattle.handles.specs.declared.Handle.{Handle}
 use Rattle.lists.specs.InOrder.{in_order, NumbersRise}
 
--- one application's handles in the order in which they were given, the number of the next one, and
--- how many fit with no allocation
+-- one application's handles in the order in which they were given, and the number of the next one; how many more
+-- can be given with no allocation
 pub record HandleTable : Type 0 where
   pub entries : List Handle
   pub next_number : ℕ

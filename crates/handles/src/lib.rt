@@ -2,8 +2,8 @@
 //!
 //! A handle is a number from 1 on. Numbers rise by one and never return, so a handle that was
 //! retired stays unknown for good. An object is known by its id, and has one handle at most.
-//! Each handle notes whether its object is private: a logout retires those handles without asking
-//! what the objects are, and takes no memory.
+//! Each handle records whether its object is private: a logout retires those handles without reading
+//! the objects, and takes no memory.
 //!
 //! Contracts see the handles as a list in the order in which they were given, with the number of
 //! the next one. They are stored twice, by rising number and by rising id, so that a handle is found
@@ -111,7 +111,7 @@ impl Handles {
         }
     }
 
-    /// Makes room for so many more handles. It fails only if an allocation fails, and either way the
+    /// Reserves memory for so many more handles. It fails only if an allocation fails, and either way the
     /// handles are as they were.
     pub fn reserve(&mut self, additional: usize) -> Result<(), AllocError>
         ensures room { OnOk result (HasRoomFor self.new additional) }
@@ -123,8 +123,8 @@ impl Handles {
         self.by_id.reserve(additional)
     }
 
-    /// The handle of an object: the one that it has, or else the next one, which notes whether the
-    /// object is private. `reserve` has made room, so no memory is taken.
+    /// The handle of an object: the one that it has, or else the next one, which records whether the
+    /// object is private. `reserve` has allocated for it, so no memory is taken.
     pub fn give(&mut self, id: u64, private: bool) -> u64
         requires fits { self.old.next_number + 1 < 2 ^ 64 }
         requires room { HasRoomFor self.old 1 }
@@ -191,7 +191,7 @@ fn index_of_id(handles: &[Handle], id: u64) -> Result<usize, usize>
     handles.binary_search_by_key(&id, |handle| handle.id)
 }
 
-/// Puts a handle into the place where it goes, as there is room.
+/// Inserts a handle at the index where it goes; memory for it is reserved.
 fn insert_reserved(handles: &mut Vec<Handle>, at: usize, handle: Handle)
     requires place { at ≤ vec_len handles.old }
     requires room { vec_len handles.old < vec_capacity handles.old }

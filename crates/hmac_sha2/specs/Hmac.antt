@@ -35,7 +35,7 @@ unfoldable pub hmac : (List ℕ → List ℕ) → ℕ → List ℕ → List ℕ 
 hmac hash block_size key message =
     hash (padded_key hash block_size outer_pad key ++ hash (padded_key hash block_size inner_pad key ++ message))
 
--- ---- the four codes, with the block sizes of FIPS 180-4 (1, figure 1)
+-- ---- the four MACs, with the block sizes of FIPS 180-4 (1, figure 1)
 
 -- HMAC with SHA-224
 abbrev pub hmac224 : List ℕ → List ℕ → List ℕ

@@ -6,7 +6,7 @@ use Rattle.sha2.specs.declared.Sha256.{Sha256}
 use Rattle.hmac_sha2.specs.Hmac.{inner_pad, outer_pad, padded_key}
 use Rattle.hmac_sha2.specs.declared.stepwise.Hmac.{Hmac}
 
--- h has taken this message under this key. Its two hashers, of which `holds` says what message each
+-- h has taken this message under this key. Its two hashers, of which `holds` has what message each
 -- holds, begin with the key under the inner and the outer pad.
 pub record HoldsMessage {D : Type 0} (holds : D → List ℕ → Type 0) (hash : List ℕ → List ℕ) (block_size : ℕ) (h : Hmac D) (key message : List ℕ) : Type 0 where
   pub inner : holds h.inner (padded_key hash block_size inner_pad key ++ message)

@@ -22,14 +22,14 @@ pub trait HashFunction: Digest + Clone {
     // The digest of a message, as a function.
     ghost hash: { List ℕ → List ℕ };
 
-    // The bytes of what a hasher answers.
+    // The bytes of what a hasher returns.
     ghost bytes: { Self.Output → List ℕ };
 
-    /// The bytes of a digest, as many as `output_size` says.
+    /// The bytes of a digest, as many as `output_size` returns.
     fn as_bytes(digest: &Self::Output) -> &[u8]
         ensures { result.now ≡ bytes digest.now };
 
-    // What a hasher answers for a message is the function's value.
+    // What a hasher returns for a message is the function's value.
     ghost digest_is_hash: { (m : List ℕ) (d : Self.Output) → Self.digest_of m d → bytes d ≡ hash m };
 
     ghost digest_length: { (m : List ℕ) → length (hash m) ≡ Self.size };

@@ -7,17 +7,13 @@
 //! it over the digests of the crate `sha2`. None takes memory or fails.
 //!
 //! ```rust
-//! use hmac_sha2::{Hmac, hmac256, pbkdf2};
+//! use hmac_sha2::{Hmac, hmac256};
 //! use sha2::Sha256;
-//!
-//! let code: [u8; 32] = hmac256(b"key", b"Hi There");
 //!
 //! let mut hmac = Hmac::<Sha256>::new(b"key");
 //! hmac.update(b"Hi ");
 //! hmac.update(b"There");
-//! assert_eq!(rt; hmac.finalize(), code);
-//!
-//! let key: [u8; 32] = pbkdf2(b"password", b"salt", 10_000);
+//! assert!(rt; hmac.finalize() == hmac256(b"key", b"Hi There"));
 //! ```
 //!
 //! A clause speaks of the state of an `Hmac<D>` by `HoldsMessage D.holds D.hash D.BLOCK_SIZE h key message`
@@ -50,28 +46,28 @@ where
     hmac.finalize()
 }
 
-/// HMAC-SHA-224: the code of `message` under `key`, both of any length (FIPS 198-1, section 4).
+/// HMAC-SHA-224: the tag of `message` under `key`, both of any length (FIPS 198-1, section 4).
 pub fn hmac224(key: &[u8], message: &[u8]) -> [u8; 28]
     ensures { result ≡ hmac224 key.now message.now }
 {
     tag_of::<Sha224>(key, message)
 }
 
-/// HMAC-SHA-256: the code of `message` under `key`, both of any length (FIPS 198-1, section 4).
+/// HMAC-SHA-256: the tag of `message` under `key`, both of any length (FIPS 198-1, section 4).
 pub fn hmac256(key: &[u8], message: &[u8]) -> [u8; 32]
     ensures { result ≡ hmac256 key.now message.now }
 {
     tag_of::<Sha256>(key, message)
 }
 
-/// HMAC-SHA-384: the code of `message` under `key`, both of any length (FIPS 198-1, section 4).
+/// HMAC-SHA-384: the tag of `message` under `key`, both of any length (FIPS 198-1, section 4).
 pub fn hmac384(key: &[u8], message: &[u8]) -> [u8; 48]
     ensures { result ≡ hmac384 key.now message.now }
 {
     tag_of::<Sha384>(key, message)
 }
 
-/// HMAC-SHA-512: the code of `message` under `key`, both of any length (FIPS 198-1, section 4).
+/// HMAC-SHA-512: the tag of `message` under `key`, both of any length (FIPS 198-1, section 4).
 pub fn hmac512(key: &[u8], message: &[u8]) -> [u8; 64]
     ensures { result ≡ hmac512 key.now message.now }
 {

@@ -24,7 +24,7 @@ fn begun<D: HashFunction>(key: &[u8], pad: u8) -> D
 /// HMAC (FIPS 198-1) of a message that comes in parts, under any of the hash functions.
 ///
 /// It keeps two hashers, one begun with the key under the inner pad and one with the key under the
-/// outer pad, and no part of the message but what a hasher keeps. A clone is the same state once
+/// outer pad. It keeps no part of the message but what a hasher keeps. A clone is the same state once
 /// more: it copies a few hundred bytes, takes no memory and never fails.
 #[derive(Drop)]
 pub struct Hmac<D> {
@@ -64,7 +64,7 @@ where
         }
     }
 
-    /// Adds `piece` to the message (step 5).
+    /// Adds `piece`, one more part, to the message (step 5).
     pub fn update(&mut self, piece: &[u8])
         ensures { (key message : List ℕ)
             → HoldsMessage D.holds D.hash D.BLOCK_SIZE self.old key message

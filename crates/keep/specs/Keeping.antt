@@ -4,8 +4,8 @@ use Rattle.keep.specs.declared.keep.KeepFault.{KeepFault}
 use Rattle.keep.specs.declared.keep.KeepFault.TheVariants.{Device, Damaged}
 use Rattle.keep.specs.Contents.{Contents}
 
--- What is said of a keeper. What it holds and what a crash leaves are relations: a keeper that is shut, or whose disk has lied,
--- may hold anything.
+-- What is said of a keeper. What it holds and what a crash leaves are relations: a keeper that is shut, or whose disk was
+-- faulty, may hold anything.
 pub record Terms (K : Type 0) : Type 1 where
   -- it holds these contents
   pub holds : K → Contents → Type 0
@@ -13,7 +13,7 @@ pub record Terms (K : Type 0) : Type 1 where
   pub may_leave : K → Option Contents → Type 0
   -- it refuses by `Device` only an id that isn't there, and an insert past the greatest id
   pub is_steady : K → Type 0
-  -- 0 as long as the disk has returned what was written
+  -- 0 as long as the disk is faithful: it has returned what was written
   pub doubt : K → ℕ
   -- how often the device has failed
   pub failures : K → ℕ
@@ -36,8 +36,8 @@ module _ {K : Type 0} (terms : Terms K) (old new : K) where
     pub held : (c : Contents) → terms.holds old c → terms.holds new c
     pub crash : (c : Contents) (left : Option Contents) → terms.holds old c → terms.may_leave new left → terms.may_leave old left ⊎ (left ≡ Some (step c))
 
-  -- no lie of the disk and no failure is forgotten, a keeper that is steady stays so, and at least and at most so many writes
-  -- were tried
+  -- No fault of the disk and no failure is forgotten, and a keeper that is steady stays so. At least and at most so many writes
+  -- were tried.
   pub record Counted (least most : ℕ) : Type 0 where
     pub steady : terms.is_steady old → terms.is_steady new
     pub doubt : terms.doubt old ≤ terms.doubt new

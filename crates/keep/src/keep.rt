@@ -1,4 +1,4 @@
-//! What a keeper is.
+//! What a keeper, a storage backend, is.
 
 ghost use Rattle.std.specs.Prelude.{◌≡◌, ◌+◌, ◌≤◌, Some, None, IfOk, OnOk, OnErr, IsErrOf, IsSome};
 ghost use Rattle.keep.specs.declared.keep.KeepFault.TheVariants.{Memory, Device};
@@ -46,7 +46,7 @@ impl<T: Drop> From<AllocFailed<T>> for KeepFault {
 ///
 /// An object is a token object (PKCS #11 v3.1, 4.4: CKA_TOKEN is true) and has an id, a number from 1 to
 /// `GREATEST_ID`. Ids rise by one and never return. After a fault the list and the record are as before.
-/// `Memory` may be answered by each call with a Result. `Device` comes only where `failures` rose in that
+/// `Memory` may be returned by each call with a Result. `Device` comes only where `failures` rose in that
 /// call.
 pub trait Keep: Drop {
     /// What is said of it: what it holds, what a crash leaves, and what is counted.
@@ -87,7 +87,7 @@ pub trait Keep: Drop {
         ensures counts { Counted terms self.old self.new 1 1 }
         ensures cause { HasCause (terms.failures self.old) (terms.failures self.new) result };
 
-    /// Adds an object at the end and answers its id, which is the last that was given and one.
+    /// Adds an object at the end and returns its id, which is one more than the greatest ever given.
     /// `Device` where that is above `GREATEST_ID`.
     fn insert(&mut self, object: &Object) -> Result<u64, KeepFault>
         requires { IsTokenObject object.now }
@@ -126,9 +126,9 @@ pub trait Keep: Drop {
         ensures counts { Counted terms self.old self.new 1 1 }
         ensures cause { HasCause (terms.failures self.old) (terms.failures self.new) result };
 
-    // As long as there is no doubt, a crash leaves something.
+    // As long as the disk is faithful, a crash leaves something.
     ghost survives: { (k : Self) → terms.doubt k ≡ 0 → LeavesSome (terms.may_leave k) };
 
-    // Of a steady keeper there is no doubt.
+    // A steady keeper's disk is faithful.
     ghost sure: { (k : Self) → terms.is_steady k → terms.doubt k ≡ 0 };
 }

@@ -1,4 +1,4 @@
-//! Keepers of a token's objects and its record.
+//! Keepers of a token's objects and its record. A keeper is a storage backend.
 //!
 //! - `Keep` is what a keeper is: one list of token objects, in the order in which they were made, and one
 //!   record (`pin_record`). An object has an id, from 1 on; ids rise by one and never return. Each call
@@ -7,14 +7,14 @@
 //!   call.
 //! - `ListKeep` is a keeper in memory, by an ordered map from ids to objects.
 //!
-//! Contracts see a keeper by its `terms`: which contents it holds, what a crash at this moment may leave
-//! (contents, or what is no token's store), how many writes were tried, how often the device failed,
-//! whether it is steady, and a doubt that is 0 as long as the store has returned what was written. A keeper
-//! that is shut, or whose disk has lied, may hold anything, so nothing follows of it. Contents are the list
+//! Contracts see a keeper by its `terms`: which contents it holds, and what a crash at this moment may leave
+//! (contents, or what is no token's store). Further, how many writes were tried, how often the device failed, and
+//! whether it is steady. `doubt` is 0 as long as the disk is faithful: it has returned what was written. A keeper
+//! that is shut, or whose disk was faulty, may hold anything, so nothing follows of it. Contents are the list
 //! of objects under their ids, the record, and the greatest id that was ever given (`specs/Contents.antt`).
 //! After an acknowledged change a crash leaves the change alone; after a fault it leaves what it could
-//! leave before, or the whole change (`specs/Keeping.antt`). As long as there is no doubt a crash leaves
-//! something, and of a steady keeper there is no doubt.
+//! leave before, or the whole change (`specs/Keeping.antt`). As long as the disk is faithful a crash leaves
+//! something, and a steady keeper's disk is faithful.
 //!
 //! `laws` proves what is found under an id after a change, and that an id which has lost its object never
 //! has one again.

@@ -19,7 +19,7 @@ use Rattle.keep_sql.specs.declared.refusal.Left.{Left}
 use Rattle.keep_sql.specs.declared.refusal.Left.TheVariants as left
 
 module _ {D : Type 0} {g : Ghosts D} where
-  -- The keeper refused a connection, which is left as the refusal says, or it opened the store and could not copy its log. Then a crash
+  -- The keeper refused a connection, which is left as the refusal has it, or it opened the store and could not copy its log. Then a crash
   -- leaves of the store what it could leave of the keeper.
   abbrev pub LeavesConnection : Held (FileStore D g) → OpenFault → Left D g → Type 0
   LeavesConnection was fault left.Nothing = ⊥

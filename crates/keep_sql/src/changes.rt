@@ -17,7 +17,7 @@ use sql_tables::{
 use sqlite::{Alter, Connection, Error};
 use std::alloc::Global;
 
-/// Notes why sqlite refused a statement.
+/// Stores why sqlite refused a statement.
 fn refused(cause: &mut Option<Error>, error: Error) -> KeepFault
     ensures fault { result ≡ Device }
     ensures cause { cause.new ≡ Some error }
@@ -63,7 +63,7 @@ pub(crate) fn reset<S: Alter>(
     }
 }
 
-/// Adds an object, and answers its id.
+/// Adds an object, and returns its id.
 pub(crate) fn insert<S: Alter>(
     alloc: Global,
     conn: &mut Connection<S>,

@@ -83,10 +83,10 @@ fn is_ours<S: Alter>(conn: &Connection<S>, is_first: bool) -> bool
 
 impl<D: Disk + Drop> SqlKeep<FileStore<D>> {
     /// Opens the store in two files, or makes it where they are what a first opening leaves. New files get the sums of SQLite's
-    /// cksumvfs on their pages; older ones go on without. The log is copied into the file before this answers.
+    /// cksumvfs on their pages; older ones go on without. The log is copied into the file before this returns.
     ///
-    /// A refusal says why, and what is left of the files. For what the files hold: `FileLost`, `LogDamaged`, `NoTables`, what sqlite
-    /// answers of files that are no sound database, and `Damaged` as `from_connection` has it. The database file is not written then.
+    /// A refusal is why, and what is left of the files. For what the files hold: `FileLost`, `LogDamaged`, `NoTables`, what sqlite
+    /// returns for files that are no sound database, and `Damaged` as `from_connection` has it. The database file is not written then.
     pub fn open_files(
         alloc: Global,
         mut files: Files<D>,

@@ -28,8 +28,8 @@ fn read_fault(error: &io::Error) -> OpenFault {
     OpenFault::Sqlite(Error::SqliteFailure(code))
 }
 
-/// Whether a database file of such a length beside such a log is the first that was made. `FileLost` where it has a byte at most and
-/// the log was written for another one, and `LogDamaged` where commits stand behind damage in the log.
+/// Whether a database file of such a length beside such a log is the first that was made. `FileLost` where it has a byte at most
+/// and the log was written for another one. `LogDamaged` where commits stand behind damage in the log.
 fn is_first(log: &[u8], db_len: usize) -> Result<bool, OpenFault>
     ensures first { IfOk result (λ b. (db : List ℕ) → length db ≡ db_len → (IsTrue b ↔ IsFirst (record { log = log.now; db = db }))) }
     ensures lost { result ≡ Err OpenFault.FileLost → (db : List ℕ) → length db ≡ db_len → (length db ≤ 1) × (¬ IsFirst (record { log = log.now; db = db })) }

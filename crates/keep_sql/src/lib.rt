@@ -1,29 +1,29 @@
-//! A durable keeper of a token's objects and its record, over the crate `sqlite`.
+//! A durable keeper (storage backend) of a token's objects and its record, over the crate `sqlite`.
 //!
 //! - `SqlKeep` is a `Keep` (`keep`) over a connection. `SqlKeep::open` opens a file, `SqlKeep::in_memory`
 //!   makes a store in memory, `SqlKeep::from_connection` takes any connection, and `close` gives it back.
 //!
 //! A store has two tables (`sql_tables`): the record's, of one row, and the objects', of a row for each under
 //! its id. A body there is the stored form of the record (`pin_record`) or of a token object (`attrs`) in
-//! format 2, which its first byte says. Ids rise by one, and none returns.
+//! format 2, which is its first byte. Ids rise by one, and none returns.
 //!
 //! A store with neither table is new, and gets both and a record that isn't initialised in one transaction.
 //! Where one of them is there, both are taken to be as `sql_tables` makes them, and each body is read: one
 //! that has neither format, a record that isn't just one row, or an id below 1 is `KeepFault::Damaged`, and
 //! nothing is written. Bodies of format 1, which older tokens wrote, are read too: where there are any, all
-//! of them are written again in format 2, in one transaction, before the open answers. A key gets
+//! of them are written again in format 2, in one transaction, before the open returns. A key gets
 //! CKA_TRUSTED and CKA_WRAP_WITH_TRUSTED, both false, and a PIN keeps its 10,000 rounds until it is set
 //! again; ids, their order and all else stay. A crash in between leaves all bodies as they were, or all in
 //! format 2, and so does a refusal. Format 1 is never written.
 //!
 //! Once a store is open each change is one statement, and a reset one transaction of two. What sqlite
-//! refuses, its allocation failure included, is a counted `KeepFault::Device`; a body that finds no memory is
-//! `KeepFault::Memory`. After a fault the store is as it was. Each call first asks whether the connection is
+//! refuses, its allocation failure included, is a counted `KeepFault::Device`; a failed allocation for a body is
+//! `KeepFault::Memory`. After a fault the store is as it was. Each call first checks that the connection is
 //! open: one that sqlite has shut after a fault of the disk is never written again.
 //!
-//! What contracts say of contents holds of an honest store: as long as nobody else writes the file and the
-//! disk returns what was written (`doubt` is 0; in memory always), and where the store was opened on no
-//! table or on these two. After an acknowledged change a crash leaves the change alone, after a fault what
+//! The contracts on contents hold of a store that was opened on no table or on these two. They hold as long as nobody
+//! else writes the file and the disk is faithful: it returns what was written (`doubt` is 0; in memory always).
+//! After an acknowledged change a crash leaves the change alone, after a fault what
 //! it could leave before, or the whole change (`keep`).
 //!
 //! ```text

@@ -47,7 +47,7 @@ pub(crate) fn lacks_tables<S: Alter>(conn: &Connection<S>) -> bool
         && schema.views.as_slice().is_empty()
 }
 
-/// Makes both tables and a record that isn't initialised, and answers it.
+/// Makes both tables and a record that isn't initialised, and returns it.
 fn create<S: Alter>(alloc: Global, conn: &mut Connection<S>) -> Result<Record, KeepFault>
     ensures clean { doubt (state S.Store conn.old).is_clean ≤ doubt (state S.Store conn.new).is_clean }
     ensures made { (state S.Store conn.old).now.schema ≡ no_schema → HasCleanDisk (state S.Store conn.new)
@@ -99,7 +99,7 @@ fn open_ready<S: Alter>(alloc: Global, conn: &mut Connection<S>) -> Result<Recor
     }
 }
 
-/// Opens a store, and answers its record.
+/// Opens a store, and returns its record.
 pub(crate) fn open_store<S: Alter>(
     alloc: Global,
     conn: &mut Connection<S>,

@@ -106,9 +106,10 @@ fn unopened<S: Start>(fault: OpenFault) -> Refused<FileFrom<S>>
 }
 
 impl<S: Start> SqlKeep<FileStore<FileFrom<S>>> {
-    /// Opens the store in a file, or makes it, as `open_files` does, for its owner alone (mode 0600). Nobody else may write the file and the log beside it while the
-    /// store is open; sqlite holds a lock on it. `start` says what is supposed of the file: `Wary`, that a torn write may leave any
-    /// bytes, so each commit syncs twice, or `Unknown`, that it leaves each byte old or new.
+    /// Opens the store in a file, or makes it, as `open_files` does, for its owner alone (mode 0600). Nobody else may write the
+    /// file and the log beside it while the store is open; sqlite holds a lock on it. `start` is what is assumed of the file:
+    /// `Wary`, that a torn write may leave any bytes, so each commit syncs twice, or `Unknown`, that it leaves each byte old or
+    /// new.
     ///
     /// `CannotOpen` where the path can't be opened, and `DatabaseBusy` where another handle has it. A file that is not there is not
     /// made where a log stands beside it (`FileLost`).

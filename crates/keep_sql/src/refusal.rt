@@ -96,8 +96,8 @@ pub struct Refused<D: Disk + Drop> {
 }
 
 impl<D: Disk + Drop> Refused<D> {
-    /// Closes what is left. Where the files were refused for what they hold, the log first gets back the bytes that it was found with,
-    /// since sqlite may have written a new header to it, or shut it behind its last commit. What it begins with alike is not written, so
+    /// Closes what is left. Where the files were refused for what they hold, the log first gets back the bytes that it was found with.
+    /// For sqlite may have written a new header to it, or shut it behind its last commit. What it begins with alike is not written, so
     /// that no commit is touched.
     pub fn put_back(self, alloc: Global) -> OpenFault
         ensures { result ≡ self.fault }

@@ -1,4 +1,4 @@
-//! What rows say.
+//! What rows contain.
 
 ghost use Rattle.std.specs.Prelude.{◌≡◌, ◌≢◌, ℕ, false, List, Some, pos, All, [], ◌∷◌, map, IfOk, OnOk, IfSome, IsSome, IsErrOf};
 ghost use Rattle.sqlite_value.specs.declared.value.Value.TheVariants.{Int};
@@ -52,7 +52,7 @@ fn read_fault(fault: DecodeFault) -> KeepFault
     }
 }
 
-/// The object that a row of one body shows.
+/// The object of a row of one body.
 pub(crate) fn stored_object(alloc: Global, row: &Row) -> Result<Object, KeepFault>
     ensures found { (c : Contents) (id : ℕ) → Shows c id row.now → IfOk result (λ x. object_at c id ≡ Some x) }
     ensures token { IfOk result IsTokenObject }
@@ -79,7 +79,7 @@ fn id_of(row: &Row) -> Option<u64>
     }
 }
 
-/// The ids that rows show, one in each.
+/// The ids of rows, one in each.
 pub(crate) fn ids_of(alloc: Global, rows: &[Row]) -> Result<Vec<u64>, KeepFault>
     ensures ids { (ids : List ℕ) → rows.now ≡ map (λ id. Int (pos id) ∷ []) ids → IfOk result (λ out. out.items ≡ ids) }
     ensures open { IsErrOf result Damaged → ⊥ }
@@ -169,7 +169,7 @@ fn check_body(alloc: Global, row: &Row) -> Result<Option<Vec<u8>>, KeepFault>
     Ok(None)
 }
 
-/// The renewal of a row that has format 1. `Damaged` where a row shows no id above 0 with the body of a
+/// The renewal of a row that has format 1. `Damaged` where a row has no id above 0 with the body of a
 /// token object.
 fn check_row(alloc: Global, row: &Row) -> Result<Option<Renewal>, KeepFault>
     ensures ok { IfOk result (RenewsIf row.now) }

@@ -91,9 +91,9 @@ pub(crate) fn with_record<S: Alter + Drop>(
 impl<S: Alter + Drop> SqlKeep<S> {
     /// Opens the store over a connection. One with neither of the two tables is new: it gets both and a
     /// record that isn't initialised, in one transaction. Where one of them is there, both are taken to be
-    /// there, as they are made here, and each body is read, in format 2 or in format 1, which its first
-    /// byte says. Where any has format 1, all of these are written again in format 2, in one transaction,
-    /// before this answers; ids, their order and all other attributes stay.
+    /// there, as they are made here. Each body is read, in format 2 or in format 1, which is its first
+    /// byte. Where any has format 1, all of these are written again in format 2, in one transaction,
+    /// before this returns; ids, their order and all other attributes stay.
     ///
     /// A refusal gives the connection back, with the store as it was: `Damaged` where a body has neither
     /// format, where the record isn't just one row, or where an id is below 1; `Device` where sqlite

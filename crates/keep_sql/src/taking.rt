@@ -46,7 +46,7 @@ fn read_record<S: Alter>(conn: &mut Connection<S>) -> Result<(Record, bool), Kee
     }
 }
 
-/// Tests the id and the body of each object, and answers the renewals of those of format 1.
+/// Tests the id and the body of each object, and returns the renewals of those of format 1.
 fn read_objects<S: Alter>(
     alloc: Global,
     conn: &mut Connection<S>,
@@ -105,7 +105,7 @@ fn renew<S: Alter>(alloc: Global, conn: &mut Connection<S>, found: &Found) -> Re
     }
 }
 
-/// Leaves each body in format 2, and answers the record.
+/// Leaves each body in format 2, and returns the record.
 fn make_current<S: Alter>(
     alloc: Global,
     conn: &mut Connection<S>,
@@ -130,7 +130,7 @@ fn make_current<S: Alter>(
     Ok(found.token_record)
 }
 
-/// Reads the whole store, leaves each body in format 2, and answers the record.
+/// Reads the whole store, leaves each body in format 2, and returns the record.
 pub(crate) fn take_over<S: Alter>(
     alloc: Global,
     conn: &mut Connection<S>,

@@ -36,7 +36,7 @@ as_stored o bytes is = is
 pub one_object : (o x : Body) → ◌≡◌ {A = Option Body} (Some o) (Some x) → x ≡ o
 one_object o x same = cc
 
--- the bytes of the row that shows an object
+-- the bytes of the row that holds an object
 pub shown_bytes : (c : Contents) (id : ℕ) (row : Row) (it : Shows c id row) (bytes : List ℕ) → Blob bytes ≡ column row 0 → bytes ≡ encoded it.body
 shown_bytes c id row it bytes is = let same : Blob bytes ≡ Blob (encoded it.body) = is ∙ ap (λ (r : Row). column r 0) it.row_is in cc
 
@@ -58,7 +58,7 @@ as_decoded o x is go = go (one_object o x is)
 pub found_ok : (c : Contents) (id : ℕ) (row : Row) (it : Shows c id row) (x : Body) → x ≡ it.body → object_at c id ≡ Some x
 found_ok c id row it x same = it.is ∙ ap (λ (b : Body). Some b) (sym same)
 
--- ---- rows as they are shown
+-- ---- rows as they are returned
 
 numbers_of : (ids : List ℕ) → map first_number (map (λ (id : ℕ). Int (pos id) ∷ []) ids) ≡ ids
 numbers_of [] = refl
@@ -140,6 +140,6 @@ unfolding old_encoded_record
 no_old_record record_faults.Form bytes r fits is none = let some : token.record_old_stored bytes ≡ Some r = ap token.record_old_stored is ∙ record_old_stored-complete r fits in absurd (let both : ◌≡◌ {A = Option TokenRecord} None (Some r) = sym none ∙ some in cc)
 no_old_record record_faults.Memory bytes r fits is none = none
 
--- the bytes of a shown body
+-- the bytes of a returned body
 pub same_bytes : (one two : List ℕ) (v : Value) → Blob one ≡ v → v ≡ Blob two → one ≡ two
 same_bytes one two v here there = let same : Blob one ≡ Blob two = here ∙ there in cc

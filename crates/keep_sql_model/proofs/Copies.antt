@@ -23,7 +23,7 @@ same_tree row a b one two =
     let more : a.tree + 1 ≡ b.tree + 1 = cc in
     omega (arith, more)
 
--- the row of a table says what the table is
+-- the row of a table defines what the table is
 same_table : (row : Row) (a b : Table) → IsTableRow row a → IsTableRow row b → a ≡ b
 same_table row a b one two =
     let texts : Text one.sql ≡ Text two.sql = sym one.sql_is ∙ two.sql_is in

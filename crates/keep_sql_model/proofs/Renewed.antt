@@ -100,7 +100,7 @@ same_under low (x ∷ xs) zero (suc j) d e up one two same = absurd (let later =
 same_under low (x ∷ xs) (suc i) zero d e up one two same = absurd (let later = later_above x.0 xs i d up.1 (omega arith) in omega arith)
 same_under low (x ∷ xs) (suc i) (suc j) d e up one two same = same_under x.0 xs i j d e up.1 (omega arith) (omega arith) same
 
--- what a query shows of a row
+-- what a query returns of a row
 abbrev shown : ℕ × List ℕ → Row
 shown x = Int (pos x.0) ∷ Blob x.1 ∷ []
 

@@ -20,7 +20,7 @@ old_encoded o = object.old_form o
 unfoldable pub old_encoded_record : TokenRecord → List ℕ
 old_encoded_record r = token.old_form r
 
--- the first byte says the format
+-- the first byte is the format
 abbrev pub is_old : List ℕ → Bool
 is_old [] = false
 is_old (b ∷ bytes) = b == 1
@@ -60,6 +60,6 @@ pub record IsAtEither (s : State) (c : Contents) : Type 0 where
   pub stores : StoresEither s.now.trees c
   pub sound : IsDatabase s.now
 
--- a connection that is shut, or whose disk has lied, is at any contents
+-- a connection that is shut, or whose disk was faulty, is at any contents
 abbrev pub HoldsEither : State → Contents → Type 0
 HoldsEither s c = HasCleanDisk s → IsTrue s.is_open → IsAtEither s c

@@ -16,7 +16,7 @@ use Rattle.keep_sql_model.specs.Formats.{HoldsEither}
 use Rattle.keep_sql_model.specs.Opening.{Adopts, Opened}
 use Rattle.keep_sql_model.specs.SqlState.{SqlState, sql_terms}
 
--- The new connection is open, and shows what the old one had committed.
+-- The new connection is open, and has what the old one had committed.
 pub record IsCopy (old new : State) : Type 0 where
   pub clean : doubt old.is_clean ≤ doubt new.is_clean
   pub was_open : HasCleanDisk new → IsTrue old.is_open

@@ -19,7 +19,7 @@ use Rattle.sql_statements.specs.Rows.{bodies, ids_and_bodies}
 use Rattle.keep_sql_model.specs.Formats.{HoldsEither, is_old}
 use Rattle.keep_sql_model.specs.Rows.{ShowRecordEither, ShowsEither}
 
--- The record's table is one row, the body of this record, and each row of the other table is an id above 0 with the body of a token
+-- The record's table is one row, the body of this record. Each row of the other table is an id above 0 with the body of a token
 -- object. Each body has format 2, or format 1.
 pub record AllDecode (trees : Trees) (r : TokenRecord) : Type 0 where
   pub record_is : ShowRecordEither (bodies (trees 0)) r
@@ -55,9 +55,9 @@ pub record Opened (old new : State) (r : TokenRecord) : Type 0 where
   pub fresh : old.now.schema ≡ no_schema → HasCleanDisk new → IsTrue new.is_open × IsAt new (new_contents new_record) × (r ≡ new_record)
   pub decodes : old.now.schema ≡ token_schema → HasCleanDisk new → IsTrue new.is_open × AllDecode old.now.trees r
 
--- It is refused, and as it was. A crash leaves what it could leave before, or, where there was no table, the whole of a new store, or,
--- where a body has format 1, the whole of the contents in format 2; a store that is damaged wasn't written at all. What holds contents,
--- in whichever format, or has no table, isn't called damaged.
+-- It is refused, and as it was. A crash leaves what it could leave before, or one thing more. Where there was no table, that is
+-- the whole of a new store; where a body has format 1, the whole of the contents in format 2. A store that is damaged wasn't
+-- written at all. What holds contents, in whichever format, or has no table, isn't called damaged.
 pub record NotOpened (old new : State) (fault : KeepFault) : Type 0 where
   pub clean : doubt old.is_clean ≤ doubt new.is_clean
   pub same : IsOurs old.now.schema → HasCleanDisk new → IsTrue new.is_open → (new.now ≡ old.now) × (new.committed ≡ old.committed) × (new.in_transaction ≡ old.in_transaction)

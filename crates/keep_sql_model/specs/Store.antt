@@ -62,7 +62,7 @@ pub record IsAt (s : State) (c : Contents) : Type 0 where
   pub stores : Stores s.now.trees c
   pub sound : IsDatabase s.now
 
--- a connection that is shut, or whose disk has lied, is at any contents
+-- a connection that is shut, or whose disk was faulty, is at any contents
 abbrev pub Holds : State → Contents → Type 0
 Holds s c = HasCleanDisk s → IsTrue s.is_open → IsAt s c
 

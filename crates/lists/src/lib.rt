@@ -1,9 +1,9 @@
 //! Lists: definitions and lemmas that several crates cite, the limit of numbers that rise, and `GhostBytes`, bytes
 //! that contracts alone speak of.
 //!
-//! `specs/InOrder.antt` is the list of the entries of a slab by the rising numbers that they carry, whatever slot
-//! each stands in, so that a contract speaks of a list and no slot. `specs/Indexes.antt` counts places in a list and
-//! among those of its elements that are seen. `proofs/` says what putting in, taking out and writing an element
+//! `specs/InOrder.antt` is the list of the entries of a slab by the rising numbers that they carry, whatever slot each
+//! stands in. So a contract speaks of a list and no slot. `specs/Indexes.antt` counts indexes in a list and
+//! among those of its elements that are seen. `proofs/` has what putting in, taking out and writing an element
 //! does to each.
 #![tactic(auto)]
 
@@ -11,5 +11,5 @@ mod ghost_bytes;
 
 pub use ghost_bytes::GhostBytes;
 
-/// The least number that is given no more: sessions, handles and questions have numbers below it.
+/// The least number that is never given: sessions, handles and pending calls have numbers below it.
 pub const NUMBER_LIMIT: u64 = 1 << 63;

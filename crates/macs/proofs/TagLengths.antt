@@ -1,4 +1,4 @@
--- How long codes are.
+-- How long tags are.
 use Rattle.std.proofs.Common.{◌≡◌, ℕ, ◌-◌, ◌≤◌, List, length, refl, sym, ◌∙◌, arith}
 use Rattle.sha2.proofs.Facts256.{length-sha224, length-sha256}
 use Rattle.sha2.proofs.Facts512.{length-sha384, length-sha512}
@@ -36,7 +36,7 @@ IsKeyOf Sha256Hmac key = Unit {0}
 IsKeyOf Sha384Hmac key = Unit {0}
 IsKeyOf Sha512Hmac key = Unit {0}
 
--- a code has the mechanism's length
+-- a tag has the mechanism's length
 pub length-tag_under : (mechanism : Mechanism) (key message : List ℕ) → IsKeyOf mechanism key
     → length (tag_under mechanism key message) ≡ tag_length mechanism
 unfolding cmac hmac

@@ -11,6 +11,6 @@ pub record Authentication : Type 0 where
 abbrev pub begun : Mechanism → List ℕ → Authentication
 begun mechanism key = record { mechanism = mechanism; key = key; taken = [] }
 
--- a piece further
+-- one more part
 abbrev pub longer : Authentication → List ℕ → Authentication
 longer a piece = record a { taken = a.taken ++ piece }

@@ -9,6 +9,6 @@ pub record KeyedMessage : Type 0 where
 abbrev pub empty_message : List ℕ → KeyedMessage
 empty_message key = record { key = key; taken = [] }
 
--- a piece further
+-- one more part
 abbrev pub longer_message : KeyedMessage → List ℕ → KeyedMessage
 longer_message m piece = record m { taken = m.taken ++ piece }

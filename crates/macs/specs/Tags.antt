@@ -17,7 +17,7 @@ IsKeyLengthOf Sha256Hmac n = Unit {0}
 IsKeyLengthOf Sha384Hmac n = Unit {0}
 IsKeyLengthOf Sha512Hmac n = Unit {0}
 
--- how many bytes a code has: of CMAC a block (SP 800-38B, 6.2, with Tlen = 128), and of HMAC a digest (FIPS 180-4, 1,
+-- how many bytes a tag has: of CMAC a block (SP 800-38B, 6.2, with Tlen = 128), and of HMAC a digest (FIPS 180-4, 1,
 -- figure 1)
 abbrev pub tag_length : Mechanism → ℕ
 tag_length AesCmac = 16

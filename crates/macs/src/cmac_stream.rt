@@ -10,7 +10,7 @@ use aes_cmac::{chained_on, tag_of_end};
 use lists::GhostBytes;
 use std::marker::Model;
 
-/// A CMAC of a message in parts. It keeps what the blocks before the last are chained to, and the
+/// A CMAC of a message in parts. It keeps what the blocks before the last are chained to, and buffers the
 /// last one, which is known for that only at the end.
 #[derive(Drop)]
 pub(crate) struct CmacStream {
@@ -67,7 +67,7 @@ impl CmacStream {
         let _size = self.key.size();
     }
 
-    /// Adds a piece to the message.
+    /// Adds one more part to the message.
     pub(crate) fn update(&mut self, piece: &[u8])
         ensures { self.new ≡ longer_message self.old piece.now }
     {
@@ -79,7 +79,7 @@ impl CmacStream {
         }
     }
 
-    // Adds bytes that the last block has room for.
+    // Adds bytes that fit the last block.
     fn fill(&mut self, bytes: &[u8])
         requires { length self.old.taken + length bytes.now ≤ 16 * count_before_last self.old.taken + 16 }
         ensures { self.new ≡ longer_message self.old bytes.now }

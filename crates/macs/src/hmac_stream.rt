@@ -57,7 +57,7 @@ where
         }
     }
 
-    /// Adds a piece to the message.
+    /// Adds one more part to the message.
     pub(crate) fn update(&mut self, piece: &[u8])
         ensures { self.new ≡ longer_message self.old piece.now }
     {

@@ -2,18 +2,6 @@
 //! CKM_SHA256_HMAC, CKM_SHA384_HMAC and CKM_SHA512_HMAC (PKCS #11 v3.1, 5.13 and 5.15; SP 800-38B;
 //! FIPS 198-1), in memory that does not grow with the message.
 //!
-//! ```rust
-//! use macs::{Mac, Mechanism};
-//!
-//! let Some(mut mac) = Mac::new(Mechanism::AesCmac, b"sixteen byte key") else {
-//!     return;
-//! };
-//! mac.update(b"a piece of any length");
-//! mac.update(b"and the last one");
-//! let tag = mac.tag();
-//! assert_eq!(rt; tag.as_slice().len(), mac.mechanism().tag_len());
-//! ```
-//!
 //! Contracts see a `Mac` as one record for all mechanisms (`Authentication`): the mechanism, the key,
 //! and the message so far. The message takes no memory. What is kept of it is a block at most under
 //! CMAC, and the hash functions' states under HMAC.
@@ -21,10 +9,10 @@
 //! Proved, for every mechanism, key and message, however it is cut:
 //!
 //! - There is a `Mac` exactly where the key has a length of the mechanism's.
-//! - The code is that of the whole message by the mechanism's standard (`specs/Tags.antt`, over what
-//!   `aes_cmac` and `hmac_sha2` write down), and has the mechanism's length.
-//! - To make a code changes nothing: a message can go on behind it.
-//! - A copy stands where the `Mac` stands, and `has_taken` tells whether it has taken a byte.
+//! - The tag is that of the whole message by the mechanism's standard, and has the mechanism's length.
+//!   `specs/Tags.antt` defines it, over what `aes_cmac` and `hmac_sha2` write down.
+//! - To make a tag changes nothing: a message can go on behind it.
+//! - A copy stands where the `Mac` stands, and `has_taken` is whether it has taken a byte.
 //! - No call takes memory, and none can fail but `Mac::new`, for the key's length.
 //!
 //! The time that CMAC takes depends on secrets, as that of `aes_block`. Keys and states are not

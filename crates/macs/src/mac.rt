@@ -54,7 +54,7 @@ impl Mac {
         }
     }
 
-    /// The mechanism, which says how long the code is that `tag` will give.
+    /// The mechanism, which determines the length of what `tag` returns.
     pub fn mechanism(&self) -> Mechanism
         ensures value { result ≡ self.now.mechanism }
         ensures length { length (tag_of self.now) ≡ tag_length result }
@@ -69,7 +69,7 @@ impl Mac {
         self.has_taken
     }
 
-    /// Takes a further piece of the message, of any length (PKCS #11 v3.1, 5.13 and 5.15). It takes
+    /// Takes one more part of the message, of any length (PKCS #11 v3.1, 5.13 and 5.15). It takes
     /// no memory and cannot fail.
     pub fn update(&mut self, piece: &[u8])
         ensures { self.new ≡ longer self.old piece.now }

@@ -20,7 +20,7 @@ pub enum Mechanism {
 impl Mechanism {
     ghost use Rattle.macs.specs.Tags.{tag_length};
 
-    /// How many bytes a code has: 16, 28, 32, 48 or 64.
+    /// How many bytes a tag has: 16, 28, 32, 48 or 64.
     pub fn tag_len(self) -> usize
         ensures { result ≡ tag_length self }
     {

@@ -67,7 +67,7 @@ impl State {
         }
     }
 
-    /// Adds a piece to the message.
+    /// Adds one more part to the message.
     pub(crate) fn update(&mut self, piece: &[u8])
         ensures { authentication self.new ≡ longer (authentication self.old) piece.now }
     {

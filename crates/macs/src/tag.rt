@@ -4,7 +4,7 @@ ghost use Rattle.std.specs.Prelude.{◌≡◌, ◌≤◌, length};
 
 use std::marker::Model;
 
-/// The length of the longest code in bytes, which HMAC-SHA-512 makes.
+/// The length of the longest tag in bytes, which HMAC-SHA-512 makes.
 pub const LONGEST_TAG: usize = 64;
 
 /// The tag of a message: at most 64 bytes, which lie in the value itself. Contracts see them as a
@@ -26,7 +26,7 @@ impl Model for Tag {
 }
 
 impl Tag {
-    /// The code of these bytes.
+    /// The tag of these bytes.
     pub(crate) fn new(bytes: &[u8]) -> Tag
         requires { length bytes.now ≤ LONGEST_TAG }
         ensures { result ≡ bytes.now }
@@ -37,7 +37,7 @@ impl Tag {
         Tag { bytes: room, len }
     }
 
-    /// The bytes of the code, as many as its mechanism's `tag_len` says.
+    /// The bytes of the tag, as many as its mechanism's `tag_len` returns.
     pub fn as_slice(&self) -> &[u8]
         ensures value { result.now ≡ self.now }
         ensures within { length self.now ≤ LONGEST_TAG }

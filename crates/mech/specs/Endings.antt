@@ -1,4 +1,4 @@
--- What the slot of a job has after it was run.
+-- What the cell of a job has after it was run.
 use Rattle.std.specs.Prelude.{Result, Ok, Err}
 use Rattle.mech.specs.declared.outcome.Outcome.{Outcome}
 use Rattle.mech.specs.declared.job_cell.JobCell.{JobCell}

@@ -1,4 +1,4 @@
--- What work gives.
+-- What work returns.
 use Rattle.std.specs.Prelude.{ℕ, List, [], length, Option, Some, None, if◌then◌else◌}
 use Rattle.std.specs.Str.{bytes_eq}
 use Rattle.ck_types.specs.declared.entry.Entry.{Entry}

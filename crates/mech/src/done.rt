@@ -25,7 +25,7 @@ use std::mem;
 use std::snapshot::Snapshot;
 use streams::{Part, Stream};
 
-/// A job that was run, with what came of it in its slot. The job itself is for contracts alone, and takes no bytes.
+/// A job that was run, with what came of it in its cell. The job itself is for contracts alone, and takes no bytes.
 #[derive(Drop)]
 pub struct Done {
     app: u64,
@@ -50,21 +50,21 @@ impl Done {
         self.app
     }
 
-    /// The number of the question.
+    /// The number of the pending call.
     pub fn question(&self) -> u64
         ensures { result ≡ self.now.job.value.question }
     {
         self.question
     }
 
-    /// The function that asked it.
+    /// The function of the call.
     pub fn function(&self) -> Function
         ensures { result ≡ self.now.job.value.function }
     {
         self.function
     }
 
-    /// What the work gave, or because an allocation failed the work as it was.
+    /// What the work returned, or because an allocation failed the work as it was.
     pub fn into_outcome(self) -> Result<Outcome, Work>
         ensures value { IfOk result (λ o. o ≡ outcome_of self.job.value.work.value) }
         // It is no longer than its work's may be.
@@ -80,7 +80,7 @@ impl Done {
     }
 }
 
-/// Does a cipher's work, or gives it back because an allocation failed.
+/// Does a cipher's work, or returns the work if an allocation fails.
 fn ciphered(alloc: Global, stream: Stream, part: Part, input: Bytes) -> Result<Outcome, Work>
     requires { IsTrue (is_runnable (Cipher stream part input)) }
     ensures value { IfOk result (λ o. o ≡ outcome_of (Cipher stream part input)) }
@@ -163,7 +163,7 @@ fn token_reset(label: Label, verifier: &Verifier, pin: &[u8]) -> Outcome
     }
 }
 
-/// Does the work, or gives it back because an allocation failed, which the work of PINs never takes.
+/// Does the work, or returns the work if an allocation fails. The work of PINs allocates nothing.
 fn work_done(alloc: Global, work: Work) -> Result<Outcome, Work>
     requires { IsTrue (is_runnable work) }
     ensures value { IfOk result (λ o. o ≡ outcome_of work) }
@@ -212,7 +212,7 @@ fn work_done(alloc: Global, work: Work) -> Result<Outcome, Work>
     }
 }
 
-/// The work is taken out of a slot.
+/// The work is taken out of a cell.
 fn taken_out(cell: &mut JobCell, work: Snapshot<Work>) -> Work
     requires { cell.old ≡ WorkCell work.value }
     ensures { result ≡ work.value }
@@ -223,7 +223,7 @@ fn taken_out(cell: &mut JobCell, work: Snapshot<Work>) -> Work
     }
 }
 
-/// What came of work is put into a slot.
+/// What came of work is put into a cell.
 fn put(cell: &mut JobCell, outcome: Result<Outcome, Work>)
     ensures { cell.new ≡ ended_as outcome }
 {

@@ -1,4 +1,4 @@
-//! The work of a question.
+//! The work of a pending call.
 
 ghost use Rattle.std.specs.Prelude.{◌≡◌, IfOk, IsTrue};
 ghost use Rattle.mech.specs.declared.job_cell.JobCell.TheVariants.{Work as WorkCell};
@@ -10,8 +10,8 @@ use ck_calls::Function;
 use std::alloc::{AllocError, Global};
 use std::snapshot::Snapshot;
 
-/// The work of a question, and whose question it is: the application, the question's number, and the
-/// function and session of the call that asked it. The work stands in a slot of its own, so that a job is small; beside it,
+/// The work of a pending call, and whose call it is: the application, the number of the pending call, and its
+/// function and session. The work stands in a cell of its own, so that a job is small; beside it,
 /// it is for contracts alone, and takes no bytes.
 #[derive(Drop)]
 pub struct Job {
@@ -26,7 +26,7 @@ pub struct Job {
 }
 
 impl Job {
-    /// The job of this work. It allocates the slot; where memory is refused there is no job.
+    /// The job of this work. It allocates the cell; where that fails there is no job.
     pub fn new(
         alloc: Global,
         app: u64,

@@ -1,9 +1,9 @@
-//! The room of a job.
+//! The cell of a job.
 
 use crate::outcome::Outcome;
 use crate::work::Work;
 
-/// The room of a job: it has the work, and then what that gives.
+/// The cell of a job: it has the work, and then what that returns.
 #[derive(Drop)]
 pub enum JobCell {
     /// What is to be done.

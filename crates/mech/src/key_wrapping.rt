@@ -15,7 +15,7 @@ use ck_types::{Bytes, SessionState, Template};
 use std::alloc::Global;
 use templates::unwrapped;
 
-/// Wraps the value of a key, or gives the work back because an allocation failed.
+/// Wraps the value of a key, or returns the work if an allocation fails.
 pub(crate) fn wrapped(alloc: Global, key: Key, value: Bytes) -> Result<Outcome, Work>
     requires { IsTrue (is_runnable (Wrap key value)) }
     ensures value { IfOk result (λ o. o ≡ outcome_of (Wrap key value)) }
@@ -64,7 +64,7 @@ fn key_in(
     Some(Outcome::Unwrapped(object))
 }
 
-/// Unwraps the value of a key, and makes the key of it; or gives the work back because an allocation failed.
+/// Unwraps the value of a key, and makes the key of it; or returns the work if an allocation fails.
 pub(crate) fn key_unwrapped(
     alloc: Global,
     key: Key,

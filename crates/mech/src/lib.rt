@@ -1,12 +1,12 @@
-//! The work of the mechanisms and of PINs, which is done outside the token.
+//! The work of the mechanisms and of PINs, as jobs that any worker thread may run outside the token.
 //!
-//! A call that needs work with a key or a PIN becomes a question of the token, and a `Job` for anybody
-//! who has time: it holds all that its work needs, so `Job::run` waits for nobody. What comes back is a
-//! `Done`, which keeps that its outcome is what the definition of the work makes of its job, or want of
-//! memory, with the work as it was.
+//! A call that needs work with a key or a PIN becomes a pending call of the token, and returns a `Job`. Any
+//! thread that has time may run it: it holds all that its work needs, so `Job::run` waits for nobody. What comes
+//! back is a `Done`. Its outcome is what the definition of the work makes of its job, or an allocation
+//! failure, with the work as it was.
 //!
-//! - A cipher's work is a piece or the last data of a stream (PKCS #11 v3.1, 5.8 and 5.10).
-//! - The work of a message's tag is a piece, its signature, or to verify one (PKCS #11 v3.1, 5.13 and 5.15).
+//! - A cipher's work is a part or the last data of a stream (PKCS #11 v3.1, 5.8 and 5.10).
+//! - The work of a message's MAC is a part, its signature, or to verify one (PKCS #11 v3.1, 5.13 and 5.15).
 //! - A key's work is to wrap its value, or to unwrap one and make the key of it (PKCS #11 v3.1, 5.18).
 //! - A PIN's work is to check a PIN against a verifier, to make a new one's verifier, or both (C_Login,
 //!   C_InitPIN, C_SetPIN and C_InitToken; 5.5 and 5.6). It takes no memory. Tries are counted elsewhere,

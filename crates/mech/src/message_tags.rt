@@ -12,7 +12,7 @@ use macs::Mac;
 use ops::MacPlace;
 use std::alloc::Global;
 
-/// Takes a piece. No memory is taken.
+/// Takes one more part. No memory is taken.
 pub(crate) fn taken(place: MacPlace, mut mac: Mac, input: &[u8]) -> Outcome
     ensures { result ≡ outcome_of (Take place mac input.now) }
 {
@@ -20,7 +20,7 @@ pub(crate) fn taken(place: MacPlace, mut mac: Mac, input: &[u8]) -> Outcome
     Outcome::Taken { place, mac }
 }
 
-/// Makes the signature of all data, with the last of it, or gives the work back because an allocation failed.
+/// Makes the signature of all data, with the last of it, or returns the work if an allocation fails.
 pub(crate) fn signed(alloc: Global, mac: Mac, input: Bytes) -> Result<Outcome, Work>
     ensures value { IfOk result (λ o. o ≡ outcome_of (Sign mac input)) }
     ensures room { IfOk result (λ o. HasRoom (Sign mac input) o) }

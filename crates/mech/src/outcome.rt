@@ -1,4 +1,4 @@
-//! What work gives.
+//! What work returns.
 
 use aes_modes::Direction;
 use attrs::Object;
@@ -8,16 +8,16 @@ use ops::MacPlace;
 use pin_record::Verifier;
 use streams::Stream;
 
-/// What work gives. A verifier in it is new, with `pin_record::ROUNDS`.
+/// What work returns. A verifier in it is new, with `pin_record::ROUNDS`.
 #[derive(Drop)]
 pub enum Outcome {
-    /// What a piece adds to the output of a cipher, and the operation after it.
+    /// What a part adds to the output of a cipher, and the operation after it.
     Piece { output: Bytes, stream: Stream },
-    /// The rest of the output of an operation of this direction, for the last data.
+    /// The final part of the output of an operation of this direction, for the last data.
     Rest { direction: Direction, output: Bytes },
     /// No text is encrypted to the data of an operation of this direction: its padding is wrong.
     BadPadding(Direction),
-    /// The operation at a place that signs or verifies, after a piece.
+    /// The operation at a place that signs or verifies, after a part.
     Taken { place: MacPlace, mac: Mac },
     /// The signature of all data.
     Signature(Bytes),

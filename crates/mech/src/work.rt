@@ -11,14 +11,14 @@ use streams::{Part, Stream};
 /// call's to test. A salt is the 16 bytes of the verifier that is made, and a label has 32 bytes.
 #[derive(Drop)]
 pub enum Work {
-    /// Data of an operation that encrypts or decrypts, as a piece or as the last (PKCS #11 v3.1, 5.8 and 5.10). The
+    /// Data of an operation that encrypts or decrypts, as a part or as the last (PKCS #11 v3.1, 5.8 and 5.10). The
     /// stream is a copy: the operation's own stands where it was.
     Cipher {
         stream: Stream,
         part: Part,
         input: Bytes,
     },
-    /// A piece for the operation at a place that signs or verifies (PKCS #11 v3.1, 5.13 and 5.15). The operation is a copy,
+    /// A part for the operation at a place that signs or verifies (PKCS #11 v3.1, 5.13 and 5.15). The operation is a copy,
     /// as that of a cipher.
     Take {
         place: MacPlace,
@@ -61,8 +61,8 @@ pub enum Work {
         pin: Bytes,
         salt: [u8; 16],
     },
-    /// A PIN is checked against the verifier that stood when the check began, and where it is right the new one's
-    /// verifier is made (C_SetPIN, PKCS #11 v3.1, 5.5).
+    /// A PIN is checked against the verifier that stood when the check began (C_SetPIN, PKCS #11 v3.1, 5.5). Where it
+    /// is right, the new one's verifier is made.
     ChangePin {
         who: UserType,
         verifier: Verifier,
@@ -70,14 +70,14 @@ pub enum Work {
         new_pin: Bytes,
         salt: [u8; 16],
     },
-    /// The verifier of the SO's first PIN is made, for a token with this label (C_InitToken on a token that isn't
-    /// initialised, PKCS #11 v3.1, 5.5).
+    /// The verifier of the SO's first PIN is made, for a token with this label. The token isn't
+    /// initialised yet (C_InitToken, PKCS #11 v3.1, 5.5).
     InitToken {
         label: Label,
         pin: Bytes,
         salt: [u8; 16],
     },
-    /// The SO's PIN is checked against the verifier that stood when the check began, for a token that is to be
+    /// The SO's PIN is checked against the verifier that stood when the check began. The token is to be
     /// initialised again with this label (C_InitToken, PKCS #11 v3.1, 5.5).
     ResetToken {
         label: Label,

@@ -149,7 +149,7 @@ still-answer v c random r quiet = (fair-answer v c random r).still quiet
 pub leaves-answer : (v : View) (c : Call) (random : List ℕ) (r : Reveal) → Leaves v.question (answer v c random r).says (answer v c random r).view.question
 leaves-answer v c random r = (fair-answer v c random r).asks
 
--- a question is asked where none is pending
+-- a call becomes pending where none is
 pub none-asked : (v : View) (c : Call) (random : List ℕ) (r : Reveal) (q : Question) → (answer v c random r).says ≡ Asks q → v.question ≡ None
 unfolding answer is_closed
 none-asked v c random r q is = none v.question refl where
@@ -164,7 +164,7 @@ busy-answer v c random r q is = rw is refl
 
 -- ---- results
 
--- a result shows what a key's value is only in the key
+-- a result reveals what a key's value is only in the key
 unmasked : (f : TaskResult → Answer) → ((o : List Entry) → f (Unwrapped (mask_object o)) ≡ f (Unwrapped o)) → (x : TaskResult) → f (mask_outcome x) ≡ f x
 unmasked f same (Output bytes) = refl
 unmasked f same BadPadding = refl

@@ -25,7 +25,7 @@ both-true : (a b : Bool) → (a && b) ≡ true → (a ≡ true) × (b ≡ true)
 both-true true b e = (refl, e)
 both-true false b e = absurd cc
 
--- ---- the size of what is shown
+-- ---- the size of what is revealed
 
 pub value_len-mask : (o : List Entry) → value_len (mask_object o) ≡ value_len o
 value_len-mask o = at (is_masked o) refl where
@@ -57,7 +57,7 @@ object_size-mask o = at (is_masked o) refl where
 abbrev entry_size : Entry → ℕ
 entry_size e = attribute_size (length e.value)
 
--- rows without CKA_VALUE, and with it once
+-- rows of attributes without CKA_VALUE, and with it once
 abbrev has_value : List AttributeRow → Bool
 has_value rs = list_any (λ r. eqb (row_number r) (attr_type_number attr.Value)) rs
 

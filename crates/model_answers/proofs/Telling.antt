@@ -1,4 +1,4 @@
--- C_GetAttributeValue: what is told of attributes.
+-- C_GetAttributeValue: what is returned of attributes.
 use Rattle.std.proofs.Common.{◌≡◌, Bool, true, false, cond, ◌||◌, eqb, ℕ, ◌+◌, ◌<◌, List, [], ◌∷◌, ◌++◌, map, length, get_or, take, refl, sym, ◌∙◌, ap}
 use Rattle.std.proofs.lemmas.Bool.{eq-eqb}
 use Rattle.std.proofs.lemmas.List.{take_more}
@@ -16,7 +16,7 @@ use Rattle.attrs.specs.MaskingLaws.{attribute-without, reveals-mask}
 use Rattle.model_answers.specs.GetAttributeValue.{unavailable, if_there, attribute_told, attributes_told, has_code, code_of_all}
 use Rattle.lists.proofs.ListLemmas.{map-push, map-same}
 
--- ---- what is told doesn't depend on what is kept back
+-- ---- what is returned doesn't depend on what is masked
 
 attribute-shown : (o : List Entry) (n : ℕ) → reveals o n ≡ true → attribute (mask_object o) n ≡ attribute o n
 attribute-shown o n shown = at (is_masked o) refl where
@@ -62,7 +62,7 @@ code_of_all-push codes code =
       at false false true false false z = refl
       at false false false x y z = refl
 
--- ---- one more attribute is answered
+-- ---- one more attribute is returned
 
 module _ (o : List Entry) (query : List AttributeQuery) (i : ℕ) (d : AttributeQuery) (below : i < length query) where
   pub codes-more : (code own : Rv) → code ≡ code_of_all (map (λ q. (attribute_told o q).0) (take i query)) → own ≡ (attribute_told o (get_or query i d)).0 → code_of_all (code ∷ own ∷ []) ≡ code_of_all (map (λ q. (attribute_told o q).0) (take (i + 1) query))

@@ -1,4 +1,4 @@
--- What an application is answered, from its view alone: one definition for each call.
+-- What each call returns to an application, from its view alone: one definition for each call.
 use Rattle.std.specs.Prelude.{◌&&◌, not, ℕ, Bool, true, false, List, if◌then◌else◌, Option, Some, None}
 use Rattle.ck_types.specs.declared.rv.Rv.TheVariants.{FunctionFailed}
 use Rattle.ck_calls.specs.declared.call.Call.{Call}
@@ -119,7 +119,7 @@ is_pin_function function.InitPin = true
 is_pin_function function.InitToken = true
 is_pin_function _ = false
 
--- and what they ask
+-- and their jobs
 abbrev pub is_pin_task : Task → Bool
 is_pin_task (Ciphers part o input) = false
 is_pin_task (Takes place o input) = false
@@ -148,6 +148,6 @@ may_change_objects function.SetAttributeValue = true
 may_change_objects function.DestroyObject = true
 may_change_objects _ = false
 
--- and those that change nothing which others see, whatever is answered
+-- and those that change nothing which others see, whatever is returned
 abbrev pub is_still_function : Function → Bool
 is_still_function f = not (is_pin_function f) && not (may_change_objects f)

@@ -1,5 +1,5 @@
 -- C_Encrypt, C_EncryptUpdate, C_EncryptFinal and C_Decrypt, C_DecryptUpdate, C_DecryptFinal (PKCS #11 v3.1, 5.2, 5.8 and
--- 5.10): a question, and its result.
+-- 5.10): a pending call, and its result.
 use Rattle.std.specs.Prelude.{ℕ, Bool, true, false, ◌==◌, ◌||◌, ◌&&◌, not, nat_lt, List, [], length, Option, Some, None, is_none}
 use Rattle.std.specs.Option.{unwrap_or}
 use Rattle.ck_types.specs.declared.rv.Rv.TheVariants.{EncryptedDataInvalid, FunctionFailed}
@@ -35,7 +35,7 @@ abbrev pub final_function : Direction → Function
 final_function Encrypt = functions.EncryptFinal
 final_function Decrypt = functions.DecryptFinal
 
--- ---- the rows
+-- ---- the conditions
 
 -- the operation that is in progress
 abbrev pub operation_or : Option Operation → Operation
@@ -63,7 +63,7 @@ cipher_row d v s o part input buffer_len NoBuffer = is_none buffer_len
 cipher_row d v s o part input buffer_len SmallBuffer = nat_lt (unwrap_or buffer_len 0) (wanted part (text_of (operation_or o)) (length input))
 cipher_row d v s o part input buffer_len _ = false
 
--- wrong data ends the operation; without room enough for the output its length is told
+-- wrong data ends the operation; where the output buffer is too short, the length that is needed is returned
 abbrev pub cipher_says : View → ℕ → Place → ℕ → Condition → Answer
 cipher_says v s place length DataTaken = ends v s place DataTaken
 cipher_says v s place length CounterEnd = ends v s place CounterEnd
@@ -73,7 +73,7 @@ cipher_says v s place length NoBuffer = replies v (replied.Output (output.Length
 cipher_says v s place length SmallBuffer = replies v (replied.BufferTooSmall length)
 cipher_says v s place length row = refuses_by v row
 
--- ---- the question
+-- ---- the pending call
 
 abbrev pub ciphers : Function → Direction → Part → View → ℕ → Option Operation → List ℕ → Option ℕ → Answer
 ciphers function d part v s o input buffer_len =
@@ -82,7 +82,7 @@ ciphers function d part v s o input buffer_len =
 abbrev pub cipher : Function → Direction → Part → View → ℕ → List ℕ → Option ℕ → Answer
 cipher function d part v s input buffer_len = ciphers function d part v s (operation_in (session_of v s) (place_for d)) input buffer_len
 
--- all data at once, a piece, and the end
+-- all data at once, a part, and the end
 abbrev pub cipher_single : Direction → View → ℕ → List ℕ → Option ℕ → Answer
 cipher_single d v s input buffer_len = cipher (single_function d) d Last v s input buffer_len
 
@@ -99,7 +99,7 @@ ciphered_reply (Output bytes) = replied.Output (output.Data bytes)
 ciphered_reply BadPadding = replied.Code EncryptedDataInvalid
 ciphered_reply _ = replied.Code FunctionFailed
 
--- a piece leaves the operation that has taken it, and the last data none
+-- a part leaves the operation that has taken it, and the last data none
 abbrev pub further_by : Operation → List ℕ → TaskResult → Option Operation
 further_by o input (Output bytes) = Some (further o input bytes)
 further_by o input _ = None

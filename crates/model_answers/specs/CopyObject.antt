@@ -1,4 +1,4 @@
--- C_CopyObject (PKCS #11 v3.1, 5.7).
+-- C_CopyObject (PKCS #11 v3.1, 5.7.2).
 use Rattle.std.specs.Prelude.{ℕ, Bool, not, List, [], Option, is_none}
 use Rattle.std.specs.Option.{unwrap_or}
 use Rattle.ck_types.specs.declared.attr_type.AttrType.TheVariants as attr

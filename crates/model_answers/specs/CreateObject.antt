@@ -1,4 +1,4 @@
--- C_CreateObject (PKCS #11 v3.1, 5.7).
+-- C_CreateObject (PKCS #11 v3.1, 5.7.1).
 use Rattle.std.specs.Prelude.{ℕ, ◌+◌, Bool, false, ◌&&◌, not, nat_le, List, [], ◌∷◌, ◌++◌, length, if◌then◌else◌, Option, Some, None, is_some, is_none}
 use Rattle.ck_types.specs.declared.attr_type.AttrType.TheVariants as attr
 use Rattle.ck_calls.specs.declared.function.Function.TheVariants.{CreateObject}
@@ -33,7 +33,7 @@ adds_session_object v s o =
 abbrev pub adds : View → ℕ → List Entry → Answer
 adds v s o = if flag o attr.Token then adds_token_object v o else adds_session_object v s o
 
--- the last rows of a call that makes an object by a template
+-- the last conditions of a call that makes an object by a template
 abbrev pub makes_row : View → SessionState → Option Rv → List Entry → Condition → Bool
 makes_row v state fault o TemplateRefused = is_some fault
 makes_row v state fault o TokenObjectReadOnly = flag o attr.Token && not (is_rw state)
@@ -41,7 +41,7 @@ makes_row v state fault o PrivateObject = not (is_visible state o)
 makes_row v state fault o ObjectLimit = not (flag o attr.Token) && nat_le 256 (length v.own)
 makes_row v state fault o _ = false
 
--- an object that is made is added, where these rows let it
+-- an object that is made is added, where none of these conditions holds
 abbrev pub adds_where : View → ℕ → SessionState → List Entry → Answer
 adds_where v s state o = by_rows write (makes_row v state None o) (refuses_by v) (adds v s o)
 

@@ -1,4 +1,4 @@
--- C_DestroyObject (PKCS #11 v3.1, 5.7).
+-- C_DestroyObject (PKCS #11 v3.1, 5.7.3).
 use Rattle.std.specs.Prelude.{ℕ, Bool, false, ◌&&◌, ◌==◌, not, filter, Option, Some, None, is_none}
 use Rattle.std.specs.List.{remove}
 use Rattle.ck_types.specs.declared.attr_type.AttrType.TheVariants as attr
@@ -13,7 +13,7 @@ destroy_row v s handle TokenObjectReadOnly = flag_at (object_at v handle) attr.T
 destroy_row v s handle NotDestroyable = not (flag_at (object_at v handle) attr.Destroyable)
 destroy_row v s handle _ = false
 
--- the session object under the handle is gone, or the token object at a place
+-- the session object under the handle is gone, or the token object at an index
 abbrev pub destroyed : View → ℕ → Option ℕ → Answer
 destroyed v handle None = becomes (Code Ok) (record v { own = filter (λ e. not (e.handle == handle)) v.own })
 destroyed v handle (Some index) = record { says = Replies (Code Ok); view = record v { tokens = remove v.tokens index }; change = Remove index }

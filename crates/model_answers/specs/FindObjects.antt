@@ -1,5 +1,5 @@
--- C_FindObjects and C_FindObjectsFinal (PKCS #11 v3.1, 5.7): the handles that a search found, a part at a time, and its
--- end.
+-- C_FindObjects and C_FindObjectsFinal (PKCS #11 v3.1, 5.7.8 and 5.7.9): the handles that a search found, some at a time,
+-- and its end.
 use Rattle.std.specs.Prelude.{ℕ, Bool, false, nat_le, List, [], take, drop, is_none, if◌then◌else◌, Some, None}
 use Rattle.std.specs.Option.{unwrap_or}
 use Rattle.ck_calls.specs.declared.function.Function.TheVariants.{FindObjects, FindObjectsFinal}
@@ -13,14 +13,14 @@ search_row v s NoSession = is_none (session_of v s)
 search_row v s NoOperation = is_none (search_in (session_of v s))
 search_row v s _ = false
 
--- how many handles are answered at once: as many as are asked for, up to the limit
+-- how many handles one call returns: as many as are asked for, up to the limit
 abbrev pub found_limit : ℕ
 found_limit = 1024
 
 abbrev pub answered_at_once : ℕ → ℕ
 answered_at_once max_count = if nat_le max_count found_limit then max_count else found_limit
 
--- the first handles that weren't answered yet; the search goes on with the others, also where none is left
+-- the first handles that weren't returned yet; the search goes on with the others, also where none is left
 abbrev pub gives_found : View → ℕ → ℕ → List ℕ → Answer
 gives_found v s count handles = becomes (Objects (take count handles)) (record v { sessions = with_search v.sessions s (Some (drop count handles)) })
 

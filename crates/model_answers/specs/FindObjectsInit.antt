@@ -1,4 +1,4 @@
--- C_FindObjectsInit (PKCS #11 v3.1, 5.7): a search begins, and what it finds is fixed there.
+-- C_FindObjectsInit (PKCS #11 v3.1, 5.7.7): a search begins, and what it finds is fixed there.
 use Rattle.std.specs.Prelude.{ℕ, ◌+◌, Bool, false, ◌&&◌, List, [], ◌∷◌, ◌++◌, map, filter, is_none, is_some, if◌then◌else◌, Some}
 use Rattle.std.specs.Option.{unwrap_or}
 use Rattle.ck_calls.specs.declared.function.Function.TheVariants.{FindObjectsInit}
@@ -38,7 +38,7 @@ own_found template es = map (λ e. e.handle) (filter (λ e. template_matches tem
 abbrev pub found : List Entry → View → List ℕ
 found template v = tokens_found template v.tokens ++ own_found template v.own
 
--- what is found has its handles, and the search of the session has them to answer
+-- what is found has its handles, and the search of the session has them to return
 abbrev pub handled : List Entry → View → View
 handled template v = record v { tokens = with_handles template v.next_handle v.tokens; next_handle = next_after template v.next_handle v.tokens }
 

@@ -1,4 +1,4 @@
--- C_GetAttributeValue (PKCS #11 v3.1, 5.7): each attribute that is asked for is answered, whatever becomes of the
+-- C_GetAttributeValue (PKCS #11 v3.1, 5.7.5): each attribute that is asked for is returned, whatever becomes of the
 -- others.
 use Rattle.std.specs.Prelude.{ℕ, ◌-◌, ◌^◌, Bool, ◌==◌, nat_lt, List, map, length, if◌then◌else◌, Option, Some, None}
 use Rattle.std.specs.List.{list_any}
@@ -11,7 +11,7 @@ use Rattle.ck_calls.specs.declared.reply.Reply.TheVariants.{AttributeValues}
 use Rattle.attrs.specs.Masking.{reveals}
 use Rattle.model_views.specs.Calls.{Entry, Rv, Ok, Reply, attribute, View, Answer, reads}
 
--- What is told of an attribute, with its code. Where it is unavailable, its length is
+-- What is returned of an attribute, with its code. Where it is unavailable, its length is
 -- CK_UNAVAILABLE_INFORMATION.
 abbrev pub unavailable : Rv → Rv × AttributeValue
 unavailable code = (code, record { len = 2 ^ 64 - 1; value = None })

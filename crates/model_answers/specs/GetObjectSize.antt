@@ -1,4 +1,4 @@
--- C_GetObjectSize (PKCS #11 v3.1, 5.7). The size of an object is the length of its stored form, which tells nothing of
+-- C_GetObjectSize (PKCS #11 v3.1, 5.7.4). The size of an object is the length of its stored form, which reveals nothing of
 -- a key that CKA_VALUE_LEN doesn't.
 use Rattle.std.specs.Prelude.{ℕ, ◌+◌, List, [], length, if◌then◌else◌}
 use Rattle.std.specs.Option.{unwrap_or}

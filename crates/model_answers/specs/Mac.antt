@@ -1,5 +1,5 @@
 -- C_Sign, C_SignUpdate, C_SignFinal and C_Verify, C_VerifyUpdate, C_VerifyFinal (PKCS #11 v3.1, 5.2, 5.13 and 5.15): a
--- question, and its result.
+-- pending call, and its result.
 use Rattle.std.specs.Prelude.{ℕ, Bool, false, ◌==◌, not, nat_lt, List, [], length, Option, Some, None, is_none}
 use Rattle.std.specs.Option.{unwrap_or}
 use Rattle.ck_types.specs.declared.rv.Rv.TheVariants.{FunctionFailed, SignatureInvalid}
@@ -23,7 +23,7 @@ abbrev pub mac_update_function : MacPlace → Function
 mac_update_function place.Sign = functions.SignUpdate
 mac_update_function place.Verify = functions.VerifyUpdate
 
--- ---- the rows
+-- ---- the conditions
 
 -- the operation that is in progress
 abbrev pub mac_or : Option MacOperation → MacOperation
@@ -51,7 +51,7 @@ abbrev pub verify_row : View → ℕ → Option MacOperation → List ℕ → Co
 verify_row v s o signature SignatureLength = not (length signature == signature_length o)
 verify_row v s o signature row = mac_row v s o row
 
--- an operation that has taken data ends; without room enough for the signature its length is told
+-- an operation that has taken data ends; where the output buffer is too short, the signature's length is returned
 abbrev pub sign_says : View → ℕ → ℕ → Condition → Answer
 sign_says v s length DataTaken = mac_ends v s place.Sign DataTaken
 sign_says v s length NoBuffer = replies v (replied.Output (output.Length length))
@@ -64,7 +64,7 @@ verify_says v s DataTaken = mac_ends v s place.Verify DataTaken
 verify_says v s SignatureLength = mac_ends v s place.Verify SignatureLength
 verify_says v s row = refuses_by v row
 
--- ---- the questions
+-- ---- the pending calls
 
 abbrev pub signs : Function → View → ℕ → Option MacOperation → List ℕ → Option ℕ → Answer
 signs function v s o input buffer_len = checked_by function (sign_row v s o buffer_len) (sign_says v s (signature_length o)) (asks v function s (Signs (mac_or o) input))
@@ -75,7 +75,7 @@ verifies function v s o input signature = checked_by function (verify_row v s o 
 abbrev pub takes : MacPlace → View → ℕ → Option MacOperation → List ℕ → Answer
 takes p v s o input = checked (mac_update_function p) (mac_row v s o) v (asks v (mac_update_function p) s (Takes p (mac_or o) input))
 
--- all data at once, a piece, and the end
+-- all data at once, a part, and the end
 abbrev pub sign : View → ℕ → List ℕ → Option ℕ → Answer
 sign v s input buffer_len = signs functions.Sign v s (mac_in (session_of v s) place.Sign) input buffer_len
 
@@ -93,7 +93,7 @@ mac_update p v s input = takes p v s (mac_in (session_of v s) p) input
 
 -- ---- the results
 
--- a piece leaves the operation that has taken it, and the last data none
+-- a part leaves the operation that has taken it, and the last data none
 abbrev pub taken : View → ℕ → MacPlace → MacOperation → List ℕ → TaskResult → Answer
 taken v s p o input Taken = becomes (replied.Code Ok) (with_mac (answered v) s p (Some (mac_further o input)))
 taken v s p o input _ = becomes (replied.Code FunctionFailed) (with_mac (answered v) s p None)

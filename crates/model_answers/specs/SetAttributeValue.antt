@@ -1,4 +1,4 @@
--- C_SetAttributeValue (PKCS #11 v3.1, 5.7).
+-- C_SetAttributeValue (PKCS #11 v3.1, 5.7.6).
 use Rattle.std.specs.Prelude.{ℕ, Bool, false, ◌==◌, ◌&&◌, not, List, [], Option, Some, None, is_some, is_none}
 use Rattle.std.specs.Option.{unwrap_or}
 use Rattle.ck_types.specs.declared.attr_type.AttrType.TheVariants as attr
@@ -16,8 +16,8 @@ use Rattle.model_answers.specs.CreateObject.{makes_says}
 abbrev pub rewritten_own : List SessionObject → ℕ → List Entry → List SessionObject
 rewritten_own es handle o = updated_where (λ e. e.handle == handle) (λ e. record { object = o; handle = e.handle; session = e.session }) es
 
--- The changed object stands in the place of the session object under the handle, or of the token object at a
--- place. Its handle stays.
+-- The changed object stands in the place of the session object under the handle, or of the token object at an
+-- index. Its handle stays.
 abbrev pub puts : View → ℕ → List Entry → Option ℕ → Answer
 puts v handle o None = becomes (Code Ok) (record v { own = rewritten_own v.own handle o })
 puts v handle o (Some index) = record { says = Replies (Code Ok); view = record v { tokens = rewritten v.tokens index o }; change = Replace index o }

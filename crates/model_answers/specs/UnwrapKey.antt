@@ -1,4 +1,4 @@
--- C_UnwrapKey (PKCS #11 v3.1, 5.18): a question, and its result, which makes the key.
+-- C_UnwrapKey (PKCS #11 v3.1, 5.18): a pending call, and its result, which makes the key.
 use Rattle.std.specs.Prelude.{ℕ, ◌-◌, ◌^◌, Bool, true, false, ◌&&◌, ◌==◌, ◌%◌, not, nat_le, nat_lt, List, [], length, replicate, if◌then◌else◌, Option, Some, is_some, is_none}
 use Rattle.std.specs.Option.{unwrap_or}
 use Rattle.ck_types.specs.declared.attr_type.AttrType.TheVariants as attr
@@ -28,13 +28,13 @@ is_length_fault _ = false
 abbrev pub key_ahead : List Entry → List ℕ → ℕ → List Entry
 key_ahead template random len = key_made template random (replicate len 0)
 
--- the rows of its template, by why it is refused, and by the key that is to be made
+-- the conditions of its template, by why it is refused, and by the key that is to be made
 abbrev pub template_row : View → SessionState → Option Rv → List Entry → Condition → Bool
 template_row v state fault o TemplateRefused = is_some fault && not (is_length_fault fault)
 template_row v state fault o WrappedLengthOfType = is_length_fault fault
 template_row v state fault o row = makes_row v state fault o row
 
--- The rows, by the unwrapping key, by why the template is refused, and by the key that is to be made.
+-- The conditions, by the unwrapping key, by why the template is refused, and by the key that is to be made.
 abbrev pub unwrap_row : View → ℕ → Mechanism → Option (List Entry) → List ℕ → Option Rv → List Entry → Condition → Bool
 unwrap_row v s m key wrapped fault o NoSession = is_none (session_of v s)
 unwrap_row v s m key wrapped fault o WrongMechanism = is_none (wrapping_at m.mech_type)
@@ -61,7 +61,7 @@ unwrap_key v s m key wrapped template random =
 abbrev pub may_add : View → ℕ → Bool
 may_add v s = is_some (session_of v s) && nat_lt v.next_handle (2 ^ 63)
 
--- The key is added as a new object is, by the last rows of the call's table once more.
+-- The key is added as a new object is, by the last conditions of the call's table once more.
 abbrev pub unwrapped_result : View → ℕ → TaskResult → Answer
 unwrapped_result v s (Unwrapped o) = if may_add v s then adds_where v s (state_in v s) o else refuses v FunctionFailed
 unwrapped_result v s BadWrapping = refuses v WrappedKeyInvalid

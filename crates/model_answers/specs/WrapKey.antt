@@ -1,4 +1,4 @@
--- C_WrapKey (PKCS #11 v3.1, 5.18; 4.10: CKA_TRUSTED and CKA_WRAP_WITH_TRUSTED): a question, and its result.
+-- C_WrapKey (PKCS #11 v3.1, 5.18; 4.10: CKA_TRUSTED and CKA_WRAP_WITH_TRUSTED): a pending call, and its result.
 use Rattle.std.specs.Prelude.{ℕ, ◌+◌, Bool, false, ◌||◌, ◌&&◌, ◌==◌, not, nat_lt, List, [], length, Option, is_none}
 use Rattle.std.specs.Option.{unwrap_or}
 use Rattle.ck_types.specs.declared.attr_type.AttrType.TheVariants as attr
@@ -33,7 +33,7 @@ key_len key = value_len (unwrap_or key [])
 abbrev pub wrapped_len : Option (List Entry) → ℕ
 wrapped_len key = key_len key + 8
 
--- The rows, by the wrapping key and the key that is wrapped.
+-- The conditions, by the wrapping key and the key that is wrapped.
 abbrev pub wrap_row : View → ℕ → Mechanism → Option (List Entry) → Option (List Entry) → Option ℕ → Condition → Bool
 wrap_row v s m wrapping key buffer_len NoSession = is_none (session_of v s)
 wrap_row v s m wrapping key buffer_len WrongMechanism = is_none (wrapping_at m.mech_type)
@@ -49,7 +49,7 @@ wrap_row v s m wrapping key buffer_len NoBuffer = is_none buffer_len
 wrap_row v s m wrapping key buffer_len SmallBuffer = nat_lt (unwrap_or buffer_len 0) (wrapped_len key)
 wrap_row v s m wrapping key buffer_len _ = false
 
--- without room enough for the wrapped key its length is told
+-- where the output buffer is too short, the wrapped key's length is returned
 abbrev pub wrap_says : View → ℕ → Condition → Answer
 wrap_says v length NoBuffer = replies v (replied.Output (output.Length length))
 wrap_says v length SmallBuffer = replies v (replied.BufferTooSmall length)
@@ -62,7 +62,7 @@ wraps v s m wrapping key buffer_len =
 abbrev pub wrap_key : View → ℕ → Mechanism → ℕ → ℕ → Option ℕ → Answer
 wrap_key v s m wrapping key buffer_len = wraps v s m (object_at v wrapping) (object_at v key) buffer_len
 
--- the wrapped key is told
+-- the wrapped key is returned
 abbrev pub wrapped_result : View → TaskResult → Answer
 wrapped_result v (Output bytes) = replies v (replied.Output (output.Data bytes))
 wrapped_result v _ = refuses v FunctionFailed

@@ -7,9 +7,9 @@ ghost use Rattle.model_views.specs.Views.{View, mask};
 ghost use Rattle.model_views.specs.Answering.{Reveal, mask_reveal, shown};
 ghost use Rattle.model_answers.specs.Answers.{answer, answer_result};
 
-/// What is shown of an answer depends on what is shown of the view, of a result, and of what comes in from
-/// outside, alone: no value that is kept back, of a masked key, of a key in use or of a PIN's verifier, is in a
-/// reply, in the view after it or in what others see.
+/// Non-interference of an answer: what is revealed of it depends on what is revealed of the view, of a result, and of what
+/// comes in from outside, alone. No masked value is in a reply, in the view after it or in what others see: none of a
+/// masked key, of a key in use or of a PIN's verifier.
 pub fn blind_answers()
     ensures calls { (v : View) (call : Call) (random : List ℕ) (r : Reveal) → shown (answer (mask v) call random (mask_reveal r)) ≡ shown (answer v call random r) }
     ensures results { (v : View) (outcome : TaskResult) (r : Reveal) → shown (answer_result (mask v) (mask_outcome outcome) (mask_reveal r)) ≡ shown (answer_result v outcome r) }

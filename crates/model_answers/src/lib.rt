@@ -1,6 +1,6 @@
-//! What an application is answered, from its view alone: a definition for each call, in the order of the call's table.
+//! What each call returns to an application, from its view alone: a definition for each call, in the order of its table.
 //!
-//! `specs/Answers.antt` finds the definition by the call, or by the question whose result has come; each of the others
+//! `specs/Answers.antt` finds the definition by the call, or by the pending call whose result has come; each of the others
 //! is that of one call or of calls that are alike. The law of `laws` holds for all of them.
 #![tactic(auto)]
 

@@ -1,4 +1,4 @@
--- C_InitPIN: the question, and its result.
+-- C_InitPIN: the pending call, and its result.
 use Rattle.std.proofs.Common.{◌≡◌, ℕ, false, List, refl, ap}
 use Rattle.std.specs.Prelude.{◌&&◌, nat_le}
 use Rattle.ck_types.specs.declared.rv.Rv.TheVariants.{Ok, FunctionFailed}

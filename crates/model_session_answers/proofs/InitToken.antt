@@ -1,4 +1,4 @@
--- C_InitToken: the check or the question, and its result.
+-- C_InitToken: the check or the pending call, and its result.
 use Rattle.std.proofs.Common.{◌≡◌, ℕ, Bool, true, false, cond, not, List, refl, ap}
 use Rattle.std.specs.Prelude.{◌&&◌, ◌||◌, ◌==◌, nat_lt}
 use Rattle.std.specs.Option.{unwrap_or}

@@ -1,5 +1,5 @@
--- What every result is: a reply that is no resource error and asks nothing. It ends its question, and the record is seen
--- as it becomes.
+-- What every result is: a reply that is no resource error and returns no job. It ends its pending call, and the record is
+-- seen as it becomes.
 use Rattle.std.proofs.Common.{◌≡◌, Bool, true, false, cond, [], None, refl, ◌∙◌, ap}
 use Rattle.ck_types.specs.declared.rv.Rv.{Rv}
 use Rattle.ck_types.specs.declared.rv.Rv.TheVariants.{Ok}
@@ -31,7 +31,7 @@ over-stores v u reply r is none = record { plain = is; unasking = refl; over = n
 pub over-resets : (v : View) (r : TokenRecord) → IsOver v (resets r (answered v))
 over-resets v r = record { plain = refl; unasking = refl; over = refl; shows = refl }
 
--- ---- what is shown of a new record
+-- ---- what is revealed of a new record
 
 pub blind-stores : (reply : Reply) (r s : TokenRecord) (u v : View) → mask_record r ≡ mask_record s → mask u ≡ mask v → shown (stores reply r u) ≡ shown (stores reply s v)
 blind-stores reply r s u v same views =

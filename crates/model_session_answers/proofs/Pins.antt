@@ -1,4 +1,4 @@
--- What the calls of PINs test and check against, but for what is kept back.
+-- What the calls of PINs test and check against, but for what is masked.
 use Rattle.std.proofs.Common.{◌≡◌, ℕ, not, refl, ◌∙◌, ap}
 use Rattle.std.specs.Prelude.{nat_lt, is_some}
 use Rattle.ck_types.specs.declared.user_type.UserType.{UserType}

@@ -5,7 +5,7 @@ use Rattle.ck_calls.specs.declared.reply.Reply.TheVariants.{Random}
 use Rattle.precede.specs.declared.condition.Condition.TheVariants.{NoSession, RandomLength}
 use Rattle.model_views.specs.Calls.{Condition, View, Answer, replies, session_of, checked}
 
--- as many bytes as are given at once, at most
+-- as many bytes as one call returns, at most
 abbrev pub random_limit : ℕ
 random_limit = 32768
 

@@ -11,7 +11,7 @@ use Rattle.model_views.specs.Calls.{Condition, View, Answer, becomes, checked, n
 abbrev pub is_slot : ℕ → Bool
 is_slot slot = slot == 0
 
--- the row of a call that names a slot alone
+-- the condition of a call that names a slot alone
 abbrev pub slot_row : ℕ → Condition → Bool
 slot_row slot NoSlot = not (is_slot slot)
 slot_row slot _ = false

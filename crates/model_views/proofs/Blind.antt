@@ -23,7 +23,7 @@ use Rattle.model_views.specs.Answering.{has_session, asks, asks_checked, Said, R
 use Rattle.model_views.specs.Refusals.{resource_error_in, resource_error}
 use Rattle.model_views.proofs.Masks.{charged-masked, mask-twice, session-mask, object-mask, index-mask}
 
--- ---- what is shown of an answer depends on what is shown of the view
+-- ---- what is revealed of an answer depends on what is revealed of the view
 
 pub blind-reply : (v : View) (reply : Reply) → shown (replies (mask v) reply) ≡ shown (replies v reply)
 blind-reply v reply = ap (λ u. record { says = Replies reply; view = u; change = Stays }) (mask-twice v)
@@ -34,7 +34,7 @@ blind-refusal v code = blind-reply v (Code code)
 pub blind-becomes : (reply : Reply) (u v : View) → mask u ≡ mask v → shown (becomes reply u) ≡ shown (becomes reply v)
 blind-becomes reply u v same = ap (λ w. record { says = Replies reply; view = w; change = Stays }) same
 
--- a row of the call's table, by a test that doesn't see what is kept back
+-- a condition of the call's table, by a test that doesn't depend on what is masked
 pub blind-row : (v : View) (row : Condition) (b c : Bool) (x y : Answer) → b ≡ c → shown x ≡ shown y → shown (cond b (refuses_by (mask v) row) x) ≡ shown (cond c (refuses_by v row) y)
 blind-row v row b c x y tests same = ap (λ t. shown (cond t (refuses_by (mask v) row) x)) tests ∙ step c where
   step : (t : Bool) → shown (cond t (refuses_by (mask v) row) x) ≡ shown (cond t (refuses_by v row) y)
@@ -47,7 +47,7 @@ blind-if b c x x' y y' tests p q = ap (λ t. shown (cond t x y)) tests ∙ step 
   step true = p
   step false = q
 
--- a question, which is shown without what is kept back of it
+-- a pending call, which is revealed without what is masked of it
 pub blind-asks : (v : View) (f : Function) (s : ℕ) (t u : Task) → mask_task t ≡ mask_task u → shown (asks (mask v) f s t) ≡ shown (asks v f s u)
 blind-asks v f s t u same =
     let q : Task → Question = λ x. record { number = v.next_question; function = f; session = s; task = x } in
@@ -62,7 +62,7 @@ blind-asks_checked v f s t u who same =
     ∙ ap (λ r. a (mask_task u) r (mask (mask v))) (charged-masked v.token_record who)
     ∙ ap (a (mask_task u) (mask_record (charged v.token_record who))) (mask-twice v)
 
--- what is answered by a session, by the object under a handle, and by the place of a token object
+-- an answer by a session, by the object under a handle, and by the index of a token object
 pub blind-session : (f : View → Option (Session Operations) → Answer) (v : View) (s : ℕ) → ((o : Option (Session Operations)) → shown (f (mask v) (option_map mask_session o)) ≡ shown (f v o)) → shown (f (mask v) (session_of (mask v) s)) ≡ shown (f v (session_of v s))
 blind-session f v s same = ap (λ o. shown (f (mask v) o)) (session-mask v s) ∙ same (session_of v s)
 
@@ -72,9 +72,9 @@ blind-object f v handle same = ap (λ o. shown (f (mask v) o)) (object-mask v ha
 pub blind-index : (f : View → Option ℕ → Answer) (v : View) (handle : ℕ) → ((p : Option ℕ) → shown (f (mask v) p) ≡ shown (f v p)) → shown (f (mask v) (index_of (mask v).tokens handle)) ≡ shown (f v (index_of v.tokens handle))
 blind-index f v handle same = ap (λ p. shown (f (mask v) p)) (index-mask v handle) ∙ same (index_of v.tokens handle)
 
--- ---- an answer is no resource error, a quiet one makes no change, and where it is no question it leaves the
--- question as it was; else the question that it asks is pending; the record is seen as it becomes; and who begins a check
--- of the user's PIN has a session
+-- ---- an answer is no resource error, and a quiet one makes no change. Where it returns no job it leaves the pending call
+-- as it was; else the call that it begins is pending. The record is seen as it becomes. Who begins a check of the user's
+-- PIN has a session.
 
 abbrev pub Leaves : Option Question → Said → Option Question → Type 0
 Leaves old (Replies reply) new = new ≡ old

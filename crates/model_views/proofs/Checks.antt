@@ -1,5 +1,5 @@
--- An answer by its table is proper: by a fact of what each row tests, and of what it answers where that is not its code
--- alone.
+-- An answer by its table is proper: by a fact of what each condition tests, and of what it returns where that is not its
+-- code alone.
 use Rattle.std.proofs.lemmas.Bool.{lt-ltb}
 use Rattle.std.proofs.Common.{arith, ◌≡◌, ℕ, Bool, true, false, cond, List, [], ◌∷◌, Option, Some, None, refl, ◌∙◌, ap}
 pub use Rattle.ck_types.specs.declared.entry.Entry.{Entry}
@@ -31,7 +31,7 @@ use Rattle.precede.specs.Table.{table_of}
 use Rattle.model_views.specs.Refusals.{resource_error}
 use Rattle.model_views.specs.Checked.{by_rows, checked, checked_by, object_row, reads, flag_at, writes, state_in}
 
--- no row's code is a code set apart
+-- no condition's code is a resource error
 pub plain-row : (row : Condition) → resource_error (Code (code_of Ok row)) ≡ None
 plain-row Busy = refl
 plain-row _ = refl
@@ -56,7 +56,7 @@ blind-checked_by f h k says says' x y same told is = blind-rows (table_of (funct
 pub fair-checked_by : {quiet : Bool} (f : Function) (v : View) (h : Condition → Bool) (says : Condition → Answer) (x : Answer) → ((row : Condition) → IsFair quiet v (says row)) → IsFair quiet v x → IsFair quiet v (checked_by f h says x)
 fair-checked_by f v h says x told is = fair-rows (table_of (function_number f)) v h says x told is
 
--- where no row holds, and each is known not to
+-- where no condition holds, and each is known not to
 fair-given : {quiet : Bool} (rows : List Condition) (v : View) (h : Condition → Bool) (f : Condition → Answer) (x : Answer) → ((row : Condition) → IsFair quiet v (f row)) → (AllByRecursion (λ row. h row ≡ false) rows → IsFair quiet v x) → IsFair quiet v (by_rows rows h f x)
 fair-given [] v h f x says is = is tt
 fair-given {quiet = quiet} (row ∷ rows) v h f x says is = step (h row) refl (λ e. fair-given rows v h f x says (λ all. is (e, all))) where
@@ -64,11 +64,11 @@ fair-given {quiet = quiet} (row ∷ rows) v h f x says is = step (h row) refl (�
   step true e rest = says row
   step false e rest = rest e
 
--- the rows of a call's table, where none holds
+-- the conditions of a call's table, where none holds
 abbrev pub NoRow : Function → (Condition → Bool) → Type 0
 NoRow f h = AllByRecursion (λ row. h row ≡ false) (table_of (function_number f))
 
--- where each row refuses by its code, by what is revealed too
+-- where each condition refuses by its code, by what is revealed too
 pub proper-given : {quiet : Bool} (f : Function) (h : View → Reveal → Condition → Bool) (x : View → Answer) → ((v : View) (r : Reveal) (row : Condition) → h (mask v) (mask_reveal r) row ≡ h v r row) → ((v : View) → shown (x (mask v)) ≡ shown (x v)) → ((v : View) (r : Reveal) → NoRow f (h v r) → IsFair quiet v (x v)) → IsProper (λ v r. checked f (h v r) v (x v)) quiet
 proper-given f h x same is fairly = record {
   blind = λ v r. blind-checked_by f (h (mask v) (mask_reveal r)) (h v r) (refuses_by (mask v)) (refuses_by v) (x (mask v)) (x v) (same v r) (blind-row v) (is v);
@@ -78,7 +78,7 @@ proper-given f h x same is fairly = record {
 pub proper-checked : {quiet : Bool} (f : Function) (h : View → Condition → Bool) (x : View → Answer) → ((v : View) (row : Condition) → h (mask v) row ≡ h v row) → ((v : View) → shown (x (mask v)) ≡ shown (x v)) → ((v : View) → IsFair quiet v (x v)) → IsProper (λ v r. checked f (h v) v (x v)) quiet
 proper-checked f h x same is fairly = proper-given f (λ v r. h v) x (λ v r. same v) is (λ v r none. fairly v)
 
--- ---- what rows test
+-- ---- what conditions test
 
 none-map : {A B : Type 0} (f : A → B) (o : Option A) → is_none (option_map f o) ≡ is_none o
 none-map f None = refl
@@ -109,7 +109,7 @@ row-writes v s = ap writes (session-mask v s) ∙ of (session_of v s) where
 pub state-mask : (v : View) (s : ℕ) → state_in (mask v) s ≡ state_in v s
 state-mask v s = ap (state_of v.sessions.login) (row-writes v s)
 
--- ---- a call that reads an object, by what it tells of one but for its masked value
+-- ---- a call that reads an object, by what it reveals of one but for its masked value
 
 object-mask-row : (s handle : ℕ) (v : View) (row : Condition) → object_row (mask v) s handle row ≡ object_row v s handle row
 object-mask-row s handle v NoSession = row-session v s

@@ -1,4 +1,4 @@
--- Masking: twice is once, and what a view says of itself but for what is kept back.
+-- Masking: twice is once, and what follows of a view but for what is masked.
 use Rattle.std.proofs.Common.{◌≡◌, ℕ, zero, suc, Bool, true, false, cond, List, [], ◌∷◌, map, Option, Some, None, refl, sym, ◌∙◌, ap}
 use Rattle.std.specs.Prelude.{find, filter, is_some, ◌==◌}
 use Rattle.std.specs.Option.{option_map}
@@ -141,7 +141,7 @@ busy-mask number ops others same (s ∷ ss) = step (s.handle == number) (busy-ma
   step true h = ap (λ w. record { handle = s.handle; read_write = s.read_write; work = w } ∷ map mask_session (map (busy_at number ops) (map mask_session ss))) same ∙ ap (λ xs. record { handle = s.handle; read_write = s.read_write; work = mask_operations others } ∷ xs) h
   step false h = ap (λ x. x ∷ map mask_session (map (busy_at number ops) (map mask_session ss))) (session-twice s) ∙ ap (λ xs. mask_session s ∷ xs) h
 
--- ---- what others change, and going, are seen as they are
+-- ---- what others change, and a disconnect, are seen as they are
 
 rewritten-mask : (ts : List TokenObject) (index : ℕ) (o : List Entry) → rewritten (map mask_token_object ts) index (mask_object o) ≡ map mask_token_object (rewritten ts index o)
 rewritten-mask [] index o = refl

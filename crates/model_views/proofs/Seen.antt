@@ -1,4 +1,4 @@
--- A change by others alters what an application sees just where `is_seen` says so.
+-- A change by others alters what an application sees just where `is_seen` is true.
 use Rattle.std.proofs.Common.{◌≡◌, ℕ, true, false, List, map, Option, Some, None, refl, sym, ◌∙◌, ap}
 use Rattle.std.specs.Prelude.{◌==◌, ◌&&◌, nat_eq, is_some}
 use Rattle.std.specs.Bool.{Decides, beq}
@@ -30,7 +30,7 @@ same_token_object-Decides t u =
     (λ p. (ap (λ (x : TokenObject). x.object) p, ap (λ (x : TokenObject). x.handle) p))
     (Decides-and (same_object t.object u.object) (option_eq nat_eq t.handle u.handle) (same_object-Decides t.object u.object) (same_handle-Decides t.handle u.handle))
 
--- of verifiers that are kept back it is seen whether they are there
+-- of verifiers that are masked it is seen whether they are there
 same_set-Decides : (v w : Option PinVerifier) → Decides (beq (is_some v) (is_some w)) (option_map mask_verifier v ≡ option_map mask_verifier w)
 same_set-Decides None None = (λ e. refl, λ e. refl)
 same_set-Decides None (Some w) = (λ e. let k : false ≡ true = e in cc, λ e. cc)

@@ -22,7 +22,7 @@ use Rattle.lists.specs.Indexes.{first_index}
 use Rattle.model_views.specs.Views.{View, TokenObject, SessionObject, Task, Ciphers, Takes, Signs, Verifies, WrapsKey, UnwrapsKey, ChecksPin, MakesPin, ChangesPin, InitsToken, ResetsToken, Question, mask, mask_question}
 use Rattle.model_views.specs.Changes.{Change, Stays, Records, mask_change}
 
--- a reply, or a question
+-- a reply, or a job for a pending call
 pub data Said : Type 0 where
   Replies : (reply : Reply) → Said
   Asks : (question : Question) → Said
@@ -45,22 +45,22 @@ pin_checked_by (ChangesPin who verifier pin new_pin salt) = Some who
 pin_checked_by (InitsToken label pin salt) = None
 pin_checked_by (ResetsToken label verifier pin) = Some So
 
--- and that a question which is asked begins to check
+-- and that a call which becomes pending begins to check
 abbrev pub pin_checked_in : Said → Option UserType
 pin_checked_in (Replies reply) = None
 pin_checked_in (Asks q) = pin_checked_by q.task
 
--- what is said, the application's view after it, and what others may see of it
+-- what is returned, the application's view after it, and what others may see of it
 pub record Answer : Type 0 where
   pub says : Said
   pub view : View
   pub change : Change
 
--- an answer as it is shown to the application
+-- an answer as it is revealed to the application
 abbrev pub shown : Answer → Answer
 shown a = record { says = mask_said a.says; view = mask a.view; change = mask_change a.change }
 
--- what else comes in from outside with a call or a result, each where the answer tells that it does: the list of
+-- what else comes in from outside with a call or a result (declassified), each where the answer depends on it: the list of
 -- all token objects, how many other applications check the same PIN, and whether another one has a session
 pub record Reveal : Type 0 where
   pub objects : Option (List (List Entry))
@@ -86,11 +86,11 @@ replies v reply = record { says = Replies reply; view = v; change = Stays }
 abbrev pub refuses : View → Rv → Answer
 refuses v code = replies v (Code code)
 
--- the code of a row of the call's table
+-- the code of a condition of the call's table
 abbrev pub refuses_by : View → Condition → Answer
 refuses_by v row = refuses v (code_of Ok row)
 
--- the code of the first row that holds, or else the answer
+-- the code of the first condition that holds, or else the answer
 abbrev pub unless : View → List (Condition × Bool) → Answer → Answer
 unless v [] answer = answer
 unless v (row ∷ rows) answer = if row.1 then refuses_by v row.0 else unless v rows answer
@@ -99,20 +99,20 @@ unless v (row ∷ rows) answer = if row.1 then refuses_by v row.0 else unless v 
 abbrev pub becomes : Reply → View → Answer
 becomes reply v = record { says = Replies reply; view = v; change = Stays }
 
--- the call becomes a question
+-- the call becomes pending: it returns a job
 abbrev pub asks : View → Function → ℕ → Task → Answer
 asks v function session task =
     let q : Question = record { number = v.next_question; function = function; session = session; task = task } in
     record { says = Asks q; view = record v { question = Some q; next_question = v.next_question + 1 }; change = Stays }
 
--- so, where the question checks a PIN: the check begins with its charge, which is the change that others see
+-- so, where the pending call checks a PIN: the check begins with its charge, which is the change that others see
 abbrev pub asks_checked : View → Function → ℕ → Task → UserType → Answer
 asks_checked v function session task who =
     let q : Question = record { number = v.next_question; function = function; session = session; task = task } in
     let r = charged v.token_record who in
     record { says = Asks q; view = record v { token_record = r; question = Some q; next_question = v.next_question + 1 }; change = Records r }
 
--- its question is over
+-- its pending call is over
 abbrev pub answered : View → View
 answered v = record v { question = None }
 
@@ -138,7 +138,7 @@ abbrev pub is_handle : Option ℕ → ℕ → Bool
 is_handle None handle = false
 is_handle (Some n) handle = n == handle
 
--- the place of the token object under a handle
+-- the index of the token object under a handle
 abbrev pub index_of : List TokenObject → ℕ → Option ℕ
 index_of ts handle = first_index (λ t. is_handle t.handle handle) ts
 
@@ -153,6 +153,6 @@ object_at v handle = first_object (find (λ t. is_handle t.handle handle) v.toke
 
 -- ---- numbers
 
--- no call is taken: a question is pending, or a next number is used up
+-- no call is taken: a call is pending, or a next number is used up
 unfoldable pub is_closed : View → Bool
 is_closed v = is_some v.question || (nat_le (2 ^ 63) v.sessions.next_number || (nat_le (2 ^ 63) v.next_handle || nat_le (2 ^ 63) v.next_question))

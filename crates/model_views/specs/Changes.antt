@@ -56,7 +56,7 @@ recorded (Remove index) r = r
 recorded (Records new) r = new
 recorded (Resets new) r = new
 
--- another object stands at a place, under the handle that was there
+-- another object stands at an index, under the handle that was there
 abbrev pub rewritten : List TokenObject → ℕ → List Entry → List TokenObject
 rewritten ts index o = updated ts index (λ t. record { object = o; handle = t.handle })
 
@@ -71,7 +71,7 @@ seen (Resets r) v = record v { token_record = r; tokens = [] }
 
 -- ---- whether a change alters what an application sees
 
--- a PIN and a record, but for verifiers, which no view shows
+-- a PIN and a record, but for verifiers, which no view has
 abbrev pub same_pin : PinState → PinState → Bool
 same_pin p q = beq (is_some p.verifier) (is_some q.verifier) && (p.tries == q.tries)
 
@@ -89,9 +89,9 @@ same_shared u v = same_record u.token_record v.token_record && pointwise same_to
 unfoldable pub is_seen : View → Change → Bool
 is_seen v change = not (same_shared (mask v) (mask (seen change v)))
 
--- ---- places, which one application counts among the objects that it sees
+-- ---- indexes, which one application counts among the objects that it sees
 
--- a change at a place among the objects that are seen, as one of the list
+-- a change at an index among the objects that are seen, as one of the list
 abbrev pub in_list : (List Entry → Bool) → List (List Entry) → Change → Change
 in_list sees objects Stays = Stays
 in_list sees objects (Insert o) = Insert o

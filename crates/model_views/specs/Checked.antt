@@ -1,4 +1,4 @@
--- The rows of a call's table, in their order: the first that holds says what is answered, and the call's own answer
+-- The conditions of a call's table, in their order: the first that holds determines the code, and the call's own answer
 -- comes after the last. The order stands in the table alone.
 use Rattle.std.specs.Prelude.{ℕ, ◌==◌, Bool, true, false, Option, Some, None, List, [], ◌∷◌, is_none, if◌then◌else◌}
 use Rattle.std.specs.Option.{unwrap_or}
@@ -30,11 +30,11 @@ by_rows (row ∷ rows) holds says answer = if holds row then says row else by_ro
 abbrev pub checked_by : Function → (Condition → Bool) → (Condition → Answer) → Answer → Answer
 checked_by function holds says answer = by_rows (table_of (function_number function)) holds says answer
 
--- where each row refuses by its code
+-- where each condition refuses by its code
 abbrev pub checked : Function → (Condition → Bool) → View → Answer → Answer
 checked function holds v answer = checked_by function holds (refuses_by v) answer
 
--- ---- what rows test
+-- ---- what conditions test
 
 -- a session is read/write, and its state
 abbrev pub writes : Option (Session Operations) → Bool
@@ -60,13 +60,13 @@ is_of_type t (Some u) = key_type_number t == key_type_number u
 
 -- ---- a call that reads an object
 
--- the rows of such a call
+-- the conditions of such a call
 abbrev pub object_row : View → ℕ → ℕ → Condition → Bool
 object_row v s handle NoSession = is_none (session_of v s)
 object_row v s handle NoObject = is_none (object_at v handle)
 object_row v s handle _ = false
 
--- what is told of the object under a handle
+-- what is returned of the object under a handle
 abbrev pub reads : Function → View → ℕ → ℕ → (List Entry → Reply) → Answer
 reads function v s handle tells = checked function (object_row v s handle) v (replies v (tells (unwrap_or (object_at v handle) [])))
 

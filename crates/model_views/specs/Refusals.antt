@@ -1,4 +1,4 @@
--- Refusals set apart: CKR_HOST_MEMORY and CKR_DEVICE_ERROR, which no answer gives (PKCS #11 v3.1, 5.1.1).
+-- Resource errors: CKR_HOST_MEMORY and CKR_DEVICE_ERROR, which no answer returns (PKCS #11 v3.1, 5.1.1).
 use Rattle.std.specs.Prelude.{Option, Some, None}
 use Rattle.ck_types.specs.declared.rv.Rv.TheVariants.{HostMemory, DeviceError}
 use Rattle.ck_calls.specs.declared.reply.Reply.{Reply}

@@ -1,4 +1,4 @@
--- What the result of a question is, as it is told to the application that asked.
+-- What the result of a pending call is, as it is returned to the application that called.
 use Rattle.std.specs.Prelude.{ℕ, List}
 use Rattle.ck_types.specs.declared.entry.Entry.{Entry}
 use Rattle.attrs.specs.Masking.{mask as mask_object}
@@ -8,7 +8,7 @@ pub data TaskResult : Type 0 where
   Output : (bytes : List ℕ) → TaskResult
   -- no text is encrypted to the data: its padding is wrong
   BadPadding : TaskResult
-  -- a piece of a message was taken, of which nothing is told
+  -- a part of a message was taken, which outputs nothing
   Taken : TaskResult
   -- the key that was made of an unwrapped value
   Unwrapped : (object : List Entry) → TaskResult
@@ -17,10 +17,10 @@ pub data TaskResult : Type 0 where
   -- the PIN or the signature is right, or wrong
   Right : TaskResult
   Wrong : TaskResult
-  -- a verifier was made, of which nothing is told
+  -- a verifier was made, of which nothing is returned
   Made : TaskResult
 
--- a result as it is shown: of a masked key the value is kept back
+-- a result as it is revealed: of a masked key the value is left out
 abbrev pub mask_outcome : TaskResult → TaskResult
 mask_outcome (Output bytes) = Output bytes
 mask_outcome BadPadding = BadPadding

@@ -1,5 +1,5 @@
--- What one application sees of the token. The full view has the values of keys that are masked or in use, and
--- what PINs are checked against; the view has none of them.
+-- What one application sees of the token. The full view has the values of keys that are masked or in use, and the
+-- verifiers that PINs are checked against; the view has none of them.
 use Rattle.std.specs.Prelude.{ℕ, Bool, true, List, [], map, filter, Option, None}
 use Rattle.std.specs.Option.{option_map}
 use Rattle.ck_types.specs.declared.entry.Entry.{Entry}
@@ -39,13 +39,13 @@ without_handle o = record { object = o; handle = None }
 abbrev pub seen_by : Option UserType → List TokenObject → List TokenObject
 seen_by login ts = filter (λ t. sees login t.object) ts
 
--- ---- questions
+-- ---- pending calls
 
--- what a call asks to have computed
+-- what a pending call computes
 pub data Task : Type 0 where
-  -- what an operation makes of data, as a piece or as the last
+  -- what an operation makes of data, as a part or as the last
   Ciphers : (part : Part) (operation : Operation) (input : List ℕ) → Task
-  -- C_SignUpdate and C_VerifyUpdate: the operation at a place takes a piece
+  -- C_SignUpdate and C_VerifyUpdate: the operation at a place takes a part
   Takes : (place : MacPlace) (operation : MacOperation) (input : List ℕ) → Task
   -- C_Sign and C_SignFinal: the signature of the data
   Signs : (operation : MacOperation) (input : List ℕ) → Task
@@ -65,7 +65,7 @@ pub data Task : Type 0 where
   InitsToken : (label pin salt : List ℕ) → Task
   ResetsToken : (label : List ℕ) (verifier : PinVerifier) (pin : List ℕ) → Task
 
--- the question of a call, by its function and session, which its result answers
+-- the pending call, by its function and session, to which its result belongs
 pub record Question : Type 0 where
   pub number : ℕ
   pub function : Function
@@ -97,13 +97,13 @@ fresh token_record objects =
       next_question = 1;
     }
 
--- what the view becomes where the application goes
+-- what the view becomes when the application disconnects
 abbrev pub left : View → View
 left v = fresh v.token_record (map (λ t. t.object) v.tokens)
 
--- ---- what is kept back
+-- ---- what is masked (redaction)
 
--- a verifier is kept back, and that there is one is seen
+-- a verifier is masked, and that there is one is seen
 abbrev pub mask_verifier : PinVerifier → PinVerifier
 mask_verifier v = hidden_verifier
 

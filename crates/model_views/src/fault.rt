@@ -1,14 +1,14 @@
-//! Why an event is refused though its answer is another.
+//! Resource errors: why an event is refused whatever its answer is.
 
 ghost use Rattle.std.specs.Prelude.{◌≡◌};
 ghost use Rattle.model_views.specs.declared.fault.Fault.TheVariants.{Memory};
 
 use std::alloc::AllocError;
 
-/// A refusal that no answer gives: nothing has changed then, but that a question is over.
+/// A resource error, which no answer returns. Nothing has changed then, but that a pending call is over.
 #[derive(Clone, Copy, Debug, PartialEq, Eq)]
 pub enum Fault {
-    /// Memory was refused: CKR_HOST_MEMORY.
+    /// An allocation failed: CKR_HOST_MEMORY.
     Memory,
     /// The keeper failed: CKR_DEVICE_ERROR.
     Device,

@@ -1,8 +1,8 @@
-//! What one application sees of a token, and how what it is answered is put together.
+//! What one application sees of a token, and what its calls return.
 //!
-//! `specs/Views.antt` says what one application sees, and what is kept back from what it is shown; `specs/Changes.antt`
-//! what others see of what it does; `specs/Answering.antt` what an answer is, `specs/Checked.antt` how the rows of a
-//! call's table say which one, and `specs/Refusals.antt` the two refusals that no answer gives.
+//! `specs/Views.antt` is what one application sees, and what is masked of it. `specs/Changes.antt` is what others see of what
+//! it does. `specs/Answering.antt` is what an answer is, and `specs/Checked.antt` how the conditions of a call's table
+//! determine it. `specs/Refusals.antt` is the two resource errors, which no answer returns.
 //!
 //! ```text
 //! let fault: Fault = AllocError.into();    // Fault::Memory

@@ -74,7 +74,7 @@ and-second : (a b : Bool) → (a && b) ≡ true → b ≡ true
 and-second true b h = h
 and-second false b h = let k : false ≡ true = h in cc
 
--- the application's own question checks none of it
+-- the application's own pending call checks none of it
 abbrev OtherThanUser : Option UserType → Type 0
 OtherThanUser o = o ≡ Some User → ⊥
 

@@ -126,7 +126,7 @@ move-views : (app : ℕ) (w : World) (m : Move) → IsQuietMove app w m → (hap
 move-views app w (Goes event) q = quiet-views app w (Goes event) q
 move-views app w (Refuses event fault) q = refused-views app w event (move-other app w (Refuses event fault) q)
 
--- nothing is told to the application at an event of another
+-- nothing is returned to the application at an event of another
 other-finish : (app other : ℕ) (w : World) (q : Option Question) → app ≢ other → replies_to app (finish_tells w other q) ≡ []
 other-finish app other w None differ = refl
 other-finish app other w (Some q) differ = told-other app other (result_at w other q).says differ

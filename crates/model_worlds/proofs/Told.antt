@@ -1,4 +1,4 @@
--- An application is told what its trace tells.
+-- An application gets the replies of its trace.
 use Rattle.std.proofs.Common.{◌≡◌, ◌≢◌, ℕ, Bool, true, false, cond, List, [], ◌∷◌, ◌++◌, Option, Some, None, refl, sym, ◌∙◌, ap, inl, inr}
 use Rattle.std.specs.List.{AllByRecursion}
 use Rattle.std.proofs.lemmas.Bool.{cases_eq, eq-eqb, ne_eqb}
@@ -54,7 +54,7 @@ said-mask : (s : Said) → said (mask_said s) ≡ said s
 said-mask (Replies reply) = refl
 said-mask (Asks question) = refl
 
--- what an answer tells, and what it leads to, by what it shows
+-- what an answer returns, and what it leads to, by what it reveals
 told-shown : (a b : Answer) (ms : List Moment) → shown a ≡ shown b → said a.says ++ replies_told (mask a.view) ms ≡ said b.says ++ replies_told (mask b.view) ms
 told-shown a b ms same = ap (λ rs. rs ++ replies_told (mask a.view) ms) (sym (said-mask a.says)) ∙ ap (λ (x : Answer). said x.says ++ replies_told x.view ms) same ∙ ap (λ rs. rs ++ replies_told (mask b.view) ms) (said-mask b.says)
 

@@ -87,9 +87,9 @@ charges-begun w app (Some User) new is free =
     alike is.2 (checking-begun So User app w.checks ∙ append_nil (checking So w.checks)) (checking-begun User User app w.checks)
     ∙ begun (charges_of w) User app is.0 is.1 (free User refl)
 
--- ---- questions
+-- ---- pending calls
 
--- a question checks where none did before
+-- a pending call checks where none did before
 asks-check : (app : ℕ) (old new : Option Question) (x : Said) → Leaves old x new → ((q : Question) → x ≡ Asks q → old ≡ None) → checks_of app (pending_check old) ++ checks_of app (pin_checked_in x) ≡ checks_of app (pending_check new)
 asks-check app old new (Replies reply) leaves none = append_nil (checks_of app (pending_check old)) ∙ ap (λ o. checks_of app (pending_check o)) (sym leaves)
 asks-check app old new (Asks q) leaves none =
@@ -116,7 +116,7 @@ module _ (s : UserType → ℕ) (w : World) (sound : IsSound s w) where
   record-left : (app : ℕ) (a : Answer) → a.view.token_record ≡ recorded a.change (w.views app).token_record → a.view.token_record ≡ recorded (list_change w app a) w.token_record
   record-left app a shows = shows ∙ ap (recorded a.change) (sound.records app) ∙ sym (recorded-in_list (sees (w.views app).sessions.login) w.objects a.change w.token_record)
 
-  -- one that asks has no check in progress
+  -- one whose call becomes pending has no check in progress
   asked-free : (app : ℕ) (call : CallType) (random : List ℕ) (who : UserType) (x : Said) → (answer_at w app call random).says ≡ x → pin_checked_in x ≡ Some who → is_under_way (checking who w.checks) app ≡ false
   asked-free app call random who (Replies reply) says is = let k : None ≡ Some who = is in cc
   asked-free app call random who (Asks q) says is =
@@ -152,7 +152,7 @@ module _ (s : UserType → ℕ) (w : World) (sound : IsSound s w) where
   charges-refused app None is = refl
   charges-refused app (Some q) is = charges-ended w app (pin_checked_by q.task) is
 
-  -- ---- each move
+  -- ---- each move (transition)
 
   pub charges-happen : (m : Move) → charges_of (happens w m) ≡ pin_after (charges_of w) (events_of w m)
   charges-happen (Goes (Call app call random)) = charges-called app call random.items

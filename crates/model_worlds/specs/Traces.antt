@@ -1,4 +1,4 @@
--- What comes to one application in a run, and what it is told of it.
+-- What one application observes in a run (its trace), and the replies that it gets.
 use Rattle.std.specs.Prelude.{◌≡◌, ◌≢◌, ℕ, Bool, true, false, ◌==◌, ◌||◌, ◌&&◌, not, ◌⊎◌, List, [], ◌∷◌, ◌++◌, map, filter, if◌then◌else◌, Option, Some, None}
 use Rattle.std.specs.List.{AllByRecursion}
 use Rattle.std.proofs.Common.{zero, suc}
@@ -19,7 +19,7 @@ use Rattle.model_views.specs.Answering.{Said, Replies, Asks, Answer, Reveal, mas
 use Rattle.model_answers.specs.Answers.{answer, answer_result, is_pin_function, is_pin_task, is_key_task, may_change_objects}
 use Rattle.model_worlds.specs.Worlds.{World, Move, Goes, Refuses, event_of, value_of, reveal_to_call, reveal_to_task, answer_at, result_at, list_change, change_for, happens, after, replies}
 
--- what an application does, what it gets, that it goes, and what it sees of others
+-- what an application does, what it gets, its disconnect, and what it sees of others
 pub data Moment : Type 0 where
   Calls : (call : CallType) (random : List ℕ) (reveal : Reveal) → Moment
   Gets : (outcome : TaskResult) (reveal : Reveal) → Moment
@@ -34,7 +34,7 @@ abbrev pub saw_result : ℕ → World → ℕ → Option Question → List Momen
 saw_result app w other None = []
 saw_result app w other (Some q) = saw (w.views app) (change_for app w other (result_at w other q))
 
--- a result, as it is shown, with what it reveals
+-- a result, as it is revealed, with what it declassifies
 abbrev pub got : World → ℕ → Option Question → List Moment
 got w app None = []
 got w app (Some q) = Gets (mask_outcome (value_of q.task)) (mask_reveal (reveal_to_task w app q.task)) ∷ []
@@ -59,7 +59,7 @@ abbrev pub said : Said → List Reply
 said (Replies reply) = reply ∷ []
 said (Asks question) = []
 
--- the replies that a trace tells, from a view
+-- the replies of a trace, from a view
 abbrev pub replies_told : View → List Moment → List Reply
 replies_told v [] = []
 replies_told v (Calls call random reveal ∷ ms) = said (answer v call random reveal).says ++ replies_told (mask (answer v call random reveal).view) ms
@@ -88,12 +88,12 @@ app_of (Gone app) = app
 abbrev pub NoResourceError : ℕ → List (ℕ × Reply) → Type 0
 NoResourceError app told = AllByRecursion (λ r. (r ≢ Code HostMemory) × (r ≢ Code DeviceError)) (replies_to app told)
 
--- the application's replies, and its view after the run, are those that its trace tells
+-- the application's replies, and its view after the run, are those of its trace
 pub record IsTold (app : ℕ) (w : World) (moves : List Move) : Type 0 where
   pub told : replies_to app (replies w moves) ≡ replies_told (mask (w.views app)) (trace app w moves)
   pub sees : mask ((after w moves).views app) ≡ view_told (mask (w.views app)) (trace app w moves)
 
--- ---- quiet events
+-- ---- quiet (non-interfering) events
 
 -- A call is quiet where it is none of a PIN, and none that makes, changes or destroys a token object.
 abbrev pub is_quiet_call : Function → Answer → Bool
@@ -109,7 +109,7 @@ is_quiet w (Call app call random) = is_quiet_call (function_of call) (answer_at 
 is_quiet w (Finish app) = is_quiet_result w app (w.views app).question
 is_quiet w (Gone app) = true
 
--- the object at a place is private
+-- the object at an index is private
 abbrev pub private_at : List (List Entry) → ℕ → Bool
 private_at [] index = true
 private_at (o ∷ os) zero = not (is_public o)
@@ -149,7 +149,7 @@ is_pin_event w (Call app call random) = is_pin_function (function_of call)
 is_pin_event w (Finish app) = is_pin_question (w.views app).question
 is_pin_event w (Gone app) = false
 
--- An event of another application of which this one sees nothing, as it goes or is refused: a quiet one, or one that is
+-- An event of another application of which this one sees nothing, as it takes place or is refused: a quiet one, or one that is
 -- refused and belongs to no call of a PIN.
 abbrev pub IsQuietMove : ℕ → World → Move → Type 0
 IsQuietMove app w (Goes event) = IsQuiet app w event

@@ -1,5 +1,5 @@
--- The tries of the PINs in a world and over a run: what is stored and in progress, which events of PINs a move is
--- (`pin_record` says what these make of the record), and what is so of every world of a run.
+-- The tries of the PINs in a world and over a run: what is stored and in progress, and which events of PINs a move
+-- (transition) is. `pin_record` defines what these make of the record. Then what is so of every world of a run.
 use Rattle.std.specs.Prelude.{◌≡◌, ℕ, ◌==◌, Bool, true, false, List, [], ◌∷◌, ◌++◌, filter, if◌then◌else◌, Option, Some, None}
 use Rattle.ck_types.specs.declared.user_type.UserType.{UserType}
 use Rattle.ck_types.specs.declared.user_type.UserType.TheVariants.{So, User}
@@ -17,7 +17,7 @@ use Rattle.model_worlds.specs.Worlds.{World, is_in_session, checking, checks_of,
 
 -- ---- what is stored, and in progress
 
--- A check goes by its application, which has one question at a time.
+-- A check is known by its application, which has one pending call at a time.
 abbrev pub charges_of : World → Charges
 charges_of w = record { stored = w.token_record; so_checks = checking So w.checks; user_checks = checking User w.checks }
 
@@ -33,13 +33,13 @@ abbrev pub begins : ℕ → Option UserType → List PinEvent
 begins app None = []
 begins app (Some who) = Begins who app ∷ []
 
--- and ends, right or otherwise
+-- and ends: right, or wrong or abandoned
 abbrev pub ends : ℕ → Option UserType → Bool → List PinEvent
 ends app None right = []
 ends app (Some who) true = EndsRight who app ∷ []
 ends app (Some who) false = EndsOtherwise who app ∷ []
 
--- an outcome says that a PIN was right
+-- by its outcome a PIN was right
 abbrev pub is_right : TaskResult → Bool
 is_right Right = true
 is_right _ = false
@@ -82,8 +82,8 @@ abbrev pub events_of_result : World → ℕ → Option Question → List PinEven
 events_of_result w app None = []
 events_of_result w app (Some q) = events_of_outcome w app q.task (value_of q.task)
 
--- A check begins with the question that asks it. It ends with its result, or else where that is refused or its
--- application goes.
+-- A check begins when its call becomes pending. It ends with its result, or wrong or abandoned where that is refused or
+-- its application disconnects.
 abbrev pub events_of : World → Move → List PinEvent
 events_of w (Goes (Call app call random)) = begins app (pin_checked_in (answer_at w app call random.items).says)
 events_of w (Goes (Finish app)) = events_of_result w app (w.views app).question

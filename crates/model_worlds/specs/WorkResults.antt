@@ -1,9 +1,9 @@
--- What is told of what work gives.
+-- What is returned of what work outputs.
 use Rattle.mech.specs.declared.outcome.Outcome.TheVariants as work
 use Rattle.mech.specs.declared.outcome.Outcome.{Outcome as WorkOutcome}
 use Rattle.model_views.specs.TaskResults.{TaskResult, Output, BadPadding, Taken, Unwrapped, BadWrapping, Right, Wrong, Made}
 
--- of a piece its output alone
+-- of a part its output alone
 abbrev pub told_of : WorkOutcome → TaskResult
 told_of (work.Piece output stream) = Output output
 told_of (work.Rest direction output) = Output output

@@ -28,8 +28,8 @@ use Rattle.model_views.specs.Answering.{Said, Replies, Asks, Answer, Reveal, rev
 use Rattle.model_views.specs.Refusals.{refusal}
 use Rattle.model_answers.specs.Answers.{answer, answer_result}
 
--- The token's record, the token objects with their values, the checks that are in progress, the applications that have a
--- session, and the full view of each application. One that isn't there has the fresh view.
+-- The token's record, the token objects with their values, the checks that are in progress, and the applications that have a
+-- session. Then the full view of each application. One that isn't there has the fresh view.
 pub record World : Type 0 where
   pub token_record : TokenRecord
   pub objects : List (List Entry)
@@ -73,7 +73,7 @@ abbrev pub checks_of : ℕ → Option UserType → List Check
 checks_of app None = []
 checks_of app (Some user) = record { user = user; app = app } ∷ []
 
--- a check ends with its question, and with its application
+-- a check ends with its pending call, and with its application
 abbrev pub without_checks : ℕ → List Check → List Check
 without_checks app cs = filter (λ c. not (c.app == app)) cs
 
@@ -115,7 +115,7 @@ work_of (ResetsToken label verifier pin) = ResetToken label verifier pin
 abbrev pub value_of : Task → TaskResult
 value_of task = told_of (outcome_of (work_of task))
 
--- ---- what is revealed from outside
+-- ---- what is revealed from outside (declassified)
 
 -- how many others check the PIN that was right or is set; to the user who logs in all token objects too
 abbrev pub reveals_checks : ℕ → Reveal
@@ -178,7 +178,7 @@ result_at w app q = answer_result (w.views app) (value_of q.task) (reveal_to_tas
 
 -- ---- events
 
--- an event, as it goes by the answer, or refused by a fault that is no part of it
+-- an event, by its answer, or refused by a resource error
 pub data Move : Type 0 where
   Goes : (event : Event) → Move
   Refuses : (event : Event) (fault : Fault) → Move
@@ -192,7 +192,7 @@ abbrev pub finished : World → ℕ → Option Question → World
 finished w app None = w
 finished w app (Some q) = unchecked (stepped w app (result_at w app q)) app
 
--- a call, by its answer, or refused by a fault that is no part of it
+-- a call, by its answer, or refused by a resource error
 abbrev pub called : World → ℕ → CallType → List ℕ → Option Fault → World
 called w app call random None = stepped w app (answer_at w app call random)
 called w app call random (Some fault) = w
@@ -202,12 +202,12 @@ goes w (Call app call random) = called w app call random.items None
 goes w (Finish app) = finished w app (w.views app).question
 goes w (Gone app) = unchecked (with_view w app (left (w.views app))) app
 
--- what a refused result leaves: the question is over, and nothing else
+-- what a refused result leaves: the pending call is over, and nothing else
 abbrev pub finish_refused : World → ℕ → Option Question → World
 finish_refused w app None = w
 finish_refused w app (Some q) = unchecked (with_view w app (answered (w.views app))) app
 
--- what a refusal leaves; nothing keeps an application from going
+-- what a refusal leaves; a disconnect always succeeds
 abbrev pub refused : World → Event → World
 refused w (Call app call random) = w
 refused w (Finish app) = finish_refused w app (w.views app).question
@@ -220,7 +220,7 @@ happens w (Refuses event fault) = refused w event
 
 -- ---- replies
 
--- what is said to a call
+-- what a call returns
 abbrev pub says_called : World → ℕ → CallType → List ℕ → Option Fault → Said
 says_called w app call random None = (answer_at w app call random).says
 says_called w app call random (Some fault) = Replies (refusal fault)

@@ -11,11 +11,11 @@ pub enum Event {
         call: Call,
         words: Vec<u8>,
     },
-    /// The job of an application's question is run, and the question ends.
+    /// The job of an application's pending call is run, and the call ends.
     Finish {
         app: u64,
     },
-    /// An application goes.
+    /// An application disconnects.
     Gone {
         app: u64,
     },

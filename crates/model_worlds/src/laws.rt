@@ -18,13 +18,13 @@ pub fn seen_changes()
     ensures only { (v : View) (change : Change) → saw v change ≡ [] → mask (seen change v) ≡ mask v }
 {}
 
-/// An application that met no resource error was told, and sees, what the fold of its own trace tells.
+/// An application that met no resource error got the replies, and has the view, of the fold of its own trace.
 pub fn told_by_trace()
     ensures { (app : ℕ) (w : World) (ms : List Move) → NoResourceError app (replies w ms) → IsTold app w ms }
 {}
 
-/// Two runs in which the same comes to an application, from worlds in which it sees the same, tell it
-/// the same and leave it the same view, whatever else the worlds hold.
+/// Two runs in which the same comes to an application, from worlds in which it sees the same, return the same
+/// to it. They leave it the same view, whatever else the worlds hold.
 pub fn agreeing_runs()
     ensures replies { (app : ℕ) (v w : World) (ms ns : List Move) → mask (v.views app) ≡ mask (w.views app) → trace app v ms ≡ trace app w ns
         → NoResourceError app (replies v ms) → NoResourceError app (replies w ns) → replies_to app (replies v ms) ≡ replies_to app (replies w ns) }
@@ -32,21 +32,21 @@ pub fn agreeing_runs()
         → NoResourceError app (replies v ms) → NoResourceError app (replies w ns) → mask ((after v ms).views app) ≡ mask ((after w ns).views app) }
 {}
 
-/// A quiet event of another application leaves the full view, and so the view.
+/// A quiet (non-interfering) event of another application leaves the full view, and so the view.
 pub fn quiet_event()
     ensures { (app : ℕ) (w : World) (m : Move) → IsQuiet app w (event_of m) → (happens w m).views app ≡ w.views app }
 {}
 
-/// Where the others are quiet, an application is told what it would be told alone.
+/// Where the others are quiet, an application gets the replies that it would get alone.
 pub fn quiet_run()
     ensures replies { (app : ℕ) (w : World) (ms : List Move) → AllQuiet app w ms → replies_to app (replies w ms) ≡ replies_to app (replies w (own_moves app ms)) }
     ensures views { (app : ℕ) (w : World) (ms : List Move) → AllQuiet app w ms → (after w ms).views app ≡ (after w (own_moves app ms)).views app }
 {}
 
 /// The ten tries, over a run: the record and the checks in progress are what its events of PINs make of them
-/// (`pin_record::laws::ten_tries`), so the tries of each PIN stay the checks of it that ended wrong or abandoned since
-/// it was last entered right or set, and those in progress; and at most ten do so end. It begins so with each world in
-/// which no question is pending and no check is in progress.
+/// (`pin_record::laws::ten_tries`). So the tries of each PIN stay those in progress and those that ended wrong
+/// or abandoned since it was last entered right or set. At most ten do so end. It begins so with each world in
+/// which no call is pending and no check is in progress.
 pub fn ten_tries()
     ensures begins { (w : World) → w.checks ≡ [] → ((app : ℕ) → (w.views app).question ≡ None) → ((app : ℕ) → (w.views app).token_record ≡ w.token_record)
         → ((who : Who) → tries_of (w.token_record) who ≤ tries_limit) → IsSound (tries_of (w.token_record)) w }

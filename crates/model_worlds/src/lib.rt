@@ -1,9 +1,9 @@
 //! What all applications are to each other: the definitions of the isolation theorem, and its laws.
 //!
-//! `specs/Worlds.antt` says what an event makes of all that the token is to all applications, each of which is answered
-//! from its view (`model_answers`); `specs/Traces.antt` what comes to one of them, `specs/Tries.antt` how the tries of PINs go.
-//! The laws (`laws`) speak of these definitions alone, for any worlds and any runs; the crates above prove that the
-//! token's code keeps to them.
+//! `specs/Worlds.antt` is what an event makes of all that the token is to all applications, each of which gets its replies
+//! from its view (`model_answers`). `specs/Traces.antt` is what comes to one of them, and `specs/Tries.antt` how the tries of
+//! PINs change. The laws (`laws`) speak of these definitions alone, for any worlds and any runs; the crates above prove that
+//! the token's code refines them.
 //!
 //! ```text
 //! match event {

@@ -13,8 +13,8 @@ use Rattle.ops.specs.declared.place.Place.TheVariants.{Encrypt, Decrypt}
 use Rattle.ops.specs.declared.place.MacPlace.{MacPlace}
 use Rattle.ops.specs.declared.place.MacPlace.TheVariants.{Sign, Verify}
 
--- An operation that encrypts or decrypts: its mechanism with parameter and its direction, the data that it has taken and the bytes that it has
--- given so far. It works under a copy of its key's value, which may be left out.
+-- An operation that encrypts or decrypts: its mechanism with parameter and its direction, the data that it has taken and
+-- its output so far. It works under a copy of its key's value, which may be left out.
 pub record Operation : Type 0 where
   pub mechanism : Mechanism
   pub direction : Direction
@@ -26,7 +26,7 @@ pub record Operation : Type 0 where
 abbrev pub started : Mechanism → Direction → Option (List ℕ) → Operation
 started mechanism direction key = record { mechanism = mechanism; direction = direction; taken = []; given = []; key = key }
 
--- a piece further, for which `out` was given
+-- one more part, for which `out` was output
 abbrev pub further : Operation → List ℕ → List ℕ → Operation
 further o piece out = record o { taken = o.taken ++ piece; given = o.given ++ out }
 
@@ -57,7 +57,7 @@ mac_of a = record { mechanism = a.mechanism; taken = a.taken; key = Some a.key }
 abbrev pub message_of : MacOperation → Authentication
 message_of o = record { mechanism = o.mechanism; key = unwrap_or o.key []; taken = o.taken }
 
--- what a session has in progress: of a search, the handles that were not answered yet
+-- what a session has in progress: of a search, the handles that were not returned yet
 pub record Operations : Type 0 where
   pub encrypt : Option Operation
   pub decrypt : Option Operation
@@ -111,7 +111,7 @@ mac_placed_in t session (Some s) place o = with_work t session (mac_placed s.wor
 abbrev pub with_mac : SessionTable Operations → ℕ → MacPlace → Option MacOperation → SessionTable Operations
 with_mac t session place o = mac_placed_in t session (session_at t.sessions session) place o
 
--- ---- a search (PKCS #11 v3.1, 5.7.5)
+-- ---- a search (PKCS #11 v3.1, 5.7.7 to 5.7.9)
 
 -- the search of a session
 abbrev pub search_in : Option (Session Operations) → Option (List ℕ)
@@ -126,7 +126,7 @@ searching_in t session (Some s) search = with_work t session (record s.work { fi
 abbrev pub with_search : SessionTable Operations → ℕ → Option (List ℕ) → SessionTable Operations
 with_search t session search = searching_in t session (session_at t.sessions session) search
 
--- ---- what is kept back
+-- ---- what is masked
 
 -- all of an operation but the value of its key
 abbrev pub mask_operation : Operation → Operation

@@ -1,8 +1,9 @@
-//! The operations of a session (PKCS #11 v3.1, 5.2): what it has in progress, each at its place, with a copy of its key.
+//! A session's operation state (PKCS #11 v3.1, 5.2): what it has in progress, each operation at its place, with a copy of
+//! its key.
 //!
-//! Contracts see an operation that encrypts or decrypts as its mechanism with parameter and direction, the data that it has
-//! taken, the bytes that it has given, and the key, which the view of an application leaves out (`specs/Operations.antt`); one
-//! that signs or verifies as its mechanism, the data and the key; and a search as the handles that it didn't answer yet.
+//! Contracts see an operation that encrypts or decrypts as its mechanism with parameter and direction, the data taken, its
+//! output so far, and the key. The view of an application leaves the key out (`specs/Operations.antt`). They see
+//! one that signs or verifies as its mechanism, the data and the key; and a search as the handles that it didn't return yet.
 //!
 //! ```text
 //! places.set(Place::Encrypt, Some(Stream::new(mechanism, Direction::Encrypt, key)));

@@ -89,7 +89,7 @@ impl Places {
         self.find = search;
     }
 
-    /// The first handles of the search, so many, are answered now. Without a search nothing changes.
+    /// The first handles of the search, so many, are returned now. Without a search nothing changes.
     pub fn advance_search(&mut self, count: usize)
         ensures { self.new ≡ record self.old { find = option_map (drop count) self.old.find } }
     {

@@ -4,9 +4,9 @@ ghost use Rattle.std.specs.Prelude.{◌≡◌, take, drop};
 
 use std::marker::Model;
 
-/// A search that is in progress (PKCS #11 v3.1, 5.7.5): the handles that it found, of which the first were answered.
+/// A search that is in progress (PKCS #11 v3.1, 5.7.7 to 5.7.9): the handles that it found, of which the first were returned.
 ///
-/// The list is fixed where the search begins, also where an object goes later.
+/// The list is fixed when the search begins, even if an object is destroyed later.
 #[derive(Drop)]
 pub struct Search {
     handles: Vec<u64>,
@@ -24,7 +24,7 @@ impl Model for Search {
 }
 
 impl Search {
-    /// A search that found these handles, of which none is answered yet.
+    /// A search that found these handles, of which none is returned yet.
     pub fn new(handles: Vec<u64>) -> Search
         ensures { result ≡ handles.items }
     {
@@ -34,7 +34,7 @@ impl Search {
         }
     }
 
-    /// The first handles that weren't answered yet: as many as there are, but at most `count`.
+    /// The first handles that weren't returned yet: as many as there are, but at most `count`.
     pub fn first(&self, count: usize) -> &[u64]
         ensures { result.now ≡ take count self.now }
     {
@@ -42,7 +42,7 @@ impl Search {
         &left[..count.min(left.len())]
     }
 
-    /// These are answered now.
+    /// These are returned now.
     pub fn advance(&mut self, count: usize)
         ensures { self.new ≡ drop count self.old }
     {

@@ -38,7 +38,7 @@ pub data Event : Type 0 where
   Begins : (who : UserType) (number : ℕ) → Event
   -- a check ends, and the PIN was right
   EndsRight : (who : UserType) (number : ℕ) → Event
-  -- a check ends otherwise: the PIN was wrong, its application has gone, or memory or the store failed
+  -- a check ends wrong or abandoned: the PIN was wrong, its application disconnected, or memory or the store failed
   EndsOtherwise : (who : UserType) (number : ℕ) → Event
   -- a new PIN is set (C_InitPIN), which may follow on the right end of a check of the old one (C_SetPIN)
   SetsPin : (who : UserType) (verifier : PinVerifier) → Event

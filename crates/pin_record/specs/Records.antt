@@ -39,7 +39,7 @@ blank_label = replicate 32 0x20
 abbrev pub is_coherent : TokenRecord → Bool
 is_coherent r = is_some r.so.verifier || (is_none r.user.verifier && bytes_eq r.label blank_label)
 
--- ---- what a record says
+-- ---- what follows of a record
 
 abbrev pub pin_of : TokenRecord → UserType → PinState
 pin_of r So = r.so

@@ -1,5 +1,5 @@
--- The stored form of a record. In format 2 it is a byte 2, a byte that says whether the token is initialised,
--- the label in 32 bytes, then for the SO and for the user: a byte 0, or a byte 1 and the verifier, and
+-- The stored form of a record. In format 2 it is a byte 2, a byte for whether the token is initialised, and
+-- the label in 32 bytes. Then come for the SO and for the user: a byte 0, or a byte 1 and the verifier, and
 -- a byte of tries. A verifier is 16 bytes of salt, the rounds in 32 bits, and 32 bytes of key. All
 -- numbers are big-endian. Older stores have format 1: its first byte is 1, and a verifier has no rounds,
 -- which are those of older tokens.
@@ -71,7 +71,7 @@ pin_form version =
 abbrev pub flag_byte : Bool → ℕ
 flag_byte initialized = if initialized then 1 else 0
 
--- the byte that says whether the token is initialised, the label, and the two PINs
+-- the byte for whether the token is initialised, the label, and the two PINs
 abbrev pub Parts : Type 0
 Parts = ℕ × (List ℕ × (PinState × PinState))
 
@@ -113,7 +113,7 @@ record_stored = record_stored_in Two
 abbrev pub record_old_stored : List ℕ → Option TokenRecord
 record_old_stored = record_stored_in One
 
--- What a decoder answers is the record. It takes no memory.
+-- What a decoder returns is the record. It takes no memory.
 abbrev pub Decodes : {X : Type 0} → Result X DecodeFault → Option X → Type 0
 Decodes (Ok x) decoded = decoded ≡ Some x
 Decodes (Err faults.Form) decoded = decoded ≡ None

@@ -30,10 +30,10 @@ pub record IsVerifier (v : PinVerifier) : Type 0 where
 abbrev pub verifier_for : List ℕ → List ℕ → ℕ → PinVerifier
 verifier_for pin salt rounds = record { salt = salt; rounds = rounds; key = pbkdf2 pin salt rounds }
 
--- whether the PIN is the one that the verifier was made of, as far as its key tells
+-- whether the PIN is the one that the verifier was made of, as far as its key determines it
 abbrev pub accepts : PinVerifier → List ℕ → Bool
 accepts v pin = bytes_eq v.key (pbkdf2 pin v.salt v.rounds)
 
--- what stands in the place of a verifier that is kept back
+-- what stands in the place of a verifier that is masked
 abbrev pub hidden_verifier : PinVerifier
 hidden_verifier = record { salt = []; rounds = 0; key = [] }

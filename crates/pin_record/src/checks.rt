@@ -22,8 +22,8 @@ pub fn begin_check(record: Record, who: UserType) -> Record
 /// The record once a check of a PIN has ended. Where the PIN was right, its tries are the checks of it
 /// that are still `under_way`; else its charge stays. No memory is taken.
 ///
-/// Where it was right, the tries have the charge of this check and of each check that is in progress,
-/// so there are fewer in progress than tries.
+/// Where it was right, the tries have the charge of this check and of each check that is in progress.
+/// So there are fewer in progress than tries.
 pub fn end_check(record: Record, who: UserType, right: bool, under_way: u8) -> Record
     requires { IsTrue right → under_way < tries_of «record» who }
     ensures { result ≡ checked «record» who right under_way }

@@ -7,7 +7,7 @@ pub enum DecodeFault {
     /// The bytes are no record's stored form.
     #[error("not the stored form of a record")]
     Form = 1,
-    /// Not answered here, since a record is decoded without memory.
+    /// Not returned here, since a record is decoded without memory.
     #[error("out of memory")]
     Memory = 2,
 }

@@ -34,7 +34,7 @@ fn flag_if(condition: bool, flag: u64) -> u64
     if condition { flag } else { 0 }
 }
 
-/// The flags of the token (PKCS #11 v3.1, 3.2: `CK_TOKEN_INFO`), by what `record_view` shows of its
+/// The flags of the token (PKCS #11 v3.1, 3.2: `CK_TOKEN_INFO`), by what `record_view` has of its
 /// record. A PIN's count is low from one try on; at nine tries one is left, the final one, and at ten
 /// the PIN is locked. No memory is taken.
 pub fn token_flags(record: &Record) -> u64

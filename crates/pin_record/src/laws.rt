@@ -5,11 +5,11 @@ ghost use Rattle.ck_types.specs.declared.user_type.UserType.{UserType as Who};
 ghost use Rattle.pin_record.specs.Records.{TokenRecord, tries_limit, tries_of};
 ghost use Rattle.pin_record.specs.Charges.{Charges, Event, IsCharged, after, checks_of, is_under_way, opened, spent, without};
 
-/// However checks of the PINs overlap, the tries of each PIN are the checks of it that ended otherwise
-/// than right since the last reset, and those in progress. So at most ten end wrong or abandoned
+/// However checks of the PINs overlap, the tries of each PIN are two kinds of its checks: those in progress, and
+/// those that ended wrong or abandoned since the last reset. So at most ten end wrong or abandoned
 /// between two resets. It begins so with each record that is read.
 ///
-/// Hence what `end_check`, `Record::with_pin` and `Record::initialized` ask of the checks in progress:
+/// Hence what `end_check`, `Record::with_pin` and `Record::initialized` require of the checks in progress:
 /// once a check ends, those that are left are fewer than the tries, and they are always ten at most.
 pub fn ten_tries()
     ensures begins { (who : Who) (r : TokenRecord) → tries_of r who ≤ tries_limit

@@ -8,12 +8,12 @@
 //!   none has more than ten. At ten it is locked.
 //! - `begin_check` and `end_check` are a check of a PIN. It begins with a charge, one more try, which is
 //!   stored before the PIN is looked at. Where the PIN was right, the tries become the checks of it that
-//!   are still in progress; else the charge stays. So the tries are always the checks that failed since
-//!   the last right one and those in progress, however checks overlap, and no more than ten fail in a row:
-//!   `laws::ten_tries` proves it.
-//! - `token_flags` is how a token shows its PINs (PKCS #11 v3.1, 3.2: `CK_TOKEN_INFO`).
-//! - `encode` and `decode` are the stored form. Each record has one, and `decode` accepts nothing else. `decode_old` reads the
-//!   form that older tokens stored.
+//!   are still in progress; else the charge stays. So the tries are always those in progress and the checks
+//!   that failed since the last right one, however checks overlap. No more than ten fail in a row
+//!   (`laws::ten_tries`).
+//! - `token_flags` is how a token reports on its PINs (PKCS #11 v3.1, 3.2: `CK_TOKEN_INFO`).
+//! - `encode` and `decode` are the stored form. Each record has one, and `decode` accepts nothing else. `decode_old`
+//!   reads the form that older tokens stored.
 //!
 //! What applications may learn of a record is a definition, `record_view` of `specs/Records.antt`. No
 //! verifier is in it. But for `encode`, nothing here takes memory. Nothing is claimed of the time that

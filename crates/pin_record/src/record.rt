@@ -110,8 +110,8 @@ impl Record {
         self.pin(who).verifier()
     }
 
-    /// The tries of the PIN, at most `TRIES_LIMIT`: the checks of it that were begun since the last
-    /// one that ended right, or since it was set, and those that were in progress then.
+    /// The tries of the PIN, at most `TRIES_LIMIT`. They are the checks of it begun since the last
+    /// one that ended right, or since it was set, and those in progress then.
     pub fn tries(&self, who: UserType) -> u8
         ensures value { result ≡ tries_of self.now who }
         ensures few { tries_of self.now who ≤ tries_limit }

@@ -13,8 +13,8 @@ pub const ROUNDS: u32 = 20_000;
 /// The rounds of verifiers that an older token made.
 pub const OLD_ROUNDS: u32 = 10_000;
 
-/// A PIN's verifier: a salt of 16 bytes, a number of rounds, and the 32 bytes that PBKDF2 with
-/// HMAC-SHA-256 makes of the PIN by them (RFC 8018, section 5.2).
+/// A PIN's verifier: a salt of 16 bytes, a number of rounds, and 32 bytes. PBKDF2 with
+/// HMAC-SHA-256 makes these of the PIN by salt and rounds (RFC 8018, section 5.2).
 #[derive(Clone, Copy, Debug, PartialEq, Eq)]
 pub struct Verifier {
     salt: [u8; 16],

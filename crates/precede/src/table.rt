@@ -5,9 +5,9 @@ ghost use Rattle.precede.specs.Table.{table_of};
 
 use crate::condition::Condition;
 
-/// The rows of the table of the call with this number, in order; none for the number of no call.
+/// The conditions of the table of the call with this number, in order; none for the number of no call.
 ///
-/// The place of a row here is its place in `Facts::holds`. No table has more rows than there are places.
+/// The index of a condition here is its index in `Facts::holds`. No table has more conditions than that has entries.
 pub fn rows(function: u16) -> &'static [Condition]
     ensures table { result.now ≡ table_of function }
     ensures within { length result.now ≤ 16 }

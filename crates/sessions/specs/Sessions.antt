@@ -53,14 +53,14 @@ module _ {W : Type 0} where
       let others = filter (λ s. not (s.handle == handle)) t.sessions in
       record t { sessions = others; login = login_among others t.login }
 
-  -- a session with this work in progress, and the same where it has a number
+  -- a session with this activity in progress, and the same where it has a number
   abbrev pub busy_with : W → Session W → Session W
   busy_with work s = record s { work = work }
 
   abbrev pub busy_at : ℕ → W → Session W → Session W
   busy_at handle work s = if s.handle == handle then busy_with work s else s
 
-  -- the session of this number has this work in progress
+  -- the session of this number has this activity in progress
   abbrev pub with_work : SessionTable W → ℕ → W → SessionTable W
   with_work t handle work = record t { sessions = map (busy_at handle work) t.sessions }
 
@@ -68,9 +68,9 @@ module _ {W : Type 0} where
   abbrev pub logged_out : W → SessionTable W → SessionTable W
   logged_out idle t = record t { sessions = map (busy_with idle) t.sessions; login = None }
 
-  -- what is true of every table: numbers count from 1 and were given once each, there are 64
-  -- sessions at most, none is read-only while the SO is logged in, and nobody is logged in without
-  -- a session
+  -- What is true of every table: numbers count from 1 and were given once each, and there are 64
+  -- sessions at most. None is read-only while the SO is logged in, and nobody is logged in without
+  -- a session.
   pub record IsTable (t : SessionTable W) : Type 0 where
     pub rising : NumbersRise (λ s. s.handle) 1 t.sessions t.next_number
     pub few : length t.sessions ≤ 64

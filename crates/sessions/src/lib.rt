@@ -5,12 +5,12 @@
 //! All sessions share one login: nobody, the user or the security officer (SO). Closing the last
 //! session ends it, and no session is read-only while the SO is logged in.
 //!
-//! What is in progress in a session, as its operations, is a value of the caller's type, a `Activity`. It
+//! What is in progress in a session, as its operations, is a value of the caller's type, an `Activity`. It
 //! comes idle with the session, goes with it, and a logout makes it idle again.
 //!
 //! Contracts see the sessions as a list in the order in which they were opened, with the login and
-//! the number of the next one. How they are stored, in a slab whose keys are used again, no contract
-//! shows.
+//! the number of the next one. How they are stored, in a slab whose keys are used again, is in no
+//! contract.
 //!
 //! ```text
 //! let session = sessions.open(true)?;
@@ -181,8 +181,8 @@ impl<W: Activity> Sessions<W> {
         Some(&mut self.sessions[key].work)
     }
 
-    /// Opens a session, with nothing in progress in it (C_OpenSession). It fails only for want of
-    /// memory, and then nothing changes.
+    /// Opens a session, with nothing in progress in it (C_OpenSession). It fails only if an allocation
+    /// fails, and then nothing changes.
     pub fn open(&mut self, read_write: bool) -> Result<u64, AllocError>
         requires numbers { self.old.next_number < NUMBER_LIMIT }
         requires room { length self.old.sessions < SESSION_LIMIT }
@@ -259,7 +259,7 @@ fn session_state(login: Option<UserType>, read_write: bool) -> SessionState
     }
 }
 
-// A session is found by the number that it carries, so that a key which the slab gives out again is
+// A session is found by the number that it carries. So a key which the slab gives out again is
 // never taken for the session that had it before.
 fn find_session<W>(sessions: &Slab<Session<W>>, handle: u64) -> Option<(usize, &Session<W>)>
     ensures { option_map (λ e. (e.0, e.1.now)) result ≡ find (λ e. e.1.handle == handle) (entries sessions.now) }

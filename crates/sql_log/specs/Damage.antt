@@ -83,7 +83,7 @@ pub record IsBeheaded (size : ℕ) (log : List ℕ) : Type 0 where
   pub shown : slice_index log 0 ≢ 0
   pub behind : HasAnyCommit size log
 
--- pages have the size that the header says, or 4096 bytes where it is damaged
+-- pages have the size in the header, or 4096 bytes where it is damaged
 abbrev pub IsDamaged : List ℕ → Type 0
 IsDamaged log = IsBroken (be32 (header log) 8) log ⊎ IsBeheaded 4096 log
 

@@ -134,8 +134,8 @@ fn has_commit(head: &[u8], log: &[u8], frames: usize) -> bool
 
 /// Whether commits stand in a log behind damage that no power cut leaves. Those are two commits behind a frame that fails SQLite's
 /// test, or one behind a header that fails it and does not begin with 0. The page size is the header's, or 4096 where that is damaged.
-/// Where the header passes and names pages of at most 65,536 bytes, two commits behind the first bad frame are always found. How far
-/// frames are looked at, `IsPlainlyBroken` says.
+/// Where the header passes and names pages of at most 65,536 bytes, two commits behind the first bad frame are always found.
+/// `IsPlainlyBroken` defines how far frames are looked at.
 pub fn has_commits_behind(log: &[u8]) -> bool
     ensures sound { IsTrue result → IsDamaged log.now }
     ensures found { IsSigned (header log.now) → be32 (header log.now) 8 ≤ 65536 → IsPlainlyBroken (be32 (header log.now) 8) log.now → IsTrue result }

@@ -1,9 +1,9 @@
-//! What the log beside a database file says before the files are opened, so that no store is taken for a new one and no damaged
-//! log for one that a power cut left.
+//! What the log beside a database file contains, before the files are opened. So no store is taken for a new one, and no
+//! damaged log for one that a power cut left.
 //!
-//! - `bytes_of` reads a file whole, and `put_back` gives it its bytes again.
-//! - `is_begun` says whether a log is the one of a first opening, and `is_unwritten` whether it has no header at all.
-//! - `has_commits_behind` says whether commits stand behind a frame or a header that is damaged.
+//! - `bytes_of` reads a file whole, and `put_back` writes its bytes again.
+//! - `is_begun` is whether a log is the one of a first opening, and `is_unwritten` whether it has no header at all.
+//! - `has_commits_behind` is whether commits stand behind a frame or a header that is damaged.
 //!
 //! The bytes are those of SQLite's fileformat2.html, section 4.
 #![tactic(auto)]

@@ -8,7 +8,7 @@ use sqlite_disk::Disk;
 use std::alloc::Global;
 use std::io;
 
-/// All bytes of a file. An error of the file, or want of memory (`OutOfMemory`), and nothing is written.
+/// All bytes of a file. An error of the file, or a failed allocation (`OutOfMemory`), and nothing is written.
 pub fn bytes_of<D: Disk>(alloc: Global, disk: &mut D) -> io::Result<Vec<u8>>
     requires { IsTrue (D.Disk.is_usable disk.old) }
     ensures value { IfOk result (λ bytes. IsClean D.Disk disk.new → bytes.items ≡ D.Disk.seen disk.old) }

@@ -84,7 +84,7 @@ cast_int n = either _ (Int n)
 same_word : is_eq (value_cmp (Text (codes "objects")) (Text (codes "objects"))) ≡ true
 same_word = ap is_eq (value_cmp-Text (codes "objects") (codes "objects"))
 
--- what the row says
+-- what the row holds
 abbrev counter_row : ℕ → Row
 counter_row n = Int (pos 1) ∷ Text (codes "objects") ∷ Int (pos n) ∷ []
 

@@ -61,7 +61,7 @@ object_rows db rows a =
 abbrev pub ids_query : Query
 ids_query = record plain_query { project = col 1 0 ∷ []; order = (col 1 0, ascending Binary) ∷ [] }
 
--- what an id is sorted by, and how it is shown
+-- what an id is sorted by, and how it is returned
 abbrev id_output : ℕ → Output
 id_output n = (Int (pos n) ∷ [], Int (pos n) ∷ [])
 

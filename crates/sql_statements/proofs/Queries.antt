@@ -75,7 +75,7 @@ module _ (old mid new : State) (id : ℕ) (r : Result Row Error) (kept : Unwritt
       shown (Ok row) h at = finds_row mid new id c row at h
       shown (Err e) h at = tt
 
--- ---- all rows of an answer
+-- ---- all rows of a result
 
 rows_how : {V : Type 0} (old new : State) (sql : List ℕ) (params : Row) (items : V → List Row) (r : Result V Error) → IsPlain (understood old.now.schema sql) → IfOk r (λ rows. Shown sql params old new (items rows))
     → IfErr r (FailsToQuery sql params old new) → IsUnchanged old new ⊎ IsRolledBack old new
@@ -113,7 +113,7 @@ module _ {V : Type 0} (sql : List ℕ) (query : IsQuery sql) (old mid new : Stat
         ];
   }
 
-  -- the rows are an answer, and the connection is open
+  -- the rows are a result, and the connection is open
   pub all_shown : HasCleanDisk new → (db : Database) → SeesTables old db → IfOk r (λ rows. Reads (command_of (understood token_schema sql)) db [] (items rows) × IsTrue new.is_open)
   all_shown clean db sees = both r (shown clean)
     where

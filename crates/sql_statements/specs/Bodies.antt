@@ -2,8 +2,8 @@
 use Rattle.std.specs.Prelude.{ℕ, ◌+◌, ◌-◌, ◌<◌, ◌≤◌, ◌^◌, ◌==◌, not, List, [], ◌∷◌, ◌++◌, map, find, filter, Option, if◌then◌else◌, ⊤}
 use Rattle.std.specs.Option.{option_map}
 
--- the bodies of the objects under their ids, in the order in which they came, the body of the record, and the greatest id that was
--- ever given, 0 where none was
+-- the bodies of the objects under their ids, in the order in which they came, and the body of the record; then the greatest id
+-- that was ever given, 0 where none was
 pub record Bodies : Type 0 where
   pub objects : List (ℕ × List ℕ)
   pub token_record : List ℕ
@@ -31,14 +31,14 @@ body_at b id = option_map (λ e. e.1) (find (λ e. e.0 == id) b.objects)
 abbrev pub new_bodies : List ℕ → Bodies
 new_bodies bytes = record { objects = []; token_record = bytes; last_id = 0 }
 
--- the body comes at the end, under the id that follows on the last one given
+-- the body comes at the end, under one more than the greatest id ever given
 abbrev pub with_body : List ℕ → Bodies → Bodies
 with_body bytes b = record { objects = b.objects ++ (b.last_id + 1, bytes) ∷ []; token_record = b.token_record; last_id = b.last_id + 1 }
 
 abbrev pub put_at : ℕ → List ℕ → ℕ × List ℕ → ℕ × List ℕ
 put_at id bytes e = if e.0 == id then (e.0, bytes) else e
 
--- another body stands under an id, at the same place
+-- another body stands under an id, at the same index
 abbrev pub with_body_at : ℕ → List ℕ → Bodies → Bodies
 with_body_at id bytes b = record { objects = map (put_at id bytes) b.objects; token_record = b.token_record; last_id = b.last_id }
 

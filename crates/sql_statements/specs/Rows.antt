@@ -1,4 +1,4 @@
--- What is shown of rows.
+-- What queries return of rows.
 use Rattle.std.specs.Prelude.{ℕ, ℤ, pos, negsuc, List, [], ◌∷◌, map}
 use Rattle.sqlite_value.specs.Order.{Row, column}
 use Rattle.sqlite.specs.Tree.{rowid}
@@ -7,7 +7,7 @@ abbrev pub natural : ℤ → ℕ
 natural (pos n) = n
 natural (negsuc n) = 0
 
--- the columns that are shown of a table: the body, and the id and the body
+-- the columns that are returned of a table: the body, and the id and the body
 abbrev pub bodies : List Row → List Row
 bodies = map (λ r. column r 2 ∷ [])
 

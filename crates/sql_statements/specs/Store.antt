@@ -42,15 +42,15 @@ pub record IsAtRows (s : State) (b : Bodies) : Type 0 where
   pub stores : HasRows s.now.trees b
   pub sound : IsDatabase s.now
 
--- a connection that is shut, or whose disk has lied, is at any bodies
+-- a connection that is shut, or whose disk was faulty, is at any bodies
 abbrev pub HoldsRows : State → Bodies → Type 0
 HoldsRows s b = HasCleanDisk s → IsTrue s.is_open → IsAtRows s b
 
--- while the disk is honest, the connection is open
+-- while the disk is faithful, the connection is open
 abbrev pub IsReady : State → Type 0
 IsReady s = HasCleanDisk s → IsTrue s.is_open
 
--- an open connection shows this database, with no transaction
+-- an open connection sees this database, with no transaction
 pub record ShowsNow (s : State) (db : Database) : Type 0 where
   pub now : s.now ≡ db
   pub settled : s.committed ≡ db

@@ -8,7 +8,7 @@ use Rattle.sqlite.specs.Held.{Held, state}
 use Rattle.sqlite.specs.declared.error.Error.{Error}
 use Rattle.sql_statements.specs.Ran.{RanPair, RanThree}
 
--- what a call in a transaction says
+-- what a call in a transaction returns
 abbrev pub Inside : List ℕ → Row → State → State → Result ℕ Error → Type 0
 Inside sql params old new r = HasCleanDisk new → IsTrue old.in_transaction → ExecutesInside 0 sql params old new r
 

@@ -1,4 +1,4 @@
--- A connection that answers `Closed` was shut.
+-- A connection that returns `Closed` was shut.
 use Rattle.std.proofs.Common.{◌≡◌, ◌⊎◌, inl, inr, false, List, ℕ, [], refl, sym, ◌∙◌}
 use Rattle.sqlite.specs.State.{HasCause, IsNotRun, State, store_error}
 use Rattle.sqlite_value.specs.Order.{Row}

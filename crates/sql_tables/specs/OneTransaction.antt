@@ -6,7 +6,7 @@ use Rattle.sqlite.specs.State.{HasCleanDisk, Survives}
 use Rattle.sqlite.specs.Held.{Held, state}
 use Rattle.sqlite.specs.declared.error.Error.{Error}
 
--- `Ran before db`: from the connection `before` the statements made `db`. The result tells whether they were run at all
+-- `Ran before db`: from the connection `before` the statements made `db`. The result is whether they were run at all
 pub record IsOneTransaction {S : Type 0} (g : Ghosts S) (Ran : Held S → Database → Type 0) (old new : Held S) (result : Result Bool Error) : Type 0 where
   pub all : HasCleanDisk (state g new) → IfOk result (λ done. IsTrue done → Ran old (state g new).committed)
   pub settled : IfOk result (λ done. IsTrue done → IsTrue (state g new).is_open → (state g new).now ≡ (state g new).committed)

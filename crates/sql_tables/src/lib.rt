@@ -12,14 +12,14 @@
 //!   record's, while all objects go. `renew_bodies` writes the record's row and those of some objects.
 //! - `read_row`, `read_ids`, `read_record_bodies` and `read_ids_and_bodies` read.
 //!
-//! A body is bytes here: no function looks into one. What contracts say of the tables (`Bodies`) is the
-//! record's body, the objects' bodies under their ids, in order, and the last id that was given. Ids rise by
+//! A body is bytes here: no function looks into one. Contracts see the tables (`Bodies`) as the
+//! record's body, the objects' bodies under their ids, in order, and the greatest id that was ever given. Ids rise by
 //! one, and sqlite's own table of counters keeps the last, so none returns.
 //!
 //! A write is one statement, or one transaction. Where sqlite refuses it, the tables are as they were, and a
 //! crash leaves what it could leave before, or the whole write; after `Ok` it leaves the write alone. All of
-//! it holds as long as the disk returns what was written. Each function but `make_tables` and `renew_bodies`
-//! first asks whether the connection is open, as `ensure_open` does: of one that is shut sqlite says nothing.
+//! it holds as long as the disk is faithful: it returns what was written. Each function but `make_tables` and
+//! `renew_bodies` first checks that the connection is open (`ensure_open`): sqlite says nothing of one that is shut.
 //!
 //! ```text
 //! make_tables(&mut conn, record)?;

@@ -13,8 +13,8 @@ ghost use Rattle.sql_statements.specs.Store.{HasTables, IsAtRows, IsReady, Sees,
 use crate::transactions::{Three, run_all};
 use sqlite::{Alter, Connection, Error};
 
-/// Makes both tables, with a body in the row of the record, in one transaction. `false` says that a transaction was
-/// open, and an error that sqlite refused one of the statements; nothing was made then.
+/// Makes both tables, with a body in the row of the record, in one transaction. It returns `false` where a transaction
+/// was open, and an error where sqlite refused one of the statements; nothing was made then.
 pub fn make_tables<S: Alter>(conn: &mut Connection<S>, bytes: &[u8]) -> Result<bool, Error>
     ensures clean { doubt (state S.Store conn.old).is_clean ≤ doubt (state S.Store conn.new).is_clean }
     ensures made { (state S.Store conn.old).now.schema ≡ no_schema → HasCleanDisk (state S.Store conn.new)

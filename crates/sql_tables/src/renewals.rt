@@ -68,7 +68,7 @@ impl<S: Alter> Statements<S> for Renewals<'_> {
 }
 
 /// Writes each body into the row of its id, and `bytes` into that of the record, all in one transaction, or
-/// none. `false` says that a transaction was open, and an error that sqlite refused one of the statements;
+/// none. It returns `false` where a transaction was open, and an error where sqlite refused one of the statements;
 /// nothing was written then.
 pub fn renew_bodies<S: Alter>(
     conn: &mut Connection<S>,

@@ -77,8 +77,8 @@ fn replace_row<S: Alter>(conn: &mut Connection<S>, id: u64, bytes: &[u8]) -> Res
     replace_by(conn, id, bytes)
 }
 
-/// Prepares a statement that is not run: an error where the connection is shut, which is `Closed` or want of
-/// memory, or where sqlite refuses the text. It writes nothing.
+/// Prepares a statement that is not run. An error where the connection is shut (`Closed`), where an allocation
+/// fails, or where sqlite refuses the text. It writes nothing.
 pub fn ensure_open<S: Alter>(conn: &mut Connection<S>, sql: &str) -> Result<(), Error>
     ensures kept { Unwritten (state S.Store conn.old) (state S.Store conn.new) }
     ensures open { OnOk result (IsReady (state S.Store conn.new)) }
@@ -98,7 +98,7 @@ fn last_id<S: Alter>(conn: &Connection<S>) -> u64
     if id < 0 { 0 } else { id as u64 }
 }
 
-/// Adds a row with a body to the objects' table, and answers its id, which is one above the last that was
+/// Adds a row with a body to the objects' table, and returns its id, which is one more than the greatest ever
 /// given. An error where the connection is shut or sqlite refused; the tables are as they were then.
 pub fn insert_object<S: Alter>(conn: &mut Connection<S>, bytes: &[u8]) -> Result<u64, Error>
     ensures ok { OnOk result (RowsChanged (state S.Store conn.old) (state S.Store conn.new) (with_body bytes.now)) }
@@ -112,7 +112,7 @@ pub fn insert_object<S: Alter>(conn: &mut Connection<S>, bytes: &[u8]) -> Result
 }
 
 /// Takes out the rows of all objects, and puts another body in the row of the record, in one transaction.
-/// `false` says that a transaction was open. An error where the connection is shut or sqlite refused. The
+/// `false` where a transaction was open. An error where the connection is shut or sqlite refused. The
 /// tables are as they were in both cases.
 pub fn reset_rows<S: Alter>(conn: &mut Connection<S>, bytes: &[u8]) -> Result<bool, Error>
     ensures made { IfOk result (λ done. IsTrue done → RowsChanged (state S.Store conn.old) (state S.Store conn.new) (after_reset bytes.now)) }

@@ -36,7 +36,7 @@ pub(crate) trait Statements<S: Alter> {
         ensures survives { Survives (state S.Store tx.old.conn.now) (state S.Store tx.new.conn.now) (λ _. ⊥) };
 }
 
-/// Runs all the statements or none. `false` says that a transaction was open.
+/// Runs all the statements or none. `false` where a transaction was open.
 pub(crate) fn run_all<S: Alter, T: Statements<S>>(
     conn: &mut Connection<S>,
     statements: &T,

@@ -1,4 +1,4 @@
--- What is given, as a function of all data taken.
+-- What is output, as a function of all data taken.
 use Rattle.std.proofs.Common.{◌≡◌, ◌≢◌, ℕ, ◌≤◌, ◌-◌, ◌%◌, false, ◌==◌, ◌&&◌, not, Bool, List, [], ◌++◌, length, take, drop, Some, None, Result, Ok, Err, IfOk, option_map, unwrap_or, bytes_eq, ap, refl, sym, subst, ◌∙◌, arith, eqb-true, eq-eqb}
 use Rattle.std.proofs.lemmas.Bool.{and_from, and_parts, not_from_false, not_from_true, not-true}
 use Rattle.std.proofs.lemmas.List.{length-take-le, append_assoc, drop_at, take_all, length-append}
@@ -31,7 +31,7 @@ so_far-le (CbcPad iv) Encrypt n = omega arith
 so_far-le (CbcPad iv) Decrypt n = omega arith
 so_far-le (Ctr bits start) d n = omega arith
 
--- ---- all that is given
+-- ---- all that is output
 
 module _ (m : Mechanism) (key taken given : List ℕ) where
   abbrev pub there : Streamed

@@ -1,4 +1,4 @@
--- What the bytes given are, in the words of the modes over whole texts.
+-- What the output is, in the words of the modes over whole texts.
 use Rattle.std.proofs.Common.{◌≡◌, ℕ, ◌==◌, not, false, ◌+◌, ◌%◌, ◌-◌, ◌*◌, ◌/◌, ◌≤◌, List, [], ◌++◌, length, take, drop, ap, sym, ◌∙◌, arith}
 use Rattle.std.proofs.lemmas.Bool.{eqb-true, not-false}
 use Rattle.std.proofs.lemmas.List.{append-nil, take_all, take-append-drop, length-take-le}
@@ -111,7 +111,7 @@ module _ (c : Counting) (is_key : IsKey c.key) where
     only = λ x _ _ e. ctr_only x (e ∙ ctr_all);
   }
 
--- ---- the end, where nothing waits and nothing is added
+-- ---- the end, where nothing is buffered and nothing is added
 
 is_whole : (x : List ℕ) → not (length x % 16 == 0) ≡ false → length x % 16 ≡ 0
 is_whole x text = eqb-true (length x % 16) 0 (not-false (length x % 16 == 0) text)

@@ -8,7 +8,7 @@ use Rattle.streams.specs.declared.cbc_decryption.CbcDecryption.TheInside.{Inside
 abbrev pub flow_of : Inside → Flow
 flow_of s = record { iv = s.iv.bytes; key = s.key; held = s.held; taken = s.passed.taken.bytes; given = s.passed.given.bytes }
 
--- what the next block decrypted is added to, and the bytes behind the blocks done, are kept
+-- what the next block decrypted is added to, and the bytes behind the blocks done, are buffered
 pub record Holds (s : Inside) : Type 0 where
   pub held : s.held ≤ 1
   pub given : IsCbcDecrypted (flow_of s)

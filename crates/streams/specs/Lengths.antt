@@ -1,5 +1,5 @@
--- The table of lengths: how many bytes a call wants room for, and which data is refused. `d` counts all
--- data, that of the call included.
+-- The table of lengths: how long an output buffer each call needs, and which data is refused. `d` counts all data, that
+-- of the call included.
 use Rattle.std.specs.Prelude.{ℕ, ◌+◌, ◌-◌, ◌*◌, ◌/◌, ◌%◌, ◌^◌, ◌==◌, nat_lt, Bool, false, not, ◌||◌, List, ◌++◌, length}
 use Rattle.aes_modes.specs.Blocks.{blocks_begun}
 use Rattle.aes_modes.specs.Counter.{counter_start}
@@ -11,8 +11,8 @@ use Rattle.streams.specs.declared.part.Part.{Part}
 use Rattle.streams.specs.declared.part.Part.TheVariants.{Update, Last}
 use Rattle.streams.specs.Streamed.{Streamed}
 
--- how many bytes are given before the end is known: the whole blocks, but where a padding is taken off the last
--- block waits, and CTR gives each byte
+-- how many bytes are output before the end is known: the whole blocks, but where a padding is taken off the last
+-- block stays buffered, and CTR outputs each byte
 abbrev pub length_so_far : Mechanism → Direction → ℕ → ℕ
 length_so_far Ecb direction d = 16 * (d / 16)
 length_so_far (Cbc iv) direction d = 16 * (d / 16)
@@ -28,7 +28,7 @@ whole_length (CbcPad iv) Encrypt d = 16 * (d / 16 + 1)
 whole_length (CbcPad iv) Decrypt d = d
 whole_length (Ctr bits start) direction d = d
 
--- the room that a call with n bytes of data wants: what the output then has, less what was given
+-- the output buffer that a call with n bytes of data needs: what the output then has, less what was output before
 abbrev pub wanted : Part → Streamed → ℕ → ℕ
 wanted Update s n = length_so_far s.mechanism s.direction (length s.taken + n) - length s.given
 wanted Last s n = whole_length s.mechanism s.direction (length s.taken + n) - length s.given

@@ -1,4 +1,4 @@
--- Pieces equal the whole: what the bytes given are, by the modes over whole texts (SP 800-38A, 6).
+-- The parts equal the whole: what the output is, by the modes over whole texts (SP 800-38A, 6).
 use Rattle.std.specs.Prelude.{◌≡◌, ℕ, false, List, ◌++◌, length, take}
 use Rattle.fips_197.specs.Bytes.{AreBytes}
 use Rattle.aes_modes.specs.Modes.{ecb_encrypted, cbc_encrypted, cbc_pad_encrypted, ctr_encrypted}
@@ -24,14 +24,14 @@ whole_encrypted (Cbc iv) key text = cbc_encrypted key iv text
 whole_encrypted (CbcPad iv) key text = cbc_pad_encrypted key iv text
 whole_encrypted (Ctr bits start) key text = ctr_encrypted key bits start text
 
--- of the data taken as many bytes as the table says were turned to the bytes given, and to no others
+-- as many bytes of the data as the table has were encrypted or decrypted to the output so far, and to nothing else
 pub record IsRight (s : Streamed) : Type 0 where
   pub size : length s.given ≡ length_so_far s.mechanism s.direction (length s.taken)
   pub turned : IsTurned s.direction (encrypted s.mechanism s.key) (take (length s.given) s.taken) s.given
   pub only : (x : List ℕ) → AreBytes x → length x ≡ length s.given
       → IsTurned s.direction (encrypted s.mechanism s.key) (take (length s.given) s.taken) x → x ≡ s.given
 
--- `out` is the rest of what all data is turned to
+-- `out` is the final part of what all data is encrypted or decrypted to
 abbrev pub IsRest : Streamed → List ℕ → Type 0
 IsRest s out = IsTurned s.direction (whole_encrypted s.mechanism s.key) s.taken (s.given ++ out)
 
@@ -39,7 +39,7 @@ IsRest s out = IsTurned s.direction (whole_encrypted s.mechanism s.key) s.taken 
 abbrev pub IsText : Mechanism → List ℕ → Type 0
 IsText mechanism text = is_of_no_text mechanism Encrypt (length text) ≡ false
 
--- and nothing else is the rest
+-- and nothing else is the final part
 abbrev pub IsOnlyRest : Streamed → List ℕ → Type 0
 IsOnlyRest s out = (x : List ℕ) → AreBytes x → IsText s.mechanism x
     → IsTurned s.direction (whole_encrypted s.mechanism s.key) s.taken x → x ≡ s.given ++ out

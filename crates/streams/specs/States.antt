@@ -26,7 +26,7 @@ streamed (CbcPadDecrypt f) = of_flow (CbcPad f.iv) Decrypt f
 streamed (CtrEncrypt c) = of_counting Encrypt c
 streamed (CtrDecrypt c) = of_counting Decrypt c
 
--- where a padding is to be taken off, a byte at least is held back
+-- where a padding is to be taken off, a byte at least stays buffered
 abbrev pub HoldsBack : State → Type 0
 HoldsBack (CbcDecrypt f) = f.held ≡ 0
 HoldsBack (CbcPadDecrypt f) = f.held ≡ 1

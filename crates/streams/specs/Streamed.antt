@@ -4,7 +4,7 @@ use Rattle.std.specs.Prelude.{ℕ, List, [], ◌++◌}
 pub use Rattle.aes_modes.specs.declared.direction.Direction.{Direction}
 use Rattle.streams.specs.declared.mechanism.Mechanism.{Mechanism}
 
--- the mechanism with its parameter, the direction, the key, all data that was taken and all bytes that were given for it
+-- the mechanism with its parameter, the direction, the key, all data that was taken and the output for it
 pub record Streamed : Type 0 where
   pub mechanism : Mechanism
   pub direction : Direction
@@ -15,6 +15,6 @@ pub record Streamed : Type 0 where
 abbrev pub started : Mechanism → Direction → List ℕ → Streamed
 started mechanism direction key = record { mechanism = mechanism; direction = direction; key = key; taken = []; given = [] }
 
--- a piece further, for which `out` was given
+-- one more part, for which `out` was output
 abbrev pub after_piece : Streamed → List ℕ → List ℕ → Streamed
 after_piece s piece out = record s { taken = s.taken ++ piece; given = s.given ++ out }

@@ -14,8 +14,8 @@ use lists::GhostBytes;
 use std::alloc::{AllocError, Global};
 use std::marker::Model;
 
-/// A CBC decryption that has taken data. It keeps the last block that it worked on and at most a
-/// block of data: so many bytes at least as are held back until the end, which is 1 where a padding
+/// A CBC decryption that has taken data. It keeps the last block that it worked on, and buffers at most a
+/// block of data. At least so many bytes stay buffered until the final part: 1 where a padding
 /// is to be taken off, and else 0.
 #[derive(Drop)]
 pub(crate) struct CbcDecryption {
@@ -38,7 +38,7 @@ impl Model for CbcDecryption {
     ghost invariant = { Holds };
 }
 
-// What the first blocks of kept bytes and a piece are decrypted to, and the last of these blocks.
+// What the first blocks of buffered bytes and a part are decrypted to, and the last of these blocks.
 fn decrypted_blocks(
     alloc: Global,
     key: &Key,
@@ -66,7 +66,7 @@ fn decrypted_blocks(
 }
 
 impl CbcDecryption {
-    /// A decryption that has taken nothing, and holds so many bytes at least back until the end.
+    /// A decryption that has taken nothing, and buffers so many bytes at least until the final part.
     pub(crate) fn new(key: Key, iv: Block, held: usize) -> CbcDecryption
         requires { held ≤ 1 }
         ensures { result ≡ begun iv key held }
@@ -97,7 +97,7 @@ impl CbcDecryption {
         }
     }
 
-    /// Takes a piece, and gives what it adds to the output. An `Err` changes nothing.
+    /// Takes one more part, and returns what it adds to the output. An `Err` changes nothing.
     pub(crate) fn update(&mut self, alloc: Global, piece: &[u8]) -> Result<Vec<u8>, AllocError>
         ensures state { IfOk result (λ out. self.new ≡ further self.old piece.now out.items) }
         ensures err { OnErr result (self.new ≡ self.old) }
@@ -110,14 +110,14 @@ impl CbcDecryption {
         Ok(out)
     }
 
-    /// What the bytes given are. It does nothing.
+    /// What the output so far is. It does nothing.
     pub(crate) fn gives(&self)
         ensures { IsCbcDecrypted self.now }
     {
         let _passed = &self.passed;
     }
 
-    /// How many bytes were taken for which none were given: at most 16.
+    /// How many bytes are buffered: at most 16.
     pub(crate) fn waiting(&self) -> usize
         ensures value { result ≡ length self.now.taken - length self.now.given }
         ensures within { result ≤ 16 }
@@ -125,7 +125,7 @@ impl CbcDecryption {
         self.passed.kept.len()
     }
 
-    /// The rest of the output, without the padding.
+    /// The final part of the output, without the padding.
     pub(crate) fn unpadded_block(&self, alloc: Global) -> Result<Vec<u8>, ModeFault>
         requires { self.now.held ≡ 1 }
         ensures value { IfOk result (λ out.

@@ -13,7 +13,7 @@ use lists::GhostBytes;
 use std::alloc::{AllocError, Global};
 use std::marker::Model;
 
-/// A CBC encryption that has taken data. It keeps the last block of its output and less than a
+/// A CBC encryption that has taken data. It keeps the last block of its output, and buffers less than a
 /// block of data.
 #[derive(Drop)]
 pub(crate) struct CbcEncryption {
@@ -35,7 +35,7 @@ impl Model for CbcEncryption {
     ghost invariant = { Holds };
 }
 
-// What the first blocks of kept bytes and a piece are encrypted to, and the last block of that.
+// What the first blocks of buffered bytes and a part are encrypted to, and the last block of that.
 fn encrypted_blocks(
     alloc: Global,
     key: &Key,
@@ -86,7 +86,7 @@ impl CbcEncryption {
         }
     }
 
-    /// Takes a piece, and gives what it adds to the output. An `Err` changes nothing.
+    /// Takes one more part, and returns what it adds to the output. An `Err` changes nothing.
     pub(crate) fn update(&mut self, alloc: Global, piece: &[u8]) -> Result<Vec<u8>, AllocError>
         ensures state { IfOk result (λ out. self.new ≡ further self.old piece.now out.items) }
         ensures err { OnErr result (self.new ≡ self.old) }
@@ -99,14 +99,14 @@ impl CbcEncryption {
         Ok(out)
     }
 
-    /// What the bytes given are. It does nothing.
+    /// What the output so far is. It does nothing.
     pub(crate) fn gives(&self)
         ensures { IsCbcEncrypted self.now }
     {
         let _passed = &self.passed;
     }
 
-    /// How many bytes were taken for which none were given: at most 16.
+    /// How many bytes are buffered: at most 16.
     pub(crate) fn waiting(&self) -> usize
         ensures value { result ≡ length self.now.taken - length self.now.given }
         ensures within { result ≤ 16 }
@@ -114,7 +114,7 @@ impl CbcEncryption {
         self.passed.kept.len()
     }
 
-    /// The last block of the padded text: the rest of the output.
+    /// The last block of the padded text: the final part of the output.
     pub(crate) fn padded_block(&self, alloc: Global) -> Result<Vec<u8>, AllocError>
         ensures value { IfOk result (λ out.
             self.now.given ++ out.items ≡ cbc_pad_encrypted self.now.key self.now.iv self.now.taken) }

@@ -39,7 +39,7 @@ impl Model for CtrStream {
     ghost invariant = { Holds };
 }
 
-// Kept bytes and a piece under counters from a number on.
+// Buffered bytes and a part under counters from a number on.
 fn joined_counters(
     alloc: Global,
     key: &Key,
@@ -104,7 +104,7 @@ impl CtrStream {
         }
     }
 
-    /// Takes a piece, and gives as many bytes. An `Err` changes nothing: `CounterEnd` where a
+    /// Takes one more part, and returns as many bytes. An `Err` changes nothing: `CounterEnd` where a
     /// counter would come again.
     pub(crate) fn update(&mut self, alloc: Global, piece: &[u8]) -> Result<Vec<u8>, ModeFault>
         ensures taken { OnOk result (self.new ≡ counted_further self.old piece.now) }
@@ -130,7 +130,7 @@ impl CtrStream {
         Ok(out)
     }
 
-    /// Whether a piece more has no counters.
+    /// Whether one more part has no counters.
     pub(crate) fn ends_counters(&self, piece: &[u8]) -> bool
         ensures { IsTrue result
             ↔ (2 ^ self.now.bits < counter_start self.now.bits self.now.start + blocks_begun (self.now.taken ++ piece.now)) }

@@ -11,7 +11,7 @@ use aes_block::{BLOCK_SIZE, Key};
 use std::alloc::{AllocError, Global};
 use std::marker::Model;
 
-/// An ECB encryption that has taken data. It keeps less than a block of data.
+/// An ECB encryption that has taken data. It buffers less than a block of data.
 #[derive(Drop)]
 pub(crate) struct EcbEncryption {
     key: Key,
@@ -30,7 +30,7 @@ impl Model for EcbEncryption {
     ghost invariant = { Holds };
 }
 
-// What the first blocks of kept bytes and a piece are encrypted to.
+// What the first blocks of buffered bytes and a part are encrypted to.
 fn encrypted_blocks(
     alloc: Global,
     key: &Key,
@@ -70,7 +70,7 @@ impl EcbEncryption {
         }
     }
 
-    /// Takes a piece, and gives what it adds to the output. An `Err` changes nothing.
+    /// Takes one more part, and returns what it adds to the output. An `Err` changes nothing.
     pub(crate) fn update(&mut self, alloc: Global, piece: &[u8]) -> Result<Vec<u8>, AllocError>
         ensures state { IfOk result (λ out. self.new ≡ further self.old piece.now out.items) }
         ensures err { OnErr result (self.new ≡ self.old) }
@@ -81,14 +81,14 @@ impl EcbEncryption {
         Ok(out)
     }
 
-    /// What the bytes given are. It does nothing.
+    /// What the output so far is. It does nothing.
     pub(crate) fn gives(&self)
         ensures { IsEcbEncrypted self.now }
     {
         let _passed = &self.passed;
     }
 
-    /// How many bytes were taken for which none were given: at most 16.
+    /// How many bytes are buffered: at most 16.
     pub(crate) fn waiting(&self) -> usize
         ensures value { result ≡ length self.now.taken - length self.now.given }
         ensures within { result ≤ 16 }

@@ -1,4 +1,4 @@
-//! Bytes that are kept until they are worked on.
+//! Bytes that are buffered until they are worked on.
 
 ghost use Rattle.std.specs.Prelude.{◌≡◌, ◌+◌, ◌*◌, ◌≤◌, ◌++◌, [], length, drop};
 ghost use Rattle.aes_block.specs.Texts.{block_of};
@@ -62,7 +62,7 @@ impl Kept {
         &self.block[..self.count]
     }
 
-    /// Block `i` of them with a piece behind them.
+    /// Block `i` of them with a part behind them.
     #[inline(always)]
     #[tactic(auto, unfolding(aes_block::specs::Texts::block_of))]
     pub(crate) fn block(&self, piece: &[u8], i: usize) -> Block
@@ -79,7 +79,7 @@ impl Kept {
         block
     }
 
-    /// What they and a piece have behind their first `blocks` blocks.
+    /// What they and a part have behind their first `blocks` blocks.
     pub(crate) fn behind(&self, piece: &[u8], blocks: usize) -> Kept
         requires within { 16 * blocks ≤ length self.now + length piece.now }
         requires rest { length self.now + length piece.now ≤ 16 * blocks + 16 }

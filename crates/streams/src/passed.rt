@@ -5,8 +5,8 @@ ghost use Rattle.std.specs.Prelude.{◌≡◌, ◌+◌, ◌*◌, ◌≤◌, ◌+
 use crate::kept::Kept;
 use lists::GhostBytes;
 
-/// All data that a stream took and all bytes that it gave, of which contracts alone speak, and the
-/// data that it has yet to work on.
+/// All data that a stream took and its output so far, of which contracts alone speak, and the
+/// bytes that are buffered.
 #[derive(Drop)]
 pub(crate) struct Passed {
     pub(crate) kept: Kept,
@@ -41,7 +41,7 @@ impl Passed {
         }
     }
 
-    /// Notes a piece and what was given for it, and keeps what the kept bytes and the piece have
+    /// Adds a part and its output to them, and buffers what the buffered bytes and the part have
     /// behind their first `blocks` blocks.
     pub(crate) fn advance(&mut self, piece: &[u8], blocks: usize, given: &[u8])
         requires within { 16 * blocks ≤ length self.old.kept + length piece.now }

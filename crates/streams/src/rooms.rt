@@ -1,5 +1,5 @@
-//! How much room calls want, by the bytes that wait: at most a block of data that nothing was given
-//! for.
+//! How long an output buffer calls need, by the bytes that are buffered: at most a block of data without
+//! output.
 
 ghost use Rattle.std.specs.Prelude.{◌≡◌, ◌≢◌, ◌⊎◌, [], ◌+◌, ◌-◌, ◌*◌, ◌/◌, ◌%◌, ◌^◌, ◌<◌, ◌≤◌, ◌++◌, ◌↔◌, length, IfOk, IfErr, IsErrOf};
 ghost use Rattle.aes_modes.specs.Blocks.{blocks_begun};
@@ -10,7 +10,7 @@ use aes_block::BLOCK_SIZE;
 use aes_modes::ModeFault;
 use std::alloc::Global;
 
-/// The whole blocks of what waits and of a piece, where so many bytes at least are held back.
+/// The whole blocks of what is buffered and of a part, where so many bytes at least stay buffered.
 pub(crate) fn so_far(waiting: usize, held: usize, input: &[u8]) -> usize
     requires { waiting ≤ 16 }
     ensures { result ≡ 16 * ((waiting + length input.now - held) / 16) }
@@ -68,7 +68,7 @@ pub(crate) fn counted(stream: &CtrStream, input: &[u8]) -> Result<usize, ModeFau
     Ok(input.len())
 }
 
-/// No bytes, where none wait.
+/// No bytes, where none are buffered.
 pub(crate) fn nothing_more(alloc: Global, waiting: usize) -> Result<Vec<u8>, ModeFault>
     ensures nothing { IfOk result (λ out. (out.items ≡ []) × (waiting ≡ 0)) }
     ensures len_range { IsErrOf result ModeFault.LenRange ↔ (waiting ≢ 0) }

@@ -59,7 +59,7 @@ impl State {
         }
     }
 
-    /// Takes a piece, and gives what it adds to the output. An `Err` changes nothing.
+    /// Takes one more part, and returns what it adds to the output. An `Err` changes nothing.
     pub(crate) fn update(&mut self, alloc: Global, piece: &[u8]) -> Result<Vec<u8>, ModeFault>
         requires { HoldsBack self.old }
         ensures state { IfOk result (λ out. streamed self.new ≡ after_piece (streamed self.old) piece.now out.items) }

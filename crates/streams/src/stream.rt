@@ -22,9 +22,9 @@ use std::alloc::Global;
 use std::marker::Model;
 
 /// A text that is encrypted or decrypted in parts. Contracts see its mechanism with parameter, its
-/// direction and key, all data that it has taken and all bytes that it has given.
+/// direction and key, all data that it has taken and its output so far.
 ///
-/// Of the data it keeps at most 16 bytes, and whether there was any.
+/// Of the data it buffers at most 16 bytes, and keeps whether there was any.
 #[derive(Drop)]
 pub struct Stream {
     state: State,
@@ -103,13 +103,13 @@ impl Stream {
         self.has_taken
     }
 
-    /// Takes a piece of any length, and gives what it adds to the output (PKCS #11 v3.1, 5.8 and
+    /// Takes one more part, of any length, and returns what it adds to the output (PKCS #11 v3.1, 5.8 and
     /// 5.10): all bytes that the data determines before its end is known. These are its whole
-    /// blocks, but for the last one where a padding is to be taken off, and of CTR as many bytes as
-    /// the piece has.
+    /// blocks, but for the last one where a padding is to be taken off. CTR returns as many bytes as
+    /// the part has.
     ///
     /// An `Err` changes nothing: `CounterEnd` where CTR has no counter for each block of the data,
-    /// and `Memory` where the result gets no memory.
+    /// and `Memory` where the allocation of the result fails.
     pub fn update(&mut self, alloc: Global, piece: &[u8]) -> Result<Vec<u8>, ModeFault>
         ensures state { IfOk result (λ out. self.new ≡ after_piece self.old piece.now out.items) }
         ensures length { IfOk result (λ out. length out.items ≡ wanted Part.Update self.old (length piece.now)) }
@@ -138,9 +138,9 @@ impl Stream {
         Ok(out)
     }
 
-    /// Ends the text with its last data, of any length, and gives the rest of the output (PKCS #11
+    /// Ends the text with its last data, of any length, and returns the final part of the output (PKCS #11
     /// v3.1, 5.8 and 5.10): a single-part call gives all data, and a final call none. The stream is
-    /// left as it is.
+    /// unchanged.
     ///
     /// `LenRange` where data of this length is no text: under ECB and CBC it is whole blocks, and
     /// where a padding is taken off one at least. `CounterEnd` where CTR has no counter for each
@@ -167,7 +167,7 @@ impl Stream {
         Ok(out)
     }
 
-    // The rest of the output where no data is left: of `CbcPad` the last block with the padding, or
+    // The final part of the output where no data is left: of `CbcPad` the last block with the padding, or
     // what the last block has before its padding, and else nothing.
     fn finish(&self, alloc: Global) -> Result<Vec<u8>, ModeFault>
         ensures rest { IfOk result (λ out. IsRest self.now out.items) }
@@ -205,13 +205,13 @@ impl Stream {
         }
     }
 
-    /// How many bytes of room a call wants that comes with `input` (PKCS #11 v3.1, 5.2), or why it
-    /// is refused. This is told before any work, and nothing is changed. The call's output is no
+    /// How many bytes of output buffer a call needs that comes with `input` (PKCS #11 v3.1, 5.2), or why it
+    /// is refused. This is returned before any work, and nothing is changed. The call's output is no
     /// longer than that, and shorter only where a padding is taken off.
     ///
     /// A single-part call is the last part with all data, and a final call the last part with none.
     ///
-    /// `LenRange` where with the last part the data has a length that no text has, and `CounterEnd`
+    /// `LenRange` where with the last part the data has a length that no text has. `CounterEnd`
     /// where CTR has no counter for each block of the data.
     pub fn room_of(&self, part: Part, input: &[u8]) -> Result<usize, ModeFault>
         ensures room { IfOk result (λ room. room ≡ wanted part self.now (length input.now)) }
@@ -260,7 +260,7 @@ impl Stream {
         }
     }
 
-    /// What the bytes given are: pieces equal the whole (SP 800-38A, 6). It does nothing: a proof
+    /// What the output is: the parts equal the whole (SP 800-38A, 6). It does nothing: a proof
     /// cites it.
     pub fn is_right(&self)
         ensures right { IsRight self.now }

@@ -1,4 +1,4 @@
--- CBC decrypted over data and a piece more, from what was kept of the data.
+-- CBC decrypted over data and one more part, from what was kept of the data.
 use Rattle.std.proofs.Common.{◌≡◌, ℕ, ◌+◌, ◌-◌, ◌*◌, ◌/◌, ◌<◌, ◌≤◌, List, [], ◌++◌, length, take, drop, ap, sym, subst, ◌∙◌, arith}
 use Rattle.std.proofs.Math.Seq.{take-add}
 use Rattle.std.proofs.lemmas.List.{take-append-le, drop_at, length-append}
@@ -34,7 +34,7 @@ module _ (key iv given taken piece chain kept out : List ℕ) (q n : ℕ) (at : 
       cbc_blocks-add key iv all q n ∙ (λ t. first t ++ later t)
       ∙ sym (take-add (16 * q) (16 * n) (taken ++ piece)) ∙ ap (λ m. take m (taken ++ piece)) sum
 
--- a piece further
+-- one more part
 module _ (key iv given taken piece chain kept out all after : List ℕ) (held n total len : ℕ) (le : held ≤ 1)
     (g : IsCbcDecrypted (record { iv = iv; key = key; held = held; taken = taken; given = given }))
     (c : chain ≡ chained key iv given (blocks_done held taken)) (k : kept ≡ drop (16 * blocks_done held taken) taken)

@@ -1,4 +1,4 @@
--- CBC encrypted over data and a piece more, from what was kept of the data.
+-- CBC encrypted over data and one more part, from what was kept of the data.
 use Rattle.std.proofs.Common.{◌≡◌, ℕ, ◌+◌, ◌*◌, ◌/◌, ◌≤◌, List, [], ◌++◌, length, drop, ap, sym, ◌∙◌}
 use Rattle.aes_modes.specs.Blocks.{first_blocks}
 use Rattle.aes_modes.specs.Modes.{chained, cbc_block, cbc_blocks}
@@ -32,7 +32,7 @@ module _ (key iv start taken given : List ℕ) (is : iv ≡ start) (t : taken �
     out = g ∙ ap (λ l. cbc_blocks key start l (length l / 16)) (sym t);
   }
 
--- a piece further
+-- one more part
 module _ (key iv taken piece chain kept after : List ℕ) (n len : ℕ)
     (c : chain ≡ chained key iv taken (length taken / 16)) (k : kept ≡ drop (16 * (length taken / 16)) taken)
     (l : len ≡ length kept) (is : n ≡ (len + length piece) / 16) (a : after ≡ taken ++ piece) where

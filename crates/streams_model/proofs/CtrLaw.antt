@@ -1,4 +1,4 @@
--- CTR over data and a piece more.
+-- CTR over data and one more part.
 use Rattle.std.proofs.Common.{◌≡◌, ℕ, ◌+◌, ◌-◌, ◌*◌, ◌/◌, ◌%◌, ◌^◌, ◌<◌, ◌≤◌, List, [], ◌++◌, length, take, drop, replicate, bit_and, ap, refl, sym, subst, ◌∙◌, arith, inl, inr}
 use Rattle.std.specs.Int.{w128, from_be_bytes, to_be_bytes}
 use Rattle.std.proofs.lemmas.Bool.{cases_eq}
@@ -64,7 +64,7 @@ module _ (key start : List ℕ) (m : ℕ) where
       first_blocks-alike (number_block key number text) (λ i. ctr_block key m start all (q + i)) (blocks_begun text)
       (λ i lt. same_number_block all text number q i t v (omega arith))
 
-  -- ---- data of which q blocks come before the last, and a piece more
+  -- ---- data of which q blocks come before the last, and one more part
 
   module _ (is_key : IsKey key) (taken piece kept : List ℕ) (k : kept ≡ drop (16 * blocks_done 1 taken) taken) where
     size : length kept ≡ length taken - 16 * blocks_done 1 taken
@@ -147,7 +147,7 @@ module _ (key start : List ℕ) (m : ℕ) where
               ∙ sym all_is
         ]
 
--- a list turned, and cut
+-- a list encrypted, and cut
 pub turned : (xs out part : List ℕ) (used n : ℕ) → length xs ≡ used + n → out ≡ drop used xs ++ take used xs → part ≡ take n out → part ≡ drop used xs
 turned xs out part used n size o p =
     p ∙ ap (take n) o ∙ take_at (drop used xs) (take used xs) n (omega (arith, size, length-drop used xs))
@@ -170,7 +170,7 @@ begun_left start first taken m number bits le b v f none =
     ∙ ap (λ l. counter_start m start + 0 + (l + 1)) (further m start le)
     ∙ omega (arith, below)
 
--- a piece further
+-- one more part
 module _ (key start taken piece kept after : List ℕ) (m number left n total len : ℕ)
     (le : m ≤ 128) (v : number ≡ from_be_bytes w128 start + blocks_done 1 taken)
     (room : counter_start m start + blocks_done 1 taken + (left + 1) ≡ 2 ^ m)

@@ -1,4 +1,4 @@
--- ECB over data and a piece more, from what was kept of the data.
+-- ECB over data and one more part, from what was kept of the data.
 use Rattle.std.proofs.Common.{◌≡◌, ℕ, ◌+◌, ◌*◌, ◌/◌, ◌≤◌, List, [], ◌++◌, length, take, drop, ap, sym, subst, ◌∙◌, arith, ◌<◌}
 use Rattle.std.proofs.Math.Seq.{take-add}
 use Rattle.std.proofs.lemmas.List.{take-append-le, drop_at}
@@ -23,7 +23,7 @@ ecb_blocks-add key text q i =
     ∙ ap (λ l. ecb_blocks key text q ++ l)
     (first_blocks-alike (λ j. ecb_block key text (q + j)) (ecb_block key (drop (16 * q) text)) i (λ j _. ecb_block-drop key text q j))
 
--- a piece further
+-- one more part
 module _ (key given taken piece kept out all after : List ℕ) (n len : ℕ)
     (k : kept ≡ drop (16 * (length taken / 16)) taken) (l : len ≡ length kept) (is : n ≡ (len + length piece) / 16)
     (a : after ≡ taken ++ piece) (o : all ≡ given ++ out) (size : length out ≡ 16 * n) where

@@ -1,4 +1,4 @@
--- Kept bytes with a piece behind them.
+-- Buffered bytes with a part behind them.
 use Rattle.std.proofs.Common.{◌≡◌, ℕ, suc, ◌+◌, ◌-◌, ◌*◌, ◌/◌, ◌%◌, ◌≤◌, List, [], ◌∷◌, ◌++◌, length, take, drop, ap, sym, ◌∙◌, arith}
 use Rattle.std.proofs.lemmas.List.{append-nil, drop-append-le, drop-drop, drop_at, drop_all, length-append, length-drop, length-take-le}
 use borrow.Rule.Slice.PartMut.{put_mid}
@@ -36,7 +36,7 @@ block_of-first block piece new n l lt le e =
     (λ t. take n block ++ (e t ++ none t)) ∙ ap (λ x. take n block ++ x) (append-nil (take (16 - n) piece))
     ∙ sym (take-past (take n block) piece (16 - n)) ∙ ap (λ k. take k (take n block ++ piece)) s
 
--- ---- q blocks are done, and what is behind them is kept
+-- ---- q blocks are done, and what is behind them is buffered
 
 pub joined : (taken piece kept : List ℕ) (q : ℕ) → 16 * q ≤ length taken → kept ≡ drop (16 * q) taken → kept ++ piece ≡ drop (16 * q) (taken ++ piece)
 joined taken piece kept q whole k = ap (λ l. l ++ piece) k ∙ sym (drop-append-le (16 * q) taken piece whole)
@@ -55,7 +55,7 @@ next_count taken piece kept k =
     let size : length kept ≡ length taken % 16 = ap length k ∙ length-drop (16 * (length taken / 16)) taken ∙ omega arith in
     omega (arith, length-append taken piece)
 
--- and those before the bytes held back
+-- and those before the bytes that stay buffered
 pub next_done : (held : ℕ) (taken piece kept : List ℕ) → held ≤ 1 → kept ≡ drop (16 * blocks_done held taken) taken
     → blocks_done held taken + (length kept + length piece - held) / 16 ≡ blocks_done held (taken ++ piece)
 next_done held taken piece kept le k =
@@ -70,7 +70,7 @@ pub begun_held : (held : ℕ) (kept taken : List ℕ) → kept ≡ [] → taken 
 begun_held held kept taken k none =
     k ∙ sym (drop_all (16 * blocks_done held []) [] (omega arith)) ∙ ap (λ l. drop (16 * blocks_done held l) l) (sym none)
 
--- how many bytes wait
+-- how many bytes are buffered
 pub waiting-whole : (taken given kept : List ℕ) → length given ≡ 16 * (length taken / 16) → kept ≡ drop (16 * (length taken / 16)) taken
     → length kept ≡ length taken - length given
 waiting-whole taken given kept g k = ap length k ∙ length-drop (16 * (length taken / 16)) taken ∙ omega (arith, g)
@@ -79,7 +79,7 @@ pub waiting-held : (held : ℕ) (taken given kept : List ℕ) → length given �
     → length kept ≡ length taken - length given
 waiting-held held taken given kept g k = ap length k ∙ length-drop (16 * blocks_done held taken) taken ∙ omega (arith, g)
 
--- a piece further
+-- one more part
 module _ (taken piece kept after : List ℕ) (n len : ℕ) (k : kept ≡ drop (16 * (length taken / 16)) taken)
     (l : len ≡ length kept) (is : n ≡ (len + length piece) / 16) (a : after ≡ taken ++ piece) where
   pub whole : 16 * (length taken / 16) ≤ length taken
@@ -97,7 +97,7 @@ module _ (taken piece kept after : List ℕ) (n len : ℕ) (k : kept ≡ drop (1
       → length all ≡ 16 * (length after / 16)
   size_after given out all g o e = ap length e ∙ length-append given out ∙ omega (arith, g, o, count_after)
 
--- and where bytes are held back
+-- and where bytes stay buffered until the final part
 module _ (held : ℕ) (taken piece kept after : List ℕ) (n total len : ℕ) (le : held ≤ 1) (k : kept ≡ drop (16 * blocks_done held taken) taken)
     (l : len ≡ length kept) (t : total ≡ len + length piece - held) (is : n ≡ total / 16) (a : after ≡ taken ++ piece) where
   pub whole_held : 16 * blocks_done held taken ≤ length taken

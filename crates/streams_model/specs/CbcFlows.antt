@@ -5,12 +5,12 @@ use Rattle.fips_197.specs.KeyExpansion.{IsKey}
 use Rattle.aes_modes.specs.Modes.{cbc_blocks}
 use Rattle.streams_model.specs.Flows.{Flow, blocks_done}
 
--- the whole blocks taken are encrypted to the bytes given
+-- the whole blocks taken are encrypted to the output so far
 pub record IsCbcEncrypted (f : Flow) : Type 0 where
   pub size : length f.given ≡ 16 * (length f.taken / 16)
   pub out : f.given ≡ cbc_blocks f.key f.iv f.taken (length f.taken / 16)
 
--- the bytes given are encrypted to the blocks taken before those held back
+-- the output so far is encrypted to the blocks taken before those buffered
 pub record IsCbcDecrypted (f : Flow) : Type 0 where
   pub size : length f.given ≡ 16 * blocks_done f.held f.taken
   pub back : cbc_blocks f.key f.iv f.given (blocks_done f.held f.taken) ≡ take (16 * blocks_done f.held f.taken) f.taken

@@ -5,12 +5,12 @@ use Rattle.fips_197.specs.KeyExpansion.{IsKey}
 use Rattle.aes_modes.specs.Modes.{ecb_blocks}
 use Rattle.streams_model.specs.Flows.{Flow}
 
--- the whole blocks taken are encrypted to the bytes given
+-- the whole blocks taken are encrypted to the output so far
 pub record IsEcbEncrypted (f : Flow) : Type 0 where
   pub size : length f.given ≡ 16 * (length f.taken / 16)
   pub out : f.given ≡ ecb_blocks f.key f.taken (length f.taken / 16)
 
--- the bytes given are encrypted to the whole blocks taken
+-- the output so far is encrypted to the whole blocks taken
 pub record IsEcbDecrypted (f : Flow) : Type 0 where
   pub size : length f.given ≡ 16 * (length f.taken / 16)
   pub back : ecb_blocks f.key f.given (length f.taken / 16) ≡ take (16 * (length f.taken / 16)) f.taken

@@ -1,4 +1,4 @@
--- What a copy or a change makes of an object, and why it makes nothing, tell nothing of a value that is kept back.
+-- What a copy or a change makes of an object, and why it makes nothing, reveal nothing of a masked value.
 use Rattle.std.proofs.Common.{◌≡◌, ◌≢◌, ℕ, Bool, true, cond, ◌&&◌, ◌||◌, not, List, [], ◌∷◌, Option, Some, None, refl, sym, ap, ◌∙◌, inl, inr}
 use Rattle.std.specs.Prelude.{map, take, unwrap_or}
 use Rattle.std.specs.List.{list_any}
@@ -52,7 +52,7 @@ module _ (c : Making) (alt : alters c ≡ true) (s : SessionState) where
     | inr other ↦ ap (λ k. read_only_by k e.attr_type (attribute (mask o) e.attr_type) e.value) (class_of-mask o) ∙ ap (λ a. read_only_by (class_of o) e.attr_type a e.value) (attribute-mask o e.attr_type other)
   ]
 
-  -- by what is told of the object
+  -- by what is known of the object
   abbrev fault_by : List Entry → Bool → Bool → Bool → Option Rv
   fault_by template unknown read_only excluded =
       cond unknown (Some rv.AttributeTypeInvalid) (

@@ -14,7 +14,7 @@ use Rattle.templates.specs.Faults.{form_in, fits_form_of, is_ill_formed, is_unli
 use Rattle.templates.specs.Made.{truth, by_default, is_key_class, is_unwrap, is_generate, is_extractable, is_sensitive}
 use Rattle.templates.proofs.Entries.{both_false, not_false, any_false-attribute}
 
--- the row says what form its attribute type has
+-- the row has the form of its attribute type
 abbrev pub IsFormed : AttributeRow → Type 0
 IsFormed r = form_in attribute_table (row_number r) ≡ Some r.form
 

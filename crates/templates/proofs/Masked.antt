@@ -25,7 +25,7 @@ use Rattle.templates.proofs.Changes.{both, refused_by, kept_at, keeps_class, dat
 use Rattle.templates.proofs.Entries.{both_false, not_false, any_false-attribute}
 use Rattle.templates.proofs.NoFault.{IsFaultless}
 
--- what the rule of a given attribute says
+-- what the rule of a given attribute requires
 given_allowed : (c : Making) (s : SessionState) (k : Option ObjectClass) (original template : List Entry) (n : ℕ) (v : List ℕ) → class_of original ≡ k → list_any (is_read_only c s original) template ≡ false → attribute template n ≡ Some v
     → list_any (λ r. is_about k n r && refuses (rule c r) s (attribute original n) v) attribute_table ≡ false
 given_allowed c s k original template n v class writable given =
@@ -156,7 +156,7 @@ module _ (c : Making) (alt : alters c ≡ true) (s : SessionState) (original tem
   abbrev new : ObjectClass → List Entry
   new k = made_entries c k original template random []
 
-  -- what the rule of a flag says where it is given
+  -- what the rule of a flag requires where it is given
   allowed : (t : AttrType) (b : Bool) (v : List ℕ) → class_of original ≡ Some SecretKey → refused_by c SecretKey t s (attribute_of original t) v ≡ (b || false) → attribute_of template t ≡ Some v → b ≡ false
   allowed t b v class rule given = (both_false b false (sym rule ∙ given_allowed c s (Some SecretKey) original template (attr_type_number t) v class ok.writable given)).0
 

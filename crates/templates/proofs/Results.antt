@@ -1,4 +1,4 @@
--- What a call answers, by what it makes.
+-- What a call returns, by what it makes.
 use Rattle.std.proofs.Common.{◌≡◌, List, Option, Some, None, Result, Ok, Err, refl, sym, subst, ◌∙◌}
 use Rattle.std.specs.Prelude.{MatchResult, IfOk}
 use Rattle.ck_types.specs.declared.entry.Entry.{Entry}

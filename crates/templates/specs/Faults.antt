@@ -1,4 +1,4 @@
--- Why a template makes no object (PKCS #11 v3.1, 4.1). Each condition is tried over the whole template
+-- Why a template makes no object (PKCS #11 v3.1, 4.1). Each condition is checked over the whole template
 -- before the next one. The original is the object that is copied or changed, and empty in a call that
 -- makes a new object.
 use Rattle.std.specs.Prelude.{ℕ, Bool, true, false, ◌&&◌, ◌||◌, ◌==◌, not, List, [], ◌∷◌, length, Option, Some, None, is_none, if◌then◌else◌}

@@ -7,8 +7,8 @@ use Rattle.attrs.specs.Objects.{flag}
 use Rattle.attrs.specs.Masking.{is_masked}
 use Rattle.templates.specs.Faults.{is_so}
 
--- The value of a sensitive or unextractable key stays kept back, a key that only trusted keys may wrap
--- stays so, and only the SO makes a key trusted.
+-- The value of a sensitive or unextractable key stays masked, and a key that only trusted keys may wrap
+-- stays so. Only the SO makes a key trusted.
 pub record IsAsGuarded (s : SessionState) (old new : List Entry) : Type 0 where
   pub masked : is_masked old ≡ true → is_masked new ≡ true
   pub wrapped_by_trusted : flag old attr.WrapWithTrusted ≡ true → flag new attr.WrapWithTrusted ≡ true

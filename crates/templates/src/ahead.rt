@@ -13,7 +13,7 @@ use crate::value::flag_or;
 use ck_types::{AttrType, Rv, SessionState, Template};
 
 /// Why C_UnwrapKey doesn't take a template for a value of `len` bytes, which needn't be known yet:
-/// `unwrapped` answers the same code for a value of that length. It takes no memory.
+/// `unwrapped` returns the same code for a value of that length. It takes no memory.
 pub fn unwrap_fault(state: SessionState, template: &Template, len: usize) -> Option<Rv>
     ensures { result ≡ template_fault (calls.Unwrap len) state [] template.now }
 {

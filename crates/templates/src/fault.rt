@@ -17,7 +17,7 @@ pub enum MakeFault {
     /// The code of the first condition that holds.
     #[error("the template is refused with {0:?}")]
     Refused(Rv),
-    /// No condition holds, and there was no memory for the object.
+    /// No condition holds, and an allocation for the object failed.
     #[error("out of memory")]
     Memory,
 }

@@ -1,8 +1,8 @@
 //! How a template makes or changes an object, and why it doesn't (PKCS #11 v3.1, 4.1).
 //!
 //! `created`, `generated`, `unwrapped`, `copied` and `changed` are what C_CreateObject, C_GenerateKey,
-//! C_UnwrapKey, C_CopyObject and C_SetAttributeValue make of a template. Each answers the object, or the
-//! code of the first of these conditions that holds, each tried over the whole template before the
+//! C_UnwrapKey, C_CopyObject and C_SetAttributeValue make of a template. Each returns the object, or the
+//! code of the first of these conditions that holds, each checked over the whole template before the
 //! next one:
 //!
 //! 1. a type that no object has, or that the copied or changed object doesn't have:
@@ -17,12 +17,12 @@
 //! 7. a length that the key type doesn't have: CKR_ATTRIBUTE_VALUE_INVALID, and of an unwrapped value
 //!    CKR_WRAPPED_KEY_LEN_RANGE.
 //!
-//! A copied or changed key that is sensitive or unextractable stays so: what is kept back of it is kept
-//! back of the copy. `unwrap_fault` and its kin tell of an unwrapped key before its value is known.
+//! That code is `MakeFault::Refused`. `MakeFault::Memory` comes only where no condition holds and an allocation
+//! for the object failed.
 //!
-//! It is `MakeFault::Refused` with that code. `MakeFault::Memory` comes only where none of them holds and there
-//! was no memory for the object. Which attributes a call takes, and the defaults, are the table of the
-//! crate `attrs`.
+//! A copied or changed key that is sensitive or unextractable stays so: what is masked of it is masked
+//! in the copy. `unwrap_fault` and its kin report on an unwrapped key before its value is known.
+//! Which attributes a call takes, and the defaults, are the table of the crate `attrs`.
 //!
 //! ```
 //! let key = templates::created(alloc, state, &template, &random)?;

@@ -99,7 +99,7 @@ fn len_asked_for(template: &[Entry]) -> usize
     }
 }
 
-/// How many random bytes `generated` needs for a template: 16, and as many as CKA_VALUE_LEN says where
+/// How many random bytes `generated` needs for a template: 16, and as many as CKA_VALUE_LEN is where
 /// that is at most 512.
 pub fn random_len(template: &Template) -> usize
     ensures { result ≡ 16 + generated_len template.now }
@@ -135,7 +135,7 @@ fn make_key(
 }
 
 /// The key that C_GenerateKey makes of a template by a mechanism that generates keys. The first 16
-/// random bytes make CKA_UNIQUE_ID, those that follow are the value; `random_len` says how many.
+/// random bytes make CKA_UNIQUE_ID, those that follow are the value; `random_len` is how many.
 pub fn generated(
     alloc: Global,
     state: SessionState,
@@ -154,7 +154,7 @@ pub fn generated(
 }
 
 /// The key that C_UnwrapKey makes of a template and the unwrapped value. The first 16 random bytes make
-/// CKA_UNIQUE_ID. Where the value isn't known yet, `unwrap_fault` tells from its length whether there
+/// CKA_UNIQUE_ID. Where the value isn't known yet, `unwrap_fault` finds from its length whether there
 /// will be a key.
 pub fn unwrapped(
     alloc: Global,
@@ -200,7 +200,7 @@ fn altered(
 }
 
 /// The copy that C_CopyObject makes of an object, with the template's changes. The first 16 random
-/// bytes make its CKA_UNIQUE_ID. A value that is kept back is kept back in the copy too.
+/// bytes make its CKA_UNIQUE_ID. A masked value is masked in the copy too.
 pub fn copied(
     alloc: Global,
     state: SessionState,
@@ -222,7 +222,7 @@ pub fn copied(
     )
 }
 
-/// What C_SetAttributeValue makes of an object, with the template's changes. A value that is kept back
+/// What C_SetAttributeValue makes of an object, with the template's changes. A masked value
 /// stays so, and so does a token object, and a private one.
 pub fn changed(
     alloc: Global,

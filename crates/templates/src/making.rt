@@ -6,7 +6,7 @@ ghost use Rattle.templates.specs.Making.{rule};
 use attrs::{AttributeRow, Rule};
 use ck_types::MechType;
 
-/// A call that makes or changes an object, and what it says beside the template.
+/// A call that makes or changes an object, and what it has beside the template.
 #[derive(Clone, Copy, Debug, PartialEq, Eq)]
 pub enum Making {
     Create,

@@ -3,9 +3,9 @@ use Rattle.std.specs.Prelude.{ℕ}
 use Rattle.test_keepers.specs.declared.Failure.{Failure}
 
 pub record FailingState (K : Type 0) : Type 0 where
-  -- the keeper that is asked
+  -- the keeper that calls are passed on to
   pub keep : K
-  -- how many calls there are up to the one that fails, 0 where none does any more
+  -- how many calls there are up to the one that fails, 0 where no further one does
   pub left : ℕ
   pub failure : Failure
   pub failures : ℕ
@@ -13,6 +13,6 @@ pub record FailingState (K : Type 0) : Type 0 where
   pub tried : ℕ
 
 pub record UnreadState (K : Type 0) : Type 0 where
-  -- the keeper that is asked
+  -- the keeper that calls are passed on to
   pub keep : K
   pub failures : ℕ

@@ -1,4 +1,4 @@
-//! Keepers for tests. Each passes on what it is asked: `FailingKeep` fails once, `UnreadKeep` at each read of an object.
+//! Keepers for tests. Each passes calls on to another one: `FailingKeep` fails once, `UnreadKeep` at each read of an object.
 #![tactic(auto)]
 
 mod unread_keep;
@@ -17,7 +17,7 @@ pub use unread_keep::UnreadKeep;
 /// How a keeper fails.
 #[derive(Clone, Copy, Debug, PartialEq, Eq)]
 pub enum Failure {
-    /// It finds no memory.
+    /// An allocation fails.
     Memory,
     /// The device fails, which is counted.
     Device,
@@ -27,7 +27,7 @@ pub enum Failure {
 #[derive(Drop)]
 pub struct FailingKeep<K: Keep> {
     keep: K,
-    /// How many calls there are up to the one that fails, 0 where none does any more.
+    /// How many calls there are up to the one that fails, 0 where no further one does.
     left: u64,
     failure: Failure,
     failures: u64,
@@ -96,7 +96,7 @@ fn counted(count: u64) -> u64
     count.saturating_add(1)
 }
 
-/// Why the keeper that is asked refused. A failure of its device is counted here too.
+/// Why the keeper that calls are passed on to refused. A failure of its device is counted here too.
 fn noted(failures: &mut u64, fault: KeepFault) -> KeepFault
     ensures same { result ≡ fault }
     ensures more { failures.old ≤ failures.new }

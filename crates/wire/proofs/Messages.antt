@@ -1,4 +1,4 @@
--- What a payload says is encoded so, and what is encoded is said.
+-- What a payload decodes to is encoded so, and what is encoded is decoded.
 use Rattle.std.proofs.Common.{◌≡◌, ℕ, ◌<◌, ◌≤◌, ◌^◌, Bool, true, false, cond, ltb, List, ◌++◌, length, take, drop, Option, Some, None, Result, Ok, Err, refl, sym, ap, subst, ◌∙◌, arith}
 use Rattle.std.specs.Prelude.{IfOk}
 use Rattle.std.specs.Int.{w16, to_be_bytes, from_be_bytes}

@@ -1,4 +1,4 @@
--- What the payload of a reply says is encoded so, and what is encoded is said.
+-- What the payload of a reply decodes to is encoded so, and what is encoded is decoded.
 use Rattle.std.proofs.Common.{◌≡◌, ℕ, ◌≤◌, Bool, true, false, cond, ltb, eqb, List, [], ◌++◌, length, Option, Some, None, Result, Ok, Err, refl, sym, ap, subst, ◌∙◌, lit<}
 use Rattle.std.specs.Prelude.{IfOk, ◌||◌}
 use Rattle.std.proofs.lemmas.Bool.{ltb-false, le-ltb, eqb-true}
@@ -54,7 +54,7 @@ made_sound c to s code p ok encodes fits_to shape bytes reply fits e =
       fits = fits_to a.0 (ok_fits, t.1);
     })
 
--- what data calls answer with one of their two codes
+-- what data calls return with one of their two codes
 output_sound : (code : Rv) (x : Output) (bytes : List ℕ) (reply : Reply) → carries shapes.Output code ≡ true → bytes ≡ output.encode x → output.Fits x → (b : Bool) → eqb (rv_number code) (rv_number rv.Ok) ≡ b
     → cond b (Some (replies.Output x)) (too_small x) ≡ Some reply → IsSound shapes.Output code bytes reply
 output_sound code x bytes reply carried spelled fits true ok e =

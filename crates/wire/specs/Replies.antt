@@ -1,5 +1,5 @@
 -- Replies as bytes. The form is this project's: a return code in 64 bits, and fields where the function
--- has some with that code. The payload of a reply does not tell the function, so it is read by the
+-- has some with that code. The payload of a reply does not name the function, so it is read by the
 -- function of its call.
 use Rattle.std.specs.Prelude.{◌≡◌, ℕ, ◌<◌, ◌≤◌, ◌^◌, List, length, Option, Some, None, Result, Err, Bool, true, false, nat_lt, ◌==◌, ◌||◌, if◌then◌else◌}
 use Rattle.std.specs.List.{AllByRecursion}
@@ -107,8 +107,8 @@ Fits-reply (replies.Output out) = (pair return_code output).Fits (rv.Ok, out)
 Fits-reply (replies.BufferTooSmall wanted) = (pair return_code output).Fits (rv.BufferTooSmall, Length wanted)
 Fits-reply (replies.Random bytes) = (pair return_code byte_string).Fits (rv.Ok, bytes)
 
--- Whether no list and no byte string of a reply is above its limit, each value is as long as is told, and values come with one of
--- their codes. Then each part has an encoding, since the types bound its other numbers.
+-- Whether no list and no byte string of a reply is above its limit, and each value has the length beside it. Values come
+-- with one of their codes. Then each part has an encoding, since the types bound its other numbers.
 abbrev pub IsWithinLimits : Reply → Type 0
 IsWithinLimits (replies.MechanismList mechanisms) = length mechanisms ≤ 1024
 IsWithinLimits (replies.AttributeValues code values) = (carries shapes.AttributeValues code ≡ true) × (length values ≤ 32) × AllByRecursion attribute_value.Fits values
@@ -173,11 +173,11 @@ decode_after shape code bytes = if carries shape code then decode_carried shape 
 abbrev pub decode_reply : Shape → List ℕ → Option Reply
 decode_reply shape bytes = return_code.decode bytes >>= λ x. decode_after shape x.0 x.1
 
--- what the payload of a reply to a function says, if there is one with that number
+-- what the payload of a reply to a function decodes to, if there is one with that number
 unfoldable pub reply_said : Option Function → List ℕ → Result Reply WireFault
 reply_said (Some function) payload = or_malformed (decode_reply (shape_of function) payload)
 reply_said None payload = Err faults.UnknownFunction
 
--- what the payload of a reply to the function with a number says
+-- what the payload of a reply to the function with a number decodes to
 unfoldable pub reply_in : ℕ → List ℕ → Result Reply WireFault
 reply_in n payload = if nat_lt most (length payload) then Err faults.TooLong else reply_said (function_at n) payload

@@ -5,10 +5,10 @@
 //! reply is its code in 64 bits and its fields.
 //!
 //! - `read_call` and `read_reply` read just what `write_call` and `write_reply` write: what is read is
-//!   encoded so, what is encoded so is read, and each fault comes just where its condition stands.
-//! - `FrameReader` gives the payloads of a stream that comes in pieces, however it is cut, and no
-//!   others. `peek` shows the next where it lies, and `consume` lets it go. After a length above the limit it
-//!   answers `TooLong` for ever.
+//!   encoded so, what is encoded so is read, and each fault is returned just where its condition holds.
+//! - `FrameReader` returns the payloads of a byte stream, in whatever chunks it comes, and no others. `peek`
+//!   returns the next one without a copy, and `consume` drops it. After a length above the limit it returns
+//!   `TooLong` for ever.
 //! - `write_reply_over` writes a reply's frame over the last one, whose memory it takes.
 //!
 //! ```

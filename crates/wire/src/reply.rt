@@ -165,8 +165,8 @@ fn reply_in(alloc: Global, function: u16, payload: &[u8]) -> Result<Reply, WireF
 ///
 /// # Errors
 ///
-/// `TooLong` for a payload above the limit, else `UnknownFunction` where no function has the number,
-/// else `Malformed` where the payload is no reply to that function, else `Memory`.
+/// The first that applies: `TooLong` for a payload above the limit; `UnknownFunction` where no function has the
+/// number; `Malformed` where the payload is no reply to that function; `Memory`.
 pub fn read_reply(alloc: Global, function: u16, payload: &[u8]) -> Result<Reply, WireFault>
     // What is read is encoded so.
     ensures found { IfOk result (λ reply. IsReplyAt function reply × (payload.now ≡ reply_payload reply)) }
@@ -248,7 +248,7 @@ pub fn write_reply(alloc: Global, reply: &Reply) -> Result<Vec<u8>, WireFault>
 ///
 /// # Errors
 ///
-/// As `write_reply`. What the vector then holds is not said.
+/// As `write_reply`. What the vector then holds is not specified.
 pub fn write_reply_over(frame: &mut Vec<u8>, reply: &Reply) -> Result<(), WireFault>
     ensures writes { Writes (reply_payload reply.now) (Fits-reply reply.now) (result_with result frame.new) }
     ensures fits { IsWithinLimits reply.now → Fits-reply reply.now }

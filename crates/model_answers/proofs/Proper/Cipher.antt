@@ -20,7 +20,7 @@ use Rattle.model_answers.specs.Cipher.{further_by, single_function, update_funct
 use Rattle.model_answers.proofs.Proper.CipherInit.{with_operation-mask, operation-mask, blind-ends}
 use Rattle.model_views.proofs.Checks.{Condition, View, mask, shown, replies, session_of, tokens-twice, own-twice, sessions-twice, record-twice, IsProper, IsFair, blind-reply, blind-becomes, fair, blind-row, fair-row, blind-checked_by, fair-checked_by, row-session}
 
--- the length that is wanted is known without the key
+-- the buffer length that is needed is known without the key
 wanted-mask : (o : Option Operation) (part : Part) (n : ℕ) → wanted part (text_of (operation_or (option_map mask_operation o))) n ≡ wanted part (text_of (operation_or o)) n
 wanted-mask None part n = refl
 wanted-mask (Some o) Update n = refl
@@ -53,7 +53,7 @@ module _ (d : Direction) (v : View) (s : ℕ) (part : Part) (input : List ℕ) w
   blind-says n SmallBuffer = blind-reply v (replied.BufferTooSmall n)
   blind-says n row = blind-row v row
 
-  -- a question is shown without the value of its key
+  -- a pending call is revealed without the value of its key
   blind-asks : (f : Function) (o : Option Operation) → shown (asks (mask v) f s (Ciphers part (operation_or (option_map mask_operation o)) input)) ≡ shown (asks v f s (Ciphers part (operation_or o) input))
   blind-asks f None = rw (tokens-twice v.tokens, own-twice v.own, sessions-twice v.sessions.sessions, record-twice v.token_record) refl
   blind-asks f (Some o) = rw (tokens-twice v.tokens, own-twice v.own, sessions-twice v.sessions.sessions, record-twice v.token_record) refl

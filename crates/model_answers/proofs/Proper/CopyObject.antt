@@ -26,7 +26,7 @@ copy-mask x y same v s o fault row = ap (λ state. makes_row (mask v) state faul
 abbrev copy_of : Option Rv → List Entry → List Entry → List ℕ → List Entry
 copy_of fault o template random = made_by fault (object_made Copy o template random [])
 
--- what is made of the object is shown alike
+-- what is made of the object is revealed alike
 same-copy : (state : SessionState) (o template : List Entry) (random : List ℕ) (fault : Option Rv) → template_fault Copy state o template ≡ fault
     → mask_object (copy_of fault (mask_object o) template random) ≡ mask_object (copy_of fault o template random)
 same-copy state o template random (Some code) is = refl

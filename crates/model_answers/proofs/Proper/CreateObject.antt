@@ -52,7 +52,7 @@ blind-session_object v s o =
       map-push mask_session_object v.own (record { object = o; handle = v.next_handle; session = s }),
     ) refl
 
--- objects that are shown alike
+-- objects that are revealed alike
 module _ (x y : List Entry) (same : mask_object x ≡ mask_object y) where
   same-flag : (t : AttrType) → attr_type_number t ≢ attr_type_number attr.Value → flag x t ≡ flag y t
   same-flag t other = sym (flag-mask x t other) ∙ ap (λ o. flag o t) same ∙ flag-mask y t other

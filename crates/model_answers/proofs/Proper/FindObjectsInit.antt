@@ -1,4 +1,4 @@
--- C_FindObjectsInit: a match is one of the object without what is kept back, so what is found is too.
+-- C_FindObjectsInit: a match is one of the object without what is masked, so what is found is too.
 use Rattle.std.proofs.Common.{◌≡◌, ℕ, ◌+◌, Bool, true, false, cond, List, [], ◌∷◌, ◌++◌, map, Some, refl, ◌∙◌, ap}
 use Rattle.std.specs.Prelude.{◌&&◌, filter, is_none, is_some}
 use Rattle.std.specs.Option.{unwrap_or}

@@ -53,7 +53,7 @@ module _ (v : View) (s : ℕ) where
   blind-verify_says SignatureLength = blind-mac_ends v s place.Verify SignatureLength
   blind-verify_says row = blind-row v row
 
-  -- questions are shown without the values of their keys
+  -- pending calls are revealed without the values of their keys
   blind-signs : (f : Function) (o : Option MacOperation) (input : List ℕ) (buffer_len : Option ℕ) → shown (signs f (mask v) s (option_map mask_mac o) input buffer_len) ≡ shown (signs f v s o input buffer_len)
   blind-signs f o input buffer_len =
       rw (length-mask o) (blind-checked_by f (sign_row (mask v) s (option_map mask_mac o) buffer_len) (sign_row v s o buffer_len) (sign_says (mask v) s (signature_length o)) (sign_says v s (signature_length o)) (asks (mask v) f s (Signs (mac_or (option_map mask_mac o)) input)) (asks v f s (Signs (mac_or o) input))

@@ -22,7 +22,7 @@ use Rattle.model_answers.proofs.Templates.{fault-plain}
 use Rattle.model_answers.proofs.Proper.CreateObject.{makes-told, makes-fair}
 use Rattle.model_views.proofs.Checks.{Entry, mask_object, Condition, View, mask, mask_token_object, mask_session_object, shown, object_at, index_of, tokens-twice, own-twice, sessions-twice, question-twice, record-twice, object-mask, index-mask, IsProper, IsFair, fair, blind-checked_by, fair-checked_by, row-session, none-masked, flag-masked, state-mask}
 
--- objects that are shown alike are put in one place
+-- objects that are revealed alike are put at one index
 module _ (x y : List Entry) (same : mask_object x ≡ mask_object y) where
   rewritten-shown : (ts : List TokenObject) (index : ℕ) → map mask_token_object (rewritten (map mask_token_object ts) index x) ≡ map mask_token_object (rewritten ts index y)
   rewritten-shown [] index = refl
@@ -75,7 +75,7 @@ set-mask v s o fault _ = refl
 abbrev set_of : Option Rv → List Entry → List Entry → List Entry
 set_of fault o template = made_by fault (object_made Set o template [] [])
 
--- what is made of the object is shown alike
+-- what is made of the object is revealed alike
 same-set : (state : SessionState) (o template : List Entry) (fault : Option Rv) → template_fault Set state o template ≡ fault → mask_object (set_of fault (mask_object o) template) ≡ mask_object (set_of fault o template)
 same-set state o template (Some code) is = refl
 same-set state o template None is = made-mask Set refl state o template [] is

@@ -1,4 +1,4 @@
--- C_UnwrapKey: the question, and its result.
+-- C_UnwrapKey: the pending call, and its result.
 use Rattle.std.proofs.Common.{◌≡◌, ◌-◌, ◌^◌, ℕ, Bool, true, false, cond, not, List, [], ◌∷◌, length, Option, Some, None, refl, ◌∙◌, ap, arith}
 use Rattle.std.specs.Prelude.{◌&&◌, is_some, nat_lt}
 use Rattle.std.specs.Option.{unwrap_or, option_map}
@@ -53,7 +53,7 @@ module _ (v : View) (s : ℕ) (m : Mechanism) (wrapped : List ℕ) (template : L
   blind-says fault TemplateRefused = makes-told v fault TemplateRefused
   blind-says fault row = blind-row v row
 
-  -- the question is shown without the value of its key
+  -- the pending call is revealed without the value of its key
   blind-unwraps : (key : Option (List Entry)) (state : SessionState) (fault : Option Rv) → shown (unwraps (mask v) s m (option_map mask_object key) wrapped template random state fault) ≡ shown (unwraps v s m key wrapped template random state fault)
   blind-unwraps key state fault =
       let o = key_ahead template random (length wrapped - 8) in
@@ -93,7 +93,7 @@ may-mask v s = ap (λ b. b && nat_lt v.next_handle (2 ^ 63)) (ap is_some (sessio
   of None = refl
   of (Some x) = refl
 
--- of an object that is shown alike
+-- of an object that is revealed alike
 blind-where : (v : View) (s : ℕ) (x y : List Entry) → mask_object x ≡ mask_object y → shown (adds_where (mask v) s (state_in (mask v) s) x) ≡ shown (adds_where v s (state_in v s) y)
 blind-where v s x y same =
     ap (λ state. shown (adds_where (mask v) s state x)) (state-mask v s)

@@ -48,7 +48,7 @@ module _ (v : View) (s : ℕ) (m : Mechanism) where
   blind-says n SmallBuffer = blind-reply v (replied.BufferTooSmall n)
   blind-says n row = blind-row v row
 
-  -- the question is shown without the values of both keys
+  -- the pending call is revealed without the values of both keys
   blind-wraps : (wrapping key : Option (List Entry)) (buffer_len : Option ℕ) → shown (wraps (mask v) s m (option_map mask_object wrapping) (option_map mask_object key) buffer_len) ≡ shown (wraps v s m wrapping key buffer_len)
   blind-wraps wrapping key buffer_len =
       let task = WrapsKey (attribute_of (unwrap_or wrapping []) attr.Value) (attribute_of (unwrap_or key []) attr.Value) in

@@ -9,7 +9,7 @@ use Rattle.aes_kw.proofs.Rows.{written-back, first-dropped}
 use Rattle.aes_kw.proofs.Only.{start, back-more, only-more, wrapped-row, row-from-wrapped, first-from-start, rest-from-start}
 use Rattle.aes_kw.proofs.wrapping.unwrap.Goals as goal
 
--- what the test of the check value says
+-- what the test of the check value finds
 decided : (a : List ℕ) → Decides (pointwise eqb a initial_value) (a ≡ initial_value)
 decided a = slice_eq-Decides Decides-eqb a initial_value (pointwise eqb a initial_value) refl
 

@@ -35,7 +35,7 @@ turns-preserved c =
     ∙ ctr_blocks-more c.args.key.now c.args.bits start c.args.text.now c.turns.out.items block c.turns.i
     c.turns.invariant output
 
--- what the rest is not, where the test says so
+-- a number is above 0 where the test finds that it isn't 0
 some : (n : ℕ) → false ≡ (n == 0) → 0 < n
 some n test = grind (arith, nat_tests)
 
