@@ -1,10 +1,10 @@
 //! Calls that encrypt and decrypt (PKCS #11 v3.1, 5.8 and 5.10): they begin an operation of a session under a key, and
 //! work on data, all at once or in parts.
 //!
-//! Both directions are served by the same functions. Each answers by the rows of its call's table. Its clauses say that the
-//! answer is the written one to what the application sees, or that it was refused and nothing has changed: `IsDone` where a
-//! key is read from the store, `AtDesk` where none is. Work with a key is a question: the call gives a job, and
-//! `cipher::piece`, `cipher::rest` and `cipher::bad_padding` answer its outcome.
+//! Both directions are served by the same functions. Each returns the code of the first check of its call's table that fails.
+//! Its clauses say that the answer is the written one to what the application sees, or that it was refused and nothing has
+//! changed: `IsDone` where a key is read from the store, `AtDesk` where none is. Work with a key is a job, and `cipher::piece`,
+//! `cipher::rest` and `cipher::bad_padding` take its outcome.
 //!
 //! ```text
 //! settle(cipher_init::serve(alloc, desk, store, Direction::Encrypt, session, mechanism, key))

@@ -17,7 +17,7 @@ use keep::Keep;
 use precede::Condition;
 use serve_base::{Refusal, Store};
 
-/// Adds an object, if a session in this state may and there is room.
+/// Adds an object, if a session in this state may and the limit of session objects isn't reached.
 pub fn add_object<K: Keep>(
     desk: &mut Desk,
     store: &mut Store<K>,
@@ -45,7 +45,7 @@ pub fn add_object<K: Keep>(
     Ok(Reply::Object(desk.add_own(session, object)?))
 }
 
-/// There is room for the handle before the object is written.
+/// Adds a token object. Memory for its handle is allocated before the object is written.
 fn add_token_object<K: Keep>(
     desk: &mut Desk,
     store: &mut Store<K>,

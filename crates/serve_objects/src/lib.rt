@@ -1,9 +1,12 @@
 //! Calls on objects (PKCS #11 v3.1, 5.7): they make, copy, read, change and destroy session and token objects.
 //!
-//! Each function answers by the rows of its call's table. Its one clause (`IsDone`) says that the answer is the written
-//! one to what the application sees, or that it was refused and nothing has changed; how many writes it tries; and
-//! that the device is to blame only where a failure of the keeper was counted. What is wanted of memory is had before
-//! the one write, and what follows the write can't fail.
+//! Each function returns the code of the first check of its call's table that fails. Its one clause (`IsDone`) says three
+//! things:
+//! - the answer is the written one to what the application sees, or it was refused and nothing has changed;
+//! - how many writes it tries;
+//! - `CKR_DEVICE_ERROR` comes only where a failure of the keeper was counted.
+//!
+//! Each allocates first, writes once, then can't fail.
 //!
 //! ```text
 //! settle(create_object::serve(alloc, desk, store, session, &template, random))

@@ -1,11 +1,11 @@
-//! Calls that search for objects (PKCS #11 v3.1, 5.7.5 to 5.7.7).
+//! Calls that search for objects (PKCS #11 v3.1, 5.7.7 to 5.7.9).
 //!
 //! C_FindObjectsInit reads each object that the application sees once, and gives handles to those that its template finds
-//! and that have none. C_FindObjects answers the handles, a part at a time, and C_FindObjectsFinal ends the search.
+//! and that have none. C_FindObjects returns the handles, a part at a time, and C_FindObjectsFinal ends the search.
 //!
-//! Each function answers by the rows of its call's table. Its one clause (`IsDone`, or `AtDesk` where no object is read)
-//! says that the answer is the written one to what the application sees, or that it was refused and nothing has changed.
-//! What is wanted of memory is had before the first handle is given, and what follows can't fail.
+//! Each function returns the code of the first check of its call's table that fails. Its one clause (`IsDone`, or `AtDesk`
+//! where no object is read) says that the answer is the written one to what the application sees, or that it was refused and
+//! nothing has changed. All memory is allocated before the first handle is given, and what follows can't fail.
 //!
 //! ```text
 //! settle(find_objects_init::serve(alloc, desk, store, session, &template))
