@@ -13,7 +13,7 @@ use std::alloc::{AllocError, Global};
 use std::io;
 use std::time::CpuClock;
 
-// The call of the event of this number: each of two applications opens a session, and then asks after it.
+// The call of the event of this number: each of two applications opens a session, and then calls C_GetSessionInfo.
 fn event(alloc: Global, number: u32) -> Event
     ensures { HasRandom result }
 {

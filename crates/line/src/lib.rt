@@ -10,7 +10,8 @@
 //!
 //! ```
 //! let mut words = Words::for_app([0; 32], 0);
-//! let (mut reader, mut writer) = (Watched::new(input), Watched::new(output));
+//! let mut reader = Watched::new(input);
+//! let mut writer = Watched::new(Vec::<u8>::new(alloc));
 //! let replies = serve_one(alloc, &mut reader, &mut writer, &mut token, &mut words)?;
 //! ```
 #![tactic(auto)]
