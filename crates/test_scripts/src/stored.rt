@@ -14,7 +14,7 @@ const STORED: &[u8; 142] = b"\x02\x01the token of the tests          \
       \xa8\x88\xeb\x27\x41\x68\x58\x17\x12\x20\x45\xa4\x50\x5d\xc5\x08\
       \xc2\x2f\xb8\x83\x60\xee\x29\x1f\xa5\x4e\x25\xb1\x6b\xd0\x38\xdf\x00";
 
-/// The places of the SO's tries and of the user's.
+/// The offsets of the SO's tries and of the user's.
 const SO_TRIES: usize = 87;
 
 const USER_TRIES: usize = 141;

@@ -1,4 +1,4 @@
-//! What the scripts speak of beside what all do: keys, texts, mechanisms and codes; and how each is played.
+//! What the scripts have beside what all have: keys, texts, mechanisms and codes; and how each is played.
 
 use ck_types::{AttrType, Rv};
 use std::alloc::Global;
@@ -106,13 +106,13 @@ pub(super) const WRONG_LENGTH: Told = Told::Code(Rv::DataLenRange);
 
 pub(super) const WRONG_ENCRYPTED_LENGTH: Told = Told::Code(Rv::EncryptedDataLenRange);
 
-/// Sees that a token with the keys goes as the rows say, which leave no question pending: by calls one after the other, and
+/// Sees that a token with the keys goes as the rows are written, which leave no call pending: by calls one after the other, and
 /// in one list of events.
 pub(super) fn play_and_run(alloc: Global, rows: &[Row]) -> Result<(), Fail> {
     test_scripts::play_and_run(alloc, BEFORE, rows)
 }
 
-/// The same for rows some of which leave a question pending until its own row.
+/// The same for rows some of which leave a call pending until its own row.
 pub(super) fn play_and_run_questions(alloc: Global, rows: &[Row]) -> Result<(), Fail> {
     test_scripts::play_and_run_questions(alloc, BEFORE, rows)
 }
