@@ -127,7 +127,7 @@ fn marked(mut body: Vec<u8>) -> Vec<u8> {
     body
 }
 
-/// The objects, of which the one at a place is a byte short, or has another first byte.
+/// The objects, of which the one at an index is a byte short, or has another first byte.
 fn spoilt(
     alloc: Global,
     objects: Vec<(i64, Vec<u8>)>,

@@ -37,7 +37,7 @@ impl Charges {
         Ok(true)
     }
 
-    /// Ends the check of the application, and tells whether its PIN is right.
+    /// Ends the check of the application, and returns whether its PIN is right.
     pub(super) fn end(&mut self, app: u64) -> Result<bool, Fail> {
         let is_right = self.under_way.iter().any(|check| *check == (app, true));
         if is_right {
