@@ -1,8 +1,8 @@
 //! The speed of `aes_block`, `aes_modes`, `aes_cmac`, `hmac_sha2`, `token` and `line`, printed as a table. It is measured, and
 //! nothing of it is proved but that the program is safe and ends.
 //!
-//! With no argument it works, for each key length, on 64 MiB or a million keys a row, and prints
-//! nanoseconds of processor time for a block or a key, and millions of bytes or keys a second:
+//! With no argument it works, for each key length, on 64 MiB or a million keys a row. It prints nanoseconds of processor time for
+//! a block or a key, and millions of bytes or keys a second:
 //!
 //! - blocks that don't depend on one another: a text of 64 KiB, encrypted over and over;
 //! - a chain: each block is what the one before was encrypted to, so that none begins before that is done;
@@ -123,8 +123,8 @@ const OVER: &[(&str, u32, u32)] = &[
     ("a search by label over 10,000", 10_000, 100),
 ];
 
-/// The lengths of the texts that go through a line, the longest that a frame of C_Encrypt has among them, with how many there
-/// are of each, and the parts that they come in; 0 for the cipher alone.
+/// The texts that go through a line: their length, their number, and the length of the parts that they come in, 0 for the cipher
+/// alone. The longest text that a frame of C_Encrypt can have is among them.
 const THROUGH: &[(&str, u32, u32, usize)] = &[
     ("ECB of 64,000 alone", 64_000, 200, 0),
     ("a line, 64,000 by 4,096", 64_000, 200, 4096),

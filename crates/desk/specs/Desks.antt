@@ -13,9 +13,9 @@ use Rattle.sessions.specs.Sessions.{SessionTable, no_sessions, without_session, 
 use Rattle.desk.specs.declared.own_object.OwnObject.{OwnObject}
 use Rattle.ops.specs.Operations.{Operations, no_operations}
 
--- One application's sessions with their operations and its login, its session objects in the order of their creation, its
--- handles of token objects, the pending call, and the number of the next job. `own_capacity` is how many session objects fit
--- without an allocation.
+-- The state of one application. It has its sessions with their operations and its login, its session objects in the order of
+-- their creation, and its handles of token objects. Then it has the pending call, and the number of the next job.
+-- `own_capacity` is how many session objects fit without an allocation.
 pub record DeskState : Type 0 where
   pub sessions : SessionTable Operations
   pub own : List OwnObject

@@ -66,8 +66,8 @@ pub record IsKnown (taken : List (ℕ × Event)) (s : ℕ) (given : List Out) (p
 
 -- ---- one history
 
--- What seat s did is what the history has of it: what it got, as the pass of its outward channel knows it, are its answers
--- there, and what it reports grew by its events and replies there.
+-- What seat s did is what the history has of it. What it got, as the pass of its outward channel knows it, are its answers
+-- there. What it reports grew by its events and replies there.
 pub record IsPartOf (history : History) (s : ℕ) (pass : OutwardView) (asked0 asked1 : Option (List SeatEvent)) (heard0 heard1 : Option (List (ℕ × Reply))) : Type 0 where
   pub got : got_of pass ≡ answers (of s history)
   pub asked : Grows asked0 (asked_in (of s history)) asked1

@@ -21,14 +21,6 @@
 //! Termination and fairness are not proved: a seat that never returns that there is no more is held for ever, and so is one
 //! before a `Gate` that is never passed. That a fault comes only where an allocation or a thread's start failed, and that no
 //! seat was called then, stands in no clause either: tests show it.
-//!
-//! ```text
-//! let seats = (Client::new(0), Client::new(1), Client::new(2), Client::new(3)); // a type that is a `Seat`
-//! match hold(rt, alloc, token, seats, &gate) {
-//!     Ok(Held { token, seats, .. }) => .., // each seat has no more
-//!     Err((fault, token)) => .., // HallFault::Memory or HallFault::Thread
-//! }
-//! ```
 #![tactic(auto)]
 
 mod closing;

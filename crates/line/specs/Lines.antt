@@ -80,7 +80,7 @@ answers (Err fault ∷ ms) told = refusal_of fault ∷ answers ms told
 -- ---- runs
 
 -- From w these acts took place, each as it goes or refused by a resource error, and this was returned. The token refines the
--- world after them, no call is pending, and a crash leaves the changes that were acknowledged, and perhaps one that was tried
+-- world after them, and no call is pending. A crash leaves the changes that were acknowledged, and perhaps one that was tried
 -- since, whole. What each application gets and sees of it follows from the moves by the token's laws.
 pub record Moved (showing : World → Type 0) (prior left : Option Lasting → Type 0) (w : World) (done : List (ℕ × Act)) (told : List (ℕ × Reply)) : Type 0 where
   pub moves : List Move

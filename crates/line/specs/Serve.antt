@@ -85,8 +85,8 @@ WritesBy old new (Err faults.TooLong) = Unfailing old new
 WritesBy old new (Err faults.Cut) = Unfailing old new
 WritesBy old new (Err faults.Memory) = Unfailing old new
 
--- What was read is the frames of payloads and a rest, and what was written is the frames of the replies to these payloads, in
--- order, as far as it came; `leads` says that these are the replies.
+-- What was read is the frames of payloads and a rest. What was written is the frames of the replies to these payloads, in order,
+-- as far as it came; `leads` says that these are the replies.
 pub record Serves (leads : List Message → List Reply → Type 0) (read_old read_new write_old write_new : Option (List ℕ)) (r : Result ℕ LineFault) : Type 0 where
   pub payloads : List (List ℕ)
   pub rest : List ℕ

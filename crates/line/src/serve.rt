@@ -223,10 +223,10 @@ fn serve_frames<R: Read, W: Write, K: Keep>(
 /// whole. It returns how many replies were written; that count stays at its greatest value. After any outcome the application
 /// is disconnected.
 ///
-/// What was written is the frames of the replies to the messages of what was read, in order, whatever parts the reader gives
-/// and the writer takes. Each reply has a frame. The reply to a payload that is no call is `CKR_ARGUMENTS_BAD`, and
-/// `CKR_FUNCTION_NOT_SUPPORTED` where it names no known function; neither changes the token nor takes random bytes. Each call
-/// takes the next of `words` that it needs, whether or not it succeeds, and is answered by the token.
+/// What was written is the frames of the replies to the messages of what was read, in order. The parts in which the reader
+/// gives and the writer takes don't matter. Each reply has a frame. The reply to a payload that is no call is
+/// `CKR_ARGUMENTS_BAD`, and `CKR_FUNCTION_NOT_SUPPORTED` where it names no known function. Neither changes the token nor takes
+/// random bytes. Each call takes the next of `words` that it needs, whether or not it succeeds, and is answered by the token.
 ///
 /// # Errors
 ///
@@ -250,8 +250,8 @@ pub fn serve_one<R: Read, W: Write, K: Keep>(
 ) -> Result<u64, LineFault>
     // No call is pending.
     requires { (w : World) → Shows K.terms token.old w → HasJobs w [] }
-    // The bytes written are the frames of the replies to the messages of the bytes read. While the store is faithful, these are
-    // a run of the token from each world that it refined, and it refines the world after that, without the application.
+    // The bytes written are the frames of the replies to the messages of the bytes read. While the store is faithful, these are a
+    // run of the token from each world that it refined. It refines the world after that, without the application.
     ensures serves { Serves (LeadsAway K.terms words.old.stream token.old token.new words.old words.new) (R.remaining reader.old.inner) (R.remaining reader.new.inner) (W.contents writer.old.inner) (W.contents writer.new.inner) result }
     // `Read` comes only where a read failed, or after 2^64 - 1 reads, and no failure is passed over.
     ensures reads { ReadsBy reader.old reader.new result }

@@ -12,7 +12,7 @@ use sqlite::{Connection, Error, FileStore, Row};
 use sqlite_disk::Memory;
 use std::alloc::Global;
 
-/// Where a SQLite file's header has the number of bytes that each page keeps for checksums, and how many the checksums take
+/// The offset in a SQLite file's header of the number of bytes that each page keeps for checksums, and how many these take
 /// (sqlite.org/fileformat2.html, 1.3.4, and cksumvfs.html).
 const RESERVED: usize = 20;
 

@@ -16,7 +16,7 @@
 //! after the other from a listener. The c-th connection of seat s, both from 0, is application 4c + s. The seat reads frames and
 //! gives their calls, and writes the frames of replies. A payload that is no call is answered at once.
 //!
-//! A connection ends at a frame that is too long or is cut off, at a read or a write that fails, and at an allocation failure.
+//! A connection ends at a frame that is too long or is cut off, at a failed read or write, and at an allocation failure.
 //! That is logged, and its application disconnects. Once the daemon is to end, a seat accepts and reads no more. `Journal` is a
 //! log on standard error, as a journal reads it.
 //!

@@ -12,12 +12,6 @@
 //!
 //! That clause is `IsDone` where the call reads or writes the store, and `AtDesk` where it doesn't. It is `IsDoneAs` where the
 //! call returns a job and writes, or where its answer depends on what the store has.
-//!
-//! ```text
-//! let _ = desk.state(session).ok_or(Condition::NoSession)?;
-//! let found = find(alloc, desk, store, handle)?.ok_or(Condition::NoObject)?;
-//! Ok(Reply::ObjectSize(size(&found.object)))
-//! ```
 #![tactic(auto)]
 
 mod asking;

@@ -107,8 +107,8 @@ impl<K: Keep> Store<K> {
         Ok(Some(self.keep.object(alloc, id)?))
     }
 
-    /// Finds the token objects that one who is logged in so sees and the template finds, in the order of their creation, and
-    /// appends them to what was found before. Each object is read once.
+    /// Finds the token objects that one who is logged in so sees and the template finds. Appends them to what was found before, in
+    /// the order of their creation. Each object is read once.
     pub fn search(
         &mut self,
         alloc: Global,

@@ -28,7 +28,8 @@ use streams::{Part, Stream};
 
 /// C_Encrypt, C_Decrypt (PKCS #11 v3.1, 5.8 and 5.10). Codes: the checks of C_Encrypt and C_Decrypt (`precede`). Returns a job
 /// for the output of `input`. Without a buffer it returns the output's length, in bytes; with a short one
-/// `CKR_BUFFER_TOO_SMALL`; then the operation stays. Any other code of a check that is met in an operation ends it.
+/// `CKR_BUFFER_TOO_SMALL`; then the operation stays. After earlier data, and for data that is no text of the mechanism, the
+/// operation ends.
 pub fn single(
     alloc: Global,
     app: u64,
@@ -116,7 +117,7 @@ pub fn update(
 
 /// C_EncryptFinal, C_DecryptFinal (5.8 and 5.10). Codes: the checks of C_EncryptFinal and C_DecryptFinal (`precede`). Returns a
 /// job for the final part of the output. Without a buffer it returns the length of that, in bytes; with a short one
-/// `CKR_BUFFER_TOO_SMALL`. Data whose length the mechanism doesn't take ends the operation.
+/// `CKR_BUFFER_TOO_SMALL`. Data that is no text of the mechanism ends the operation.
 pub fn last(
     alloc: Global,
     app: u64,

@@ -5,11 +5,6 @@
 //! Its clauses say that the answer is the written one to what the application sees, or that it was refused and nothing has
 //! changed: `IsDone` where a key is read from the store, `AtDesk` where none is. Work with a key is a job, and `cipher::piece`,
 //! `cipher::rest` and `cipher::bad_padding` take its outcome.
-//!
-//! ```text
-//! settle(cipher_init::serve(alloc, desk, store, Direction::Encrypt, session, mechanism, key))
-//! settle_asking(cipher::single(app, desk, Direction::Encrypt, session, data, buffer_len))
-//! ```
 #![tactic(auto)]
 
 pub mod cipher;

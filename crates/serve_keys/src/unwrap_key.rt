@@ -143,8 +143,8 @@ fn needs_read_write(is_token: bool, state: SessionState) -> bool
     is_token && !is_read_write(state)
 }
 
-/// Returns the job for the key of a template. The template must make one, a session in this state must be allowed to have it,
-/// and the limit of session objects must not be reached.
+/// Returns the job for the key of a template. The template must make one, and a session in this state must be allowed to have
+/// it. The limit of session objects must not be reached.
 fn ask_for_key(
     alloc: Global,
     app: u64,

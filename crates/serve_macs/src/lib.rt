@@ -1,15 +1,10 @@
-//! Calls that sign and verify (PKCS #11 v3.1, 5.13 and 5.15): they begin an operation of a session under a key, and take a
-//! message, all at once or in parts, of which a tag is made or compared.
+//! Calls that sign and verify (PKCS #11 v3.1, 5.13 and 5.15). They begin an operation of a session under a key, and take a
+//! message, all at once or in parts. Of it a tag is made or compared.
 //!
 //! C_SignInit and C_VerifyInit are served by one function, and so are C_SignUpdate and C_VerifyUpdate. Each returns the code
 //! of the first check of its call's table that fails. Its clauses say that the answer is the written one to what the
 //! application sees, or that it was refused and nothing has changed: `IsDone` where a key is read from the store, `AtDesk`
 //! where none is. Work with a key is a job, and `mac::taken`, `mac::signed` and `mac::verified` take its outcome.
-//!
-//! ```text
-//! settle(mac_init::serve(alloc, desk, store, MacPlace::Sign, session, mechanism, key))
-//! settle_asking(mac::sign(app, desk, session, data, buffer_len))
-//! ```
 #![tactic(auto)]
 
 pub mod mac;

@@ -18,8 +18,8 @@ use std::alloc::Global;
 use std::test::Fail;
 use token::Event;
 
-/// Sees that a new token that takes all rows as one list of events gives the replies that are written, and that no call is
-/// pending at the end.
+/// Sees that a new token takes all rows as one list of events and gives the replies that are written. No call is pending at the
+/// end.
 pub fn run(alloc: Global, rows: &[Row]) -> Result<(), Fail> {
     run_over(alloc, ListKeep::new(alloc, Record::new()), rows)?;
     run_over(alloc, cached_list(alloc, Record::new())?, rows)
@@ -36,8 +36,8 @@ pub fn run_script<K: Keep>(alloc: Global, keep: K, (name, rows): Script<'_>) -> 
     expect_replies(alloc, &replies, (name, rows))
 }
 
-/// Sees that a new token goes as the rows are written, after those that come before, by calls one after the other and in one list
-/// of events. They leave no call pending.
+/// Sees that a new token goes as the rows are written, after those that come before. It takes them by calls one after the other
+/// and in one list of events. They leave no call pending.
 pub fn play_and_run(alloc: Global, before: &[Row], rows: &[Row]) -> Result<(), Fail> {
     let all = joined(alloc, before, rows)?;
     play(alloc, &all)?;

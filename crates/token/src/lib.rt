@@ -1,5 +1,5 @@
-//! A PKCS #11 token with one slot for several applications, each of which is a number, over a keeper (a storage backend) of
-//! its token objects.
+//! A PKCS #11 token with one slot for several applications, each of which is a number. It is over a keeper (a storage backend)
+//! of its token objects.
 //!
 //! What happens to it is an `Event`: a call of an application with its random bytes, the result of a call's job, or a
 //! disconnect (`Gone`). A call that needs work with a key returns a `Job` instead of a reply. Any thread runs the job, and
@@ -11,21 +11,11 @@
 //! `model_answers/specs` has a definition for each call. The state of the token for all applications is a world
 //! (`model_worlds/specs/Worlds.antt`). Each event changes it by its answer, or is refused and changes nothing but that its call
 //! is pending no more (`Token::{call, finish, gone, run}`). For a whole run that gives: an application that met no refusal got
-//! what its own trace determines, whatever the others do (`IsRun`, and the laws of `laws`, which speak of the definitions
-//! alone). An event tries at most one write; what a crash may leave is defined in the same words.
+//! what its own trace determines, whatever the others do. `IsRun` and the laws of `laws` say it, and speak of the definitions
+//! alone. An event tries at most one write; what a crash may leave is defined in the same words.
 //!
 //! `CKR_DEVICE_ERROR` is returned only where a failure of the keeper was counted (`cause`). That `CKR_HOST_MEMORY` comes only
 //! where an allocation failed stands in no clause: it follows from the types, and tests show that calls succeed.
-//!
-//! ```text
-//! let mut token = Token::new(alloc, keep)?;
-//! let random = vec![in alloc; 0u8; need(&call)]?;
-//! let reply = match token.call(alloc, app, call, &random) {
-//!     Out::Reply(reply) => reply,
-//!     Out::Ask(job) => token.finish(alloc, app, job.run(alloc)),
-//! };
-//! token.gone(app);
-//! ```
 #![tactic(auto)]
 
 mod ending;

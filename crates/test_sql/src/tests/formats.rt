@@ -22,7 +22,7 @@ fn opened<S: Alter + Drop>(alloc: Global, conn: Connection<S>) -> Result<SqlKeep
     }
 }
 
-/// Whether an open leaves each body in format 2, and answers the same as it does of a store that had them so.
+/// Whether an open leaves each body in format 2, and returns the same as it does of a store that had them so.
 fn is_taken_over<S: Alter + Drop>(alloc: Global, conn: Connection<S>) -> Result<bool, Fail> {
     let keep = opened(alloc, conn)?;
     let has_rounds = has_old_rounds(&keep.get_record());

@@ -6,8 +6,8 @@ use std::test::*;
 use test_scripts::given::*;
 use test_scripts::{Given, GivenMechanism, Row, Step, Told};
 
-/// The keys that each script begins with: that of SP 800-38A, appendix F, that of FIPS 197, C.3, a secret that is no AES
-/// key, one that doesn't decrypt, and one that doesn't encrypt.
+/// The keys that each script begins with: those of SP 800-38A, appendix F, and of FIPS 197, C.3; a secret that is no AES key; one
+/// that doesn't decrypt, and one that doesn't encrypt.
 pub(super) const KEY: u64 = 1;
 
 pub(super) const KEY_256: u64 = 2;

@@ -143,9 +143,9 @@ pub struct Derivation {
     pub key: &'static str,
 }
 
-/// The first two are of RFC 7914, section 11 (the first half of its keys). The next six have the
-/// passwords and salts of RFC 6070, section 2, and like the last two the keys that Python 3.11's
-/// `hashlib.pbkdf2_hmac("sha256", password, salt, rounds)` gives.
+/// The first two are of RFC 7914, section 11 (the first half of its keys). The next six have the passwords and salts of RFC 6070,
+/// section 2. Their keys and those of the last two are what Python 3.11's
+/// `hashlib.pbkdf2_hmac("sha256", password, salt, rounds)` returns.
 pub static DERIVATIONS: [Derivation; 10] = [
     Derivation {
         password: b"passwd",

@@ -32,8 +32,8 @@ pub(crate) fn hold_over_lists<R: Threads + Wait + Clock + Copy + Send + Sync + D
     hold_rows(rt, alloc, cached_list(alloc, record)?, script)
 }
 
-/// Sees that four seats that play the rows of a script before a new token over the keeper get what is written, and that each row
-/// had its turn. An application makes no step while its own call is pending, and none where another one of its seat waits.
+/// Sees that four seats play the rows of a script before a new token over the keeper and get what is written. Each row has its
+/// turn. An application makes no step while its own call is pending, and none where another one of its seat waits.
 pub(crate) fn hold_rows<K: Keep, R: Threads + Wait + Clock + Copy + Send + Sync + Drop + 'static>(
     rt: R,
     alloc: Global,

@@ -4,7 +4,7 @@
 use std::alloc::Global;
 use std::test::Fail;
 
-/// The tries of a PIN, the checks of it in progress, each with its application and whether its PIN is right, and how many
+/// The tries of a PIN, and the checks of it in progress, each with its application and whether its PIN is right. And how many
 /// have ended wrong or abandoned since one ended right.
 #[derive(Drop)]
 pub(super) struct Charges {
