@@ -26,10 +26,10 @@ use serve_base::{Out, Refusal, ask_within};
 use std::alloc::Global;
 use streams::{Part, Stream};
 
-/// C_Encrypt, C_Decrypt (PKCS #11 v3.1, 5.8 and 5.10). Codes: the checks of C_Encrypt and C_Decrypt (`precede`). Returns a job
-/// for the output of `input`. Without a buffer it returns the output's length, in bytes; with a short one
-/// `CKR_BUFFER_TOO_SMALL`; then the operation stays. After earlier data, and for data that is no text of the mechanism, the
-/// operation ends.
+/// C_Encrypt, C_Decrypt (PKCS #11 v3.1, 5.8 and 5.10).
+/// Codes: the checks of C_Encrypt and C_Decrypt (`precede`). Returns a job for the output of `input`. Without a buffer it returns the
+/// output's length, in bytes; with a short one `CKR_BUFFER_TOO_SMALL`; then the operation stays. After earlier data, and for data that is
+/// no text of the mechanism, the operation ends.
 pub fn single(
     alloc: Global,
     app: u64,
@@ -73,9 +73,10 @@ pub fn single(
     )?)
 }
 
-/// C_EncryptUpdate, C_DecryptUpdate (5.8 and 5.10). Codes: the checks of C_EncryptUpdate and C_DecryptUpdate (`precede`).
-/// Returns a job for what a part of any length adds to the output. Without a buffer it returns the length of that, in bytes;
-/// with a short one `CKR_BUFFER_TOO_SMALL`. Where the mechanism has no counter for each block the operation ends.
+/// C_EncryptUpdate, C_DecryptUpdate (PKCS #11 v3.1, 5.8 and 5.10).
+/// Codes: the checks of C_EncryptUpdate and C_DecryptUpdate (`precede`). Returns a job for what a part of any length adds to the output.
+/// Without a buffer it returns the length of that, in bytes; with a short one `CKR_BUFFER_TOO_SMALL`. Where the mechanism has no counter
+/// for each block the operation ends.
 pub fn update(
     alloc: Global,
     app: u64,
@@ -115,9 +116,9 @@ pub fn update(
     )?)
 }
 
-/// C_EncryptFinal, C_DecryptFinal (5.8 and 5.10). Codes: the checks of C_EncryptFinal and C_DecryptFinal (`precede`). Returns a
-/// job for the final part of the output. Without a buffer it returns the length of that, in bytes; with a short one
-/// `CKR_BUFFER_TOO_SMALL`. Data that is no text of the mechanism ends the operation.
+/// C_EncryptFinal, C_DecryptFinal (PKCS #11 v3.1, 5.8 and 5.10).
+/// Codes: the checks of C_EncryptFinal and C_DecryptFinal (`precede`). Returns a job for the final part of the output. Without a buffer it
+/// returns the length of that, in bytes; with a short one `CKR_BUFFER_TOO_SMALL`. Data that is no text of the mechanism ends the operation.
 pub fn last(
     alloc: Global,
     app: u64,

@@ -16,9 +16,9 @@ use serve_objects::add_object;
 use std::alloc::Global;
 use templates::generated;
 
-/// C_GenerateKey (PKCS #11 v3.1, 5.18). Codes: the checks of C_GenerateKey (`precede`), and those of the template. Makes a key
-/// of a template and of the call's random bytes, and returns its handle. The first 16 random bytes make its CKA_UNIQUE_ID, and
-/// those that follow are its value.
+/// C_GenerateKey (PKCS #11 v3.1, 5.18).
+/// Codes: the checks of C_GenerateKey (`precede`), and those of the template. Makes a key of a template and of the call's random bytes, and
+/// returns its handle. The first 16 random bytes make its CKA_UNIQUE_ID, and those that follow are its value.
 pub fn serve<K: Keep>(
     alloc: Global,
     desk: &mut Desk,

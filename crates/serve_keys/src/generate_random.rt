@@ -15,8 +15,9 @@ use std::alloc::Global;
 /// The greatest number of bytes that one call returns.
 pub const RANDOM_LIMIT: u64 = 32_768;
 
-/// C_GenerateRandom (PKCS #11 v3.1, 5.19). Codes: the checks of C_GenerateRandom (`precede`). Returns the call's random bytes,
-/// which are as many as are wanted, at most `RANDOM_LIMIT`. Changes nothing.
+/// C_GenerateRandom (PKCS #11 v3.1, 5.19).
+/// Codes: the checks of C_GenerateRandom (`precede`). Returns the call's random bytes, which are as many as are wanted, at most
+/// `RANDOM_LIMIT`. Changes nothing.
 pub fn serve(
     alloc: Global,
     desk: &Desk,

@@ -29,9 +29,9 @@ use serve_objects::add_object;
 use std::alloc::Global;
 use templates::{unwrap_fault, unwraps_private_key, unwraps_token_key};
 
-/// C_UnwrapKey (PKCS #11 v3.1, 5.18). Codes: the checks of C_UnwrapKey (`precede`), and those of the template. Returns a job for
-/// the key that a template makes of the value which is wrapped in the bytes, under an unwrapping key. The call's random bytes
-/// make its CKA_UNIQUE_ID. The call is pending then.
+/// C_UnwrapKey (PKCS #11 v3.1, 5.18).
+/// Codes: the checks of C_UnwrapKey (`precede`), and those of the template. Returns a job for the key that a template makes of the value
+/// which is wrapped in the bytes, under an unwrapping key. The call's random bytes make its CKA_UNIQUE_ID. The call is pending then.
 pub fn serve<K: Keep>(
     alloc: Global,
     app: u64,

@@ -30,9 +30,9 @@ use std::alloc::Global;
 /// How many bytes a wrapped key is longer than its value.
 const WRAPPING_BYTES: u64 = 8;
 
-/// C_WrapKey (PKCS #11 v3.1, 5.18). Codes: the checks of C_WrapKey (`precede`). Returns a job for the wrapping of a key's value
-/// under a wrapping key. Without a buffer it returns the wrapping's length, in bytes; with a short one `CKR_BUFFER_TOO_SMALL`.
-/// With the job the call is pending.
+/// C_WrapKey (PKCS #11 v3.1, 5.18).
+/// Codes: the checks of C_WrapKey (`precede`). Returns a job for the wrapping of a key's value under a wrapping key. Without a buffer it
+/// returns the wrapping's length, in bytes; with a short one `CKR_BUFFER_TOO_SMALL`. With the job the call is pending.
 pub fn serve<K: Keep>(
     alloc: Global,
     app: u64,

@@ -24,9 +24,10 @@ use precede::Condition;
 use serve_base::{Out, Refusal, ask, ask_within};
 use std::alloc::Global;
 
-/// C_Sign (PKCS #11 v3.1, 5.13). Codes: the checks of C_Sign (`precede`). Returns a job for the signature of `input`, which is
-/// the only data of its operation. Without a buffer it returns the signature's length, in bytes; with a short one
-/// `CKR_BUFFER_TOO_SMALL`; then the operation stays. After earlier data the operation ends.
+/// C_Sign (PKCS #11 v3.1, 5.13).
+/// Codes: the checks of C_Sign (`precede`). Returns a job for the signature of `input`, which is the only data of its operation. Without a
+/// buffer it returns the signature's length, in bytes; with a short one `CKR_BUFFER_TOO_SMALL`; then the operation stays. After earlier
+/// data the operation ends.
 pub fn sign(
     alloc: Global,
     app: u64,
@@ -61,8 +62,9 @@ pub fn sign(
     )?)
 }
 
-/// C_SignFinal (5.13). Codes: the checks of C_SignFinal (`precede`). Returns a job for the signature of all data. Without a
-/// buffer it returns the signature's length, in bytes; with a short one `CKR_BUFFER_TOO_SMALL`; then the operation stays.
+/// C_SignFinal (PKCS #11 v3.1, 5.13).
+/// Codes: the checks of C_SignFinal (`precede`). Returns a job for the signature of all data. Without a buffer it returns the signature's
+/// length, in bytes; with a short one `CKR_BUFFER_TOO_SMALL`; then the operation stays.
 pub fn sign_final(
     alloc: Global,
     app: u64,
@@ -96,9 +98,9 @@ pub fn sign_final(
     )?)
 }
 
-/// C_Verify (PKCS #11 v3.1, 5.15). Codes: the checks of C_Verify (`precede`). Returns a job that compares a signature with that
-/// of `input`, which is the only data of its operation. After earlier data, or for a signature of another length than the
-/// mechanism's, the operation ends.
+/// C_Verify (PKCS #11 v3.1, 5.15).
+/// Codes: the checks of C_Verify (`precede`). Returns a job that compares a signature with that of `input`, which is the only data of its
+/// operation. After earlier data, or for a signature of another length than the mechanism's, the operation ends.
 pub fn verify(
     alloc: Global,
     app: u64,
@@ -130,8 +132,9 @@ pub fn verify(
     Ok(Out::Ask(ask(alloc, app, desk, Function::Verify, session, work)?))
 }
 
-/// C_VerifyFinal (5.15). Codes: the checks of C_VerifyFinal (`precede`). Returns a job that compares a signature with that of all
-/// data. For a signature of another length than the mechanism's the operation ends.
+/// C_VerifyFinal (PKCS #11 v3.1, 5.15).
+/// Codes: the checks of C_VerifyFinal (`precede`). Returns a job that compares a signature with that of all data. For a signature of
+/// another length than the mechanism's the operation ends.
 pub fn verify_final(
     alloc: Global,
     app: u64,
@@ -159,8 +162,8 @@ pub fn verify_final(
     Ok(Out::Ask(ask(alloc, app, desk, Function::VerifyFinal, session, work)?))
 }
 
-/// C_SignUpdate, C_VerifyUpdate (5.13 and 5.15). Codes: the checks of C_SignUpdate and C_VerifyUpdate (`precede`). Returns a job
-/// that takes a part of any length.
+/// C_SignUpdate, C_VerifyUpdate (PKCS #11 v3.1, 5.13 and 5.15).
+/// Codes: the checks of C_SignUpdate and C_VerifyUpdate (`precede`). Returns a job that takes a part of any length.
 pub fn update(
     alloc: Global,
     app: u64,

@@ -14,8 +14,9 @@ use serve_base::{Refusal, Store, find};
 use std::alloc::Global;
 use templates::copied;
 
-/// C_CopyObject (PKCS #11 v3.1, 5.7.2). Codes: the checks of C_CopyObject (`precede`), and those of the template. Copies the
-/// object under a handle, with a template's changes, and returns the copy's handle.
+/// C_CopyObject (PKCS #11 v3.1, 5.7.2).
+/// Codes: the checks of C_CopyObject (`precede`), and those of the template. Copies the object under a handle, with a template's changes,
+/// and returns the copy's handle.
 pub fn serve<K: Keep>(
     alloc: Global,
     desk: &mut Desk,

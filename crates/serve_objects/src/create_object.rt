@@ -14,8 +14,8 @@ use serve_base::{Refusal, Store};
 use std::alloc::Global;
 use templates::created;
 
-/// C_CreateObject (PKCS #11 v3.1, 5.7.1). Codes: the checks of C_CreateObject (`precede`), and those of the template. Makes an
-/// object of a template, and returns its handle.
+/// C_CreateObject (PKCS #11 v3.1, 5.7.1).
+/// Codes: the checks of C_CreateObject (`precede`), and those of the template. Makes an object of a template, and returns its handle.
 pub fn serve<K: Keep>(
     alloc: Global,
     desk: &mut Desk,

@@ -23,7 +23,8 @@ use precede::Condition;
 use serve_base::{Refusal, Store, find};
 use std::alloc::Global;
 
-/// C_DestroyObject (PKCS #11 v3.1, 5.7.3). Codes: the checks of C_DestroyObject (`precede`). Destroys the object under a handle.
+/// C_DestroyObject (PKCS #11 v3.1, 5.7.3).
+/// Codes: the checks of C_DestroyObject (`precede`). Destroys the object under a handle.
 pub fn serve<K: Keep>(
     alloc: Global,
     desk: &mut Desk,

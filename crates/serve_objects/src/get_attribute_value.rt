@@ -16,8 +16,9 @@ use precede::Condition;
 use serve_base::{Refusal, Store, find};
 use std::alloc::{AllocError, Global};
 
-/// C_GetAttributeValue (PKCS #11 v3.1, 5.7.5). Codes: the checks of C_GetAttributeValue (`precede`), and the code of the whole.
-/// Returns the wanted attributes of the object under a handle, each whatever the others give. Changes nothing.
+/// C_GetAttributeValue (PKCS #11 v3.1, 5.7.5).
+/// Codes: the checks of C_GetAttributeValue (`precede`), and the code of the whole. Returns the wanted attributes of the object under a
+/// handle, each whatever the others give. Changes nothing.
 pub fn serve<K: Keep>(
     alloc: Global,
     desk: &Desk,

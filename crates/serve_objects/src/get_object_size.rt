@@ -13,8 +13,8 @@ use precede::Condition;
 use serve_base::{Refusal, Store, find};
 use std::alloc::Global;
 
-/// C_GetObjectSize (PKCS #11 v3.1, 5.7.4). Codes: the checks of C_GetObjectSize (`precede`). Returns the size of the object
-/// under a handle, in bytes. Changes nothing.
+/// C_GetObjectSize (PKCS #11 v3.1, 5.7.4).
+/// Codes: the checks of C_GetObjectSize (`precede`). Returns the size of the object under a handle, in bytes. Changes nothing.
 pub fn serve<K: Keep>(
     alloc: Global,
     desk: &Desk,

@@ -27,8 +27,8 @@ use serve_base::{Refusal, Store, find};
 use std::alloc::Global;
 use templates::changed;
 
-/// C_SetAttributeValue (PKCS #11 v3.1, 5.7.6). Codes: the checks of C_SetAttributeValue (`precede`), and those of the template.
-/// Changes the object under a handle by a template.
+/// C_SetAttributeValue (PKCS #11 v3.1, 5.7.6).
+/// Codes: the checks of C_SetAttributeValue (`precede`), and those of the template. Changes the object under a handle by a template.
 pub fn serve<K: Keep>(
     alloc: Global,
     desk: &mut Desk,

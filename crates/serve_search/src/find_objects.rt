@@ -18,8 +18,9 @@ use std::alloc::Global;
 /// The greatest number of handles that one call returns.
 pub const FOUND_LIMIT: u64 = 1024;
 
-/// C_FindObjects (PKCS #11 v3.1, 5.7.8). Codes: the checks of C_FindObjects (`precede`). Returns the first handles of a search
-/// that weren't returned yet: as many as are wanted, but at most `FOUND_LIMIT`. The search continues after them.
+/// C_FindObjects (PKCS #11 v3.1, 5.7.8).
+/// Codes: the checks of C_FindObjects (`precede`). Returns the first handles of a search that weren't returned yet: as many as are wanted,
+/// but at most `FOUND_LIMIT`. The search continues after them.
 pub fn serve(alloc: Global, desk: &mut Desk, session: u64, max_count: u64) -> Result<Reply, Refusal>
     ensures { AtDesk Replies (λ v. find_objects v session max_count) desk.old result desk.new }
 {
@@ -39,7 +40,8 @@ fn next_found(desk: &Desk, session: u64, count: usize) -> Option<&[u64]>
     Some(search.first(count))
 }
 
-/// C_FindObjectsFinal (PKCS #11 v3.1, 5.7.9). Codes: the checks of C_FindObjectsFinal (`precede`). Ends a search.
+/// C_FindObjectsFinal (PKCS #11 v3.1, 5.7.9).
+/// Codes: the checks of C_FindObjectsFinal (`precede`). Ends a search.
 pub fn serve_final(desk: &mut Desk, session: u64) -> Result<Reply, Refusal>
     ensures { AtDesk Replies (λ v. find_objects_final v session) desk.old result desk.new }
 {

@@ -22,8 +22,9 @@ use precede::Condition;
 use serve_base::{Match, Refusal, Store};
 use std::alloc::{AllocError, Global};
 
-/// C_FindObjectsInit (PKCS #11 v3.1, 5.7.7). Codes: the checks of C_FindObjectsInit (`precede`). Begins a search: it finds what
-/// the template finds now, even where an object is destroyed later.
+/// C_FindObjectsInit (PKCS #11 v3.1, 5.7.7).
+/// Codes: the checks of C_FindObjectsInit (`precede`). Begins a search: it finds what the template finds now, even where an object is
+/// destroyed later.
 pub fn serve<K: Keep>(
     alloc: Global,
     desk: &mut Desk,

@@ -27,8 +27,9 @@ fn is_so(login: Option<UserType>) -> bool
     }
 }
 
-/// C_InitPIN (PKCS #11 v3.1, 5.5). Codes: the checks of C_InitPIN (`precede`). Returns a job for the verifier of the user's new
-/// PIN, with the call's random bytes as its salt. The call is pending then.
+/// C_InitPIN (PKCS #11 v3.1, 5.5).
+/// Codes: the checks of C_InitPIN (`precede`). Returns a job for the verifier of the user's new PIN, with the call's random bytes as its
+/// salt. The call is pending then.
 pub fn serve(
     alloc: Global,
     app: u64,

@@ -21,9 +21,9 @@ use precede::Condition;
 use serve_base::{Out, Refusal, Store, ask, random_block};
 use std::alloc::Global;
 
-/// C_InitToken (PKCS #11 v3.1, 5.5). Codes: the checks of C_InitToken (`precede`). Returns a job for a check of the SO's PIN,
-/// which is charged before it. Where the token isn't initialised, the job is for the verifier of this PIN, with the call's
-/// random bytes as its salt. The call is pending then.
+/// C_InitToken (PKCS #11 v3.1, 5.5).
+/// Codes: the checks of C_InitToken (`precede`). Returns a job for a check of the SO's PIN, which is charged before it. Where the token
+/// isn't initialised, the job is for the verifier of this PIN, with the call's random bytes as its salt. The call is pending then.
 pub fn serve<K: Keep>(
     alloc: Global,
     app: u64,

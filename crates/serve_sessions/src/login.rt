@@ -62,8 +62,8 @@ fn has_no_try_left(record: &Record, who: UserType) -> bool
     record.is_locked(who)
 }
 
-/// C_Login (PKCS #11 v3.1, 5.6). Codes: the checks of C_Login (`precede`). Returns a job for a check of a PIN, which is charged
-/// before it. The call is pending then.
+/// C_Login (PKCS #11 v3.1, 5.6).
+/// Codes: the checks of C_Login (`precede`). Returns a job for a check of a PIN, which is charged before it. The call is pending then.
 pub fn serve<K: Keep>(
     alloc: Global,
     app: u64,

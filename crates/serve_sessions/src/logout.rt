@@ -10,8 +10,9 @@ use desk::Desk;
 use precede::Condition;
 use serve_base::Refusal;
 
-/// C_Logout (PKCS #11 v3.1, 5.6). Codes: the checks of C_Logout (`precede`). Logs out, which ends all operations, destroys private
-/// session objects, and retires the handles of private token objects.
+/// C_Logout (PKCS #11 v3.1, 5.6).
+/// Codes: the checks of C_Logout (`precede`). Logs out, which ends all operations, destroys private session objects, and retires the
+/// handles of private token objects.
 pub fn serve(desk: &mut Desk, session: u64) -> Result<Reply, Refusal>
     ensures { AtDesk Replies (λ v. logout v session) desk.old result desk.new }
 {

@@ -15,8 +15,8 @@ use serve_base::Refusal;
 /// All flags of a session.
 const FLAGS: u64 = RW_SESSION | SERIAL_SESSION;
 
-/// C_OpenSession (PKCS #11 v3.1, 5.6). Codes: the checks of C_OpenSession (`precede`), and an allocation failure. Opens a
-/// session with these flags.
+/// C_OpenSession (PKCS #11 v3.1, 5.6).
+/// Codes: the checks of C_OpenSession (`precede`), and an allocation failure. Opens a session with these flags.
 pub fn serve(desk: &mut Desk, slot: u64, flags: u64) -> Result<Reply, Refusal>
     requires { desk.old.sessions.next_number < 2 ^ 63 }
     ensures { AtDesk Replies (λ v. open_session v slot flags) desk.old result desk.new }

@@ -27,9 +27,9 @@ fn owner(login: Option<UserType>) -> UserType
     }
 }
 
-/// C_SetPIN (PKCS #11 v3.1, 5.5). Codes: the checks of C_SetPIN (`precede`). Returns a job for a check of the old PIN, which is
-/// charged before it. The job also makes the verifier of the new PIN, with the call's random bytes as its salt. The call is
-/// pending then.
+/// C_SetPIN (PKCS #11 v3.1, 5.5).
+/// Codes: the checks of C_SetPIN (`precede`). Returns a job for a check of the old PIN, which is charged before it. The job also makes the
+/// verifier of the new PIN, with the call's random bytes as its salt. The call is pending then.
 pub fn serve<K: Keep>(
     alloc: Global,
     app: u64,
