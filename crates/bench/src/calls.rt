@@ -8,7 +8,7 @@ use std::alloc::Global;
 use std::io;
 use token::{Out, Token};
 
-/// The application, and the number of its session.
+/// The application, and its session.
 const APP: u64 = 1;
 
 pub(crate) const SESSION: u64 = 1;
@@ -28,7 +28,7 @@ pub(crate) fn new_token(alloc: Global) -> io::Result<Token<ListKeep>> {
     }
 }
 
-/// One call, and the end of its question if it asks one.
+/// One call, and the result of its job if it returns one.
 pub(crate) fn reply_to(
     alloc: Global,
     token: &mut Token<ListKeep>,

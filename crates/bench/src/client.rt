@@ -8,7 +8,7 @@ use std::io::{ErrorKind, Read, Write};
 use std::os::unix::net::UnixStream;
 use wire::write_call;
 
-/// How many bytes a reply may have.
+/// The greatest number of bytes of a reply.
 const ROOM: usize = 32_768;
 
 /// A frame begins with the length of its payload, and the payload of a reply with its code (`wire`).

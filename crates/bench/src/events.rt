@@ -13,7 +13,7 @@ use std::io;
 use std::time::CpuClock;
 use token::{Event, Token};
 
-// The call of the event of this number: each of two applications opens a session, and then asks after it.
+// The call of the event of this number: each of two applications opens a session, and then calls C_GetSessionInfo.
 fn event(alloc: Global, number: u32) -> Event
     ensures { HasRandom result }
 {

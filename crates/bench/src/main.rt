@@ -1,33 +1,36 @@
-//! The speed of `aes_block`, `aes_modes`, `aes_cmac`, `hmac_sha2`, `token` and `line`, printed as a table. What it prints is measured,
-//! and nothing of it is proved but that the program is safe and ends.
+//! The speed of `aes_block`, `aes_modes`, `aes_cmac`, `hmac_sha2`, `token` and `line`, printed as a table. It is measured, and
+//! nothing of it is proved but that the program is safe and ends.
 //!
-//! With no argument it works, for each key length, on 64 MiB or a million keys a row, and prints
-//! nanoseconds of processor time for a block or a key, and millions of bytes or keys a second:
+//! With no argument it works, for each key length, on 64 MiB or a million keys a row. It prints nanoseconds of processor time for
+//! a block or a key, and millions of bytes or keys a second:
 //!
-//! - blocks apart: a text of 64 KiB, encrypted over and over, whose blocks do not depend on one
-//!   another;
-//! - a chain: each block is what the one before was encrypted to, so that none begins before
-//!   that is done;
+//! - blocks that don't depend on one another: a text of 64 KiB, encrypted over and over;
+//! - a chain: each block is what the one before was encrypted to, so that none begins before that is done;
 //! - keys that are made and kept, and keys that are made for one block each;
-//! - a text of 64,000 bytes, a thousand times, under each mode and code.
+//! - a text of 64,000 bytes, a thousand times, under each mode and MAC.
 //!
-//! After them stand HMAC-SHA-256 over such texts, 10,000 rounds of PBKDF2, logins and logouts of a user beside as many
-//! derivations alone, C_GetAttributeValue among 100, 10,000 and 100,000 token objects, of a hundred of them and of each, searches
-//! by label over 1,000 and 10,000 token objects, frames of C_Encrypt through a line in parts of 4,096 and of 16 bytes beside the
-//! cipher alone, and 100,000 events of two applications in one run of the token.
+//! After them stand:
+//! - HMAC-SHA-256 over such texts;
+//! - 10,000 rounds of PBKDF2;
+//! - logins and logouts of a user beside as many derivations alone;
+//! - C_GetAttributeValue among 100, 10,000 and 100,000 token objects, of a hundred of them and of each;
+//! - searches by label over 1,000 and 10,000 token objects;
+//! - frames of C_Encrypt through a line in parts of 4,096 and of 16 bytes beside the cipher alone;
+//! - 100,000 events of two applications in one run of the token.
 //!
-//! With the argument `small` it works on 64 KiB, 4,096 keys, one text or 100 rounds a row, and
-//! prints the exclusive or of the blocks that were made, or the last block, in place of times: they
-//! are the same on each machine, so that CI can run it. Last it echoes a few times over a socket
-//! `bench.sock` in the folder that it is run in, and prints how often.
+//! With the argument `small` it works on 64 KiB, 4,096 keys, one text or 100 rounds a row. Instead of times it prints the
+//! exclusive or of the blocks that were made, or the last block. They are the same on each machine, so that CI can run it. Last it
+//! echoes a few times over a socket `bench.sock` in the folder that it is run in, and prints how often.
 //!
-//! With the argument `pieces` it gives 64 MiB a row to a token, by CBC and by CTR, both ways: as pieces of 65,536 bytes of one
-//! operation (C_EncryptUpdate, C_DecryptUpdate), beside operations of one call each (C_Encrypt, C_Decrypt). With `small` there
-//! are two calls a row. With the argument `memory` it gives a token 1 GiB by C_EncryptUpdate, and prints what memory the
-//! system says it has resident before, amid and after.
+//! With the argument `pieces` it gives 64 MiB a row to a token, by CBC and by CTR, both ways. It gives them in parts of 65,536
+//! bytes of one operation (C_EncryptUpdate, C_DecryptUpdate), beside operations of one call each (C_Encrypt, C_Decrypt). With
+//! `small` there are two calls a row.
 //!
-//! With the arguments `calls SOCKET` it asks a daemon (`tokend serve`) that listens there, whose token may be new and which is not to
-//! serve others meanwhile. It prints round trips a second, and each as a part of a plain echo's:
+//! With the argument `memory` it gives a token 1 GiB by C_EncryptUpdate. It prints how much memory the system reports as resident
+//! before, amid and after.
+//!
+//! With the arguments `calls SOCKET` it calls a daemon (`tokend serve`) that listens there. The daemon's token may be new, and it
+//! should serve nobody else meanwhile. It prints round trips a second, and each as a part of a plain echo's:
 //!
 //! - an echo of 32 bytes, by a thread of this program on a socket `SOCKET.echo`;
 //! - C_GetSessionInfo;
@@ -36,11 +39,11 @@
 //! - C_GetSessionInfo by four clients together, each in a thread of its own, beside one.
 //!
 //! With the arguments `objects SOCKET` it makes 10,000 keys of the daemon's token, which stay, and prints how many of them a second.
-//! Then it prints how many reads of a hundred of them, which the daemon's cache holds, and of each in turn, which the store is asked for.
+//! Then it prints how many reads a second of a hundred of them, which the cache holds, and of each in turn, which the store reads.
 //!
-//! OpenSSL measures the same ciphers, in processor time too, without the AES instructions of the
-//! processor where the bits that announce these and the carry-less product are masked. Its ECB is
-//! blocks apart, its CBC a chain:
+//! OpenSSL measures the same ciphers, in processor time too. It doesn't use the AES instructions of the processor where the bits
+//! that announce these and the carry-less product are masked. Its ECB is blocks that don't depend on one another, its CBC a
+//! chain:
 //!
 //! ```sh
 //! OPENSSL_ia32cap='~0x200000200000000' openssl speed -evp aes-128-ecb
@@ -78,7 +81,7 @@ use std::time::CpuClock;
 use std::{env, io};
 use texts::{Work, derivation, over_texts};
 
-/// How much is done for each row, and what a row says.
+/// How much is done for each row, and what a row prints.
 #[derive(Clone, Copy)]
 struct Scale {
     /// Batches of 64 KiB, and of 4,096 keys.
@@ -122,8 +125,8 @@ const WORKS: &[Work] = &[
     Work::Cmac,
 ];
 
-/// The calls of a row among token objects, how many of these there are, and of how many of them the calls ask: of a
-/// hundred, so that what the caches of the processor hold is the same, and of each.
+/// The calls of a row, and for each row how many token objects there are and how many of them are read: a hundred, so that what
+/// the caches of the processor hold is the same, or all.
 const READINGS: u32 = 100_000;
 
 const AMONG: &[(&str, u32, u32)] = &[
@@ -140,8 +143,8 @@ const OVER: &[(&str, u32, u32)] = &[
     ("a search by label over 10,000", 10_000, 100),
 ];
 
-/// The lengths of the texts that go through a line, the longest that a frame of C_Encrypt has among them, with how many
-/// there are of each, and the pieces that they come in; 0 for the cipher alone.
+/// The texts that go through a line: their length, their number, and the length of the parts that they come in, 0 for the cipher
+/// alone. The longest text that a frame of C_Encrypt can have is among them.
 const THROUGH: &[(&str, u32, u32, usize)] = &[
     ("ECB of 64,000 alone", 64_000, 200, 0),
     ("a line, 64,000 by 4,096", 64_000, 200, 4096),

@@ -73,14 +73,14 @@ fn call_rate(
     rate(rt, count, start)
 }
 
-/// A client of its own that asks for its session so often.
+/// A client of its own that calls C_GetSessionInfo so often.
 fn ask_alone(rt: &HostRuntime, socket: &str) -> io::Result<()> {
     let mut client = Client::connect(rt, socket)?;
     let frames = session_info(rt.alloc())?;
     ask(&mut client, &frames, ROUND_TRIPS)
 }
 
-/// How often a second one client is told of its session.
+/// How often a second one client gets C_GetSessionInfo answered.
 fn rate_of_one(rt: &HostRuntime, socket: &str) -> io::Result<u64> {
     let start = Instant::now(rt)?;
     ask_alone(rt, socket)?;
@@ -97,7 +97,7 @@ fn beside<T: Threads>(
     Ok(thread::spawn(threads, move || ask_alone(&rt, path.as_str()))?)
 }
 
-/// How often a second four clients together are told of their sessions.
+/// How often a second four clients together get C_GetSessionInfo answered.
 fn rate_of_four<T: Threads>(rt: HostRuntime, threads: &T, socket: &str) -> io::Result<u64> {
     let start = Instant::now(&rt)?;
     let second = beside(rt, threads, socket)?;

@@ -11,7 +11,7 @@ const KEYS: u64 = 10_000;
 
 const READS: u64 = 20_000;
 
-/// So few keys that the daemon's cache has room for them.
+/// So few keys that the daemon's cache can hold them.
 const FEW: u64 = 100;
 
 /// Makes keys of the token. Their handles follow that of the session's key.
@@ -23,7 +23,7 @@ fn make_keys(alloc: Global, client: &mut Client) -> io::Result<()> {
     Ok(())
 }
 
-/// Asks for the size of one after the other of the first so many keys, over and over.
+/// Calls C_GetObjectSize of one after the other of the first so many keys, over and over.
 fn read_keys(alloc: Global, client: &mut Client, among: u64) -> io::Result<()> {
     for number in 0..READS {
         let place = number % among.max(1);
@@ -46,8 +46,8 @@ fn print_reading(rt: &HostRuntime, client: &mut Client, among: u64) -> io::Resul
     println!(rt; "C_GetObjectSize, one of {among:>6} keys {rate:>19} a second")
 }
 
-/// Makes 10,000 keys of the token, and reads a hundred of them over and over, which a cache remembers, and then each in turn, which
-/// none does.
+/// Makes 10,000 keys of the token. Reads a hundred of them over and over, which the cache can hold, and then each in turn, which it
+/// can't.
 pub(crate) fn print_objects(rt: &HostRuntime, socket: &str) -> io::Result<()> {
     let mut client = Client::connect(rt, socket)?;
     print_making(rt, &mut client)?;

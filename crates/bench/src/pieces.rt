@@ -32,7 +32,7 @@ struct Cipher {
 /// How data is given.
 #[derive(Clone, Copy)]
 enum Way {
-    /// As pieces of one operation.
+    /// In parts of one operation.
     Piece,
     /// By one call, with an operation for each.
     Call,
@@ -77,7 +77,7 @@ const ROWS: &[(&str, Cipher, Way, u32)] = &[
 /// The bytes of a row.
 const ROW_LEN: u32 = 67_108_864;
 
-/// The length of a piece, and the pieces of half a GiB.
+/// The length of a part, and the parts of half a GiB.
 const PIECE_LEN: u32 = 65_536;
 
 const HALF: u32 = 8192;
@@ -174,7 +174,7 @@ impl Cipher {
         succeeds(alloc, token, self.init(alloc)?)
     }
 
-    // Gives a text in this way, and tells the length and the last byte of what comes.
+    // Gives a text in this way, and returns the length and the last byte of what comes.
     fn give(
         self,
         alloc: Global,
@@ -279,7 +279,7 @@ pub(crate) fn print_pieces(
     Ok(())
 }
 
-// Prints what the system says that this process has resident.
+// Prints what the system reports as resident of this process.
 fn print_resident<R: Files + Alloc + Print>(rt: &R, after: u64) -> io::Result<()> {
     let status = fs::read_to_string(rt, "/proc/self/status")?;
     for line in status.as_str().lines() {

@@ -100,8 +100,7 @@ fn reading_in(
     })
 }
 
-/// So many calls, each for the label of one of `asked` of so many token objects, which lie as far from one another as they
-/// can.
+/// So many calls, each for the label of one of `asked` of so many token objects. These lie as far from one another as they can.
 pub(crate) fn reading(
     rt: &impl CpuClock,
     alloc: Global,

@@ -35,13 +35,13 @@ pub(crate) enum Unit {
     Event,
     /// A call of the token.
     Call,
-    /// Calls of the token that belong together, and the work that they ask for.
+    /// Calls of the token that belong together, and their jobs.
     Exchange,
     /// A text of so many bytes.
     Bytes(u32),
 }
 
-/// What a line says of a run.
+/// What a line prints of a run.
 #[derive(Clone, Copy)]
 pub(crate) enum Report {
     Times,

@@ -92,7 +92,7 @@ fn searching_in(
     })
 }
 
-/// So many searches by label, each begun, told and ended, over so many token objects, of which one in a hundred is found.
+/// So many searches by label, each begun, read and ended, over so many token objects, of which one in a hundred is found.
 pub(crate) fn searching(
     rt: &impl CpuClock,
     alloc: Global,

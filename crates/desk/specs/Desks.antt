@@ -13,9 +13,9 @@ use Rattle.sessions.specs.Sessions.{SessionTable, no_sessions, without_session, 
 use Rattle.desk.specs.declared.own_object.OwnObject.{OwnObject}
 use Rattle.ops.specs.Operations.{Operations, no_operations}
 
--- One application's sessions with their operations and its login, its session objects in the order of their
--- creation, its handles of token objects, the pending call, and the number of the next one. Of memory it
--- tells how many session objects fit with no allocation.
+-- The state of one application. It has its sessions with their operations and its login, its session objects in the order of
+-- their creation, and its handles of token objects. Then it has the pending call, and the number of the next job.
+-- `own_capacity` is how many session objects fit without an allocation.
 pub record DeskState : Type 0 where
   pub sessions : SessionTable Operations
   pub own : List OwnObject
@@ -24,11 +24,11 @@ pub record DeskState : Type 0 where
   pub question : Option Job
   pub next_question : ℕ
 
--- the desk of an application that isn't there
+-- the desk of an application that has none yet
 abbrev pub empty_desk : DeskState
 empty_desk = record { sessions = no_sessions; own = []; own_capacity = 0; handles = no_handles; question = None; next_question = 1 }
 
--- the same but for the memory that is at hand
+-- the same but for capacities
 abbrev pub SameDesk : DeskState → DeskState → Type 0
 SameDesk old new = new ≡ record old { own_capacity = new.own_capacity; handles = record old.handles { capacity = new.handles.capacity } }
 
@@ -36,7 +36,7 @@ SameDesk old new = new ≡ record old { own_capacity = new.own_capacity; handles
 abbrev pub IsDiscreet : DeskState → Type 0
 IsDiscreet d = is_user_in d.sessions.login ≡ false → AllByRecursion (λ h. h.private ≡ false) d.handles.entries
 
--- no call is taken: a question is pending, or a next number is used up
+-- no call is taken: a call is pending, or a next number is used up
 abbrev pub is_busy : DeskState → Bool
 is_busy d = is_some d.question || (nat_le (2 ^ 63) d.sessions.next_number || (nat_le (2 ^ 63) d.handles.next_number || nat_le (2 ^ 63) d.next_question))
 
@@ -44,7 +44,7 @@ is_busy d = is_some d.question || (nat_le (2 ^ 63) d.sessions.next_number || (na
 abbrev pub own_at : List OwnObject → ℕ → Option (List Entry)
 own_at own handle = option_map (λ e. e.object) (find (λ e. e.handle == handle) own)
 
--- another object stands under a handle, in the place of the one that was there
+-- another object stands under a handle, at the index of the one that was there
 abbrev pub replaced_own : List OwnObject → ℕ → List Entry → List OwnObject
 replaced_own own handle o = updated_where (λ e. e.handle == handle) (λ e. record { handle = e.handle; session = e.session; object = o }) own
 
@@ -52,7 +52,7 @@ replaced_own own handle o = updated_where (λ e. e.handle == handle) (λ e. reco
 abbrev pub handles_for : Bool → HandleTable → HandleTable
 handles_for stays hs = if stays then hs else record hs { entries = public_handles hs.entries }
 
--- A session is closed: its objects are gone. With the last one the login ends, and with the login the handles of
+-- A session is closed, and its objects are destroyed. With the last one the login ends, and with the login the handles of
 -- private objects.
 abbrev pub closed : DeskState → ℕ → DeskState
 closed d session =
@@ -72,8 +72,8 @@ all_closed d =
       handles = record d.handles { entries = public_handles d.handles.entries };
     }
 
--- nobody is logged in any more: operations end, and private session objects and the handles of private token
--- objects are gone
+-- nobody is logged in any more: operations end; private session objects are destroyed, and handles of private token objects
+-- retired
 abbrev pub logged_out_desk : DeskState → DeskState
 logged_out_desk d =
     record d {
@@ -82,8 +82,8 @@ logged_out_desk d =
       handles = record d.handles { entries = public_handles d.handles.entries };
     }
 
--- ---- questions
+-- ---- the pending call
 
--- the question which a job is to answer
+-- the call is pending that this job answers
 abbrev pub with_question : DeskState → Job → DeskState
 with_question d job = record d { question = Some job; next_question = d.next_question + 1 }

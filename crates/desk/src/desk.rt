@@ -27,7 +27,7 @@ use std::alloc::{AllocError, Global};
 use std::marker::Model;
 use streams::Stream;
 
-/// How many session objects an application has at most.
+/// The greatest number of session objects of one application.
 pub const SESSION_OBJECT_LIMIT: usize = 256;
 
 /// One application's part of a token.
@@ -65,7 +65,7 @@ impl Desk {
         }
     }
 
-    /// Whether no call is taken: a question is pending, or a next number has reached its limit.
+    /// Whether no call is taken: a call is pending, or a next number has reached its limit.
     pub fn is_busy(&self) -> bool
         ensures { result ≡ is_busy self.now }
     {
@@ -119,7 +119,7 @@ impl Desk {
         self.sessions.has_read_only()
     }
 
-    /// The state of a session (PKCS #11 v3.1, 3.3: `CK_STATE`), and none where there is no such session.
+    /// The state of a session (`CK_STATE`; PKCS #11 v3.1, 3.3), or `None` where there is no such session.
     pub fn state(&self, session: u64) -> Option<SessionState>
         ensures { result ≡ option_map (λ s. state_of self.now.sessions.login s.read_write) (session_at self.now.sessions.sessions session) }
     {
@@ -145,7 +145,7 @@ impl Desk {
         self.sessions.open(read_write)
     }
 
-    /// Closes a session, with its objects (C_CloseSession). No memory is taken.
+    /// Closes a session, with its objects (C_CloseSession). Allocates nothing.
     pub fn close(&mut self, session: u64)
         ensures { self.new ≡ closed self.old session }
     {
@@ -156,7 +156,7 @@ impl Desk {
         }
     }
 
-    /// Closes all sessions (C_CloseAllSessions). No memory is taken.
+    /// Closes all sessions (C_CloseAllSessions). Allocates nothing.
     pub fn close_all(&mut self)
         ensures { self.new ≡ all_closed self.old }
     {
@@ -165,7 +165,7 @@ impl Desk {
         self.handles.retire_private();
     }
 
-    /// Logs in the user or the SO (C_Login, PKCS #11 v3.1, 5.6). No memory is taken.
+    /// Logs in the user or the SO (C_Login; PKCS #11 v3.1, 5.6). Allocates nothing.
     pub fn login(&mut self, user: UserType)
         requires open { 0 < length self.old.sessions.sessions }
         requires public { self.old.sessions.login ≡ None }
@@ -175,7 +175,7 @@ impl Desk {
         self.sessions.login(user);
     }
 
-    /// Logs out (C_Logout). No memory is taken.
+    /// Logs out (C_Logout). Allocates nothing.
     pub fn logout(&mut self)
         ensures { self.new ≡ logged_out_desk self.old }
     {
@@ -191,8 +191,8 @@ impl Desk {
         self.sessions.work(session)?.get(place)
     }
 
-    /// Begins an operation that encrypts or decrypts at a place of a session, goes on with it, or ends the one that is there. Without such a session
-    /// nothing changes.
+    /// Begins an operation that encrypts or decrypts at a place of a session, continues it, or ends the one that is there.
+    /// Without such a session nothing changes.
     pub fn set_operation(&mut self, session: u64, place: Place, operation: Option<Stream>)
         ensures { self.new ≡ record self.old { sessions = with_operation self.old.sessions session place (option_map operation_of operation) } }
     {
@@ -208,7 +208,7 @@ impl Desk {
         self.sessions.work(session)?.mac(place)
     }
 
-    /// Begins an operation that signs or verifies at a place of a session, goes on with it, or ends the one that is there.
+    /// Begins an operation that signs or verifies at a place of a session, continues it, or ends the one that is there.
     /// Without such a session nothing changes.
     pub fn set_mac(&mut self, session: u64, place: MacPlace, operation: Option<Mac>)
         ensures { self.new ≡ record self.old { sessions = with_mac self.old.sessions session place (option_map mac_of operation) } }
@@ -234,7 +234,7 @@ impl Desk {
         }
     }
 
-    /// The first handles of a session's search, so many, are answered now. Without such a search nothing changes.
+    /// Removes the first `count` handles of a session's search, which are returned now. Without such a search nothing changes.
     pub fn advance_search(&mut self, session: u64, count: usize)
         ensures { self.new ≡ record self.old { sessions = with_search self.old.sessions session (option_map (drop count) (search_in (session_at self.old.sessions.sessions session))) } }
     {
@@ -250,8 +250,7 @@ impl Desk {
         self.own.len() >= SESSION_OBJECT_LIMIT
     }
 
-    /// Adds a session object, and gives its handle. It fails only if an allocation fails, and then the desk
-    /// is as it was.
+    /// Adds a session object, and returns its handle. It fails only if an allocation fails, and then the desk is unchanged.
     pub fn add_own(&mut self, session: u64, object: Object) -> Result<u64, AllocError>
         requires { self.old.handles.next_number < 2 ^ 63 }
         ensures handle { IfOk result (λ handle. handle ≡ self.old.handles.next_number) }
@@ -288,15 +287,14 @@ impl Desk {
             .map(|own| &own.object)
     }
 
-    /// Destroys the session object under a handle, if there is one. No memory is taken.
+    /// Destroys the session object under a handle, if there is one. Allocates nothing.
     pub fn remove_own(&mut self, handle: u64)
         ensures { self.new ≡ record self.old { own = filter (λ e. not (e.handle == handle)) self.old.own } }
     {
         remove_handle(&mut self.own, handle);
     }
 
-    /// Puts another object in the place of the session object under a handle, if there is one. No memory
-    /// is taken.
+    /// Replaces the session object under a handle, if there is one. Allocates nothing.
     pub fn replace_own(&mut self, handle: u64, object: Object)
         ensures { self.new ≡ record self.old { own = replaced_own self.old.own handle object } }
     {
@@ -311,14 +309,14 @@ impl Desk {
         self.handles.object_of(handle)
     }
 
-    /// The number of the next handle.
+    /// The next handle.
     pub fn next_handle(&self) -> u64
         ensures { result ≡ self.now.handles.next_number }
     {
         self.handles.next_number()
     }
 
-    /// Makes room for so many more handles of token objects. It fails only if an allocation fails.
+    /// Allocates for so many more handles of token objects. It fails only if an allocation fails.
     pub fn reserve_handles(&mut self, additional: usize) -> Result<(), AllocError>
         ensures room { OnOk result (HasRoomFor self.new.handles additional) }
         ensures same { SameDesk self.old self.new }
@@ -326,8 +324,8 @@ impl Desk {
         self.handles.reserve(additional)
     }
 
-    /// Gives a token object its handle, and notes whether the object is private, as it may be only where
-    /// the user is logged in. No memory is taken.
+    /// Gives a token object its handle, and records whether the object is private, as it may be only where the user is logged in.
+    /// Allocates nothing.
     pub fn give_handle(&mut self, id: u64, private: bool) -> u64
         requires below { self.old.handles.next_number + 1 < 2 ^ 64 }
         requires room { HasRoomFor self.old.handles 1 }
@@ -338,21 +336,21 @@ impl Desk {
         self.handles.give(id, private)
     }
 
-    /// Retires the handle of a token object, if it has one. No memory is taken.
+    /// Retires the handle of a token object, if it has one. Allocates nothing.
     pub fn retire(&mut self, id: u64)
         ensures { self.new ≡ record self.old { handles = record self.old.handles { entries = without_object self.old.handles.entries id } } }
     {
         self.handles.retire(id);
     }
 
-    /// The number of the next question.
+    /// The number of the next job.
     pub fn next_question(&self) -> u64
         ensures { result ≡ self.now.next_question }
     {
         self.next_question
     }
 
-    /// Puts the question which a job is to answer.
+    /// Makes the call pending that a job answers.
     pub fn ask(&mut self, job: &Job)
         requires { self.old.next_question < 2 ^ 63 }
         ensures { self.new ≡ with_question self.old job.now }
@@ -368,14 +366,14 @@ impl Desk {
         self.question.as_ref()
     }
 
-    /// Ends the question.
+    /// The call is pending no more.
     pub fn end_question(&mut self)
         ensures { self.new ≡ record self.old { question = None } }
     {
         self.question = None;
     }
 
-    /// The application goes: all that it has ends, and its numbers begin again. No memory is taken.
+    /// A disconnect: all that the application has ends, and its numbers begin again. Allocates nothing.
     pub fn end(&mut self)
         ensures { SameDesk empty_desk self.new }
     {

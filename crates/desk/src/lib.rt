@@ -1,12 +1,11 @@
-//! One application's part of a token: its sessions with their operations, its login, its session
-//! objects, its handles of token objects, and the pending call.
+//! One application's state: its sessions with their operations, its login, its session objects, its handles of token
+//! objects, and the pending call.
 //!
-//! A desk knows nothing of the token objects but their ids and which of them are private, and nothing of
-//! other applications. It has a handle of a private one only where the user is logged in. What its
-//! numbers count, sessions, handles and questions, is its own, so that no application can tell from its
-//! numbers what others do.
+//! A desk knows nothing of other applications, and of the token objects only their ids and which of them are private. It has a
+//! handle of a private one only where the user is logged in. Its sessions, handles and jobs are counted by itself alone, so its
+//! numbers reveal nothing of other applications.
 //!
-//! What follows a write to the store can't fail: a handle's room is made before it (`reserve_handles`).
+//! What follows a write to the store can't fail: memory for a handle is allocated before it (`reserve_handles`).
 //!
 //! ```text
 //! let session = desk.open_session(true)?;

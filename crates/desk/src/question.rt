@@ -1,4 +1,4 @@
-//! Questions.
+//! Pending calls.
 
 ghost use Rattle.std.specs.Prelude.{◌≡◌};
 
@@ -7,8 +7,8 @@ use mech::Job;
 use std::marker::Model;
 use std::snapshot::Snapshot;
 
-/// The pending call: its number, and the function and session of the call that asked it. Its
-/// job is for contracts alone, and takes no bytes.
+/// The pending call: the number of its job, its function and its session. The job itself is for contracts alone, and has no
+/// bytes at run time.
 #[derive(Drop)]
 pub struct Question {
     number: u64,
@@ -29,7 +29,7 @@ impl Model for Question {
 }
 
 impl Question {
-    /// The question which a job is to answer.
+    /// The pending call that a job answers.
     pub fn new(job: &Job) -> Question
         ensures { result ≡ job.now }
     {
@@ -41,21 +41,21 @@ impl Question {
         }
     }
 
-    /// Its number.
+    /// The number of its job.
     pub fn number(&self) -> u64
         ensures { result ≡ self.now.question }
     {
         self.number
     }
 
-    /// The function that asked it.
+    /// Its function.
     pub fn function(&self) -> Function
         ensures { result ≡ self.now.function }
     {
         self.function
     }
 
-    /// The session of its call.
+    /// Its session.
     pub fn session(&self) -> u64
         ensures { result ≡ self.now.session }
     {

@@ -44,7 +44,7 @@ pub left_is : (prior : Option Lasting → Type 0) (w : World) (app : ℕ) (call 
 left_is prior w app call words None l x = x
 left_is prior w app call words (Some fault) l x = x
 
--- what is told is the answer's reply
+-- what is returned is the answer's reply
 reply_is : (w : World) (app : ℕ) (call : CallType) (words : Vec ℕ) (r : ReplyType) (fault : Option Fault) → Replies r ≡ says_called w app call words.items fault → reply_to w (moved (ModelCall app call words) fault) ≡ (app, r) ∷ []
 reply_is w app call words r None says = ap (told app) (sym says)
 reply_is w app call words r (Some fault) says = ap (told app) (sym says)

@@ -82,7 +82,7 @@ pub heard_in-append : (xs ys : List Exchange) → heard_in (xs ++ ys) ≡ heard_
 heard_in-append [] ys = refl
 heard_in-append (x ∷ xs) ys = ap (λ l. heard_by (app_of x.0) x.1 ++ l) (heard_in-append xs ys) ∙ sym (append_assoc (heard_by (app_of x.0) x.1) (heard_in xs) (heard_in ys))
 
--- ---- who has gone
+-- ---- who has disconnected
 
 pub noted_more : (g h : ℕ → Type 0) → ((app : ℕ) → g app → h app) → (xs : List Exchange) → AllNoted g xs → AllNoted h xs
 noted_more g h f [] n = tt
@@ -92,7 +92,7 @@ pub noted-append : (g : ℕ → Type 0) (xs ys : List Exchange) → AllNoted g x
 noted-append g [] ys a b = b
 noted-append g (x ∷ xs) ys a b = (a.0, noted-append g xs ys a.1 b)
 
--- one that is none of those that have gone is there
+-- one that is none of those that have disconnected is there
 pub noted_there : (g : ℕ → Type 0) (app : ℕ) (xs : List Exchange) → AllNoted g xs → ¬ g app → IsThere app xs
 noted_there g app [] n there = tt
 noted_there g app (x ∷ xs) n there = ((λ is. there (n.0 app is)), noted_there g app xs n.1 there)
@@ -173,7 +173,7 @@ module _ {A : Type 0} where
   Grows-more : (o p q : Option (List A)) (xs ys zs : List A) → Grows o xs p → Grows p ys q → zs ≡ xs ++ ys → Grows o zs q
   Grows-more o p q xs ys zs f g e l is = g (l ++ xs) (f l is) ∙ ap Some (append_assoc l xs ys ∙ ap (λ k. l ++ k) (sym e))
 
--- what the seat did, as far as the loop has come, beside the applications that have gone
+-- what the seat did, as far as the loop has come, beside the applications that have disconnected
 pub record HasDone (p q : Port) (gone : ℕ → Type 0) (a a' : Option (List SeatEvent)) (h h' : Option (List (ℕ × ReplyType))) : Type 0 where
   pub port : PortDid p q a a' h h'
   pub noted : AllNoted gone port.exchanges

@@ -58,7 +58,7 @@ abbrev pub Unanswered : Option Out → Type 0
 Unanswered None = Unit {0}
 Unanswered (Some out) = ⊥
 
--- an application that goes is not answered, and each other event is
+-- a disconnect is not answered, and each other event is
 abbrev pub Suits : Event → Option Out → Type 0
 Suits (Call c) answer = Answered answer
 Suits (Finish app done) answer = Answered answer
@@ -81,11 +81,11 @@ gone_by (Call c) = None
 gone_by (Finish app done) = None
 gone_by (Gone app) = Some app
 
--- the application went by none of these
+-- the application disconnected by none of these
 abbrev pub IsThere : ℕ → List Exchange → Type 0
 IsThere app [] = Unit {0}
 IsThere app (x ∷ xs) = (gone_by x.0 ≢ Some app) × IsThere app xs
 
--- Each event of seat s follows so, and is of an application of that seat, which has not gone.
+-- Each event of seat s follows so, and is of an application of that seat, which has not disconnected.
 abbrev pub IsProper : ℕ → List Exchange → Type 0
 IsProper s xs = (before : List Exchange) (x : Exchange) (after : List Exchange) → xs ≡ before ++ x ∷ after → Follows (last before) x.0 × (app_of x.0 % 4 ≡ s) × IsThere (app_of x.0) before

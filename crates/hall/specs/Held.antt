@@ -66,8 +66,8 @@ pub record IsKnown (taken : List (ℕ × Event)) (s : ℕ) (given : List Out) (p
 
 -- ---- one history
 
--- What seat s did is what the history has of it: what it got, as the pass of its outward channel knows it, are its answers
--- there, and what it tells grew by its events and replies there.
+-- What seat s did is what the history has of it. What it got, as the pass of its outward channel knows it, are its answers
+-- there. What it reports grew by its events and replies there.
 pub record IsPartOf (history : History) (s : ℕ) (pass : OutwardView) (asked0 asked1 : Option (List SeatEvent)) (heard0 heard1 : Option (List (ℕ × Reply))) : Type 0 where
   pub got : got_of pass ≡ answers (of s history)
   pub asked : Grows asked0 (asked_in (of s history)) asked1
@@ -83,9 +83,9 @@ pub record Interleaves (history : History) (pass : InwardView) : Type 0 where
 
 -- ---- four seats before a machine
 
--- What four seats put was one history, which the machine took: each seat got what the history has of it. Seats and the
--- machine are told as they were and as they are now. Where the machine's store is honest and no question was pending, the
--- history is a run from the world that the machine showed.
+-- What four seats put was one history, which the machine took: each seat got what the history has of it. Seats and the machine
+-- are given as they were and as they are now. Where the machine's store is faithful and no call was pending, the history is a
+-- run from the world that the machine refined.
 pub record WereHeld {S T : Type 0} (asked : S → Option (List SeatEvent)) (heard : S → Option (List (ℕ × Reply))) (doubt failures : T → ℕ) (shows : T → World → Type 0) (leaves : T → Option Lasting → Type 0)
     (inward : InwardView) (outward0 outward1 outward2 outward3 : OutwardView) (old new : S × S × S × S) (before after : T) : Type 0 where
   pub history : History

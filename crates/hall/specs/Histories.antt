@@ -85,8 +85,8 @@ abbrev pub Unfolds : World → History → Type 0
 Unfolds w [] = Unit {0}
 Unfolds w (x ∷ xs) = Tells w x.1.0 x.1.1 × Unfolds (happens w (move_in x.1)) xs
 
--- An event took place in the world: what is answered to it is what the model says, what showed the world shows the next,
--- and a crash leaves no more than the event's change.
+-- An event took place in the world: what is answered to it is what the model says; what refined the world refines the next; and
+-- a crash leaves no more than the event's change.
 pub record Takes (showing : World → Type 0) (prior left : Option Lasting → Type 0) (w : World) (event : Event) (answer : Option Out) : Type 0 where
   pub tells : Tells w event answer
   pub shows : showing (happens w (moved_by (as_event event) answer))
@@ -98,7 +98,7 @@ Allowed w (Call c) = Unit {0}
 Allowed w (Finish app done) = IsOpen w app done.job.value
 Allowed w (Gone app) = Unit {0}
 
--- no lie of the disk and no failure is forgotten, and for each CKR_DEVICE_ERROR a failure was counted
+-- no fault of the disk and no failure is forgotten, and for each CKR_DEVICE_ERROR a failure was counted
 pub record Counts (doubt_old doubt_new failures_old failures_new : ℕ) (said : List ReplyType) : Type 0 where
   pub doubt : doubt_old ≤ doubt_new
   pub failures : failures_old ≤ failures_new
@@ -116,8 +116,8 @@ own_job app (Some j) = if app == j.0 then j.1 ∷ [] else []
 abbrev pub waiting : ℕ → Option Exchange → List Job
 waiting app x = own_job app (pending x)
 
--- A history unfolded from the world so far: each event was answered as the model says at its place, a crash leaves no more
--- than the changes that were acknowledged and perhaps one tried since, and the pending jobs are those that seats have.
+-- A history unfolded from the world so far: each event was answered as the model says at its place. A crash leaves no more than
+-- the changes that were acknowledged and perhaps one tried since, and the pending jobs are those that seats have.
 pub record RunSoFar (showing : World → Type 0) (prior left : Option Lasting → Type 0) (w : World) (history : History) : Type 0 where
   pub unfolds : Unfolds w history
   pub shows : showing (after w (moves_in history))
@@ -126,15 +126,14 @@ pub record RunSoFar (showing : World → Type 0) (prior left : Option Lasting �
   pub jobs : HasJobs (after w (moves_in history)) out
   pub waits : (app : ℕ) → jobs_of app out ≡ waiting app (last (of (app % 4) history))
 
--- what became of a machine by a history: where no question was pending and the seats did as they should, it unfolded
+-- what became of a machine by a history: where no call was pending and the seats did as they should, it unfolded
 pub record HasServed {T : Type 0} (doubt failures : T → ℕ) (shows : T → World → Type 0) (leaves : T → Option Lasting → Type 0) (old new : T) (history : History) : Type 0 where
   pub suited : HistorySuits history
   pub counts : Counts (doubt old) (doubt new) (failures old) (failures new) (replies_in (told_in history))
   pub runs : doubt new ≡ 0 → (w : World) → shows old w → HasJobs w [] → AllProper history → RunSoFar (shows new) (leaves old) (leaves new) w history
 
 -- A whole history from the world: each event was answered as the model says at its place, and all is a run of the token's
--- (`IsRun`), after which no question is pending. So each application that met no resource error was told what its own
--- trace tells.
+-- (`IsRun`). After it no call is pending. So each application that met no resource error got what its own trace determines.
 pub record IsHistory (showing : World → Type 0) (prior left : Option Lasting → Type 0) (w : World) (history : History) : Type 0 where
   pub unfolds : Unfolds w history
   pub run : IsRun showing prior left w (model_events history) (told_in history) [] []

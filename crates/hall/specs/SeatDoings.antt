@@ -18,7 +18,7 @@ use Rattle.std.specs.Prelude.{Some, [], ◌∷◌}
 abbrev pub Did : Port → List Exchange → Port → Type 0
 Did p xs q = (sent_of (view q.inward_pass) ≡ sent_of (view p.inward_pass) ++ events xs) × (got_of (view q.outward_pass) ≡ got_of (view p.outward_pass) ++ answers xs)
 
--- between what the passes of seat s knew and know: these exchanges, each proper, and what the seat tells grew by them
+-- between what the passes of seat s knew and know: these exchanges, each proper, and what the seat reports grew by them
 pub record PassesDid (s : ℕ) (inward0 : InwardView) (outward0 : OutwardView) (inward1 : InwardView) (outward1 : OutwardView) (asked0 asked1 : Option (List SeatEvent)) (heard0 heard1 : Option (List (ℕ × Reply))) : Type 0 where
   pub exchanges : List Exchange
   pub did : (sent_of inward1 ≡ sent_of inward0 ++ events exchanges) × (got_of outward1 ≡ got_of outward0 ++ answers exchanges)
@@ -32,7 +32,7 @@ pub record PassesDid (s : ℕ) (inward0 : InwardView) (outward0 : OutwardView) (
 abbrev pub PortDid : Port → Port → Option (List SeatEvent) → Option (List SeatEvent) → Option (List (ℕ × Reply)) → Option (List (ℕ × Reply)) → Type 0
 PortDid p q asked0 asked1 heard0 heard1 = PassesDid p.seat (view p.inward_pass) (view p.outward_pass) (view q.inward_pass) (view q.outward_pass) asked0 asked1 heard0 heard1
 
--- the applications that went by these are among those that have gone
+-- the applications that disconnected by these are among those that have disconnected
 abbrev pub AllNoted : (ℕ → Type 0) → List Exchange → Type 0
 AllNoted gone [] = Unit {0}
 AllNoted gone (x ∷ xs) = ((app : ℕ) → gone_by x.0 ≡ Some app → gone app) × AllNoted gone xs

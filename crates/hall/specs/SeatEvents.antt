@@ -16,7 +16,7 @@ abbrev pub seat_app : SeatEvent → ℕ
 seat_app (SeatCall c) = c.app
 seat_app (SeatGone app) = app
 
--- an application that goes by it is one of those that have gone
+-- an application that disconnects by it is one of those that have disconnected
 abbrev pub Notes : (ℕ → Type 0) → SeatEvent → Type 0
 Notes gone (SeatCall c) = Unit {0}
 Notes gone (SeatGone app) = gone app
@@ -26,7 +26,7 @@ abbrev pub IsReady : Type 0 → SeatEvent → Type 0
 IsReady takes (SeatCall c) = takes
 IsReady takes (SeatGone app) = Unit {0}
 
--- what a seat asked, among its events
+-- what a seat put, among its events
 abbrev pub asked_by : Event → List SeatEvent
 asked_by (Call c) = SeatCall c ∷ []
 asked_by (Finish app done) = []
@@ -36,7 +36,7 @@ abbrev pub asked_in : List Exchange → List SeatEvent
 asked_in [] = []
 asked_in (x ∷ xs) = asked_by x.0 ++ asked_in xs
 
--- the replies that it heard, each with its application
+-- the replies that it got, each with its application
 abbrev pub heard_out : ℕ → Out → List (ℕ × Reply)
 heard_out app (OutReply reply) = (app, reply) ∷ []
 heard_out app (Ask job) = []

@@ -1,7 +1,7 @@
--- Lists that are told, or not.
+-- Lists that are known, or not.
 use Rattle.std.specs.Prelude.{◌≡◌, List, [], ◌∷◌, ◌++◌, Option, Some, None}
 
--- the told list grew by one
+-- the known list grew by one
 abbrev pub Adds : {A : Type 0} → Option (List A) → A → Option (List A) → Type 0
 Adds old x new = (xs : _) → old ≡ Some xs → new ≡ Some (xs ++ x ∷ [])
 

@@ -19,8 +19,8 @@ use hall_channels::outward::OutwardView;
 use std::sync::Wait;
 use std::thread::Threads;
 
-/// The passes of the channels once all seats have ended: what was taken of the seats, and what each was given and got.
-/// They are for contracts alone, and take no bytes.
+/// The passes of the channels once all seats have ended: what was taken of the seats, and what each was given and got. They are
+/// for contracts alone, and have no bytes.
 #[derive(Drop)]
 pub struct Passes {
     /// What was taken of the seats, each event with its seat.
@@ -47,7 +47,7 @@ pub(crate) fn wait_for_ever<R: Wait>(rt: &R)
     unreachable!()
 }
 
-/// Joins a thread, and takes in what its seat did.
+/// Joins a thread, and records what its seat did.
 fn close_one<S: Seat + Drop + Send + 'static, R: Threads + Wait>(
     rt: &R,
     inbox: &mut Inbox,
@@ -67,7 +67,7 @@ fn close_one<S: Seat + Drop + Send + 'static, R: Threads + Wait>(
     unreachable!()
 }
 
-/// Joins the four threads, and takes in what the seats did.
+/// Joins the four threads, and records what the seats did.
 pub(crate) fn close_all<S: Seat + Drop + Send + 'static, R: Threads + Wait>(
     rt: &R,
     mut inbox: Inbox,

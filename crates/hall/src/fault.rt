@@ -5,7 +5,7 @@ use thiserror::Error;
 /// Why seats were not held.
 #[derive(Clone, Copy, Debug, PartialEq, Eq, Error)]
 pub enum HallFault {
-    /// An allocation was refused.
+    /// An allocation failed.
     #[error("out of memory")]
     Memory = 1,
     /// A thread was not started.

@@ -39,7 +39,7 @@ fn apart(outboxes: [Outbox; 4]) -> (Outbox, Outbox, Outbox, Outbox)
     (first, second, third, fourth)
 }
 
-/// Gives the four threads the leave to begin, serves them, and joins them.
+/// Permits the four threads to begin, serves them, and joins them.
 fn serve_all<M: Machine, S: Seat + Drop + Send + 'static, R: Threads + Wait>(
     rt: &R,
     alloc: Global,
@@ -129,10 +129,10 @@ pub(crate) fn hold_machine<
 }
 
 /// Holds four seats, the first with number 0, in threads of their own before the token, until each has no more. The token stays
-/// in the calling thread; the seats' threads run its jobs, each of which passes the gate first. What each seat got is pinned
-/// where no question is pending, as of a new token or of one that was held.
+/// in the calling thread; the seats' threads run its jobs, each of which passes the `Gate` first. What each seat got is
+/// specified where no call is pending, as of a new token or of one that was held.
 ///
-/// It may wait, as long as a seat or the gate does. It allocates the channels and the threads. An allocation that is refused is
+/// It may wait, as long as a seat or the `Gate` does. It allocates the channels and the threads. An allocation failure is
 /// `HallFault::Memory`, and a thread that is not started `HallFault::Thread`; the seats are dropped then.
 pub fn hold<
     K: Keep,
@@ -147,7 +147,7 @@ pub fn hold<
     gate: &Arc<G, Global>,
 ) -> Result<Held<Token<K>, S>, (HallFault, Token<K>)>
     requires numbers { (S.number seats.0 ≡ 0) × (S.number seats.1 ≡ 1) × (S.number seats.2 ≡ 2) × (S.number seats.3 ≡ 3) }
-    // Each seat has answered that there is no more.
+    // Each seat has returned that there is no more.
     ensures over { IfOk result (λ h. S.over h.seats.0 × S.over h.seats.1 × S.over h.seats.2 × S.over h.seats.3) }
     // What the four seats put is one history, which is a run of the token's: each seat got what the model gives it there.
     ensures held { IfOk result (λ h. WereHeld S.asked S.heard (λ t. K.terms.doubt t.store.keep) (λ t. K.terms.failures t.store.keep) (Shows K.terms) (MayLeave K.terms) (view h.passes.inward) (view h.passes.outward0) (view h.passes.outward1) (view h.passes.outward2) (view h.passes.outward3) seats h.seats token h.token) }
@@ -173,7 +173,7 @@ pub fn hold_with<
     stacks: (usize, usize, usize, usize),
 ) -> Result<Held<Token<K>, S>, (HallFault, Token<K>)>
     requires numbers { (S.number seats.0 ≡ 0) × (S.number seats.1 ≡ 1) × (S.number seats.2 ≡ 2) × (S.number seats.3 ≡ 3) }
-    // Each seat has answered that there is no more.
+    // Each seat has returned that there is no more.
     ensures over { IfOk result (λ h. S.over h.seats.0 × S.over h.seats.1 × S.over h.seats.2 × S.over h.seats.3) }
     // What the four seats put is one history, which is a run of the token's: each seat got what the model gives it there.
     ensures held { IfOk result (λ h. WereHeld S.asked S.heard (λ t. K.terms.doubt t.store.keep) (λ t. K.terms.failures t.store.keep) (Shows K.terms) (MayLeave K.terms) (view h.passes.inward) (view h.passes.outward0) (view h.passes.outward1) (view h.passes.outward2) (view h.passes.outward3) seats h.seats token h.token) }

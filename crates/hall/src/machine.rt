@@ -14,13 +14,13 @@ use token::{Done, Out};
 
 /// What takes one event after the other: the token. The hall is proved over this trait, so that it speaks of no keeper.
 pub trait Machine {
-    /// 0 as long as its store has returned what was written.
+    /// 0 as long as its store has returned what was written (`doubt`).
     ghost doubt: { Self → ℕ };
 
     /// How often its store has failed.
     ghost failures: { Self → ℕ };
 
-    /// It shows this world.
+    /// It refines this world.
     ghost shows: { Self → World → Type 0 };
 
     /// A crash may leave this of it.
@@ -31,12 +31,12 @@ pub trait Machine {
         ensures takes { doubt self.new ≡ 0 → (w : World) → shows self.old w → Takes (shows self.new) (leaves self.old) (leaves self.new) w (CallEvent call) (Some result) }
         ensures counts { Counts (doubt self.old) (doubt self.new) (failures self.old) (failures self.new) (replies_in (told_out call.app result)) };
 
-    /// The result of the job of an application's question: the reply to the call that asked it.
+    /// The result of the job of an application's pending call: the reply to that call.
     fn finish(&mut self, alloc: Global, app: u64, done: Done) -> Reply
         ensures takes { doubt self.new ≡ 0 → (w : World) → shows self.old w → IsOpen w app done.job.value → Takes (shows self.new) (leaves self.old) (leaves self.new) w (FinishEvent app done) (Some (OutReply result)) }
         ensures counts { Counts (doubt self.old) (doubt self.new) (failures self.old) (failures self.new) (replies_in (told_out app (OutReply result))) };
 
-    /// The application goes.
+    /// A disconnect of an application.
     fn gone(&mut self, app: u64)
         ensures takes { doubt self.new ≡ 0 → (w : World) → shows self.old w → Takes (shows self.new) (leaves self.old) (leaves self.new) w (GoneEvent app) None }
         ensures counts { Counts (doubt self.old) (doubt self.new) (failures self.old) (failures self.new) (replies_in []) };

@@ -22,7 +22,7 @@ use std::alloc::Global;
 use std::sync::Wait;
 use token::{Job, Out};
 
-/// Tells that an application goes, which isn't answered. False where a channel has ended.
+/// Puts a disconnect of an application, which isn't answered. False where a channel has ended.
 #[inline(never)]
 fn tell_gone<R: Wait>(rt: &R, port: &mut Port, app: u64) -> bool
     ensures same { SamePort port.old port.new }
@@ -32,7 +32,7 @@ fn tell_gone<R: Wait>(rt: &R, port: &mut Port, app: u64) -> bool
     port.put(rt, Event::Gone { app }) && port.get_empty(rt)
 }
 
-/// An answer of the token. None where the letter has none, or the channel has ended.
+/// An answer of the token. None where the message has none, or the channel has ended.
 fn answer<R: Wait>(rt: &R, port: &mut Port) -> Option<Out>
     ensures same { SamePort port.old port.new }
     ensures sent { sent_of (view port.new.inward_pass) ≡ sent_of (view port.old.inward_pass) }
@@ -48,7 +48,7 @@ fn answer<R: Wait>(rt: &R, port: &mut Port) -> Option<Out>
     }
 }
 
-/// Runs a job that was asked for, puts its result, and gets the reply.
+/// Runs the job of a call, puts its result, and gets the reply.
 #[inline(never)]
 fn work<G: Gate, R: Wait>(
     rt: &R,
@@ -96,7 +96,7 @@ fn ask<G: Gate, R: Wait>(
     }
 }
 
-/// Does what the seat asked. False where a channel has ended.
+/// Does an event of the seat. False where a channel has ended.
 fn turn<S: Seat, G: Gate, R: Wait>(
     rt: &R,
     alloc: Global,
@@ -124,7 +124,7 @@ fn turn<S: Seat, G: Gate, R: Wait>(
     }
 }
 
-/// Asks the seat, and does what it asks, until it has no more. False where a channel has ended.
+/// Does the seat's events, one after the other, until it has no more. False where a channel has ended.
 #[inline(never)]
 pub(crate) fn run_seat<S: Seat, G: Gate, R: Wait>(
     rt: &R,

@@ -25,7 +25,7 @@ use std::sync::{Arc, Wait};
 use std::thread;
 use std::thread::{Promise, PromisedHandle, Threads};
 
-/// What a seat's thread gives back, and whether it went on until the seat had no more.
+/// What a seat's thread returns, and whether it went on until the seat had no more.
 #[derive(Drop)]
 pub(crate) struct Ended<S, E> {
     pub seat: S,
@@ -41,7 +41,7 @@ pub(crate) trait Runs<S> {
     /// From the ends and the seat as they were, what is known of them after the run, and of whether it was whole.
     ghost ran: { Self → S → Self → S → Bool → Type 0 };
 
-    /// Waits for the leave to begin, and runs the seat.
+    /// Waits for the permission to begin, and runs the seat.
     fn run<G: Gate, R: Wait>(self, rt: &R, alloc: Global, gate: &G, seat: S) -> Ended<S, Self>
         requires { ready self seat }
         ensures { ran self seat result.ends result.seat result.whole };
@@ -76,7 +76,7 @@ type Running<S, E> = PromisedHandle<Ended<S, E>, SeatPromise<S, E>>;
 
 pub(crate) type SeatThread<S> = Running<S, SeatEnds>;
 
-/// Waits for the leave to begin, and runs the seat. Without it the seat is not asked.
+/// Waits for the permission to begin, and runs the seat. Without it the seat is not called.
 fn begin<S: Seat, G: Gate, R: Wait>(
     rt: &R,
     alloc: Global,
@@ -106,7 +106,7 @@ fn begin<S: Seat, G: Gate, R: Wait>(
     }
 }
 
-/// Starts a seat's thread, which waits for the leave to begin.
+/// Starts a seat's thread, which waits for the permission to begin.
 pub(crate) fn start<
     S: Seat + Drop + Send + 'static,
     G: Gate + Send + Sync + Drop + 'static,
@@ -175,7 +175,7 @@ pub(crate) struct Joined<S> {
     pub outward_pass: Pass<Outward, OutwardView>,
 }
 
-/// Joins a seat's thread, and takes in what it did. None where it could not go on.
+/// Joins a seat's thread, and records what it did. None where it could not go on.
 pub(crate) fn join_seat<S: Seat + Drop + Send + 'static, R: Threads>(
     rt: &R,
     inbox: &mut Inbox,

@@ -1,4 +1,4 @@
-//! What a seat and a gate are.
+//! Seats (connection workers) and the `Gate` before their jobs.
 
 ghost use Rattle.std.specs.Prelude.{◌≡◌, ◌%◌, ℕ, List, Option, IfSome, IfNone, MatchOption};
 ghost use Rattle.ck_calls.specs.declared.reply.Reply.{Reply as ReplyType};
@@ -13,34 +13,35 @@ use hall_channels::messages::AppCall;
 pub enum SeatEvent {
     /// A call of one of its applications.
     Call(AppCall),
-    /// One of its applications goes, and is named no more.
+    /// A disconnect of one of its applications, which is named no more.
     Gone { app: u64 },
 }
 
-/// Where events come from and replies go. Of four seats, seat s has the applications with remainder s modulo 4.
+/// A connection worker: where events come from and replies go. Of four seats, seat s has the applications with remainder s
+/// modulo 4.
 pub trait Seat {
     ghost use Rattle.hall.specs.declared.seats.SeatEvent.{SeatEvent};
 
     /// Its number, from 0 to 3.
     ghost number: { Self → ℕ };
 
-    /// It has answered that there is no more.
+    /// It has returned that there is no more.
     ghost over: { Self → Type 0 };
 
-    /// The applications that have gone.
+    /// The applications that have disconnected.
     ghost gone: { Self → ℕ → Type 0 };
 
-    /// It has room for a reply.
+    /// It can take a reply.
     ghost ready: { Self → Type 0 };
 
-    /// The events that it has given, where it tells them.
+    /// The events that it has given, where it reports them.
     ghost asked: { Self → Option (List SeatEvent) };
 
-    /// The replies that it has taken with their applications, where it tells them.
+    /// The replies that it has taken with their applications, where it reports them.
     ghost heard: { Self → Option (List (ℕ × ReplyType)) };
 
-    /// The next event, or that there is no more. An application that has gone is named no more. It may wait, and holds up no
-    /// other seat.
+    /// The next event, or that there is no more. An application that has disconnected is named no more. It may wait, and holds up
+    /// no other seat.
     fn next(&mut self) -> Option<SeatEvent>
         ensures number { number self.new ≡ number self.old }
         ensures over { IfNone result (over self.new) }
@@ -52,7 +53,7 @@ pub trait Seat {
         ensures asked { MatchOption result (asked self.new ≡ asked self.old) (λ e. Adds (asked self.old) e (asked self.new)) }
         ensures heard { heard self.new ≡ heard self.old };
 
-    /// Takes the reply to its last call, which was of this application. It can't fail, so `next` sees to the room.
+    /// Takes the reply to its last call, which was of this application. It can't fail, so `next` allocates for it before.
     fn take(&mut self, app: u64, reply: Reply)
         requires { ready self.old }
         ensures number { number self.new ≡ number self.old }

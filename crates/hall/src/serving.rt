@@ -21,7 +21,7 @@ use std::mem;
 use std::sync::Wait;
 use token::Out;
 
-/// The event of a letter, which is taken out.
+/// The event of a message, which is taken out.
 fn taken_out(message: &mut Message) -> Option<Event>
     ensures { IfSome result (λ e. event_of message.old ≡ e ∷ []) }
 {
@@ -35,7 +35,7 @@ fn taken_out(message: &mut Message) -> Option<Event>
     }
 }
 
-/// Takes an event, and gives its answer, in the seat's letter. False where the channel has ended.
+/// Takes an event, and gives its answer, in the seat's message. False where the channel has ended.
 fn serve<M: Machine, R: Wait>(
     rt: &R,
     alloc: Global,

@@ -16,7 +16,7 @@ use std::alloc::Global;
 use std::sync::{Arc, Wait};
 use std::thread::Threads;
 
-/// The token's ends, and the threads, which wait for the leave to begin.
+/// The token's ends, and the threads, which wait for the permission to begin.
 #[derive(Drop)]
 pub(crate) struct Started<S: Seat + Drop> {
     pub inbox: Inbox,
@@ -30,7 +30,7 @@ pub(crate) struct Started<S: Seat + Drop> {
     pub thread3: SeatThread<S>,
 }
 
-/// Stops a thread that waits to begin, and joins it. Its seat was not asked.
+/// Stops a thread that waits to begin, and joins it. Its seat was not called.
 fn stop<S: Seat + Drop + Send + 'static, R: Threads + Wait>(
     rt: &R,
     outbox: &mut Outbox,
@@ -40,7 +40,7 @@ fn stop<S: Seat + Drop + Send + 'static, R: Threads + Wait>(
     drop(thread.join(rt));
 }
 
-/// Starts all threads, or none that asks its seat. A stack has this size, or the usual one at 0.
+/// Starts all threads, or none that calls its seat. A stack has this size, or the usual one at 0.
 pub(crate) fn start_all<
     S: Seat + Drop + Send + 'static,
     G: Gate + Send + Sync + Drop + 'static,

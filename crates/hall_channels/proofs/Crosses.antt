@@ -1,4 +1,4 @@
--- Messages may go to another thread: they own all that they have.
+-- Messages may cross to another thread: they own all that they have.
 use Rattle.std.proofs.Common.{rules}
 use Rattle.std.proofs.Crossing.{crosses, Box-send}
 use denote.Param.Send.{IsSend, sendable, view_send, recorded_send, struct_send, enum_send}

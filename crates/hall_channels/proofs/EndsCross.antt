@@ -1,4 +1,4 @@
--- The ends of the channels may go to another thread.
+-- The ends of the channels may cross to another thread.
 use denote.RattleType.{RattleType}
 use denote.Param.Send.{IsSend, IsSync, sendable}
 use Rattle.std.proofs.Crossing.{crosses}

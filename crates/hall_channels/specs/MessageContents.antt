@@ -1,4 +1,4 @@
--- What a letter has.
+-- What a message has.
 use Rattle.std.specs.Prelude.{List, [], ◌∷◌}
 use Rattle.serve_base.specs.declared.out.Out.{Out}
 use Rattle.hall_channels.specs.declared.messages.Event.{Event}

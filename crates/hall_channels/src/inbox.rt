@@ -14,8 +14,8 @@ use std::alloc::{AllocError, Global};
 use std::sync::Wait;
 use std::thread;
 
-/// How many turns the token gives up to the other threads before it sleeps: for longer than a client takes from a reply to its
-/// next call, since a thread that sleeps is dear to wake.
+/// How often the token yields to the other threads before it sleeps: for longer than a client takes from a reply to its next
+/// call, since a thread that sleeps is dear to wake.
 const TURNS: u32 = 200;
 
 /// The token's end of the one inward channel, on which it takes what the seats put. Its pass knows how many seats were made,
@@ -48,8 +48,8 @@ impl Inbox {
         })
     }
 
-    /// The sender and the pass of the next seat: seats have the numbers 0, 1, 2 and so on. It allocates; where that is refused,
-    /// no seat was made. No more seats may have ended than were made.
+    /// The sender and the pass of the next seat: seats have the numbers 0, 1, 2 and so on. It allocates; where that fails, no seat
+    /// was made. No more seats may have ended than were made.
     pub fn add_seat(
         &mut self,
     ) -> Result<
@@ -71,7 +71,7 @@ impl Inbox {
         Ok((sender, pass))
     }
 
-    /// Takes the next message, and waits for it, first in turns and then asleep. None where the channel has ended, and then
+    /// Takes the next message, and waits for it: first it yields, and then it sleeps. None where the channel has ended, and then
     /// nothing was taken.
     pub fn take<R: Wait>(&mut self, rt: &R) -> Option<Inward>
         ensures same { sends_on self.new.sender ≡ sends_on self.old.sender }
@@ -98,7 +98,7 @@ impl Inbox {
             .ok()
     }
 
-    /// Takes the next message, where it comes within `TURNS` turns of this thread.
+    /// Takes the next message, where it comes while this thread yields `TURNS` times.
     fn take_patiently<R: Wait>(&mut self, rt: &R) -> Option<Inward>
         ensures same { sends_on self.new.sender ≡ sends_on self.old.sender }
         ensures taken { IfSome result (λ x. taken_of (view self.new.inward_pass) ≡ taken_of (view self.old.inward_pass) ++ happened x) }
@@ -139,7 +139,7 @@ impl Inbox {
         self.sender.absorb::<Ends>(&mut self.inward_pass, pass);
     }
 
-    /// Whether the channel is empty. Then what the seats that have ended sent is what was taken of them. Else a message is
+    /// Whether the channel is empty. Then what the seats that have ended sent is what was taken of them. If not, a message is
     /// taken, and lost.
     pub fn is_empty<R: Wait>(&mut self, rt: &R) -> bool
         ensures empty { IsTrue result → (view self.new.inward_pass ≡ view self.old.inward_pass) × SentInAll (view self.old.inward_pass) [] }

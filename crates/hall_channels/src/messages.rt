@@ -9,7 +9,7 @@ use serve_base::Out;
 use std::alloc::{AllocError, Global};
 use std::mem;
 
-/// A call of an application, with the random bytes that it takes, as many as `ck_calls::need` says.
+/// A call of an application, with as many random bytes as `ck_calls::need` returns.
 #[derive(Drop)]
 pub struct AppCall {
     pub app: u64,
@@ -23,14 +23,14 @@ pub struct AppCall {
 pub enum Event {
     /// A call of an application.
     Call(AppCall),
-    /// What came of the job that was the answer to a call of the application.
+    /// The result of the job that was the answer to a call of the application.
     Finish { app: u64, done: Done },
-    /// An application that goes. It is not answered.
+    /// A disconnect of an application. It is not answered.
     Gone { app: u64 },
 }
 
-/// Room for an event or for its answer. Each seat has one letter, which goes to the token with the event and comes back with the
-/// answer. So a channel passes a pointer, and none of them takes memory for a message.
+/// An event or its answer. Each seat has one message, which goes to the token with the event and comes back with the answer. So
+/// a channel passes a pointer, and a call allocates nothing for it.
 #[derive(Drop)]
 pub enum Message {
     /// An event of a seat.
@@ -42,7 +42,7 @@ pub enum Message {
 }
 
 impl Message {
-    /// A letter with nothing in it. It allocates.
+    /// A message with nothing in it. It allocates.
     pub(crate) fn new(alloc: Global) -> Result<Box<Message>, AllocError> {
         match Box::new(alloc, Message::Empty) {
             Ok(message) => Ok(message),
@@ -53,7 +53,7 @@ impl Message {
         }
     }
 
-    /// Another content in the place of what it has, which is let go.
+    /// Replaces the content, which is dropped.
     pub(crate) fn fill(&mut self, content: Message)
         ensures { self.new ≡ content }
     {
@@ -61,20 +61,20 @@ impl Message {
     }
 }
 
-/// A message to the token.
+/// What goes to the token.
 #[derive(Drop)]
 pub enum Inward {
-    /// The letter of a seat, with an event.
+    /// The message of a seat, with an event.
     Put { seat: u64, message: Box<Message> },
     /// The mark that the seat puts no more.
     End { seat: u64 },
 }
 
-/// A message to a seat.
+/// What goes to a seat.
 #[derive(Drop)]
 pub enum Outward {
-    /// Its letter: with what the token answers to its last event, or with nothing, where it may begin, and after an event that
-    /// isn't answered.
+    /// Its message: with the token's answer to its last event; or empty, where it may begin, and after an event that isn't
+    /// answered.
     Message(Box<Message>),
     /// It is to stop before it begins.
     Stop,

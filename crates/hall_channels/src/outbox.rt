@@ -14,8 +14,8 @@ use serve_base::Out;
 use std::alloc::{AllocError, Global};
 use std::sync::Wait;
 
-/// The token's end of one seat's channel, on which it gives answers. Its pass knows what was given. It has the seat's letter
-/// until the seat has the leave to begin.
+/// The token's end of one seat's channel, on which it gives answers. Its pass knows what was given. It has the seat's message
+/// until the seat is permitted to begin.
 #[derive(Drop)]
 pub struct Outbox {
     pub message: Option<Box<Message>>,
@@ -26,7 +26,7 @@ pub struct Outbox {
 }
 
 impl Outbox {
-    /// Both ends of a new channel of capacity 1, on which nothing was given or got: the token's with the seat's letter, and the
+    /// Both ends of a new channel of capacity 1, on which nothing was given or got: the token's with the seat's message, and the
     /// receiver and the pass of the seat. It allocates.
     pub fn open(
         alloc: Global,
@@ -60,8 +60,7 @@ impl Outbox {
         ))
     }
 
-    /// Gives the seat the leave to begin, which is its letter with nothing in it. False where it was given before, or the channel
-    /// has ended.
+    /// Permits the seat to begin, by its message with nothing in it. False where that was done before, or the channel has ended.
     pub fn begin<R: Wait>(&mut self, rt: &R) -> bool
         ensures same { sends_on self.new.outward ≡ sends_on self.old.outward }
         ensures none { given_of (view self.new.outward_pass) ≡ given_of (view self.old.outward_pass) }
@@ -72,7 +71,7 @@ impl Outbox {
         }
     }
 
-    /// Gives the seat its letter with an answer in it, and waits until there is room for it. False where the channel has ended, and
+    /// Gives the seat its message with an answer in it, and waits while the channel is full. False where the channel has ended, and
     /// then nothing was given.
     pub fn answer<R: Wait>(&mut self, rt: &R, mut message: Box<Message>, out: Out) -> bool
         ensures same { sends_on self.new.outward ≡ sends_on self.old.outward }
@@ -83,7 +82,7 @@ impl Outbox {
         self.give(rt, Outward::Message(message))
     }
 
-    /// Gives the seat its letter with nothing in it, and waits until there is room for it. False where the channel has ended.
+    /// Gives the seat its message with nothing in it, and waits while the channel is full. False where the channel has ended.
     pub fn give_back<R: Wait>(&mut self, rt: &R, mut message: Box<Message>) -> bool
         ensures same { sends_on self.new.outward ≡ sends_on self.old.outward }
         ensures none { given_of (view self.new.outward_pass) ≡ given_of (view self.old.outward_pass) }
@@ -92,8 +91,8 @@ impl Outbox {
         self.give(rt, Outward::Message(message))
     }
 
-    /// Gives a message to the seat, and waits until there is room for it. False where the channel has ended, and then nothing
-    /// was given.
+    /// Gives a message to the seat, and waits while the channel is full. False where the channel has ended, and then nothing was
+    /// given.
     pub fn give<R: Wait>(&mut self, rt: &R, message: Outward) -> bool
         ensures same { sends_on self.new.outward ≡ sends_on self.old.outward }
         ensures given { IsTrue result → given_of (view self.new.outward_pass) ≡ given_of (view self.old.outward_pass) ++ answer_in message }
@@ -106,8 +105,8 @@ impl Outbox {
             .is_some()
     }
 
-    /// Takes in the pass of a seat that has ended, and ends the channel. What was given is what the seat got and then what it
-    /// left, in order; the pass that is given back knows both.
+    /// Takes in the pass of a seat that has ended, and ends the channel. What was given is what the seat got and then what it left,
+    /// in order; the pass that is returned knows both.
     pub fn close(self, outward_pass: Pass<Outward, OutwardView>) -> Pass<Outward, OutwardView>
         requires outward_pass { IsSeatAt (sends_on self.outward) outward_pass }
         requires gets { view outward_pass ≡ Getting (got_of (view outward_pass)) }

@@ -17,12 +17,12 @@ use crate::port::{Ends, Port, SeatEnds};
 use std::sync::Wait;
 use std::{mem, thread};
 
-/// How many turns a seat gives up to the other threads before it sleeps: the token answers meanwhile, or is at work for others.
+/// How often a seat yields to the other threads before it sleeps: the token answers meanwhile, or works for others.
 const TURNS: u32 = 40;
 
 impl Port {
-    /// A seat's ends, as they came to its thread, without its letter. Both passes are of the channels of their ends, and the inward one is of the
-    /// seat's number.
+    /// A seat's ends, as they came to its thread, without its message. Both passes are of the channels of their ends, and the inward
+    /// one is of the seat's number.
     pub fn enter(ends: SeatEnds) -> Port
         requires inward_pass { IsSeatAt (sends_on ends.inward) ends.inward_pass }
         requires outward_pass { IsSeatAt (receives_on ends.outward) ends.outward_pass }
@@ -73,7 +73,7 @@ impl Port {
         }
     }
 
-    /// Puts an event of this seat in its letter, and waits until there is room for it. False where the letter isn't here, or the
+    /// Puts an event of this seat in its message, and waits while the channel is full. False where the message isn't here, or the
     /// channel has ended, and then nothing was put.
     pub fn put<R: Wait>(&mut self, rt: &R, event: Event) -> bool
         ensures same { SamePort self.old self.new }
@@ -90,7 +90,7 @@ impl Port {
         self.send(rt, Inward::Put { seat, message })
     }
 
-    /// Puts the mark that this seat puts no more, and waits until there is room for it. False where the channel has ended.
+    /// Puts the mark that this seat puts no more, and waits while the channel is full. False where the channel has ended.
     pub fn end<R: Wait>(&mut self, rt: &R) -> bool
         ensures same { SamePort self.old self.new }
         ensures sent { sent_of (view self.new.inward_pass) ≡ sent_of (view self.old.inward_pass) }
@@ -100,8 +100,8 @@ impl Port {
         self.send(rt, Inward::End { seat })
     }
 
-    /// Puts a message of this seat, and waits until there is room for it. False where the channel has ended, and then nothing
-    /// was put.
+    /// Puts a message of this seat, and waits while the channel is full. False where the channel has ended, and then nothing was
+    /// put.
     fn send<R: Wait>(&mut self, rt: &R, message: Inward) -> bool
         requires { from message ≡ self.old.seat }
         ensures same { SamePort self.old self.new }
@@ -115,7 +115,7 @@ impl Port {
             .is_some()
     }
 
-    /// Gets the letter back, and takes out what it has. It waits for it, first in turns and then asleep. None where the seat is to
+    /// Gets the message back, and takes out what it has. It waits: first it yields, and then it sleeps. None where the seat is to
     /// stop, or the channel has ended, and then no answer was got.
     pub fn get<R: Wait>(&mut self, rt: &R) -> Option<Message>
         ensures same { SamePort self.old self.new }
@@ -133,7 +133,7 @@ impl Port {
         }
     }
 
-    /// Gets the letter back with nothing in it. False where it has an answer, the seat is to stop, or the channel has ended.
+    /// Gets the message back with nothing in it. False where it has an answer, the seat is to stop, or the channel has ended.
     pub fn get_empty<R: Wait>(&mut self, rt: &R) -> bool
         ensures same { SamePort self.old self.new }
         ensures sent { sent_of (view self.new.inward_pass) ≡ sent_of (view self.old.inward_pass) }
@@ -155,8 +155,8 @@ impl Port {
         }
     }
 
-    /// Gets the next message for this seat, and waits for it, first in turns and then asleep. None where the channel has ended,
-    /// and then nothing was got.
+    /// Gets the next message for this seat, and waits for it: first it yields, and then it sleeps. None where the channel has
+    /// ended, and then nothing was got.
     fn receive<R: Wait>(&mut self, rt: &R) -> Option<Outward>
         ensures same { SamePort self.old self.new }
         ensures sent { sent_of (view self.new.inward_pass) ≡ sent_of (view self.old.inward_pass) }
@@ -182,7 +182,7 @@ impl Port {
             .ok()
     }
 
-    /// Gets the next message, where it comes within `TURNS` turns of this thread.
+    /// Gets the next message, where it comes while this thread yields `TURNS` times.
     fn get_patiently<R: Wait>(&mut self, rt: &R) -> Option<Outward>
         ensures same { SamePort self.old self.new }
         ensures sent { sent_of (view self.new.inward_pass) ≡ sent_of (view self.old.inward_pass) }

@@ -1,4 +1,4 @@
--- A call that was read has no more than a frame has room for, and a reply that is short has a frame.
+-- A call that was read has no more than fits into a frame, and a reply that is short has a frame.
 use Rattle.std.proofs.Common.{◌≡◌, ℕ, ◌*◌, ◌≤◌, List, [], ◌∷◌, ◌++◌, length, Option, Some, None, Result, Ok, Err, IfOk, IfSome, refl, sym, ap, subst, arith}
 use Rattle.std.specs.Int.{w16, w64, to_be_bytes}
 use Rattle.std.specs.List.{flat_map, AllByRecursion}

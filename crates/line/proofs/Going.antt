@@ -1,4 +1,4 @@
--- At the end of a line its application goes.
+-- At the end of a line its application disconnects.
 use Rattle.std.proofs.Common.{◌≡◌, ℕ, List, [], Option, refl, sym, ◌∙◌, ap, subst, inl, inr}
 use Rattle.std.proofs.lemmas.Bool.{cases_eq, eq-eqb, ne_eqb}
 use Rattle.rand_chacha.specs.ChaCha.{ChaCha}
@@ -11,7 +11,7 @@ use Rattle.serve_base.specs.Stores.{StoreState}
 use Rattle.line.specs.Lines.{Message, Leads, LeadsAway}
 use Rattle.line.proofs.Moving.{Idle, idle, no_jobs}
 
--- one that goes leaves no question
+-- a disconnect leaves no pending call
 gone-idle : (w : World) (app : ℕ) → Idle w → Idle (goes w (Gone app))
 gone-idle w app i b = elim (cases_eq b app) [
   | inl e ↦ rw (eq-eqb b app e) refl
@@ -19,7 +19,7 @@ gone-idle w app i b = elim (cases_eq b app) [
 ]
 
 module _ {K : Type 0} (terms : Terms K) where
-  -- whichever world a token shows, its questions are those of the desks
+  -- whichever world a token refines, its pending calls are those of the desks
   same-question : (t : TokenState K) (v w : World) → Shows terms t v → Shows terms t w → (b : ℕ) → (w.views b).question ≡ (v.views b).question
   same-question t v w s z b = ap (λ u. u.question) (z.depicts.views b) ∙ sym (ap (λ u. u.question) (s.depicts.views b))
 

@@ -110,7 +110,7 @@ module _ {K : Type 0} (terms : Terms K) (app : ℕ) where
         };
   }
 
--- what is said of a payload that is no call is said of the reply to it
+-- what is known of a payload that is no call is known of the reply to it
 pub if-refusal : {X : Type 0} (P : Reply → Type 0) (fault : WireFault) (read : Result X WireFault) (r : Result Reply LineFault) → Reads (Err fault) read → IfOk r (λ reply. reply ≡ refusal_of fault) → OnOk r (fault ≢ faults.Memory) → (read ≡ Err fault → P (refusal_of fault)) → IfOk r P
 if-refusal P fault read (Err why) exact is told p = tt
 if-refusal P faults.Memory read (Ok reply) exact is told p = absurd (told refl)

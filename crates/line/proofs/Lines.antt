@@ -1,4 +1,4 @@
--- Bytes that are read and written one piece after the other.
+-- Bytes that are read and written in parts.
 use Rattle.std.proofs.Common.{◌≡◌, ℕ, List, [], ◌∷◌, ◌++◌, take, drop, Option, Some, None, refl, sym, ap, ◌∙◌, append_assoc}
 use Rattle.std.specs.List.{AllByRecursion}
 use Rattle.std.specs.Io.KnownBytes.{Appends, Consumes, Keeps}

@@ -19,7 +19,7 @@ use Rattle.model_answers.proofs.Proper.{over-result}
 use Rattle.model_worlds.proofs.Tries.{seen-question}
 use Rattle.line.proofs.Questions.{left_by, leaves-answer}
 
--- ---- no question is pending
+-- ---- no call is pending
 
 abbrev pub Idle : World → Type 0
 Idle w = (b : ℕ) → (w.views b).question ≡ None
@@ -105,7 +105,7 @@ module _ (w : World) (i : Idle w) (app : ℕ) (call : CallType) (random : Vec �
   abbrev answered : World
   answered = called w app call random.items None
 
-  -- another application's question stays as it was
+  -- another application's pending call stays as it was
   others : (b : ℕ) → b ≢ app → (answered.views b).question ≡ None
   others b d = rw (ne_eqb b app d) (seen-question (change_for b w app (answer_at w app call random.items)) (w.views b) ∙ i b)
 
@@ -142,7 +142,7 @@ module _ (w : World) (i : Idle w) (app : ℕ) (call : CallType) (random : Vec �
           leaves = λ x may. inl (l x may, rw none refl);
         }
 
-  -- that asks, and whose question is finished
+  -- that returns a job, whose result is taken
   pub moved-ask : (mid : Option Lasting → Type 0) (r : Reply) (q : Question) → Asks q ≡ (answer_at w app call random.items).says → ((answered.views app).question ≡ Some q → reply_to answered (move_of (Finish app) (OutReply r)) ≡ (app, r) ∷ [])
       → ((answered.views app).question ≡ Some q → showing (happens answered (move_of (Finish app) (OutReply r))))
       → ((l : Option Lasting) → mid l → LeavesBy prior (call_change w app call random.items) answered None l) → ((answered.views app).question ≡ Some q → (l : Option Lasting) → left l → LeftBy mid answered (move_of (Finish app) (OutReply r)) l)

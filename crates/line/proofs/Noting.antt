@@ -1,4 +1,4 @@
--- What a reader or a writer noted of several calls.
+-- What a reader or a writer counted of several calls.
 use Rattle.std.proofs.Common.{◌≡◌, ℕ, ◌+◌, Bool, true, IsTrue, Err, refl, ◌∙◌, subst, arith, inl, inr}
 use Rattle.std.specs.declared.io.Error.{Error}
 use Rattle.keep.specs.Keeping.{Rises}

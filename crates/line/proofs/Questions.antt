@@ -1,4 +1,4 @@
--- The question of an application, over every answer: the token's laws of its answers.
+-- The pending call of an application, over every answer: the token's laws of its answers.
 use Rattle.std.proofs.Common.{◌≡◌, ℕ, List, Option, Some}
 use Rattle.ck_calls.specs.declared.call.Call.{Call}
 use Rattle.model_views.specs.Views.{View, Question}
@@ -7,7 +7,7 @@ use Rattle.model_answers.specs.Answers.{answer}
 use Rattle.model_views.proofs.Blind.{Leaves}
 use Rattle.model_answers.proofs.Proper.{leaves-answer as token_leaves}
 
--- a reply leaves the question as it was, and a question that is asked is pending
+-- a reply leaves the pending call as it was, and a call that returns a job is pending
 abbrev pub left_by : Said → Option Question → Option Question
 left_by (Replies reply) old = old
 left_by (Asks question) old = Some question

@@ -1,4 +1,4 @@
--- A line, from its first piece to its end.
+-- A line, from its first part to its end.
 use Rattle.std.proofs.Common.{◌≡◌, ℕ, ◌≤◌, false, List, [], ◌∷◌, ◌++◌, length, Option, Result, Ok, Err, refl, sym, ap, subst, ◌∙◌, append_assoc, arith, inl, inr}
 use Rattle.std.specs.List.{flat_map, AllByRecursion}
 use Rattle.std.specs.Io.KnownBytes.{Appends, Consumes, Keeps}
@@ -78,7 +78,7 @@ serves-by leads held count a b c v w x r p q e f = record {
 pub serves-memory : (leads : List Message → List Reply → Type 0) (held : Held) (count : ℕ) (a b c v w : Option (List ℕ)) (x : List ℕ) → Serving leads held count a b v w → Consumes b c x → Serves leads a c v w (Err faults.Memory)
 serves-memory leads held count a b c v w x p q = serves-by leads held count a b c v w x (Err faults.Memory) p q (λ ps e. tt) (λ y rs whole. inl whole)
 
--- ---- a piece was read
+-- ---- a part was read
 
 module _ (before leads : List Message → List Reply → Type 0) (held fed : Held) (m : ℕ) (a b c v w : Option (List ℕ)) (x : List ℕ) (p : Serving before held m a b v w) (q : Consumes b c x) (f : fed.bytes ≡ held.bytes ++ x) where
   joined_read : (qs : List (List ℕ)) (rest : List ℕ) → fed.bytes ≡ flat_map frame qs ++ rest → Consumes a c (flat_map frame (p.payloads ++ qs) ++ rest)

@@ -1,6 +1,6 @@
--- What a line does with the messages that it reads, and what it answers. The frames and their payloads are this
--- project's; a call is one of the functions of PKCS #11 v3.1, 5, and a message that is none is answered by a code of
--- 5.1: CKR_FUNCTION_NOT_SUPPORTED for a function that isn't known, and CKR_ARGUMENTS_BAD for any other.
+-- What a line does with the messages that it reads, and what it answers. The frames and their payloads are this project's. A
+-- call is one of the functions of PKCS #11 v3.1, 5. A message that is no call is answered by a code of 5.1:
+-- CKR_FUNCTION_NOT_SUPPORTED for a function that isn't known, and CKR_ARGUMENTS_BAD for any other.
 use Rattle.std.specs.Prelude.{◌≡◌, ℕ, ◌+◌, ◌≤◌, List, [], ◌∷◌, ◌++◌, map, length, Option, Result, Ok, Err}
 use Rattle.rand_chacha.specs.ChaCha.{ChaCha}
 use Rattle.ck_types.specs.declared.rv.Rv.TheVariants.{ArgumentsBad, FunctionNotSupported}
@@ -38,8 +38,8 @@ act_of (Call app call random) = (app, Calls call random.items)
 act_of (Finish app) = (app, Finishes)
 act_of (Gone app) = (app, Leaves)
 
--- A call is made with the random bytes that it takes, and its question is finished at once; where it has none, the
--- finish is passed over. What is no call does nothing and takes no random bytes.
+-- A call is made with the random bytes that it takes, and the result of its job is taken at once; where it has no job, that is
+-- passed over. What is no call does nothing and takes no random bytes.
 abbrev pub acts_of : ℕ → ChaCha → Message → List (ℕ × Act)
 acts_of app words (Ok call) = (app, Calls call (taken (random_bytes call) words).0) ∷ (app, Finishes) ∷ []
 acts_of app words (Err fault) = []
@@ -70,7 +70,7 @@ calls_in [] = 0
 calls_in (Ok call ∷ ms) = calls_in ms + 1
 calls_in (Err fault ∷ ms) = calls_in ms
 
--- the answers to messages, where the calls among them were told these in turn
+-- the answers to messages, where the calls among them got these in turn
 abbrev pub answers : List Message → List (ℕ × Reply) → List Reply
 answers [] told = []
 answers (Ok call ∷ ms) [] = []
@@ -79,9 +79,9 @@ answers (Err fault ∷ ms) told = refusal_of fault ∷ answers ms told
 
 -- ---- runs
 
--- From w these acts took place, each as it goes or refused by a resource error, and this was told. The token shows the
--- world after them, no question is pending, and a crash leaves the changes that were acknowledged, and perhaps one that
--- was tried since, whole. What each application is told and sees of it follows from the moves by the token's laws.
+-- From w these acts took place, each as it goes or refused by a resource error, and this was returned. The token refines the
+-- world after them, and no call is pending. A crash leaves the changes that were acknowledged, and perhaps one that was tried
+-- since, whole. What each application gets and sees of it follows from the moves by the token's laws.
 pub record Moved (showing : World → Type 0) (prior left : Option Lasting → Type 0) (w : World) (done : List (ℕ × Act)) (told : List (ℕ × Reply)) : Type 0 where
   pub moves : List Move
   pub took : map (λ m. act_of (event_of m)) moves ≡ done
@@ -90,8 +90,8 @@ pub record Moved (showing : World → Type 0) (prior left : Option Lasting → T
   pub idle : HasJobs (after w moves) []
   pub leaves : (l : Option Lasting) → left l → LeftAfter prior w moves l
 
--- The run of a line over messages: its calls were made in order by the one application, each told one reply, and the
--- messages were answered so.
+-- The run of a line over messages: its calls were made in order by the one application, each got one reply, and the messages
+-- were answered so.
 pub record IsLine (showing : World → Type 0) (prior left : Option Lasting → Type 0) (app : ℕ) (w : World) (words : ChaCha) (ms : List Message) (said : List Reply) : Type 0 where
   pub told : List (ℕ × Reply)
   pub moved : Moved showing prior left w (acts app words ms) told
@@ -101,9 +101,9 @@ pub record IsLine (showing : World → Type 0) (prior left : Option Lasting → 
 -- ---- two states of a token
 
 module _ {K : Type 0} (terms : Terms K) where
-  -- What a token and the words of an application became while these messages were answered so. No lie of the disk is
-  -- forgotten, and for each CKR_DEVICE_ERROR a failure of the keeper was counted; while there was no lie, this is a line's
-  -- run from each world that the token showed.
+  -- What a token and the words of an application became while these messages were answered so. No fault of the disk is forgotten,
+  -- and for each CKR_DEVICE_ERROR a failure of the keeper was counted. While there was no fault of the disk, this is a line's run
+  -- from each world that the token refined.
   pub record Leads (app : ℕ) (old new : TokenState K) (words_old words_new : ChaCha) (ms : List Message) (said : List Reply) : Type 0 where
     pub one_each : length said ≡ length ms
     pub words : words_new ≡ words_after words_old ms
@@ -112,7 +112,7 @@ module _ {K : Type 0} (terms : Terms K) where
     pub accounts : AccountsFor (terms.failures old.store.keep) (terms.failures new.store.keep) said
     pub run : terms.doubt new.store.keep ≡ 0 → (w : World) → Shows terms old w → HasJobs w [] → IsLine (Shows terms new) (MayLeave terms old) (MayLeave terms new) app w words_old ms said
 
-  -- and then the application went
+  -- and then the application disconnected
   pub record LeadsAway (app : ℕ) (old new : TokenState K) (words_old words_new : ChaCha) (ms : List Message) (said : List Reply) : Type 0 where
     pub one_each : length said ≡ length ms
     pub words : words_new ≡ words_after words_old ms

@@ -1,4 +1,4 @@
--- What a reader or a writer that notes its failures has noted. The kinds of errors are std's.
+-- What a reader or a writer that counts its failures has counted. The kinds of errors are std's.
 use Rattle.std.specs.Prelude.{◌≡◌, ◌⊎◌, ℕ, ◌+◌, ◌-◌, ◌^◌, ◌<◌, ◌≤◌, List, length, Result, Ok, Err}
 use Rattle.std.specs.declared.io.Error.{Error}
 use Rattle.std.specs.declared.io.ErrorKind.TheVariants.{Interrupted}

@@ -42,8 +42,8 @@ pub record LacksLast (written : List ℕ) (said : List Reply) : Type 0 where
   pub frames : AreFrames written front
   pub framed : HasReplyFrame last
 
--- How much of the replies was written: all, but the last in part where the writer failed, and perhaps all but the last
--- where memory ran out. Each reply has a frame, written or not.
+-- How much of the replies was written: all, but the last in part where the writer failed, and perhaps all but the last where an
+-- allocation failed. Each reply has a frame, written or not.
 abbrev pub IsWritten : {U : Type 0} → Result U LineFault → List ℕ → List Reply → Type 0
 IsWritten (Ok done) written said = AreFrames written said
 IsWritten (Err faults.Read) written said = AreFrames written said
@@ -67,7 +67,7 @@ EndsBy (Err faults.TooLong) payloads rest remaining = IsTooLong rest
 EndsBy (Err faults.Cut) payloads rest remaining = (rest ≢ []) × IsPartial rest × IsAtEnd remaining
 EndsBy (Err faults.Memory) payloads rest remaining = Unit {0}
 
--- by what the reader noted: `Read` comes where it failed, and no failure is passed over
+-- by what the reader counted: `Read` comes where it failed, and no failure is passed over
 abbrev pub ReadsBy : {T U : Type 0} → Noting T → Noting T → Result U LineFault → Type 0
 ReadsBy old new (Ok done) = Unfailing old new
 ReadsBy old new (Err faults.Read) = HasFailed old new
@@ -76,7 +76,7 @@ ReadsBy old new (Err faults.TooLong) = Unfailing old new
 ReadsBy old new (Err faults.Cut) = Unfailing old new
 ReadsBy old new (Err faults.Memory) = Unfailing old new
 
--- by what the writer noted: `Write` comes where it failed, and no failure is passed over
+-- by what the writer counted: `Write` comes where it failed, and no failure is passed over
 abbrev pub WritesBy : {T U : Type 0} → Noting T → Noting T → Result U LineFault → Type 0
 WritesBy old new (Ok done) = Unfailing old new
 WritesBy old new (Err faults.Read) = Unfailing old new
@@ -85,8 +85,8 @@ WritesBy old new (Err faults.TooLong) = Unfailing old new
 WritesBy old new (Err faults.Cut) = Unfailing old new
 WritesBy old new (Err faults.Memory) = Unfailing old new
 
--- What was read is the frames of payloads and a rest, and what was written is the frames of the replies to these
--- payloads, in order, as far as it came; `leads` says that these are the replies.
+-- What was read is the frames of payloads and a rest. What was written is the frames of the replies to these payloads, in order,
+-- as far as it came; `leads` says that these are the replies.
 pub record Serves (leads : List Message → List Reply → Type 0) (read_old read_new write_old write_new : Option (List ℕ)) (r : Result ℕ LineFault) : Type 0 where
   pub payloads : List (List ℕ)
   pub rest : List ℕ

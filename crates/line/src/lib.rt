@@ -1,18 +1,17 @@
-//! One line: the frames of a reader, answered in order to a writer.
+//! One line, that is one connection over standard streams: the frames of a reader, answered in order to a writer.
 //!
-//! - `Words` are the random bytes of one application: the words of ChaCha20 under the operator's seed,
-//!   whose stream number is the application's. `take` gives the next of them, and because an allocation failed
-//!   leaves them where they were.
+//! - `Words` are the random bytes of one application: the words of ChaCha20 under the operator's seed, whose stream number is
+//!   the application's. `take` returns the next of them; where an allocation fails it leaves them where they were.
 //! - `Watched` wraps a reader or a writer and counts its failures.
-//! - `serve_one` answers the frames of a reader, each as soon as it is whole, until the reader ends or
-//!   the line fails. A payload that is no call answers `CKR_ARGUMENTS_BAD`, and one that names no known
-//!   function `CKR_FUNCTION_NOT_SUPPORTED`; neither changes the token nor takes random bytes. The bytes
-//!   that it reads and writes stand in `specs/Serve.antt`, and what the token does meanwhile in
-//!   `specs/Lines.antt`.
+//! - `serve_one` answers the frames of a reader, each as soon as it is whole, until the reader ends or the line fails. The reply
+//!   to a payload that is no call is `CKR_ARGUMENTS_BAD`, and `CKR_FUNCTION_NOT_SUPPORTED` where it names no known function.
+//!   Neither changes the token nor takes random bytes. `specs/Serve.antt` defines the bytes that it reads and writes, and
+//!   `specs/Lines.antt` what the token does meanwhile.
 //!
 //! ```
 //! let mut words = Words::for_app([0; 32], 0);
-//! let (mut reader, mut writer) = (Watched::new(input), Watched::new(output));
+//! let mut reader = Watched::new(input);
+//! let mut writer = Watched::new(Vec::<u8>::new(alloc));
 //! let replies = serve_one(alloc, &mut reader, &mut writer, &mut token, &mut words)?;
 //! ```
 #![tactic(auto)]

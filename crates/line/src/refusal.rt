@@ -1,4 +1,4 @@
-//! What payloads are answered that are no call.
+//! The replies to payloads that are no call.
 
 ghost use Rattle.std.specs.Prelude.{◌≡◌, ◌≢◌, IfErr, IfOk, OnOk};
 ghost use Rattle.wire.specs.declared.fault.WireFault.TheVariants as wire_faults;
@@ -11,7 +11,7 @@ use ck_types::Rv;
 use wire::WireFault;
 
 /// The reply to a payload that is no call, by why it is none: CKR_FUNCTION_NOT_SUPPORTED where its function is unknown,
-/// CKR_ARGUMENTS_BAD where it is malformed or too long. `Memory` where it might be a call, but memory to read it ran out.
+/// CKR_ARGUMENTS_BAD where it is malformed or too long. `Memory` where it might be a call, but an allocation failed.
 pub fn reply_to_fault(fault: WireFault) -> Result<Reply, LineFault>
     ensures reply { IfOk result (λ reply. reply ≡ refusal_of fault) }
     ensures told { OnOk result (fault ≢ wire_faults.Memory) }

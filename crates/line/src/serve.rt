@@ -55,7 +55,7 @@ fn write_out<W: Write>(writer: &mut Watched<W>, bytes: &[u8]) -> Result<(), Line
     Err(LineFault::Write)
 }
 
-/// Sees that what was written goes out, by up to 2^64 - 1 flushes; one that was interrupted counts.
+/// Flushes what was written, by up to 2^64 - 1 flushes; one that was interrupted counts.
 fn flush_out<W: Write>(writer: &mut Watched<W>) -> Result<(), LineFault>
     ensures bytes { Keeps (W.contents writer.old.inner) (W.contents writer.new.inner) }
     ensures ok { OnOk result (Unfailing writer.old writer.new) }
@@ -74,7 +74,7 @@ fn flush_out<W: Write>(writer: &mut Watched<W>) -> Result<(), LineFault>
     Err(LineFault::Write)
 }
 
-/// Writes the frame of a reply, and sees that it goes out. A short reply has a frame.
+/// Writes the frame of a reply, and flushes it. A short reply has a frame.
 fn send<W: Write>(alloc: Global, writer: &mut Watched<W>, reply: &Reply) -> Result<(), LineFault>
     requires { IsShort reply.now }
     ensures framed { HasReplyFrame reply.now }
@@ -98,7 +98,7 @@ fn send<W: Write>(alloc: Global, writer: &mut Watched<W>, reply: &Reply) -> Resu
     }
 }
 
-/// The reply to a call; a question that it asks is finished at once.
+/// The reply to a call; the job that it returns is run at once.
 fn answer_call<K: Keep>(
     alloc: Global,
     token: &mut Token<K>,
@@ -111,7 +111,7 @@ fn answer_call<K: Keep>(
     ensures doubt { K.terms.doubt token.old.store.keep ≤ K.terms.doubt token.new.store.keep }
     ensures failures { K.terms.failures token.old.store.keep ≤ K.terms.failures token.new.store.keep }
     ensures accounts { AccountsFor (K.terms.failures token.old.store.keep) (K.terms.failures token.new.store.keep) (result ∷ []) }
-    // A call with data that a frame has room for is told of as shortly.
+    // A call with data that fits into a frame has a reply that is as short.
     ensures short { IsShortCall call → IsShort result }
 {
     match token.call(alloc, app, call, &random) {
@@ -219,28 +219,25 @@ fn serve_frames<R: Read, W: Write, K: Keep>(
     Err(LineFault::Read)
 }
 
-/// Answers the frames of a reader, for the application of `words`, until the reader ends. Each is
-/// answered as soon as it is whole. The answer is how many replies were written, and stays at its
-/// greatest value. After any outcome the application is gone, with all that it has.
+/// Answers the frames of a reader, for the application of `words`, until the reader ends. Each is answered as soon as it is
+/// whole. It returns how many replies were written; that count stays at its greatest value. After any outcome the application
+/// is disconnected.
 ///
-/// What was written is the frames of the replies to the messages of what was read, in order, whatever
-/// pieces the reader gives and the writer takes. Each reply has a frame. A payload that is no call
-/// answers `CKR_ARGUMENTS_BAD`, and one that names no known function `CKR_FUNCTION_NOT_SUPPORTED`;
-/// neither changes the token nor takes random bytes. Each call takes the next of `words` that it needs,
-/// whether or not it succeeds, and is answered by the token.
+/// What was written is the frames of the replies to the messages of what was read, in order. The parts in which the reader
+/// gives and the writer takes don't matter. Each reply has a frame. The reply to a payload that is no call is
+/// `CKR_ARGUMENTS_BAD`, and `CKR_FUNCTION_NOT_SUPPORTED` where it names no known function. Neither changes the token nor takes
+/// random bytes. Each call takes the next of `words` that it needs, whether or not it succeeds, and is answered by the token.
 ///
 /// # Errors
 ///
-/// - `Read` only where the reader notes a failure, and after 2^64 - 1 reads. A read that was interrupted
-///   is made again, and counts.
-/// - `Write` only where the writer notes a failure, and after 2^64 - 1 writes of one frame, or as many
-///   flushes, of which one that was interrupted is made again, and counts. The replies before the last
-///   were written, and perhaps a part of the last.
+/// - `Read` only where the reader counts a failure, and after 2^64 - 1 reads. A read that was interrupted is made again, and
+///   counts.
+/// - `Write` only where the writer counts a failure, and after 2^64 - 1 writes of one frame, or as many flushes. One that was
+///   interrupted is made again, and counts. The replies before the last were written, and perhaps a part of the last.
 /// - `TooLong` for a frame above the limit.
 /// - `Cut` where the reader ends within a frame.
-/// - `Memory` where memory was refused, but for a call's own work, which then answers
-///   `CKR_HOST_MEMORY`. Perhaps the last reply was not written, and a payload that was read is perhaps
-///   not answered.
+/// - `Memory` where an allocation failed, but for a call's own work, which then returns `CKR_HOST_MEMORY`. Perhaps the last
+///   reply was not written, and a payload that was read is perhaps not answered.
 ///
 /// No failure of the reader or the writer is passed over. At `Read`, `TooLong` and `Cut` the replies to
 /// all whole frames before were written.
@@ -251,19 +248,18 @@ pub fn serve_one<R: Read, W: Write, K: Keep>(
     token: &mut Token<K>,
     words: &mut Words,
 ) -> Result<u64, LineFault>
-    // No question is pending.
+    // No call is pending.
     requires { (w : World) → Shows K.terms token.old w → HasJobs w [] }
-    // The bytes written are the frames of the replies to the messages of the bytes read. While the store is
-    // honest, these are a run of the token from each world that it showed, and it shows the world after
-    // that, without the application.
+    // The bytes written are the frames of the replies to the messages of the bytes read. While the store is faithful, these are a
+    // run of the token from each world that it refined. It refines the world after that, without the application.
     ensures serves { Serves (LeadsAway K.terms words.old.stream token.old token.new words.old words.new) (R.remaining reader.old.inner) (R.remaining reader.new.inner) (W.contents writer.old.inner) (W.contents writer.new.inner) result }
     // `Read` comes only where a read failed, or after 2^64 - 1 reads, and no failure is passed over.
     ensures reads { ReadsBy reader.old reader.new result }
     // `Write` comes only where a write or a flush failed, or after as many, and no failure is passed over.
     ensures writes { WritesBy writer.old writer.new result }
-    // No question is pending.
+    // No call is pending.
     ensures idle { K.terms.doubt token.new.store.keep ≡ 0 → (v : World) → Shows K.terms token.old v → (w : World) → Shows K.terms token.new w → HasJobs w [] }
-    // No lie of the disk is forgotten.
+    // No fault of the disk is forgotten.
     ensures doubt { K.terms.doubt token.old.store.keep ≤ K.terms.doubt token.new.store.keep }
 {
     let app = words.app();

@@ -1,4 +1,4 @@
-//! A reader or a writer that notes its failures.
+//! A reader or a writer that counts its failures.
 
 ghost use Rattle.std.specs.Prelude.{◌≡◌, ◌↔◌, IsTrue};
 ghost use Rattle.std.specs.Io.{ReadsAtMost, WritesAtMost};

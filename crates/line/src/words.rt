@@ -8,8 +8,8 @@ use rand_core::{SeedableRng, utils};
 use std::alloc::{AllocError, Global};
 use std::marker::Model;
 
-/// The random bytes of one application: the words of ChaCha20 (RFC 8439, 2.3) under a seed of 32
-/// bytes, whose stream number is the application's, from the place of the next word on.
+/// The random bytes of one application: the words of ChaCha20 (RFC 8439, 2.3) under a seed of 32 bytes, from the next word on.
+/// Their stream number is the application's.
 #[derive(Drop)]
 pub struct Words {
     rng: ChaCha20Rng,

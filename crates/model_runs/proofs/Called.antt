@@ -30,7 +30,7 @@ use Rattle.model_answers.proofs.Proper.{plain-answer}
 use Rattle.serve_base.proofs.Changing.{objects-changed, record-changed}
 use Rattle.model_runs.proofs.Steps.{state, fits-given, depicts-given, fits-all, depicts-same}
 
--- which of both it was is read off what is said
+-- which of both it was follows from what is returned
 went : (v : View) (call : Call) (random : List ℕ) (r : Reveal) (out : Out) → said_of out ≡ (answer v call random r).says → resource_error_in (said_of out) ≡ None
 went v call random r out is = ap resource_error_in is ∙ plain-answer v call random r
 
@@ -109,7 +109,7 @@ pub stays-called : (r : Result Out Fault) (before desk : DeskState) → IfOk r (
 stays-called (Ok out) before desk plain stays some = let k : false ≡ true = subst IsSome plain some in cc
 stays-called (Err fault) before desk plain stays some = stays
 
--- what is told of a fault is short
+-- what is returned for a fault is short
 pub short-called : (r : Result Out Fault) → IfOk r (λ out. IsShortSaid (said_of out)) → IsShortSaid (said_of (told_as r))
 short-called (Ok out) short = short
 short-called (Err Memory) short = tt

@@ -90,7 +90,7 @@ takes_none app out at = step (nat_lt (prefix_len (λ j. not (app == j.0)) out) (
   step true below at = let k : Some (prefix_len (λ j. not (app == j.0)) out) ≡ None = at in cc
   step false above at = (not-there app out (grind (arith, nat_tests)), refl)
 
--- ---- the question, by the jobs
+-- ---- the pending call, by the jobs
 
 abbrev asked : ℕ → Option Question → List (ℕ × Question)
 asked app o = map (λ q. (app, q)) (option_to_list o)
@@ -133,7 +133,7 @@ module _ (w : World) (out : List (ℕ × Job)) (h : HasJobs w out) (app : ℕ) (
       both None is s l = record { move = Goes (EventCall app call random); takes = refl; tells = ap (told app) (sym is); shows = s; jobs = reply_jobs r is; leaves = l }
       both (Some fault) is s l = record { move = Refuses (EventCall app call random) fault; takes = refl; tells = ap (told app) (sym is); shows = s; jobs = h; leaves = l }
 
-    -- that asks
+    -- -- that returns a job
     pub step_ask : (job : Job) → job.app ≡ app → Asks (question_of job) ≡ (answer_at w app call random.items).says → shows (called w app call random.items None)
         → ((l : Option Lasting) → left l → LeavesBy prior (call_change w app call random.items) (called w app call random.items None) None l) → IsStep shows prior left w (EventCall app call random) [] (out ++ (app, job) ∷ [])
     step_ask job asker says sh l = record {
@@ -170,7 +170,7 @@ module _ (w : World) (out : List (ℕ × Job)) (h : HasJobs w out) (app : ℕ) (
       both None t s l = record { move = Goes (Finish app); takes = refl; tells = t; shows = s; jobs = finish_jobs (question_of job) None is.question; leaves = l }
       both (Some fault) t s l = record { move = Refuses (Finish app) fault; takes = refl; tells = t; shows = s; jobs = finish_jobs (question_of job) (Some fault) is.question; leaves = l }
 
-    -- ---- the application goes
+    -- -- ---- a disconnect
     pub step_gone : shows (goes w (Gone app)) → ((l : Option Lasting) → left l → prior l) → IsStep shows prior left w (Gone app) [] rest
     step_gone sh l = record {
       move = Goes (Gone app);
@@ -184,7 +184,7 @@ module _ (w : World) (out : List (ℕ × Job)) (h : HasJobs w out) (app : ℕ) (
       ];
     }
 
-  -- ---- no question is pending
+  -- -- ---- no call is pending
   pub step_pass : (w.views app).question ≡ None → shows w → ((l : Option Lasting) → left l → prior l) → IsStep shows prior left w (Finish app) [] out
   step_pass none sh l = record {
     move = Goes (Finish app);
@@ -195,7 +195,7 @@ module _ (w : World) (out : List (ℕ × Job)) (h : HasJobs w out) (app : ℕ) (
     jobs = λ b. rw none (h b);
   }
 
--- an application that goes has no job left
+-- an application that disconnects has no job left
 pub none-left : (app : ℕ) (out : List (ℕ × Job)) (job : Option Job) (rest : List (ℕ × Job)) (w : World) → HasJobs w out → TakesJob app out job rest → (jobs_of app rest ≡ []) × ((b : ℕ) → b ≢ app → jobs_of b rest ≡ jobs_of b out)
 none-left app out None rest w h taken = (ap (jobs_of app) taken.1 ∙ taken.0, λ b differ. ap (jobs_of b) taken.1)
 none-left app out (Some job) rest w h taken = ((open_is w app out rest job h taken).1, taken.1)
@@ -206,7 +206,7 @@ pub answer-has : (o : Option Job) (app : ℕ) (job : Job) → HasNumbers (option
 answer-has None app job has = absurd has
 answer-has (Some j) app job has = rw (eq-eqb job.app app has.0, eq-eqb job.question j.question has.1, eq-eqb (function_number job.function) (function_number j.function) has.2) refl
 
--- there is a question then
+-- there is a pending call then
 pub asked-of : (o : Option Question) (app : ℕ) (job : Job) → HasNumbers o app job → (q : Question) × (o ≡ Some q)
 asked-of None app job has = absurd has
 asked-of (Some q) app job has = (q, refl)
@@ -221,7 +221,7 @@ answer-other (Some j) app job (inl asker) = rw (ne_eqb job.app app asker) refl
 answer-other (Some j) app job (inr (inl number)) = rw (ne_eqb job.question j.question number) (and-false (job.app == app))
 answer-other (Some j) app job (inr (inr f)) = rw (ne_eqb (function_number job.function) (function_number j.function) f) (ap (λ b. job.app == app && b) (and-false (job.question == j.question)) ∙ and-false (job.app == app))
 
--- as the token tells it by its desks
+-- as the token determines it by its desks
 module _ {K : Type 0} (terms : Terms K) (store : StoreState K) (ds : List (ℕ × DeskState)) (cs : List Check) (app : ℕ) (job : Job) (w : World) (s : Shows terms (record { store = store; desks = ds; checks = cs }) w) where
   pub told-has : HasNumbers (w.views app).question app job → is_answer (desk_at ds app).question app job ≡ true
   told-has has = answer-has (desk_at ds app).question app job (rw (ap (λ v. v.question) (s.depicts.views app)) at has)

@@ -1,4 +1,4 @@
--- A result at one desk, and an application that goes, are the world's next step.
+-- A result at one desk, and a disconnect, are the world's next step.
 use Rattle.std.proofs.Common.{◌≡◌, ◌≢◌, ◌≤◌, ℕ, Bool, List, [], ◌∷◌, ◌++◌, Option, Some, None, Result, Ok, Err, refl, sym, ◌∙◌, ap, inl, inr}
 use Rattle.std.specs.Prelude.{option_to_list, map}
 use Rattle.std.specs.Option.{option_map}
@@ -122,7 +122,7 @@ module _ (w : World) (app : ℕ) (job : Job) (open_is : IsOpen w app job) where
   pub open-numbers : HasNumbers (w.views app).question app job
   open-numbers = rw open_is.question (open_is.asker, refl, refl)
 
-  -- it is asked just so
+  -- -- its job is just this
   asked-open : answer_by w app job ≡ result_at w app (question_of job)
   asked-open =
       let v = w.views app in
@@ -153,11 +153,11 @@ module _ (w : World) (app : ℕ) (job : Job) (open_is : IsOpen w app job) where
     leaves-open l may = left-taken prior l (resource_error reply) (is.leaves l may)
 
 module _ {K : Type 0} (terms : Terms K) where
-  -- the desk's question is the one that the world has
+  -- -- the desk's pending call is the one that the world has
   pub desk-question : (old : StoreState K) (ds : List (ℕ × DeskState)) (cs : List Check) (app : ℕ) (w : World) (s : Shows terms (record { store = old; desks = ds; checks = cs }) w) → (w.views app).question ≡ option_map question_of (desk_at ds app).question
   desk-question old ds cs app w s = ap (λ v. v.question) (s.depicts.views app)
 
-  -- the application goes
+  -- -- a disconnect
   pub shows-gone : (old : StoreState K) (ds ds' : List (ℕ × DeskState)) (cs : List Check) (app : ℕ) (w : World) → desk_at ds' app ≡ empty_desk → ((b : ℕ) → b ≢ app → desk_at ds' b ≡ desk_at ds b)
       → Shows terms (record { store = old; desks = ds; checks = cs }) w → Shows terms (record { store = old; desks = ds'; checks = without_checks app cs }) (goes w (Gone app))
   shows-gone old ds ds' cs app w own others s = record {

@@ -26,7 +26,7 @@ use Rattle.serve_base.proofs.Changing.{fits-changed, objects-changed, record-cha
 abbrev pub state : Contents → List (ℕ × DeskState) → List Check → State
 state c ds cs = record { kept = c; desks = ds; checks = cs }
 
--- the memory that is at hand isn't seen
+-- capacities aren't seen
 pub view_of-same : (c : Contents) (d d' : DeskState) → SameDesk d d' → view_of c d' ≡ view_of c d
 view_of-same c d d' same = rw same refl
 
@@ -82,7 +82,7 @@ module _ (a : Answer) (c c' : Contents) (ds ds' : List (ℕ × DeskState)) (app 
         ];
       }
 
--- ---- nothing changes but the memory that is at hand
+-- ---- nothing changes but capacities
 pub fits-all : (c : Contents) (ds ds' : List (ℕ × DeskState)) → ((b : ℕ) → SameDesk (desk_at ds b) (desk_at ds' b)) → AllFit c ds → AllFit c ds'
 fits-all c ds ds' same fits b = fits-same c (desk_at ds b) (desk_at ds' b) (same b) (fits b)
 
@@ -131,7 +131,7 @@ view_of-empty c =
     let f : List TokenObject → View = λ ts. record (view_of c empty_desk) { tokens = ts } in
     ap f (sym (ap (map without_handle) (filter-map (sees None) (λ (e : Kept). e.1) c.objects) ∙ map-map (λ (e : Kept). e.1) without_handle (filter (sees_kept None) c.objects)))
 
--- what it saw before it went is what it sees
+-- what it saw before it disconnected is what it sees
 pub view_of-left : (c : Contents) (d : DeskState) → view_of c empty_desk ≡ left (view_of c d)
 view_of-left c d =
     let f : List TokenObject → View = λ ts. record (view_of c empty_desk) { tokens = ts } in
@@ -148,7 +148,7 @@ pub depicts-gone : (c : Contents) (ds ds' : List (ℕ × DeskState)) (cs : List 
 depicts-gone c ds ds' cs app w own others s =
     depicts-put c ds ds' cs app empty_desk (left (w.views app)) w (rw own refl) (view_of-left c (desk_at ds app) ∙ ap left (sym (s.views app))) (λ b differ. rw (others b differ) refl) s
 
--- ---- a call at a desk that is the same but for the memory at hand
+-- ---- a call at a desk that is the same but for capacities
 pub served-same : {K : Type 0} (terms : Terms K) (call : Call) (random : List ℕ) (reveal : Reveal) (c : Contents) (old new : StoreState K) (d mid : DeskState) (r : Result Out Fault) (desk : DeskState) → SameDesk d mid
     → Serves terms said_of (answer (view_of c mid) call random reveal) c old new mid mid r desk → Serves terms said_of (answer (view_of c d) call random reveal) c old new d d r desk
 served-same terms call random reveal c old new d mid (Ok out) desk same s = rw same at s

@@ -1,4 +1,4 @@
--- What a token is to all applications: the desk of each, and the world that the token shows by them.
+-- What a token is to all applications: the desk of each, and the world that the token refines by them.
 use Rattle.std.specs.Prelude.{◌≡◌, ◌≢◌, ◌⊎◌, ℕ, ◌==◌, ◌&&◌, Bool, false, not, nat_lt, length, List, [], ◌∷◌, ◌++◌, map, filter, unwrap_or, option_to_list, Option, Some, None, Result, Ok, Err, IfOk, IfErr, IsErrOf}
 use Rattle.std.specs.Ordering.{nat_cmp}
 use Rattle.std.specs.BTreeMap.{is_at}
@@ -71,7 +71,7 @@ AllFit c ds = (app : ℕ) → Fits c (desk_at ds app).handles.entries
 
 -- ---- a result at its desk
 
--- A result is answered by the task of its own job, of which the question may have another.
+-- A result is answered by the task of its own job; the pending call may have another.
 abbrev pub by_job : Job → Question → Question
 by_job job q = record q { task = (question_of job).task }
 
@@ -85,8 +85,8 @@ answer_to_job job v reveal = answer_result (asked_by_job job v) (value_of (quest
 abbrev pub reveal_by_job : Job → (UserType → ℕ) → Bool → Contents → Reveal
 reveal_by_job job under_way others_have_sessions c = reveal_by_outcome (question_of job).task (value_of (question_of job).task) (objects_of c) under_way others_have_sessions
 
--- The answer to the result of the job is given, or it is refused, and the desk is without its question; at most one write
--- is tried, and the device is to blame only where a failure of the keeper was counted. What is told of a short task is short.
+-- The answer to the result of the job is given, or it is refused, and the desk has no pending call. At most one write is tried,
+-- and CKR_DEVICE_ERROR comes only where a failure of the keeper was counted. What is returned of a short task is short.
 pub record Finishes {K : Type 0} (terms : Terms K) (job : Job) (reveal : Contents → Reveal) (old new : StoreState K) (before : DeskState) (result : Result Reply Fault) (desk : DeskState) : Type 0 where
   pub serves : terms.doubt new.keep ≡ 0 → (c : Contents) → Has terms old c → Fits c before.handles.entries → Serves terms Replies (answer_to_job job (view_of c before) (reveal c)) c old new before (over before) result desk
   pub counts : Counted terms old.keep new.keep 0 1
@@ -113,7 +113,7 @@ abbrev pub moved : Event → Option Fault → Move
 moved event None = Goes event
 moved event (Some fault) = Refuses event fault
 
--- what an application is told: a refusal in place of an answer
+-- what an application gets: a refusal in place of an answer
 abbrev pub told_as : Result Out Fault → Out
 told_as (Ok out) = out
 told_as (Err fault) = OutReply (refusal fault)
@@ -122,7 +122,7 @@ abbrev pub told_result : Result Reply Fault → Reply
 told_result (Ok reply) = reply
 told_result (Err fault) = refusal fault
 
--- which of both it was is read off what is given out, since the codes of a resource error have no other cause
+-- which of both it was follows from what is returned, since the codes of a resource error have no other cause
 abbrev pub move_of : Event → Out → Move
 move_of event out = moved event (resource_error_in (said_of out))
 
@@ -138,18 +138,17 @@ pub record IsOpen (w : World) (app : ℕ) (job : Job) : Type 0 where
   pub asker : job.app ≡ app
   pub question : (w.views app).question ≡ Some (question_of job)
 
--- the job is none of the pending call: no question is, or it has another application, question number or
--- function number
+-- the job is none of the pending call: no call is pending, or it has another application, job number or function number
 abbrev pub IsOther : Option Question → ℕ → Job → Type 0
 IsOther None app job = Unit {0}
 IsOther (Some q) app job = (job.app ≢ app) ⊎ (job.question ≢ q.number) ⊎ (function_number job.function ≢ function_number q.function)
 
--- it has these numbers of the pending call: whose work it was they don't tell
+-- it has these numbers of the pending call; they don't determine whose work it was
 abbrev pub HasNumbers : Option Question → ℕ → Job → Type 0
 HasNumbers None app job = ⊥
 HasNumbers (Some q) app job = (job.app ≡ app) × (job.question ≡ q.number) × (function_number job.function ≡ function_number q.function)
 
--- and the test of it, of a desk's question
+-- and the test of it, of a desk's pending call
 abbrev pub is_answer : Option Job → ℕ → Job → Bool
 is_answer None app job = false
 is_answer (Some j) app job = job.app == app && (job.question == j.question && function_number job.function == function_number j.function)
@@ -161,7 +160,7 @@ jobs_of app out = map (λ j. j.1) (filter (λ j. app == j.0) out)
 abbrev pub asked_by : Job → ℕ × Question
 asked_by j = (j.app, question_of j)
 
--- the jobs of the pending questions, each once, and nothing else
+-- the jobs of the pending calls, each once, and nothing else
 abbrev pub HasJobs : World → List (ℕ × Job) → Type 0
 HasJobs w out = (app : ℕ) → map asked_by (jobs_of app out) ≡ map (λ q. (app, q)) (option_to_list (w.views app).question)
 
@@ -177,7 +176,7 @@ pub record TokenState (K : Type 0) : Type 0 where
   pub desks : List (ℕ × DeskState)
   pub checks : List Check
 
--- the token shows the world: its keeper holds contents that do, with the desks
+-- the token refines the world: its keeper holds contents that do, with the desks
 pub record Shows {K : Type 0} (terms : Terms K) (t : TokenState K) (w : World) : Type 0 where
   pub contents : Contents
   pub has : Has terms t.store contents

@@ -1,4 +1,5 @@
--- One event, and a run of events, over a token whose states are known by what they show and by what a crash may leave.
+-- One event, and a run of events, over a token. Its states are known by the world that they refine and by what a crash may
+-- leave.
 use Rattle.std.specs.Prelude.{◌≡◌, ◌⊎◌, ℕ, ◌+◌, ◌-◌, ◌^◌, ◌≤◌, List, [], ◌++◌, ◌∷◌, map, Option, Some, None}
 use Rattle.std.specs.Option.{option_map}
 use Rattle.ck_types.specs.declared.entry.Entry.{Entry}
@@ -40,9 +41,9 @@ lasting_in c = record { token_record = c.token_record; objects = objects_of c }
 abbrev pub MayLeave : {K : Type 0} → Terms K → TokenState K → Option Lasting → Type 0
 MayLeave terms t l = (left : Option Contents) × terms.may_leave t.store.keep left × (l ≡ option_map lasting_in left)
 
--- What a crash may leave after a change by which the world would be the next, by what it could leave before: the change
--- alone, or, where nothing changes, what it could leave before; after a refusal what it could leave before, or the
--- change, whole.
+-- What a crash may leave after a change by which the world would be the next, by what it could leave before: the change alone,
+-- or, where nothing changes, what it could leave before. After a refusal it is what it could leave before, or the change,
+-- whole.
 abbrev pub LeavesBy : (Option Lasting → Type 0) → Change → World → Option Fault → Option Lasting → Type 0
 LeavesBy prior change next None l = (prior l × (change ≡ Stays)) ⊎ (l ≡ Some (lasting_of next))
 LeavesBy prior change next (Some fault) l = prior l ⊎ (l ≡ Some (lasting_of next))
@@ -73,8 +74,8 @@ LeftAfter prior w (m ∷ ms) l = LeftAfter (LeftBy prior w m) (happens w m) ms l
 
 -- ---- results
 
--- What comes of a result by its job's own value: the token shows the world after it, this was said, and a crash leaves
--- no more than its change; or it was refused.
+-- What comes of a result by its job's own value. The token refines the world after it, this was returned, and a crash leaves no
+-- more than its change; or it was refused.
 pub record IsTakenBy (showing : World → Type 0) (prior left : Option Lasting → Type 0) (w : World) (app : ℕ) (job : Job) (reply : Reply) : Type 0 where
   pub shows : showing (taken_by w app job (resource_error reply))
   pub says : Replies reply ≡ says_by w app job (resource_error reply)
@@ -98,8 +99,8 @@ AccountsFor before now said = (before + blames said ≤ now) ⊎ (2 ^ 64 - 1 ≤
 
 -- ---- runs
 
--- The token shows the world after the event, at which this was told, the pending jobs are the world's, and a
--- crash may leave no more than that.
+-- The token refines the world after the event, at which this was returned; the pending jobs are the world's; and a crash may
+-- leave no more than that.
 pub record IsStep (showing : World → Type 0) (prior left : Option Lasting → Type 0) (w : World) (event : Event) (said : List (ℕ × Reply)) (out : List (ℕ × Job)) : Type 0 where
   pub move : Move
   pub takes : event_of move ≡ event
@@ -108,7 +109,7 @@ pub record IsStep (showing : World → Type 0) (prior left : Option Lasting → 
   pub jobs : HasJobs (happens w move) out
   pub leaves : (l : Option Lasting) → left l → LeftBy prior w move l
 
--- the first event is taken, and what it told stands last
+-- the first event is taken, and what it returned stands last
 pub record Advances (sure : Type 0) (showed shows : World → Type 0) (prior left : Option Lasting → Type 0) (events : List Event) (jobs : List (ℕ × Job)) (said : List (ℕ × Reply)) (rest : List Event) (out : List (ℕ × Job)) (all : List (ℕ × Reply)) : Type 0 where
   pub event : Event
   pub first : events ≡ event ∷ rest
@@ -116,7 +117,7 @@ pub record Advances (sure : Type 0) (showed shows : World → Type 0) (prior lef
   pub last : all ≡ said ++ more
   pub step : sure → (w : World) → showed w → HasJobs w jobs → IsStep shows prior left w event more out
 
--- From w the events took place up to those left, with these replies, and the token shows the world after them.
+-- From w the events took place up to those left, with these replies, and the token refines the world after them.
 pub record IsRun (showing : World → Type 0) (prior left : Option Lasting → Type 0) (w : World) (events : List Event) (said : List (ℕ × Reply)) (rest : List Event) (out : List (ℕ × Job)) : Type 0 where
   pub moves : List Move
   pub took : map event_of moves ++ rest ≡ events
@@ -125,7 +126,7 @@ pub record IsRun (showing : World → Type 0) (prior left : Option Lasting → T
   pub jobs : HasJobs (after w moves) out
   -- a crash leaves the changes that were acknowledged, and perhaps one that was tried since, whole
   pub leaves : (l : Option Lasting) → left l → LeftAfter prior w moves l
-  -- each application that met no resource error was told what its trace tells, and sees that
+  -- each application that met no resource error got what its trace determines, and sees that
   pub private : (app : ℕ) → NoResourceError app said → IsTold app w moves
   -- the tries of each PIN stay the checks of it that are spent and those in progress, ten at most
   pub tries : (s : UserType → ℕ) → IsSound s w → IsSound (spent_in s w moves) (after w moves)

@@ -1,4 +1,4 @@
--- What is said of a keeper that reports, from what is said of the one behind it.
+-- What holds of a keeper that reports, by what holds of the one behind it.
 use Rattle.std.proofs.Common.{◌≡◌, ◌⊎◌, inl, inr, ℕ, ◌+◌, ◌<◌, ◌≤◌, ◌-◌, ◌^◌, Result, IsErrOf, arith, sym, subst, ◌∙◌}
 use Rattle.keep.specs.declared.keep.KeepFault.{KeepFault}
 use Rattle.keep.specs.Contents.{Contents}

@@ -1,4 +1,4 @@
--- What is said of a keeper that reports what becomes of another one: what is said of that one.
+-- What holds of a keeper that reports what becomes of another one: what holds of that one.
 use Rattle.std.specs.Prelude.{ℕ}
 use Rattle.keep.specs.Keeping.{Terms}
 

@@ -7,8 +7,8 @@ use crate::failure::Failure;
 use crate::run::REFUSED;
 use std::io::{Error, ErrorKind, Write};
 
-/// Says why the process's own arguments can't be read, and answers the exit status: that of want of
-/// memory, or that of a command line that is refused.
+/// Reports why the process's own arguments can't be read, and returns the exit status: that of an allocation failure, or that
+/// of a command line that is refused.
 pub fn refuse_args<E: Write>(error: &Error, errors: &mut E) -> u8
     ensures memory { error_kind error.now ≡ ErrorKind.OutOfMemory → result ≡ 6 }
     ensures refused { error_kind error.now ≢ ErrorKind.OutOfMemory → result ≡ 2 }

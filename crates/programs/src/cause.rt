@@ -1,4 +1,4 @@
-//! What led to a failure, as the line after the failure's own says it. It names options and ids, and no value, PIN, label or
+//! What led to a failure, as the line after the failure's own reports it. It names options and ids, and no value, PIN, label or
 //! handle.
 
 use keep::KeepFault;

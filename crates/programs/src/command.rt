@@ -6,7 +6,7 @@ use std::alloc::Global;
 
 pub(crate) const VERSION: &str = "0.1.0";
 
-/// The texts of a level, the least said first.
+/// The texts of a level, the least detailed first.
 static LEVELS: [&str; 4] = ["off", "error", "warn", "info"];
 
 /// How many connections each seat of the daemon accepts at most, and where no number is given. Those of seat s are the
@@ -114,7 +114,7 @@ fn serve<'a>(alloc: Global) -> Result<Command<'a>, Error> {
     )
 }
 
-/// The option of what is said on standard error while the daemon serves.
+/// The option of what is logged on standard error while the daemon serves.
 fn level<'a>(alloc: Global) -> Arg<'a> {
     chosen(
         alloc,

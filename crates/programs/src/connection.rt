@@ -23,7 +23,7 @@ pub(crate) struct Connection {
     stream: UnixStream,
     frames: FrameReader,
     words: Words,
-    /// Room for the frame of a reply.
+    /// A buffer for the frame of a reply.
     frame: Vec<u8>,
     /// Why nothing more is read of it or written.
     has_ended: Option<Parting>,
@@ -63,7 +63,7 @@ pub(crate) enum Asked {
     Call(AppCall),
     /// No call.
     Refused(WireFault),
-    /// There is no memory for its random bytes.
+    /// An allocation for its random bytes failed.
     Ended,
 }
 
@@ -90,7 +90,7 @@ impl Connection {
         }
     }
 
-    /// The next call of the application, or why the connection ends. A piece is what is read at once.
+    /// The next call of the application, or why the connection ends. `piece` is the buffer of one read.
     pub(crate) fn next_call(
         &mut self,
         alloc: Global,
@@ -156,7 +156,7 @@ impl Connection {
         }
     }
 
-    /// Writes the frame of a reply, as its peer takes it. A peer that takes nothing holds up no end of the daemon.
+    /// Writes the frame of a reply, as its peer takes it. A peer that takes nothing doesn't keep the daemon from ending.
     fn write_frame(&mut self, is_stopping: &AtomicBool) -> Result<(), Parting> {
         let mut written = 0usize;
         for _ in 0..u64::MAX {

@@ -20,7 +20,7 @@ const LOCK_START: u64 = 1 << 30;
 
 const LOCK_LEN: u64 = 512;
 
-/// Whether another program has the store's file open. Else it can't open it until the file is closed here.
+/// Whether another program has the store's file open. If not, it can't open it until the file is closed here.
 pub(crate) fn is_busy(file: &File) -> bool {
     os::try_lock_range(file.as_raw_fd(), RangeLock::Shared, LOCK_START, LOCK_LEN) != 0
 }

@@ -12,7 +12,7 @@ use sqlite::{Connection, Error, FileStore, Row};
 use sqlite_disk::Memory;
 use std::alloc::Global;
 
-/// Where a SQLite file's header says how many bytes of each page are left for sums, and how many the sums take
+/// The offset in a SQLite file's header of the number of bytes that each page keeps for checksums, and how many these take
 /// (sqlite.org/fileformat2.html, 1.3.4, and cksumvfs.html).
 const RESERVED: usize = 20;
 
@@ -43,7 +43,7 @@ impl Findings {
         }
     }
 
-    /// Whether the store is one that the daemon opens, and else the first of what is damaged.
+    /// Whether the store is one that the daemon opens; if not, the first of what is damaged.
     pub(crate) fn verdict(&self) -> Result<(), Fault> {
         match self.first_fault {
             None => Ok(()),
@@ -123,7 +123,7 @@ fn look_through(
     Ok(())
 }
 
-/// Whether the daemon would open the store: its own opening of a copy in memory says it.
+/// Whether the daemon would open the store, by its own opening of a copy in memory.
 fn opens(alloc: Global, copy: &StoreCopy) -> Result<(), OpenFault> {
     let Ok(files) = copy.files(alloc) else {
         return Err(OpenFault::Keeper(KeepFault::Memory));

@@ -59,7 +59,7 @@ impl Failure {
     }
 }
 
-/// A failure, and what led to it where the failure doesn't say that itself.
+/// A failure, and what led to it where the failure doesn't name that itself.
 #[derive(Clone, Copy, Debug)]
 pub(crate) struct Fault {
     failure: Failure,
@@ -75,7 +75,7 @@ impl Fault {
         self.failure.status()
     }
 
-    /// Writes the failure as a line, and its cause as the next one, and answers the exit status.
+    /// Writes the failure as a line, and its cause as the next one, and returns the exit status.
     pub(crate) fn report<E: Write>(&self, errors: &mut E) -> u8
         ensures value { result ≡ status_of self.now.failure }
         ensures known { IsStatus result }

@@ -1,4 +1,4 @@
-//! What the daemon says while it serves: a line a record on standard error, with the priority that a journal reads.
+//! What the daemon logs while it serves: a line a record on standard error, with the priority that a journal reads.
 
 ghost use Rattle.std.specs.Prelude.{◌≡◌, Some, []};
 ghost use Rattle.log.specs.Level.{allows};
@@ -64,7 +64,7 @@ impl<E: Eprint> Log for Journal<E> {
     }
 }
 
-/// The same line on an output of this thread's own, for what is said before the daemon serves and after.
+/// The same line on an output of this thread's own, for what is logged before the daemon serves and after.
 pub(crate) fn note<W: Write, D: Display>(
     errors: &mut W,
     max_level: LevelFilter,

@@ -1,22 +1,26 @@
 //! The program `tokend`, all but the process's own arguments and streams.
 //!
-//! `tokend_with` runs a command line over an input, an output and an output for errors, and answers
-//! the exit status: 0 where it ended as asked, 2 for a command line that is refused, 3 where the store can't be opened or copied, 4
-//! where the socket can't be used, 5 for a bad seed or line of a script, 6 where memory ran out, 7 where the line ended badly. A failure
-//! is a line on the output for errors, and its cause the next one. `refuse_args` answers the status where the process's own arguments
-//! can't be read.
+//! `tokend_with` runs a command line over an input, an output and an output for errors, and returns the exit status:
+//! - 0 where it ended as asked;
+//! - 2 for a command line that is refused;
+//! - 3 where the store can't be opened or copied;
+//! - 4 where the socket can't be used;
+//! - 5 for a bad seed or line of a script;
+//! - 6 where an allocation failed;
+//! - 7 where the line ended badly.
 //!
-//! `SocketSeat` is a seat on a Unix socket, whose connections are applications. It accepts one connection after the other from a
-//! listener. The c-th connection of seat s, both from 0, is application 4c + s. It reads frames and gives their calls, and writes the
-//! frames of replies. A payload that is no call is answered at once. A frame that is too long or is cut off, a read or a write that
-//! fails, and allocation failure end the connection, which is logged, and its application goes. A seat that is told that the daemon ends
-//! accepts and reads no more. `Journal` is a log on standard error, as a journal reads it.
+//! A failure is a line on the output for errors, and its cause the next one. `refuse_args` returns the status where the process's
+//! own arguments can't be read.
+//!
+//! `SocketSeat` is a seat (a connection worker) on a Unix socket, whose connections are applications. It accepts one connection
+//! after the other from a listener. The c-th connection of seat s, both from 0, is application 4c + s. The seat reads frames and
+//! gives their calls, and writes the frames of replies. A payload that is no call is answered at once.
+//!
+//! A connection ends at a frame that is too long or is cut off, at a failed read or write, and at an allocation failure.
+//! That is logged, and its application disconnects. Once the daemon is to end, a seat accepts and reads no more. `Journal` is a
+//! log on standard error, as a journal reads it.
 //!
 //! This crate is safe and tested. It states no theorem, but that it keeps the rules of `hall`.
-//!
-//! ```
-//! let status = tokend_with(&rt, &args, &mut input, &mut output, &mut errors);
-//! ```
 #![tactic(auto)]
 
 mod args;

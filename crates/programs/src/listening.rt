@@ -105,7 +105,7 @@ fn bind(rt: &HostRuntime, path: &str, mode: u32) -> io::Result<UnixListener> {
     Ok(UnixListener::from(fd))
 }
 
-/// Has an accept wait no longer than `PATIENCE`: it is answered `WouldBlock` then.
+/// Has an accept wait no longer than `PATIENCE`: it returns `WouldBlock` then.
 fn limit_accept(listener: &UnixListener) -> io::Result<()> {
     // A timeval: seconds, and microseconds.
     let mut value = [0u8; 16];

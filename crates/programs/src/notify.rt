@@ -1,4 +1,4 @@
-//! What the daemon says to a service manager (sd_notify(3)).
+//! What the daemon sends to a service manager (sd_notify(3)).
 
 ghost use Rattle.std.specs.Prelude.{◌≡◌, ◌+◌, ◌≤◌, ◌<◌, length, IfSome};
 
@@ -8,7 +8,8 @@ use std::env;
 /// The most bytes of a socket's path (unix(7)).
 const MAX_PATH_LEN: usize = 107;
 
-/// Writes the address of a socket at a path, or at a name in the abstract namespace where it begins with @, and answers its length.
+/// Writes the address of a socket, and returns its length. The socket is at a path, or at a name in the abstract namespace where
+/// that begins with @.
 fn write_address(raw: &mut [u8; 128], path: &[u8]) -> Option<u32>
     ensures { IfSome result (λ len. len ≤ 128) }
 {

@@ -8,10 +8,15 @@ use std::alloc::Global;
 use std::io::{BufRead, BufReader, Read, Write};
 use wire::{FrameReader, MAX_PAYLOAD_LEN};
 
-/// Sends each line of the input, which is the payload of a call in hexadecimal, to the stream as a frame, and writes the payload
-/// of its reply to the output as a line of lower-case hexadecimal. Answers the exit status: 0 at the end of the input, 4 where
-/// the stream fails or ends, 5 at a line that is not hexadecimal or spells more than a payload's limit, 6 where memory ran out,
-/// 7 where the input or the output fails. Replies before that stay written.
+/// Sends each line of the input, which is the payload of a call in hexadecimal, to the stream as a frame. Writes the payload of
+/// its reply to the output as a line of lower-case hexadecimal. Returns the exit status:
+/// - 0 at the end of the input;
+/// - 4 where the stream fails or ends;
+/// - 5 at a line that is not hexadecimal or spells more than a payload's limit;
+/// - 6 where an allocation failed;
+/// - 7 where the input or the output fails.
+///
+/// Replies before that stay written.
 pub fn ask<I: Read, O: Write, S: Read + Write>(
     alloc: Global,
     input: &mut I,
@@ -48,7 +53,7 @@ pub(crate) fn ask_all<I: Read, O: Write, S: Read + Write>(
     Err(Failure::Line.into())
 }
 
-/// Asks the call of a line, and writes its reply.
+/// Makes the call of a line, and writes its reply.
 fn ask_line<O: Write, S: Read + Write>(
     alloc: Global,
     number: u64,

@@ -1,4 +1,4 @@
-//! A keeper that says what becomes of its store, and has the daemon end where the store is shut.
+//! A keeper that logs what becomes of its store, and has the daemon end where the store is shut.
 
 ghost use Rattle.std.specs.Prelude.{◌≡◌};
 ghost use Rattle.keep.specs.Keeping.{Counted, Stays};
@@ -14,7 +14,7 @@ use std::alloc::Global;
 use std::sync::Arc;
 use std::sync::atomic::{AtomicBool, Ordering};
 
-/// A keeper that can say more of a failure than that there was one.
+/// A keeper that can report more of a failure than that there was one.
 pub trait Explains: Keep {
     /// Why its device refused something last, where it knows that.
     fn cause(&self) -> Option<Error>;
@@ -46,8 +46,8 @@ impl<S: Alter + Drop> Explains for SqlKeep<S> {
     }
 }
 
-/// A keeper that answers as the one behind it, and says what becomes of that one's store: its first failure after a change that
-/// succeeded, that it is shut, and a PIN's tenth check. No value, PIN or label is said.
+/// A keeper that returns what the one behind it does, and logs what becomes of that one's store. It logs the first failure after
+/// a change that succeeded, that the store is shut, and a PIN's tenth check. No value, PIN or label is logged.
 #[derive(Drop)]
 pub struct Reported<K, L> {
     keep: K,
@@ -78,7 +78,7 @@ impl<K: Explains, L: Log + Drop> Reported<K, L> {
         keep
     }
 
-    /// Says a failure of the device, and answers the fault.
+    /// Logs a failure of the device, and returns the fault.
     fn report(&mut self, fault: KeepFault) -> KeepFault
         ensures fault { result ≡ fault }
         ensures same { Stays K.Keep.terms self.old.keep self.new.keep }
@@ -95,7 +95,7 @@ impl<K: Explains, L: Log + Drop> Reported<K, L> {
         fault
     }
 
-    /// Says the first failure, with sqlite's reason where there is one.
+    /// Logs the first failure, with sqlite's reason where there is one.
     #[inline(never)]
     fn say_failure(&mut self)
         ensures { self.new.keep ≡ self.old.keep }
@@ -110,7 +110,7 @@ impl<K: Explains, L: Log + Drop> Reported<K, L> {
         }
     }
 
-    /// Says that a PIN had its tenth check, if this record is the first that counts it.
+    /// Logs that a PIN had its tenth check, if this record is the first that counts it.
     fn say_locked(&self, before: &Record, now: &Record) {
         if now.is_locked(UserType::User) && !before.is_locked(UserType::User) {
             warn!(self.log; "the user's PIN had its tenth check: unless that one was right, it is locked");

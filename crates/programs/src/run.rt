@@ -80,8 +80,7 @@ fn run<R: Threads + Wait + Copy + Send + Drop + 'static, I: Read, O: Write, E: W
     }
 }
 
-/// Writes what the parser of the command line has to say: help and version to the output, and a
-/// refusal to the output for errors.
+/// Writes what the parser of the command line returns: help and version to the output, and a refusal to the output for errors.
 fn tell<O: Write, E: Write>(error: &Error, output: &mut O, errors: &mut E) -> u8
     ensures known { IsStatus result }
     ensures memory { kind_of error.now ≡ ErrorKind.OutOfMemory → result ≡ 6 }
@@ -102,7 +101,7 @@ fn tell<O: Write, E: Write>(error: &Error, output: &mut O, errors: &mut E) -> u8
     }
 }
 
-/// Runs the command line `args`, whose first word is the program's name, and answers the exit status. `threads` is a handle by
+/// Runs the command line `args`, whose first word is the program's name, and returns the exit status. `threads` is a handle by
 /// which the daemon starts threads.
 pub fn tokend_with<
     'a,

@@ -16,7 +16,7 @@ use std::sync::atomic::{AtomicBool, Ordering};
 /// How many bytes are read at once.
 const READ_LEN: usize = 32_768;
 
-/// Accepts one connection after the other, each an application of its own. It ends early where it is told that the daemon ends.
+/// Accepts one connection after the other, each an application of its own. It ends early once the daemon is to end.
 #[derive(Drop)]
 pub struct SocketSeat<L> {
     alloc: Global,
@@ -31,7 +31,7 @@ pub struct SocketSeat<L> {
     /// How many connections are left, with the one that there is.
     left: u64,
     connection: Option<Connection>,
-    /// Room for what is read at once.
+    /// A buffer for what is read at once.
     piece: [u8; READ_LEN],
     has_ended: bool,
     /// The listener has given each connection that it was asked for.
@@ -41,9 +41,9 @@ pub struct SocketSeat<L> {
 }
 
 impl<L: Log> SocketSeat<L> {
-    /// The seat with a number from 0 to 3, which ends after so many connections, and before where `is_stopping` is set: then it
-    /// accepts and reads no more. The seed is that of all applications' random bytes. A connection that ends otherwise than
-    /// between two frames is logged.
+    /// The seat with a number from 0 to 3. It ends after so many connections, and before where `is_stopping` is set: then it accepts
+    /// and reads no more. The seed is that of all applications' random bytes. A connection that ends within a frame, or because of
+    /// a fault, is logged.
     pub fn new(
         alloc: Global,
         log: L,
@@ -93,7 +93,7 @@ impl<L: Log> SocketSeat<L> {
                 self.connection = Some(connection);
                 true
             }
-            // A peer that is gone before it was accepted, or none that came yet.
+            // A peer that disconnected before it was accepted, or none that came yet.
             Err(error) => matches!(
                 error.kind(),
                 ErrorKind::ConnectionAborted | ErrorKind::WouldBlock | ErrorKind::Interrupted
@@ -121,7 +121,7 @@ impl<L: Log> SocketSeat<L> {
         self.is_stopping.load(Ordering::SeqCst)
     }
 
-    /// The connection ends, and its application goes.
+    /// The connection ends, and its application disconnects.
     #[inline(never)]
     fn end_connection(&mut self) -> SeatEvent
         requires { 0 < self.old.left }

@@ -28,7 +28,7 @@ use std::sync::{Arc, Wait};
 use std::thread::Threads;
 use token::Token;
 
-/// How many objects the cache has room for.
+/// How many objects the cache holds.
 const CAPACITY: usize = 128;
 
 /// The path that stands for a store in memory.
@@ -37,7 +37,7 @@ const IN_MEMORY: &str = ":memory:";
 /// The permission bits of the socket where none are given: who made it may connect, and nobody else.
 const SOCKET_MODE: u32 = 0o600;
 
-/// A gate that is always open: a seat runs its job at once.
+/// A `Gate` that is always open: a seat runs its job at once.
 #[derive(Drop)]
 struct OpenGate;
 
@@ -61,8 +61,8 @@ struct Served<'a> {
 /// The four seats.
 type Seats<L> = (SocketSeat<L>, SocketSeat<L>, SocketSeat<L>, SocketSeat<L>);
 
-/// Serves as the command line says, until each seat has had its connections. `threads` is a handle on which the seats' threads are
-/// started.
+/// Serves as the command line asks, until each seat has had its connections. `threads` is a handle on which the seats' threads
+/// are started.
 pub(crate) fn serve<R: Threads + Wait + Copy + Send + Drop + 'static, O: Write, E: Write>(
     rt: &HostRuntime,
     threads: R,
@@ -105,7 +105,7 @@ fn close_store(keep: FileKeep) -> Result<(), Fault> {
     }
 }
 
-/// The keeper, which says what becomes of its store, and has the seats end where that is shut.
+/// The keeper, which logs what becomes of its store, and has the seats end where that is shut.
 fn with_reports<K: Explains, L: Log + Drop>(
     keep: K,
     log: L,
@@ -148,7 +148,7 @@ fn read_options<'a, E: Write>(
     })
 }
 
-/// The seed. One that comes again at the next start is said.
+/// The seed. One that comes again at the next start is logged.
 fn seed_from<E: Write>(
     rt: &HostRuntime,
     path: Option<&str>,
@@ -172,7 +172,7 @@ fn token_over<K: Keep>(alloc: Global, keep: K) -> Result<Token<K>, Fault> {
     }
 }
 
-/// Serves a token over a keeper behind a cache, and gives the keeper back at a clean end.
+/// Serves a token over a keeper behind a cache, and returns the keeper at a clean end.
 fn serve_cached<K: Keep, R: Threads + Wait + Copy + Send + Drop + 'static, O: Write, E: Write>(
     rt: &HostRuntime,
     threads: R,
@@ -191,7 +191,7 @@ fn serve_cached<K: Keep, R: Threads + Wait + Copy + Send + Drop + 'static, O: Wr
     }
 }
 
-/// Serves a token over a keeper, and gives the keeper back at a clean end.
+/// Serves a token over a keeper, and returns the keeper at a clean end.
 fn serve_over<K: Keep, R: Threads + Wait + Copy + Send + Drop + 'static, O: Write, E: Write>(
     rt: &HostRuntime,
     threads: R,
@@ -220,7 +220,7 @@ fn serve_over<K: Keep, R: Threads + Wait + Copy + Send + Drop + 'static, O: Writ
     }
 }
 
-/// How many objects the store has, where that is going to be said.
+/// How many objects the store has, where that is going to be logged.
 fn count_objects<K: Keep>(alloc: Global, keep: &mut K, level: LevelFilter) -> Result<usize, Fault> {
     if !level.allows(Level::Info) {
         return Ok(0);
@@ -231,7 +231,7 @@ fn count_objects<K: Keep>(alloc: Global, keep: &mut K, level: LevelFilter) -> Re
     }
 }
 
-/// Says that the daemon serves, on standard error and to a service manager.
+/// Reports that the daemon serves, on standard error and to a service manager.
 fn say_ready<E: Write>(rt: &HostRuntime, served: &Served<'_>, objects: usize, errors: &mut E) {
     let (store, socket) = (served.store, served.socket);
     let text = format_args!(
@@ -248,7 +248,7 @@ fn say_ready<E: Write>(rt: &HostRuntime, served: &Served<'_>, objects: usize, er
     }
 }
 
-/// The four seats on the socket, once the daemon listens and has said so.
+/// The four seats on the socket, once the daemon listens and has reported so.
 fn ready_seats<O: Write>(
     rt: &HostRuntime,
     served: &Served<'_>,
@@ -265,7 +265,7 @@ fn ready_seats<O: Write>(
     }
 }
 
-/// Whether the seats ended as asked, and not because the store is shut, or for want of connections.
+/// Whether the seats ended as asked, and not because the store is shut, or because no connection could be accepted.
 fn seats_ended<L: Log>(seats: &Seats<L>, served: &Served<'_>) -> Result<(), Fault> {
     if served.is_stopping.load(Ordering::SeqCst) {
         return Err(Failure::Store.because(Cause::StoreShut));

@@ -22,8 +22,8 @@ fn refused(error: io::Error) -> Fault {
     Failure::Store.because(Cause::StoreFile(error))
 }
 
-/// Takes the permission bits of group and others from the file of a store that is open, and from its log. Answers whether there were
-/// any.
+/// Takes the permission bits of group and others from the file of a store that is open, and from its log. Returns whether there
+/// were any.
 pub(crate) fn keep_private(rt: &HostRuntime, path: &str) -> Result<bool, Fault> {
     let log = match log_of(rt, path) {
         Ok(log) => log,
@@ -39,7 +39,7 @@ pub(crate) fn log_of(rt: &HostRuntime, path: &str) -> io::Result<String> {
     Ok(format!(in rt.alloc(); "{}-wal", real.as_str())?)
 }
 
-/// Takes the bits of group and others from a file, if it is there and has any, and answers whether it had.
+/// Takes the bits of group and others from a file, if it is there and has any, and returns whether it had.
 fn narrow(rt: &HostRuntime, path: &str) -> Result<bool, Fault> {
     let Ok(found) = fs::metadata(rt, path) else {
         return Ok(false);

@@ -52,7 +52,7 @@ all-noted-more low last h hs [] ids above noted = tt
 all-noted-more low last h hs (e ∷ es) ids above noted =
     (All-push (λ (h : Handle). h.id ≡ e.0 → h.private ≡ not (is_public e.1)) hs h noted.0 (λ k. absurd (let l : e.0 ≤ last = ids.1 in omega arith)), all-noted-more e.0 last h hs es ids.2 above noted.1)
 
--- handles of other ids note nothing of the new object
+-- handles of other ids record nothing of the new object
 noted-new : (last : ℕ) (hs : List Handle) (o : List Entry) → AllByRecursion (λ h. h.id ≤ last) hs → IsNoted hs (last + 1, o)
 noted-new last [] o given = tt
 noted-new last (h ∷ hs) o given = (λ k. absurd (let low : h.id ≤ last = given.0 in omega arith), noted-new last hs o given.1)
@@ -71,7 +71,7 @@ module _ (c : Contents) (d : DeskState) (o : List Entry) (sound : IsSound c) (fi
     noted = All-push (λ e. IsNoted (d.handles.entries ++ new_handle ∷ []) e) c.objects (c.last_id + 1, o) (all-noted-more 0 c.last_id new_handle d.handles.entries c.objects sound.ids (omega arith) fits.noted) (All-push (λ (h : Handle). h.id ≡ c.last_id + 1 → h.private ≡ not (is_public o)) d.handles.entries new_handle (noted-new c.last_id d.handles.entries o fits.given) (λ k. not-not (flag o attr.Private)));
   }
 
-  -- there is room for so much
+  -- memory for so much is allocated
   module _ (own_capacity capacity : ℕ) where
     abbrev pub given_handle : DeskState
     given_handle = record d { own_capacity = own_capacity; handles = record { entries = d.handles.entries ++ new_handle ∷ []; next_number = d.handles.next_number + 1; capacity = capacity } }
@@ -97,7 +97,7 @@ module _ (c : Contents) (d : DeskState) (o : List Entry) (sound : IsSound c) (fi
           fits = fits-more;
         }
 
--- where there was made room for its handle
+-- where memory for its handle was allocated
 pub gives-added : (c : Contents) (d r : DeskState) (o : List Entry) (id number : ℕ) → IsSound c → Fits c d.handles.entries → sees d.sessions.login o ≡ true → SameDesk d r → id ≡ c.last_id + 1
     → number_of (with_handle r.handles id (flag o attr.Private)).entries id ≡ Some number
     → Gives (adds_token_object (view_of c d) o) d.sessions.login c (Replies (Object number)) (with_object o c) (record r { handles = with_handle r.handles id (flag o attr.Private) })

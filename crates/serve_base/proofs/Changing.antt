@@ -19,7 +19,7 @@ use Rattle.serve_base.specs.Shown.{objects_of, sees_kept, token_object, view_of,
 use Rattle.lists.proofs.ListLemmas.{map-push, map-remove}
 use Rattle.lists.proofs.IndexLemmas.{append_nil, filter-push, taken_out, filter-remove, seen_index-map}
 
--- an id that wasn't given out has no handle
+-- an id that was never given has no handle
 number-not_given : (last id : ℕ) (hs : List Handle) → AllByRecursion (λ h. h.id ≤ last) hs → last + 1 ≤ id → number_of hs id ≡ None
 number-not_given last id [] given above = refl
 number-not_given last id (h ∷ hs) given above = rw (ne_eqb h.id id (λ k. let l : h.id ≤ last = given.0 in omega arith)) (number-not_given last id hs given.1 above)

@@ -1,4 +1,4 @@
--- Whatever is kept: a call tells no resource error but for a fault, and a refusal leaves its desk.
+-- Whatever is kept: a call returns a resource error only for a fault, and a refusal leaves its desk.
 use Rattle.std.proofs.Common.{◌≡◌, ℕ, ◌+◌, ◌≤◌, List, [], ◌∷◌, Option, Some, None, Result, Ok, Err, refl, sym, ◌∙◌, ap, subst, arith}
 use Rattle.std.specs.Prelude.{IfErr, IfOk}
 use Rattle.std.specs.Result.{IsErrAnd}

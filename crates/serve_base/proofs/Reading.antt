@@ -56,9 +56,9 @@ module _ {K T : Type 0} (terms : Terms K) (tell : T → Said) (f a : View → An
         short = at.short;
       }
 
--- ---- a row of the call's table holds
+-- ---- a check of the call's table fails
 
--- the row that stands for nothing
+-- the condition that stands for nothing
 abbrev the-none : (A : Type 0) → Option A
 the-none A = None
 

@@ -1,4 +1,4 @@
--- What a call that may be refused does, and what is told of it.
+-- What a call that may be refused does, and what it returns.
 use Rattle.std.proofs.Common.{◌≡◌, Result, Ok, Err, inl, inr, refl, sym, subst}
 use Rattle.std.specs.Result.{IsErrAnd}
 use Rattle.ck_calls.specs.declared.reply.Reply.{Reply}
@@ -36,7 +36,7 @@ pub fault-of : {T : Type 0} (r : Result T Refusal) (fault : KeepFault) → IsErr
 fault-of (Ok out) fault is = absurd is
 fault-of {T} (Err e) fault is = subst (λ x. IsFault {T = T} (Err x)) (sym is) (fault-is T fault)
 
--- ---- by what is told of the result
+-- ---- by what is returned for the result
 
 module _ {K T : Type 0} (terms : Terms K) (tell : T → Said) where
   pub does_as-refused : (a : Answer) (c : Contents) (old new : StoreState K) (before desk : DeskState) (r : Result T Refusal) → IsFault r → Refused terms a before.sessions.login c old new before desk → DoesAs terms tell a c old new before r desk
@@ -88,7 +88,7 @@ module _ {K : Type 0} (terms : Terms K) where
   pub does-after : (a : Answer) (c : Contents) (old mid new : StoreState K) (before desk : DeskState) (r : Result Reply Refusal) → LeavesAsBefore terms old mid → Does terms a c mid new before r desk → Does terms a c old new before r desk
   does-after a c old mid new before desk r first does = does_as-after terms Replies a c old mid new before desk r first does
 
-  -- ---- what is told
+  -- ---- what is returned
 
   -- a refusal at a desk that has not changed
   told-code : (a : Answer) (c : Contents) (old new : StoreState K) (before desk : DeskState) (code : Reply) → Fits c before.handles.entries → a ≡ record { says = Replies code; view = view_of c before; change = Stays } → Has terms new c → LeavesAsBefore terms old new → desk ≡ before → Gave terms a before.sessions.login c old new (Replies code) desk

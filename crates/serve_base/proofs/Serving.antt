@@ -1,4 +1,4 @@
--- What a call does, and what is told of it, in one clause.
+-- What a call does, and what it returns, in one clause.
 use Rattle.std.proofs.Common.{◌≡◌, ℕ, ◌≤◌, Result, Ok, Err, refl, sym, subst, arith}
 use Rattle.std.specs.Prelude.{IfOk}
 use Rattle.keep.specs.Keeping.{Terms}
@@ -16,7 +16,7 @@ use Rattle.serve_base.specs.Stores.{StoreState}
 use Rattle.serve_base.proofs.Plain.{plain-done_as, stays-settled}
 use Rattle.serve_base.proofs.Refusals.{serves-done_as}
 
--- the device is blamed for a failed keeper alone
+-- CKR_DEVICE_ERROR comes of a failed keeper alone
 pub blamed : {T : Type 0} (as_out : T → Out) (r : Result T Refusal) → settled as_out r ≡ Err faults.Device → r ≡ Err refusals.Device
 blamed as_out (Ok t) is = let k : Ok (as_out t) ≡ Err faults.Device = is in cc
 blamed as_out (Err (refusals.Condition row)) is = let k : refused_as (refusals.Condition row) ≡ Err faults.Device = is in cc
@@ -24,7 +24,7 @@ blamed as_out (Err (refusals.Code code)) is = let k : refused_as (refusals.Code 
 blamed as_out (Err refusals.Memory) is = let k : refused_as refusals.Memory ≡ Err faults.Device = is in cc
 blamed as_out (Err refusals.Device) is = refl
 
--- what is short is told so, and a refusal is
+-- what is short is returned as short, and so is a refusal
 pub short-settled : {T : Type 0} (tell : T → Said) (as_out : T → Out) (r : Result T Refusal) → ((t : T) → said_of (as_out t) ≡ tell t) → IfOk r (λ t. IsShortSaid (tell t)) → IfOk (settled as_out r) (λ out. IsShortSaid (said_of out))
 short-settled tell as_out (Ok t) same short = subst IsShortSaid (sym (same t)) short
 short-settled tell as_out (Err (refusals.Condition row)) same short = tt
@@ -32,7 +32,7 @@ short-settled tell as_out (Err (refusals.Code code)) same short = tt
 short-settled tell as_out (Err refusals.Memory) same short = tt
 short-settled tell as_out (Err refusals.Device) same short = tt
 
--- a call that replies or asks, and tries one write at most
+-- a call that replies or returns a job, and tries one write at most
 pub served-as : {given : Type 0} {K T : Type 0} (terms : Terms K) (tell : T → Said) (as_out : T → Out) (kind : Out → Type 0) (writes : ℕ) (f : View → Answer) (old new : StoreState K) (before desk : DeskState) (r : Result T Refusal) → ((t : T) → said_of (as_out t) ≡ tell t) → writes ≤ 1 → IfOk (settled as_out r) kind
     → IsDoneIf given terms tell writes (λ c. f) old new before r desk → IsServedIf given terms kind f old new before (settled as_out r) desk
 served-as terms tell as_out kind writes f old new before desk r same few says done = record {

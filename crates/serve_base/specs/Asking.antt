@@ -1,4 +1,4 @@
--- Questions that are asked where there is room for their results.
+-- Jobs that are returned where the output buffer is long enough for their results.
 use Rattle.std.specs.Prelude.{ℕ, nat_lt, Option, is_none, if◌then◌else◌}
 use Rattle.std.specs.Option.{unwrap_or}
 use Rattle.ck_calls.specs.declared.function.Function.{Function}
@@ -7,7 +7,7 @@ use Rattle.ck_calls.specs.declared.reply.Reply.TheVariants.{Output, BufferTooSma
 use Rattle.model_views.specs.Views.{View, Task}
 use Rattle.model_views.specs.Answering.{Answer, replies, asks}
 
--- a task is asked for where there is room for what is wanted; else its length is told
+-- a job for the task where the output buffer has the length that is needed; else that length
 abbrev pub asks_within : Function → ℕ → Task → ℕ → Option ℕ → View → Answer
 asks_within f session task wanted buffer_len v =
     if is_none buffer_len then replies v (Output (output.Length wanted))

@@ -36,8 +36,8 @@ of_make_fault make_faults.Memory = refusals.Memory
 
 -- ---- at the desk alone
 
--- The answer is given to what the application sees, whatever is kept; or it is the refusal, and nothing has changed; or
--- memory was refused, and nothing has changed but the memory that is at hand.
+-- The answer is given to what the application sees, whatever is kept; or it is the refusal, and nothing has changed; or an
+-- allocation failed, and nothing has changed but capacities.
 abbrev pub DoesAtDesk : {T : Type 0} → (T → Said) → Answer → Contents → DeskState → Result T Refusal → DeskState → Type 0
 DoesAtDesk tell a c old (Ok out) new = Gives a old.sessions.login c (tell out) c new
 DoesAtDesk tell a c old (Err (refusals.Condition row)) new = (a ≡ refuses_by (view_of c old) row) × (new ≡ old)
@@ -45,7 +45,7 @@ DoesAtDesk tell a c old (Err (refusals.Code code)) new = (a ≡ refuses (view_of
 DoesAtDesk tell a c old (Err refusals.Memory) new = SameDesk old new
 DoesAtDesk tell a c old (Err refusals.Device) new = ⊥
 
--- what a call does that asks no store, in one clause; so no keeper is to blame, and what is told is short where this is given
+-- What a call does that uses no store, in one clause: no keeper is to blame, and what it returns is short where this is given.
 pub record AtDeskIf (given : Type 0) {T : Type 0} (tell : T → Said) (f : View → Answer) (old : DeskState) (result : Result T Refusal) (new : DeskState) : Type 0 where
   pub serves : (c : Contents) → Fits c old.handles.entries → DoesAtDesk tell (f (view_of c old)) c old result new
   pub cause : IsErrOf result refusals.Device → ⊥
@@ -62,7 +62,7 @@ pub record Stands {K : Type 0} (terms : Terms K) (c : Contents) (old new : Store
   pub leaves : LeavesAsBefore terms old new
   pub desk : now ≡ before
 
--- what is done of an answer, by what is told of its result
+-- what becomes of an answer, by what is returned for its result
 abbrev pub DoesAs : {K T : Type 0} → Terms K → (T → Said) → Answer → Contents → StoreState K → StoreState K → DeskState → Result T Refusal → DeskState → Type 0
 DoesAs terms tell a c old new before (Ok out) desk = Gave terms a before.sessions.login c old new (tell out) desk
 DoesAs terms tell a c old new before (Err (refusals.Condition row)) desk = (a ≡ refuses_by (view_of c before) row) × Stands terms c old new before desk
@@ -70,12 +70,12 @@ DoesAs terms tell a c old new before (Err (refusals.Code code)) desk = (a ≡ re
 DoesAs terms tell a c old new before (Err refusals.Memory) desk = Refused terms a before.sessions.login c old new before desk
 DoesAs terms tell a c old new before (Err refusals.Device) desk = Refused terms a before.sessions.login c old new before desk
 
--- The answer is to the view, and what an answer takes from outside is told by what is kept.
+-- The answer is to the view, and what an answer takes from outside is determined by what is kept.
 abbrev pub DoneAs : {K T : Type 0} → Terms K → (T → Said) → (Contents → View → Answer) → StoreState K → StoreState K → DeskState → Result T Refusal → DeskState → Type 0
 DoneAs terms tell f old new before result desk =
     terms.doubt new.keep ≡ 0 → (c : Contents) → Has terms old c → Fits c before.handles.entries → DoesAs terms tell (f c (view_of c before)) c old new before result desk
 
--- what is told is no resource error, nor is the code of a refusal
+-- what is returned is no resource error, nor is the code of a refusal
 abbrev pub IsPlainAs : {T : Type 0} → (T → Said) → Result T Refusal → Type 0
 IsPlainAs tell (Ok out) = apart (tell out) ≡ None
 IsPlainAs tell (Err (refusals.Condition row)) = Unit {0}
@@ -83,10 +83,9 @@ IsPlainAs tell (Err (refusals.Code code)) = resource_error (Code code) ≡ None
 IsPlainAs tell (Err refusals.Memory) = Unit {0}
 IsPlainAs tell (Err refusals.Device) = Unit {0}
 
--- What a call or the end of a question does, in one clause: its answer is given or refused while the store is honest, it
--- tries no more than so many writes, and the device is to blame only where a failure of the keeper was counted. Whether
--- or not the store is honest, a refusal leaves the desk, but for the memory that is at hand, and what is told is short where
--- this is given.
+-- What a call or the result of its job does, in one clause. While the store is faithful its answer is given or refused. It
+-- tries no more than so many writes, and CKR_DEVICE_ERROR comes only where a failure of the keeper was counted. Whether or
+-- not the store is faithful, a refusal leaves the desk but for capacities, and what is returned is short where this is given.
 pub record IsDoneIf (given : Type 0) {K T : Type 0} (terms : Terms K) (tell : T → Said) (writes : ℕ) (f : Contents → View → Answer) (old new : StoreState K) (before : DeskState) (result : Result T Refusal) (desk : DeskState) : Type 0 where
   pub serves : DoneAs terms tell f old new before result desk
   pub counts : Counted terms old.keep new.keep 0 writes
@@ -109,7 +108,7 @@ IsPlain result = IsPlainAs Replies result
 abbrev pub IsDone : {K : Type 0} → Terms K → ℕ → (View → Answer) → StoreState K → StoreState K → DeskState → Result Reply Refusal → DeskState → Type 0
 IsDone terms writes f old new before result desk = IsDoneAs terms Replies writes (λ c. f) old new before result desk
 
--- ---- as it is told
+-- ---- as it is returned
 
 abbrev pub refused_as : Refusal → Result Out Fault
 refused_as (refusals.Condition row) = Ok (OutReply (Code (code_of rv.Ok row)))
@@ -121,7 +120,7 @@ abbrev pub settled : {T : Type 0} → (T → Out) → Result T Refusal → Resul
 settled as_out (Ok out) = Ok (as_out out)
 settled as_out (Err refusal) = refused_as refusal
 
--- and in one clause, in which what is told is short where this is given
+-- and in one clause, in which what is returned is short where this is given
 pub record IsServedIf (given : Type 0) {K : Type 0} (terms : Terms K) (kind : Out → Type 0) (f : View → Answer) (old new : StoreState K) (before : DeskState) (result : Result Out Fault) (desk : DeskState) : Type 0 where
   pub serves : Served terms said_of f old new before before result desk
   pub says : IfOk result kind

@@ -1,4 +1,4 @@
--- What a search finds among the token objects (PKCS #11 v3.1, 5.7.5).
+-- What a search finds among the token objects (C_FindObjectsInit; PKCS #11 v3.1, 5.7.7).
 use Rattle.std.specs.Prelude.{◌≡◌, ℕ, Bool, true, ◌&&◌, List, [], ◌∷◌, ◌++◌, map, filter, Option, Some, None, if◌then◌else◌}
 use Rattle.ck_types.specs.declared.entry.Entry.{Entry}
 use Rattle.ck_types.specs.declared.attr_type.AttrType.TheVariants as attr

@@ -25,7 +25,7 @@ IsCodeOfValues rv.AttributeTypeInvalid = Unit {0}
 IsCodeOfValues rv.BufferTooSmall = Unit {0}
 IsCodeOfValues _ = ⊥
 
--- a value is as long as is told, and no longer than one of a whole object
+-- a value has the length that is returned with it, and is no longer than one of a whole object
 pub record IsShortValue (v : AttributeValue) : Type 0 where
   pub told : v.len < 2 ^ 64
   pub value : IfSome v.value (λ bytes. (length bytes ≡ v.len) × (length bytes ≤ 1024))
@@ -36,7 +36,7 @@ pub record AreShortValues (code : Rv) (values : List AttributeValue) : Type 0 wh
   pub count : length values ≤ 32
   pub each : AllByRecursion IsShortValue values
 
--- how much data a frame has room for: a payload of 1,048,576 bytes, less a code, a byte and a length
+-- how much data fits into a frame: a payload of 1,048,576 bytes, less a code, a byte and a length
 abbrev pub most_data : ℕ
 most_data = 1048563
 
@@ -52,7 +52,7 @@ IsShort (replies.Output output) = IsShortOutput output
 IsShort (replies.Random bytes) = length bytes ≤ 32768
 IsShort _ = Unit {0}
 
--- a task whose result is told by such a reply
+-- a task whose result gives such a reply
 abbrev pub IsShortTask : Task → Type 0
 IsShortTask (Ciphers part o input) = most_added part o.mechanism o.direction (length o.taken) (length input) ≤ most_data
 IsShortTask (WrapsKey key value) = IfSome value (λ bytes. length bytes ≤ 1024)
@@ -64,7 +64,7 @@ IsShortSaid (Asks question) = IsShortTask question.task
 
 -- ---- calls
 
--- data that a frame has room for, where a buffer's length comes with it
+-- data that fits into a frame, where a buffer's length comes with it
 abbrev pub IsShortData : List ℕ → Option ℕ → Type 0
 IsShortData input None = Unit {0}
 IsShortData input (Some buffer_len) = length input ≤ 1048553

@@ -1,4 +1,4 @@
--- What a token's parts show: the one place where ids become handles.
+-- The view that a token's parts refine: the one place where ids become handles.
 use Rattle.std.specs.Prelude.{◌≡◌, ℕ, ◌≤◌, Bool, not, List, [], ◌∷◌, map, filter, Option, Some, None}
 use Rattle.std.proofs.Common.{zero, suc}
 use Rattle.std.specs.Option.{option_map}
@@ -63,7 +63,7 @@ view_of c d =
       next_question = d.next_question;
     }
 
--- handles are of ids that were given out, and each notes whether its object is private
+-- handles are of ids that were given, and each records whether its object is private
 abbrev pub IsNoted : List Handle → Kept → Type 0
 IsNoted hs e = AllByRecursion (λ h. h.id ≡ e.0 → h.private ≡ not (is_public e.1)) hs
 
@@ -73,11 +73,11 @@ pub record Fits (c : Contents) (hs : List Handle) : Type 0 where
 
 -- ---- what is kept changes
 
--- another object stands at a place, under the id that was there
+-- another object stands at an index, under the id that was there
 abbrev pub rekept : List Kept → ℕ → List Entry → List Kept
 rekept es index o = updated es index (λ e. (e.0, o))
 
--- what stands at a place is public where the object is
+-- what stands at an index is public where the object is
 abbrev pub IsAsPublic : List Kept → ℕ → List Entry → Type 0
 IsAsPublic [] index o = Unit {0}
 IsAsPublic (e ∷ es) zero o = is_public o ≡ is_public e.1
@@ -91,9 +91,9 @@ Changes (Remove index) old new = new ≡ record old { objects = remove old.objec
 Changes (Records r) old new = new ≡ with_record r old
 Changes (Resets r) old new = new ≡ after_reset r old
 
--- ---- what is given out
+-- ---- what is returned
 
--- a desk after the result of its question
+-- a desk after the result of its job
 abbrev pub over : DeskState → DeskState
 over d = record d { question = None }
 
@@ -111,7 +111,7 @@ abbrev pub IsFor : ℕ → Out → Type 0
 IsFor app (OutReply reply) = Unit {0}
 IsFor app (Ask job) = job.app ≡ app
 
--- What is said to one who is logged in so, what is kept and what the desk holds after it are the answer.
+-- What is returned to one who is logged in so, what is kept and what the desk holds after it are the answer.
 pub record Gives (a : Answer) (login : Option UserType) (old : Contents) (said : Said) (new : Contents) (desk : DeskState) : Type 0 where
   pub says : said ≡ a.says
   pub view : view_of new desk ≡ a.view

@@ -1,4 +1,4 @@
--- A keeper with the ids that the token has of it, and what the token shows by it.
+-- A keeper with the ids that the token has of it, and what the token refines by it.
 use Rattle.std.specs.Prelude.{◌≡◌, ◌⊎◌, ℕ, List, Option, Some, Result, Ok, Err}
 use Rattle.ck_types.specs.declared.user_type.UserType.{UserType}
 use Rattle.keep.specs.Contents.{Contents, ids_of, IsSound}
@@ -56,12 +56,12 @@ module _ {K : Type 0} (terms : Terms K) where
     pub same : SameDesk over desk
     pub leaves : LeavesTried terms (in_list (sees login) (objects_of c) a.change) old new c
 
-  -- `over` is what a refusal leaves of the desk: at a call the desk itself, at a result the desk without its question
+  -- `over` is what a refusal leaves of the desk: at a call the desk itself, at a result the desk without its pending call
   abbrev pub Serves : {T E : Type 0} → (T → Said) → Answer → Contents → StoreState K → StoreState K → DeskState → DeskState → Result T E → DeskState → Type 0
   Serves tell a c old new before over (Ok out) desk = Gave a before.sessions.login c old new (tell out) desk
   Serves tell a c old new before over (Err fault) desk = Refused a before.sessions.login c old new over desk
 
--- An event is served by the answer to the view, while the store is honest.
+-- An event is served by the answer to the view, while the store is faithful.
 abbrev pub Served : {K : Type 0} → Terms K → {T E : Type 0} → (T → Said) → (View → Answer) → StoreState K → StoreState K → DeskState → DeskState → Result T E → DeskState → Type 0
 Served terms tell f old new before over result desk =
     terms.doubt new.keep ≡ 0 → (c : Contents) → Has terms old c → Fits c before.handles.entries → Serves terms tell (f (view_of c before)) c old new before over result desk

@@ -18,7 +18,7 @@ use guard::{needs_read_write, visible};
 use keep::Keep;
 use precede::Condition;
 
-/// Adds an object, if a session in this state may and there is room.
+/// Adds an object, if a session in this state may and the limit of session objects isn't reached.
 pub fn add_object<K: Keep>(
     desk: &mut Desk,
     store: &mut Store<K>,
@@ -46,7 +46,7 @@ pub fn add_object<K: Keep>(
     Ok(Reply::Object(desk.add_own(session, object)?))
 }
 
-/// There is room for the handle before the object is written.
+/// Adds a token object. Memory for its handle is allocated before the object is written.
 fn add_token_object<K: Keep>(
     desk: &mut Desk,
     store: &mut Store<K>,

@@ -1,4 +1,4 @@
-//! Questions of a call.
+//! Jobs of a call.
 
 ghost use Rattle.std.specs.Prelude.{◌≡◌, ℕ, ◌<◌, ◌^◌, IfErr, IfOk, IsTrue, Some, length};
 ghost use Rattle.desk.specs.Desks.{with_question};
@@ -15,7 +15,7 @@ use desk::Desk;
 use mech::{Job, Work};
 use std::alloc::{AllocError, Global};
 
-/// The job of a call, for the next question. It allocates.
+/// The job of a call, with the next number. It allocates.
 pub fn new_job(
     alloc: Global,
     app: u64,
@@ -32,7 +32,7 @@ pub fn new_job(
     Job::new(alloc, app, desk.next_question(), function, session, work)
 }
 
-/// Puts the question of a call, and gives the job that is to answer it. It allocates; where memory is refused nothing is put.
+/// Makes a call pending, and returns the job that answers it. It allocates; where an allocation fails no call is pending.
 pub fn ask(
     alloc: Global,
     app: u64,
@@ -54,8 +54,8 @@ pub fn ask(
     Ok(job)
 }
 
-/// Asks for work where there is room for what is wanted, in bytes; else its length is told, and the operation stays. It
-/// allocates; where memory is refused nothing is asked.
+/// Returns a job where the output buffer has the length `wanted`, in bytes; else returns that length, and the operation
+/// stays. It allocates; where an allocation fails no call is pending.
 pub fn ask_within(
     alloc: Global,
     app: u64,
@@ -82,7 +82,7 @@ pub fn ask_within(
     Ok(Out::Ask(ask(alloc, app, desk, function, session, work)?))
 }
 
-/// The 16 random bytes that a call takes.
+/// The 16 random bytes of a call.
 pub fn random_block(random: &[u8]) -> [u8; 16]
     requires { length random.now ≡ 16 }
     ensures { result ≡ random.now }

@@ -1,4 +1,4 @@
-//! What calls ask of the object that is to be a key.
+//! What calls require of the object that is to be a key.
 
 ghost use Rattle.std.specs.Prelude.{◌≡◌, true, Some};
 ghost use Rattle.ck_types.specs.declared.attr_type.AttrType.TheVariants as attr;

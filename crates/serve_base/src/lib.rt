@@ -1,19 +1,17 @@
 //! One desk over the store: what the crates that serve calls stand on.
 //!
-//! `Store` is the keeper of the token objects with their ids in the order of their creation; `find` copies the object
-//! that an application sees under a handle, and `Store::search` notes those that a template finds. A call answers `Result<Reply, Refusal>` or, where it may return a job,
-//! `Result<Out, Refusal>`: an `Err` always means that nothing has changed. `settle` makes of it what is told.
+//! `Store` is the keeper of the token objects (a storage backend) with their ids in the order of their creation. `find` copies
+//! the object that an application sees under a handle, and `Store::search` collects those that a template finds. A call returns
+//! `Result<Reply, Refusal>` or, where it may return a job, `Result<Out, Refusal>`: an `Err` always means that nothing has
+//! changed. `settle` makes of it what the application gets.
 //!
-//! Contracts speak of what an application sees (`specs/Shown.antt`: `view_of`), of what the store has and what a crash
-//! may leave (`specs/Stores.antt`), and of what a call does in one clause: `IsDone` where it reads or writes the store,
-//! `AtDesk` where it doesn't, and `IsDoneAs` where it returns a job and writes, or where something of the answer is told
-//! by what the store has (`specs/Refusing.antt`).
+//! Contracts speak of three things:
+//! - what an application sees (`specs/Shown.antt`: `view_of`);
+//! - what the store has and what a crash may leave (`specs/Stores.antt`);
+//! - what a call does, in one clause (`specs/Refusing.antt`).
 //!
-//! ```text
-//! let _ = desk.state(session).ok_or(Condition::NoSession)?;
-//! let found = find(alloc, desk, store, handle)?.ok_or(Condition::NoObject)?;
-//! Ok(Reply::ObjectSize(size(&found.object)))
-//! ```
+//! That clause is `IsDone` where the call reads or writes the store, and `AtDesk` where it doesn't. It is `IsDoneAs` where the
+//! call returns a job and writes, or where its answer depends on what the store has.
 #![tactic(auto)]
 
 mod adding;

@@ -1,9 +1,9 @@
-//! What a call gives.
+//! What a call returns.
 
 use ck_calls::Reply;
 use mech::Job;
 
-/// What a call gives.
+/// What a call returns.
 #[derive(Drop)]
 pub enum Out {
     Reply(Reply),

@@ -17,11 +17,11 @@ use templates::MakeFault;
 /// Why a call is refused.
 #[derive(Clone, Copy, Debug, PartialEq, Eq)]
 pub enum Refusal {
-    /// A row of the call's table holds.
+    /// A check of the call's table fails.
     Condition(Condition),
-    /// A code that no row has: that of a template.
+    /// A code that no check of a table has: that of a template.
     Code(Rv),
-    /// Memory was refused.
+    /// An allocation failed.
     Memory,
     /// The keeper failed.
     Device,
@@ -65,8 +65,8 @@ impl From<MakeFault> for Refusal {
     }
 }
 
-/// What is told of a call that replies: its reply, or the code of its refusal. Want of memory and a failed keeper are
-/// faults, since no answer has their code.
+/// What a call that only replies returns: its reply, or the code of its refusal. An allocation failure and a failed keeper
+/// are faults, since no answer has their code.
 pub fn settle(outcome: Result<Reply, Refusal>) -> Result<Out, Fault>
     ensures { result ≡ settled OutReply outcome }
 {
@@ -76,7 +76,7 @@ pub fn settle(outcome: Result<Reply, Refusal>) -> Result<Out, Fault>
     }
 }
 
-/// What is told of a call that may return a job.
+/// What a call returns that may return a job.
 pub fn settle_asking(outcome: Result<Out, Refusal>) -> Result<Out, Fault>
     ensures { result ≡ settled (λ out. out) outcome }
 {

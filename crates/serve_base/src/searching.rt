@@ -45,7 +45,7 @@ pub(crate) fn search_kept<K: Keep>(
     Ok(())
 }
 
-/// Takes a token object into what was found, where it is seen and the template finds it.
+/// Adds a token object to what was found, where it is seen and the template finds it.
 fn search_one(
     login: Option<UserType>,
     template: &Template,

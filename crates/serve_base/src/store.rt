@@ -16,7 +16,7 @@ use pin_record::Record;
 use std::alloc::Global;
 use std::marker::Model;
 
-/// A keeper and the ids of its objects. The keeper is asked for no id that it doesn't have.
+/// A keeper and the ids of its objects. The keeper is called only with ids that it has.
 #[derive(Drop)]
 pub struct Store<K: Keep> {
     keep: K,
@@ -32,7 +32,7 @@ impl<K: Keep> Model for Store<K> {
 }
 
 impl<K: Keep> Store<K> {
-    /// Reads the ids of a keeper. One that refuses comes back beside its fault.
+    /// Reads the ids of a keeper. A keeper that fails comes back beside its fault.
     pub fn adopt(alloc: Global, mut keep: K) -> Result<Store<K>, (KeepFault, K)>
         ensures has { (c : Contents) → K.terms.holds keep c → IfOk result (λ s. K.terms.doubt s.keep ≡ 0 → Has K.terms s c) }
         ensures leaves { (c : Contents) → K.terms.holds keep c → IfOk result (λ s. (left : Option Contents) → K.terms.may_leave s.keep left → K.terms.may_leave keep left) }
@@ -51,14 +51,14 @@ impl<K: Keep> Store<K> {
         keep
     }
 
-    /// The record. It is at hand, so nothing is read and no memory is taken.
+    /// The record. It is held in memory, so nothing is read or allocated.
     pub fn get_record(&self) -> Record
         ensures { (c : Contents) → Has K.terms self.now c → result ≡ c.token_record }
     {
         self.keep.get_record()
     }
 
-    /// Puts another record in the place of the one held. The objects stay.
+    /// Replaces the record. The objects stay.
     pub fn set_record(&mut self, token_record: Record) -> Result<(), KeepFault>
         ensures has { (c : Contents) → Has K.terms self.old c → OnOk result (Has K.terms self.new (with_record token_record c)) }
         ensures leaves { (c : Contents) → Has K.terms self.old c → OnOk result (LeavesAlone K.terms self.new (with_record token_record c)) }
@@ -71,7 +71,7 @@ impl<K: Keep> Store<K> {
         Ok(())
     }
 
-    /// Takes all objects away and puts another record in the place of the one held, as one change. Ids go on.
+    /// Removes all objects and replaces the record, as one change. Ids are counted on.
     pub fn reset(&mut self, token_record: Record) -> Result<(), KeepFault>
         ensures has { (c : Contents) → Has K.terms self.old c → OnOk result (Has K.terms self.new (after_reset token_record c)) }
         ensures leaves { (c : Contents) → Has K.terms self.old c → OnOk result (LeavesAlone K.terms self.new (after_reset token_record c)) }
@@ -107,8 +107,8 @@ impl<K: Keep> Store<K> {
         Ok(Some(self.keep.object(alloc, id)?))
     }
 
-    /// Finds the token objects that one who is logged in so sees and the template finds, in the order of their creation, and
-    /// notes them after what was found before. Each object is read once.
+    /// Finds the token objects that one who is logged in so sees and the template finds. Appends them to what was found before, in
+    /// the order of their creation. Each object is read once.
     pub fn search(
         &mut self,
         alloc: Global,
@@ -126,7 +126,7 @@ impl<K: Keep> Store<K> {
         search_kept(alloc, &mut self.keep, &self.ids, login, template, found)
     }
 
-    /// Adds a token object at the end. There is room for its id before it is written.
+    /// Adds a token object at the end. Memory for its id is allocated before it is written.
     pub fn insert(&mut self, object: &Object) -> Result<u64, KeepFault>
         requires { IsTokenObject object.now }
         ensures id { K.terms.doubt self.new.keep ≡ 0 → (c : Contents) → Has K.terms self.old c → IfOk result (λ id. id ≡ c.last_id + 1) }
@@ -143,7 +143,7 @@ impl<K: Keep> Store<K> {
         Ok(id)
     }
 
-    /// Puts another token object in the place of the one under an id.
+    /// Replaces the token object under an id.
     pub fn replace(&mut self, id: u64, object: &Object) -> Result<(), KeepFault>
         requires { IsTokenObject object.now }
         ensures has { (c : Contents) → Has K.terms self.old c → OnOk result (Has K.terms self.new (with_replacement id object.now c)) }
@@ -172,7 +172,7 @@ impl<K: Keep> Store<K> {
     }
 }
 
-/// Where an id stands among ids that rise, or where it would go.
+/// The index of an id among ids that rise, or the index where it would be inserted.
 fn index_of_id(ids: &[u64], id: u64) -> Result<usize, usize>
     ensures { KeysRise (λ i. i) ids.now → IsIndexOf (λ i. i) ids.now id result }
 {

@@ -1,4 +1,4 @@
--- C_WrapKey, where no row refuses.
+-- C_WrapKey, where no check fails.
 use Rattle.std.proofs.Common.{◌≡◌, ◌+◌, ℕ, true, false, List, length, Option, Some, refl}
 use Rattle.std.specs.Prelude.{is_none, ◌==◌, ◌&&◌, not}
 use Rattle.ck_types.specs.declared.attr_type.AttrType.TheVariants as attr
@@ -16,7 +16,7 @@ use Rattle.model_answers.specs.GetObjectSize.{value_len}
 use Rattle.model_answers.specs.WrapKey.{wrapping_at, wraps}
 use Rattle.serve_base.specs.Asking.{asks_within}
 
--- what is told of both keys
+-- what is returned of both keys
 pub record MayWrap (w k : List Entry) : Type 0 where
   pub wrapping : is_secret_key (class_of w) ≡ true
   pub key : is_secret_key (class_of k) ≡ true

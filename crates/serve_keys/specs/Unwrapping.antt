@@ -1,4 +1,4 @@
--- The last rows of C_UnwrapKey, and its question: the unwrapping key and the wrapped key are known to do.
+-- The last checks of C_UnwrapKey, and its job: the checks of the unwrapping key and of the wrapped key passed.
 use Rattle.std.specs.Prelude.{ℕ, ◌-◌, List, [], ◌∷◌, length, Option, Some}
 use Rattle.ck_types.specs.declared.entry.Entry.{Entry}
 use Rattle.ck_types.specs.declared.rv.Rv.{Rv}

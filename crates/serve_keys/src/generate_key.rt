@@ -15,9 +15,9 @@ use serve_base::{Refusal, Store, add_object};
 use std::alloc::Global;
 use templates::generated;
 
-/// Makes a key of a template and of the call's random bytes: the first 16 make its CKA_UNIQUE_ID, and those that follow are
-/// its value. `CKR_MECHANISM_INVALID` where the mechanism generates no keys, `CKR_MECHANISM_PARAM_INVALID` where it has a
-/// parameter; the other codes are those of C_CreateObject.
+/// C_GenerateKey (PKCS #11 v3.1, 5.18).
+/// Codes: the checks of C_GenerateKey (`precede`), and those of the template. Makes a key of a template and of the call's random bytes, and
+/// returns its handle. The first 16 random bytes make its CKA_UNIQUE_ID, and those that follow are its value.
 pub fn serve<K: Keep>(
     alloc: Global,
     desk: &mut Desk,

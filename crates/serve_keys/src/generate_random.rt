@@ -12,11 +12,12 @@ use precede::Condition;
 use serve_base::Refusal;
 use std::alloc::Global;
 
-/// How many bytes are given at once, at most.
+/// The greatest number of bytes that one call returns.
 pub const RANDOM_LIMIT: u64 = 32_768;
 
-/// Gives the call's random bytes, which are as many as it asks for. `CKR_SESSION_HANDLE_INVALID` where there is no such
-/// session, `CKR_ARGUMENTS_BAD` where more than `RANDOM_LIMIT` are asked for.
+/// C_GenerateRandom (PKCS #11 v3.1, 5.19).
+/// Codes: the checks of C_GenerateRandom (`precede`). Returns the call's random bytes, which are as many as are wanted, at most
+/// `RANDOM_LIMIT`. Changes nothing.
 pub fn serve(
     alloc: Global,
     desk: &Desk,

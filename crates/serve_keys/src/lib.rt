@@ -1,8 +1,9 @@
 //! Calls that make, wrap and unwrap keys, and give random bytes (PKCS #11 v3.1, 5.18 and 5.19).
 //!
-//! Each function answers by the rows of its call's table, and its one clause says that the answer is the written one to
-//! what the application sees, or that it was refused and nothing has changed: `AtDesk` where no store is asked, `IsDone`
-//! where one is, `IsDoneAs` where the call may return a job. `unwrap_key::unwrapped` answers the outcome of its question.
+//! Each function returns the code of the first check of its call's table that fails. Its one clause says that the answer is
+//! the written one to what the application sees, or that it was refused and nothing has changed. The clause is `AtDesk` where
+//! no store is used, `IsDone` where one is, and `IsDoneAs` where the call may return a job. `unwrap_key::unwrapped` takes the
+//! outcome of that job.
 //!
 //! ```text
 //! settle(generate_random::serve(alloc, desk, session, len, random))

@@ -29,10 +29,9 @@ use serve_base::{
 use std::alloc::Global;
 use templates::{unwrap_fault, unwraps_private_key, unwraps_token_key};
 
-/// Asks for the key that a template makes of the value which is wrapped in the bytes, under an unwrapping key. The call's
-/// random bytes make its CKA_UNIQUE_ID. `CKR_SESSION_HANDLE_INVALID`, `CKR_MECHANISM_INVALID`,
-/// `CKR_MECHANISM_PARAM_INVALID`, `CKR_UNWRAPPING_KEY_HANDLE_INVALID`, `CKR_UNWRAPPING_KEY_TYPE_INCONSISTENT`,
-/// `CKR_KEY_FUNCTION_NOT_PERMITTED`, `CKR_WRAPPED_KEY_LEN_RANGE`; the other codes are those of C_CreateObject.
+/// C_UnwrapKey (PKCS #11 v3.1, 5.18).
+/// Codes: the checks of C_UnwrapKey (`precede`), and those of the template. Returns a job for the key that a template makes of the value
+/// which is wrapped in the bytes, under an unwrapping key. The call's random bytes make its CKA_UNIQUE_ID. The call is pending then.
 pub fn serve<K: Keep>(
     alloc: Global,
     app: u64,
@@ -64,7 +63,7 @@ pub fn serve<K: Keep>(
     )
 }
 
-/// Asks for the unwrapping under what was found, where the rows of the call's table let it.
+/// Returns the job of the unwrapping under what was found, where the checks of the call's table pass.
 fn ask_unwrapped(
     alloc: Global,
     app: u64,
@@ -127,7 +126,8 @@ fn fault_of(state: SessionState, template: &Template, wrapped_len: usize) -> Opt
     unwrap_fault(state, template, wrapped_len - 8)
 }
 
-/// Asks for the key of a template, where the template makes one, a session in this state may and there is room.
+/// Returns the job for the key of a template. The template must make one, and a session in this state must be allowed to have
+/// it. The limit of session objects must not be reached.
 fn ask_for_key(
     alloc: Global,
     app: u64,
@@ -168,8 +168,8 @@ fn ask_for_key(
     Ok(Out::Ask(ask(alloc, app, desk, Function::UnwrapKey, session, work)?))
 }
 
-/// Adds the key that was made of the unwrapped value, and gives its handle. `CKR_FUNCTION_FAILED` where there is no such
-/// session or no handle is left; the other codes are those of C_CreateObject.
+/// The outcome of C_UnwrapKey: adds the key that was made of the unwrapped value, and returns its handle.
+/// `CKR_FUNCTION_FAILED` where there is no such session or the handles are used up; the other codes are those of C_CreateObject.
 pub fn unwrapped<K: Keep>(
     desk: &mut Desk,
     store: &mut Store<K>,

@@ -27,13 +27,12 @@ use precede::Condition;
 use serve_base::{Found, Out, Refusal, Store, aes_key, ask_within, find, is_aes};
 use std::alloc::Global;
 
-/// How many bytes a wrapped key has more than its value.
+/// How many bytes a wrapped key is longer than its value.
 const WRAPPING_BYTES: u64 = 8;
 
-/// Asks for the wrapping of a key's value under a wrapping key, or tells the room for it, in bytes:
-/// `CKR_SESSION_HANDLE_INVALID`, `CKR_MECHANISM_INVALID`, `CKR_MECHANISM_PARAM_INVALID`, `CKR_WRAPPING_KEY_HANDLE_INVALID`,
-/// `CKR_KEY_HANDLE_INVALID`, `CKR_WRAPPING_KEY_TYPE_INCONSISTENT`, `CKR_KEY_FUNCTION_NOT_PERMITTED`,
-/// `CKR_KEY_UNEXTRACTABLE`, `CKR_KEY_NOT_WRAPPABLE` where only a trusted key may wrap it, `CKR_KEY_SIZE_RANGE`.
+/// C_WrapKey (PKCS #11 v3.1, 5.18).
+/// Codes: the checks of C_WrapKey (`precede`). Returns a job for the wrapping of a key's value under a wrapping key. Without a buffer it
+/// returns the wrapping's length, in bytes; with a short one `CKR_BUFFER_TOO_SMALL`. With the job the call is pending.
 pub fn serve<K: Keep>(
     alloc: Global,
     app: u64,
@@ -81,7 +80,7 @@ fn find_both<K: Keep>(
     Ok((first, second))
 }
 
-/// Asks for the wrapping of what was found, where the rows of the call's table let it.
+/// Returns the job of the wrapping of what was found, where the checks of the call's table pass.
 fn ask_wrapped(
     alloc: Global,
     app: u64,
@@ -156,7 +155,7 @@ fn is_extractable(key: &Object) -> bool
     key.flag(AttrType::Extractable)
 }
 
-/// Whether a key may be wrapped by trusted keys alone, and the wrapping key is none (PKCS #11 v3.1, 4.10).
+/// Whether a key may be wrapped by trusted keys alone, and the wrapping key isn't one (PKCS #11 v3.1, 4.10).
 fn lacks_trust(wrapping_key: &Object, key: &Object) -> bool
     ensures { result ≡ (flag key.now attr.WrapWithTrusted && not (flag wrapping_key.now attr.Trusted)) }
 {

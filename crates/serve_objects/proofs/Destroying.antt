@@ -1,4 +1,4 @@
--- C_DestroyObject: an object that is gone.
+-- C_DestroyObject: an object is destroyed.
 use Rattle.std.proofs.Common.{◌≡◌, ◌≢◌, ℕ, suc, ◌<◌, ◌≤◌, Bool, true, false, cond, not, List, [], ◌∷◌, map, Option, Some, None, refl, sym, ◌∙◌, ap, arith, inl, inr}
 use Rattle.std.specs.Prelude.{find, filter, ◌==◌, ◌&&◌}
 use Rattle.std.specs.Option.{option_map}
@@ -32,7 +32,7 @@ kept-above : (low last id : ℕ) (es : List Kept) → IdsRise low es last → id
 kept-above low last id [] ids below = refl
 kept-above low last id (e ∷ es) ids below = rw (ne_eqb e.0 id (λ k. let l : low < e.0 = ids.0 in omega arith)) (ap (λ xs. e ∷ xs) (kept-above e.0 last id es ids.2 (let l : low < e.0 = ids.0 in omega arith)))
 
--- an object of an id that is seen at a place stands where that place is kept
+-- an object of an id that is seen at an index stands where that index is kept
 removed : (low last id : ℕ) (t : Kept → Bool) (es : List Kept) (p : ℕ) → IdsRise low es last → first_index (λ e. e.0 == id) (filter t es) ≡ Some p → filter (λ e. not (e.0 == id)) es ≡ remove es (kept_index t es p)
 removed low last id t [] p ids at = let k : None ≡ Some p = at in cc
 removed low last id t (e ∷ es) p ids at = elim (cases_Bool (t e)) [

@@ -20,7 +20,7 @@ use Rattle.serve_objects.proofs.Numbering.{pushed, new_handle, all-own}
 
 -- ---- a match of what is kept
 
--- whether the object of this id is private is told right
+-- whether the object of this id is private is recorded rightly
 abbrev Tells : ℕ → Bool → Kept → Type 0
 Tells id private e = id ≡ e.0 → private ≡ not (is_public e.1)
 

@@ -1,4 +1,4 @@
--- Handles that are given one after the other, as the view of an application tells it.
+-- Handles that are given one after the other, as they are in the view of an application.
 use Rattle.std.proofs.Common.{◌≡◌, ◌≢◌, ℕ, ◌+◌, ◌<◌, ◌≤◌, ◌^◌, Bool, true, false, cond, List, [], ◌∷◌, ◌++◌, map, length, Option, Some, None, refl, sym, ◌∙◌, ap, arith, inl, inr}
 use Rattle.std.specs.Prelude.{◌&&◌, filter, is_some, is_none, ◌==◌, drop, get_or}
 use Rattle.std.specs.Option.{option_map, unwrap_or}
@@ -103,7 +103,7 @@ module _ (login : Option UserType) (template : List Entry) where
   abbrev pub before : HandleTable → List Kept → List TokenObject
   before t es = map (token_by t.entries) (seen es)
 
-  -- what the application sees of it, the next number, and the handles that are noted
+  -- what the application sees of it, the next handle, and the handles that are collected
   abbrev Numbered : HandleTable → List Kept → Type 0
   Numbered t es =
       (map (token_by (given t (tokens_found login template es)).entries) (seen es) ≡ with_handles template t.next_number (before t es))

@@ -24,7 +24,7 @@ use Rattle.serve_objects.specs.Giving.{own_matches, given, numbers}
 use Rattle.serve_objects.proofs.Numbering.{token_by, seen, before, numbered, given-own, numbers-own, own-handles}
 use Rattle.serve_objects.proofs.Fitting.{fits-found}
 
--- ---- the rows
+-- ---- the checks
 
 pub none-is : {X : Type 0} (r : Option (Bor X)) (o : Option X) → option_copied r ≡ o → is_some r ≡ false → is_some o ≡ false
 none-is None o is idle = ap is_some (sym is)
@@ -59,7 +59,7 @@ module _ (c : Contents) (d : DeskState) (session : ℕ) (template : List Entry) 
   abbrev seen_tokens : List TokenObject
   seen_tokens = with_handles template d.handles.next_number (before d.sessions.login template table c.objects)
 
-  -- what the desk has after it, and what is shown of that
+  -- what the desk has after it, and what of that is seen
   abbrev searching : HandleTable → List ℕ → DeskState
   searching t ns = record d { own_capacity = own_capacity; handles = t; sessions = with_search d.sessions session (Some ns) }
 
@@ -98,7 +98,7 @@ module _ (c : Contents) (d : DeskState) (session : ℕ) (template : List Entry) 
     fits = subst (λ ms. Fits c (given table (tokens_found d.sessions.login template c.objects ++ ms)).entries) (sym (own-handles template d.own)) (fits-found d.sessions.login template c table own_handles sound fits);
   }
 
--- where there was made room for the handles
+-- where memory for the handles was allocated
 pub gives-search : (c : Contents) (d r : DeskState) (session : ℕ) (template : List Entry) (ms : List Match) → IsSound c → Fits c d.handles.entries → SameDesk d r → ms ≡ tokens_found d.sessions.login template c.objects ++ own_matches template d.own
     → Gives (searches (view_of c d) session template) d.sessions.login c (Replies (Code Ok)) c (record r { handles = given r.handles ms; sessions = with_search r.sessions session (Some (numbers r.handles ms)) })
 gives-search c d r session template ms sound fits same is = rw (same, is) (gives-searching c d session template sound fits r.own_capacity r.handles.capacity)

@@ -24,9 +24,9 @@ use Rattle.serve_base.proofs.Listing.{find-above, kept-is}
 use Rattle.serve_objects.proofs.Destroying.{index-kept}
 use Rattle.serve_base.proofs.Changing.{fits-changed, view_of-changed}
 
--- ---- an object of an id that is seen at a place
+-- ---- an object of an id that is seen at an index
 
--- it is replaced where that place is kept, and seen there still
+-- it is replaced where that index is kept, and seen there still
 record StandsAt (t : Kept → Bool) (id : ℕ) (o : List Entry) (es : List Kept) (p q : ℕ) : Type 0 where
   put : map (replaced_at id o) es ≡ rekept es q o
   public : IsAsPublic es q o

@@ -1,4 +1,4 @@
--- What is told of a whole object's attributes is short.
+-- What is returned of a whole object's attributes is short.
 use Rattle.std.proofs.Common.{ℕ, ◌≤◌, List, [], ◌∷◌, length, map, Option, Some, None, IfSome, refl, arith}
 use Rattle.std.specs.Prelude.{nat_lt}
 use Rattle.std.specs.List.{AllByRecursion}

@@ -1,4 +1,4 @@
-//! C_CopyObject (PKCS #11 v3.1, 5.7).
+//! C_CopyObject (PKCS #11 v3.1, 5.7.2).
 
 ghost use Rattle.std.specs.Prelude.{◌<◌, ◌≤◌, ◌^◌, length};
 ghost use Rattle.model_answers.specs.CopyObject.{copy_object};
@@ -13,7 +13,9 @@ use serve_base::{Refusal, Store, add_object, find};
 use std::alloc::Global;
 use templates::copied;
 
-/// Copies the object under a handle, with a template's changes, and gives the copy's handle.
+/// C_CopyObject (PKCS #11 v3.1, 5.7.2).
+/// Codes: the checks of C_CopyObject (`precede`), and those of the template. Copies the object under a handle, with a template's changes,
+/// and returns the copy's handle.
 pub fn serve<K: Keep>(
     alloc: Global,
     desk: &mut Desk,

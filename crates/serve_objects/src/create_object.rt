@@ -1,4 +1,4 @@
-//! C_CreateObject (PKCS #11 v3.1, 5.7).
+//! C_CreateObject (PKCS #11 v3.1, 5.7.1).
 
 ghost use Rattle.std.specs.Prelude.{◌<◌, ◌≤◌, ◌^◌, length};
 ghost use Rattle.model_answers.specs.CreateObject.{create_object};
@@ -13,7 +13,8 @@ use serve_base::{Refusal, Store, add_object};
 use std::alloc::Global;
 use templates::created;
 
-/// Makes an object of a template, and gives its handle.
+/// C_CreateObject (PKCS #11 v3.1, 5.7.1).
+/// Codes: the checks of C_CreateObject (`precede`), and those of the template. Makes an object of a template, and returns its handle.
 pub fn serve<K: Keep>(
     alloc: Global,
     desk: &mut Desk,

@@ -1,4 +1,4 @@
-//! C_DestroyObject (PKCS #11 v3.1, 5.7).
+//! C_DestroyObject (PKCS #11 v3.1, 5.7.3).
 
 ghost use Rattle.std.specs.Prelude.{◌≡◌, List, IfErr, IfOk, IsErrOf};
 ghost use Rattle.ck_types.specs.declared.entry.Entry.{Entry};
@@ -24,7 +24,8 @@ use precede::Condition;
 use serve_base::{Refusal, Store, find};
 use std::alloc::Global;
 
-/// Destroys the object under a handle.
+/// C_DestroyObject (PKCS #11 v3.1, 5.7.3).
+/// Codes: the checks of C_DestroyObject (`precede`). Destroys the object under a handle.
 pub fn serve<K: Keep>(
     alloc: Global,
     desk: &mut Desk,

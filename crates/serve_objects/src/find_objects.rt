@@ -1,4 +1,4 @@
-//! C_FindObjects and C_FindObjectsFinal (PKCS #11 v3.1, 5.7.6 and 5.7.7).
+//! C_FindObjects and C_FindObjectsFinal (PKCS #11 v3.1, 5.7.8 and 5.7.9).
 
 ghost use Rattle.std.specs.Prelude.{◌≡◌, option_copied, take};
 ghost use Rattle.std.specs.Option.{option_map};
@@ -15,11 +15,12 @@ use precede::Condition;
 use serve_base::Refusal;
 use std::alloc::Global;
 
-/// How many handles are answered at once, at most.
+/// The greatest number of handles that one call returns.
 pub const FOUND_LIMIT: u64 = 1024;
 
-/// Answers the first handles of a search that weren't answered yet: as many as are asked for, but at most `FOUND_LIMIT`.
-/// `CKR_SESSION_HANDLE_INVALID` where there is no such session, `CKR_OPERATION_NOT_INITIALIZED` where it has no search.
+/// C_FindObjects (PKCS #11 v3.1, 5.7.8).
+/// Codes: the checks of C_FindObjects (`precede`). Returns the first handles of a search that weren't returned yet: as many as are wanted,
+/// but at most `FOUND_LIMIT`. The search continues after them.
 pub fn serve(alloc: Global, desk: &mut Desk, session: u64, max_count: u64) -> Result<Reply, Refusal>
     ensures { AtDesk Replies (λ v. find_objects v session max_count) desk.old result desk.new }
 {
@@ -31,7 +32,7 @@ pub fn serve(alloc: Global, desk: &mut Desk, session: u64, max_count: u64) -> Re
     Ok(Reply::Objects(handles))
 }
 
-/// The handles that a session's search answers next, at most so many, if it has a search.
+/// The handles that a session's search returns next, at most so many, if it has a search.
 fn next_found(desk: &Desk, session: u64, count: usize) -> Option<&[u64]>
     ensures { option_copied result ≡ option_map (take count) (search_in (session_at desk.now.sessions.sessions session)) }
 {
@@ -39,8 +40,8 @@ fn next_found(desk: &Desk, session: u64, count: usize) -> Option<&[u64]>
     Some(search.first(count))
 }
 
-/// Ends a search. `CKR_SESSION_HANDLE_INVALID` where there is no such session, `CKR_OPERATION_NOT_INITIALIZED` where it has
-/// no search.
+/// C_FindObjectsFinal (PKCS #11 v3.1, 5.7.9).
+/// Codes: the checks of C_FindObjectsFinal (`precede`). Ends a search.
 pub fn serve_final(desk: &mut Desk, session: u64) -> Result<Reply, Refusal>
     ensures { AtDesk Replies (λ v. find_objects_final v session) desk.old result desk.new }
 {
@@ -50,7 +51,7 @@ pub fn serve_final(desk: &mut Desk, session: u64) -> Result<Reply, Refusal>
     Ok(Reply::Code(Rv::Ok))
 }
 
-/// How many are answered of so many that are asked for.
+/// How many handles are returned where so many are wanted.
 fn at_once(max_count: u64) -> usize
     ensures { result ≡ answered_at_once max_count }
 {

@@ -1,4 +1,4 @@
-//! C_FindObjectsInit (PKCS #11 v3.1, 5.7.5).
+//! C_FindObjectsInit (PKCS #11 v3.1, 5.7.7).
 
 ghost use Rattle.std.specs.Prelude.{◌≡◌, ◌<◌, ◌^◌, ◌++◌, IfOk};
 ghost use Rattle.std.specs.List.{AllByRecursion};
@@ -21,8 +21,9 @@ use precede::Condition;
 use serve_base::{Match, Refusal, Store};
 use std::alloc::{AllocError, Global};
 
-/// Begins a search: what the template finds now is what it finds, also where an object goes later.
-/// `CKR_SESSION_HANDLE_INVALID` where there is no such session, `CKR_OPERATION_ACTIVE` where it has a search.
+/// C_FindObjectsInit (PKCS #11 v3.1, 5.7.7).
+/// Codes: the checks of C_FindObjectsInit (`precede`). Begins a search: it finds what the template finds now, even where an object is
+/// destroyed later.
 pub fn serve<K: Keep>(
     alloc: Global,
     desk: &mut Desk,
@@ -65,7 +66,7 @@ fn find_all<K: Keep>(
     Ok(found)
 }
 
-/// Finds session objects, and notes them after what was found before.
+/// Finds session objects, and appends them to what was found before.
 fn search_own(
     objects: &[OwnObject],
     template: &Template,

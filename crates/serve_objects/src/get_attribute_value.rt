@@ -1,4 +1,4 @@
-//! C_GetAttributeValue (PKCS #11 v3.1, 5.7).
+//! C_GetAttributeValue (PKCS #11 v3.1, 5.7.5).
 
 ghost use Rattle.std.specs.Prelude.{◌≡◌, ◌≤◌, ◌∷◌, [], IfOk, length};
 ghost use Rattle.model_views.specs.Answering.{Replies};
@@ -16,7 +16,9 @@ use precede::Condition;
 use serve_base::{Refusal, Store, find};
 use std::alloc::{AllocError, Global};
 
-/// What is asked for of the object under a handle: each attribute is answered, whatever becomes of the others.
+/// C_GetAttributeValue (PKCS #11 v3.1, 5.7.5).
+/// Codes: the checks of C_GetAttributeValue (`precede`), and the code of the whole. Returns the wanted attributes of the object under a
+/// handle, each whatever the others give. Changes nothing.
 pub fn serve<K: Keep>(
     alloc: Global,
     desk: &Desk,
@@ -32,7 +34,7 @@ pub fn serve<K: Keep>(
     Ok(tell(alloc, &found.object, query.as_slice())?)
 }
 
-/// The attributes that are asked for, and the code of the whole.
+/// The wanted attributes, and the code of the whole.
 fn tell(alloc: Global, object: &Object, query: &[AttributeQuery]) -> Result<Reply, AllocError>
     ensures told { IfOk result (λ reply. reply ≡ attributes_told object.now query.now) }
     ensures short { IfOk result (λ reply. length query.now ≤ 32 → IsShort reply) }
@@ -48,7 +50,7 @@ fn tell(alloc: Global, object: &Object, query: &[AttributeQuery]) -> Result<Repl
     Ok(Reply::AttributeValues { code, values })
 }
 
-/// An attribute's code, its length, and its value where there is room for it.
+/// An attribute's code, its length, and its value where the buffer is long enough for it.
 fn tell_one(
     alloc: Global,
     object: &Object,
@@ -71,7 +73,7 @@ fn tell_one(
     Ok((Rv::Ok, AttributeValue { len, value }))
 }
 
-/// CK_UNAVAILABLE_INFORMATION in place of a length.
+/// CK_UNAVAILABLE_INFORMATION instead of a length.
 fn unavailable(code: Rv) -> (Rv, AttributeValue)
     ensures { result ≡ unavailable code }
 {

@@ -1,4 +1,4 @@
-//! C_GetObjectSize (PKCS #11 v3.1, 5.7).
+//! C_GetObjectSize (PKCS #11 v3.1, 5.7.4).
 
 ghost use Rattle.std.specs.Prelude.{◌≡◌, length};
 ghost use Rattle.attrs.specs.Stored.{stored_form};
@@ -13,7 +13,8 @@ use precede::Condition;
 use serve_base::{Refusal, Store, find};
 use std::alloc::Global;
 
-/// The size of the object under a handle, in bytes.
+/// C_GetObjectSize (PKCS #11 v3.1, 5.7.4).
+/// Codes: the checks of C_GetObjectSize (`precede`). Returns the size of the object under a handle, in bytes. Changes nothing.
 pub fn serve<K: Keep>(
     alloc: Global,
     desk: &Desk,

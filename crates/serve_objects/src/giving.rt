@@ -9,8 +9,8 @@ ghost use Rattle.serve_objects.specs.Giving.{given, numbers, with_one, number_of
 use desk::Desk;
 use serve_base::Match;
 
-/// Gives the next handle to each of the token objects that has none, in their order, and notes the handles of all that
-/// was found. No memory is taken.
+/// Gives the next handle to each of the token objects that has none, in their order, and collects the handles of all that was
+/// found. Allocates nothing.
 pub(crate) fn give_handles(desk: &mut Desk, matches: &[Match], handles: &mut Vec<u64>)
     requires below { desk.old.handles.next_number + length matches.now < 2 ^ 64 }
     requires room { HasRoomFor desk.old.handles (length matches.now) }

@@ -1,10 +1,12 @@
 //! Calls on objects (PKCS #11 v3.1, 5.7): they make, copy, read, change, destroy and find session and token objects.
 //!
 //! Each function returns the code of the first check of its call's table that fails. Its one clause (`IsDone`, or `AtDesk`
-//! where no object is read) says that the answer is the model's to what the application sees, or that it was refused and
-//! nothing has changed. It says how many writes are tried, and that CKR_DEVICE_ERROR comes only where a failure of the
-//! keeper was counted. All memory is allocated before the one write, or before the first handle is given; what follows
-//! can't fail.
+//! where no object is read) says three things:
+//! - the answer is the model's to what the application sees, or it was refused and nothing has changed;
+//! - how many writes it tries;
+//! - `CKR_DEVICE_ERROR` comes only where a failure of the keeper was counted.
+//!
+//! Each allocates first, writes once or gives the first handle, then can't fail.
 //!
 //! C_FindObjectsInit reads each object that the application sees once, and gives handles to those that its template
 //! matches and that have none. C_FindObjects returns the handles, a part at a time, and C_FindObjectsFinal ends the search.

@@ -1,4 +1,4 @@
-//! C_SetAttributeValue (PKCS #11 v3.1, 5.7).
+//! C_SetAttributeValue (PKCS #11 v3.1, 5.7.6).
 
 ghost use Rattle.std.specs.Prelude.{◌≡◌, List, IfSome, IfErr, IfOk, IsErrOf};
 ghost use Rattle.ck_types.specs.declared.entry.Entry.{Entry};
@@ -27,7 +27,8 @@ use serve_base::{Refusal, Store, find};
 use std::alloc::Global;
 use templates::changed;
 
-/// Changes the object under a handle by a template.
+/// C_SetAttributeValue (PKCS #11 v3.1, 5.7.6).
+/// Codes: the checks of C_SetAttributeValue (`precede`), and those of the template. Changes the object under a handle by a template.
 pub fn serve<K: Keep>(
     alloc: Global,
     desk: &mut Desk,
@@ -50,8 +51,7 @@ pub fn serve<K: Keep>(
     put(desk, store, handle, found.id, object)
 }
 
-/// Puts a changed object in the place of the session object under a handle, or of the token object of an
-/// id.
+/// Replaces the session object under a handle, or the token object of an id, by a changed one.
 fn put<K: Keep>(
     desk: &mut Desk,
     store: &mut Store<K>,

@@ -1,4 +1,4 @@
--- How much a cipher adds to its output for data that a frame has room for: no more than a frame has room for.
+-- How much a cipher adds to its output for data that fits into a frame: no more than fits into a frame.
 use Rattle.std.proofs.Common.{◌≡◌, ℕ, ◌+◌, ◌-◌, ◌≤◌, ◌/◌, List, length, Option, Some, None, arith}
 use Rattle.aes_modes.specs.declared.direction.Direction.{Direction}
 use Rattle.aes_modes.specs.declared.direction.Direction.TheVariants.{Encrypt, Decrypt}
@@ -26,7 +26,7 @@ update-short (CbcPad iv) Encrypt t n few = omega (arith, blocks-short t n few)
 update-short (CbcPad iv) Decrypt t n few = omega (arith, held-short t n few)
 update-short (Ctr bits start) d t n few = omega (arith, few)
 
--- all data at once, and with it the padding
+-- the single-part call, and with it the padding
 pub single-short : (m : Mechanism) (d : Direction) (t n : ℕ) → t ≡ 0 → n ≤ 1048553 → most_added Last m d t n ≤ most_data
 single-short Ecb d t n none few = omega (arith, none, few)
 single-short (Cbc iv) d t n none few = omega (arith, none, few)
@@ -34,7 +34,7 @@ single-short (CbcPad iv) Encrypt t n none few = omega (arith, none, few)
 single-short (CbcPad iv) Decrypt t n none few = omega (arith, none, few)
 single-short (Ctr bits start) d t n none few = omega (arith, none, few)
 
--- the end of the data
+-- the final part
 pub last-short : (m : Mechanism) (d : Direction) (t n : ℕ) → n ≡ 0 → most_added Last m d t n ≤ most_data
 last-short Ecb d t n none = omega (arith, none)
 last-short (Cbc iv) d t n none = omega (arith, none)

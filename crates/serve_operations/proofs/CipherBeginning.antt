@@ -52,7 +52,7 @@ module _ (v : View) (session : ℕ) (m : Mechanism) (key : ℕ) (there : is_none
   pub init-is : (d : Direction) (cipher : Result Cipher Condition) → cipher_for d (session_of v session) m ≡ cipher → cipher_init d v session (Some m) key ≡ begins_by d v session cipher (object_at v key)
   init-is d cipher is = at-place d (is_some (operation_in (session_of v session) (place_for d))) refl ∙ ap (λ r. begins_by d v session r (object_at v key)) is
 
--- ---- what it tells of a key changes nothing that others see, and is no resource error
+-- ---- what it reveals of a key changes nothing that others see, and is no resource error
 
 abbrev pub IsQuiet : Answer → Type 0
 IsQuiet a = (a.change ≡ Stays) × (resource_error_in a.says ≡ None)

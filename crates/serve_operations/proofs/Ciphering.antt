@@ -32,7 +32,7 @@ use Rattle.serve_base.specs.Shown.{said_of, view_of, Fits, Gives}
 use Rattle.serve_base.specs.Asking.{asks_within}
 use Rattle.serve_operations.specs.Steps.{refused_row}
 
--- an operation begins, goes on or ends
+-- an operation begins, continues or ends
 module _ (c : Contents) (d : DeskState) (session : ℕ) (place : Place) (operation : Option Operation) (reply : Reply) where
   login-stays : (in_sessions d.sessions session place operation).login ≡ d.sessions.login
   login-stays = at (session_at d.sessions.sessions session) where
@@ -51,7 +51,7 @@ in_session-at (Some s) place x is = refl
 pub under-way : (r : Option (Bor Streamed)) (o : Option Operation) (s : Bor Streamed) → option_map operation_of (option_copied r) ≡ o → r ≡ Some s → o ≡ Some (operation_of s.now)
 under-way r o s is some = sym is ∙ ap (λ r. option_map operation_of (option_copied r)) some
 
--- ---- the rows of the calls that take data
+-- ---- the checks of the calls that take data
 
 not-true : (b : Bool) → (b ≡ true → ⊥) → b ≡ false
 not-true b never = at b never where
@@ -59,7 +59,7 @@ not-true b never = at b never where
   at true never = absurd (never refl)
   at false never = refl
 
--- what is told by the tests of lengths and counters
+-- what is returned by the checks of lengths and counters
 abbrev pub IsTested : Option ModeFault → Streamed → Part → List ℕ → Type 0
 IsTested None s part input = (ends_counters s input ≡ false) × (refuses_length part s (length input) ≡ false)
 IsTested (Some fault) s part input = ((fault ≡ LenRange) × (ends_counters s input ≡ false) × (refuses_length part s (length input) ≡ true)) ⊎ ((fault ≡ CountersEnd) × (ends_counters s input ≡ true))
@@ -131,7 +131,7 @@ module _ (v : View) (session : ℕ) (d : Direction) (s : Streamed) (under_way : 
 pub gives-is : (a b : Answer) (c : Contents) (d d' : DeskState) (said : Said) → a ≡ b → Gives b d.sessions.login c said c d' → Gives a d.sessions.login c said c d'
 gives-is a b c d d' said is gives = subst (λ x. Gives x d.sessions.login c said c d') (sym is) gives
 
--- a call that ends its operation for a row of its table
+-- a call that ends its operation for a check of its table that fails
 pub ended-for : (given : Type 0) (f : View → Answer) (d : DeskState) (session : ℕ) (place : Place) (row : Condition) → ((c : Contents) → f (view_of c d) ≡ ends (view_of c d) session place row)
     → AtDeskIf given said_of f d (Ok (OutReply (Code (code_of rv.Ok row)))) (record d { sessions = in_sessions d.sessions session place None })
 ended-for given f d session place row is = record {

@@ -95,7 +95,7 @@ module _ (v : View) (session : ℕ) (m : Mechanism) (key : ℕ) (there : is_none
   pub init-is : (p : MacPlace) (chosen : Result Chosen Condition) → mac_mechanism_for p (session_of v session) m ≡ chosen → mac_init p v session (Some m) key ≡ begins_by p v session chosen (object_at v key)
   init-is p chosen is = at-place p (is_some (mac_in (session_of v session) p)) refl ∙ ap (λ r. begins_by p v session r (object_at v key)) is
 
--- ---- what it tells of a key changes nothing that others see, and is no resource error
+-- ---- what it reveals of a key changes nothing that others see, and is no resource error
 
 abbrev pub IsQuiet : Answer → Type 0
 IsQuiet a = (a.change ≡ Stays) × (resource_error_in a.says ≡ None)

@@ -18,7 +18,7 @@ use Rattle.model_answers.specs.Mac.{mac_has_taken, mac_update, mac_update_functi
 use Rattle.serve_base.specs.Asking.{asks_within}
 use Rattle.serve_base.specs.Shown.{view_of, Fits, Gives}
 
--- an operation begins, goes on or ends
+-- an operation begins, continues or ends
 module _ (c : Contents) (d : DeskState) (session : ℕ) (place : MacPlace) (operation : Option MacOperation) (reply : Reply) where
   login-stays : (in_sessions d.sessions session place operation).login ≡ d.sessions.login
   login-stays = at (session_at d.sessions.sessions session) where
@@ -34,7 +34,7 @@ in_session-at : (o : Option (Session Operations)) (place : MacPlace) (x : MacOpe
 in_session-at None place x is = let k : None ≡ Some x = is in cc
 in_session-at (Some s) place x is = refl
 
--- a signature is asked for
+-- a job for a signature is returned
 module _ (v : View) (session : ℕ) (a : Authentication) (under_way : mac_in (session_of v session) Sign ≡ Some (mac_of a)) (buffer_len : Option ℕ) where
   there : is_none (session_of v session) ≡ false
   there = in_session-at (session_of v session) Sign (mac_of a) under_way
@@ -45,7 +45,7 @@ module _ (v : View) (session : ℕ) (a : Authentication) (under_way : mac_in (se
   pub final-asks : sign_final v session buffer_len ≡ asks_within functions.SignFinal session (Signs (mac_of a) []) (tag_length a.mechanism) buffer_len v
   final-asks = rw (there, under_way) refl
 
--- a piece is taken
+-- a part is taken
 pub update-asks : (v : View) (session : ℕ) (place : MacPlace) (a : Authentication) → mac_in (session_of v session) place ≡ Some (mac_of a) → (input : List ℕ) → mac_update place v session input ≡ asks v (mac_update_function place) session (Takes place (mac_of a) input)
 update-asks v session Sign a under_way input = rw (in_session-at (session_of v session) Sign (mac_of a) under_way, under_way) refl
 update-asks v session Verify a under_way input = rw (in_session-at (session_of v session) Verify (mac_of a) under_way, under_way) refl

@@ -19,7 +19,7 @@ use Rattle.model_views.specs.Answering.{Answer, unless}
 use Rattle.model_views.specs.Checked.{is_of_type}
 use Rattle.model_answers.specs.MacInit.{mac_permission, mac_type_at, mac_mechanism_with, mac_begins}
 
--- ---- the mechanism, with what it makes a code by
+-- ---- the mechanism, with what it makes a tag by
 
 abbrev pub Chosen : Type 0
 Chosen = MechType × MacMechanism
@@ -35,7 +35,7 @@ mac_mechanism_of (Some kind) parameter = mac_mechanism_by kind (mac_mechanism_wi
 abbrev pub mac_mechanism_for : MacPlace → Option (Session Operations) → Mechanism → Result Chosen Condition
 mac_mechanism_for p s m = if is_some (mac_in s p) then Err OperationActive else mac_mechanism_of (mac_type_at m.mech_type) m.parameter
 
--- CKM_AES_CMAC alone makes codes by AES
+-- CKM_AES_CMAC alone makes tags by AES
 abbrev pub IsOfKind : MechType → MacMechanism → Type 0
 IsOfKind kind mac_mechanism = mac_mechanism ≡ AesCmac → kind ≡ mechanism.AesCmac
 

@@ -1,4 +1,4 @@
--- The rows of data that is refused.
+-- The conditions for which data is refused.
 use Rattle.aes_modes.specs.declared.direction.Direction.{Direction}
 use Rattle.aes_modes.specs.declared.direction.Direction.TheVariants.{Encrypt, Decrypt}
 use Rattle.aes_modes.specs.declared.fault.ModeFault.{ModeFault}
@@ -6,7 +6,7 @@ use Rattle.aes_modes.specs.declared.fault.ModeFault.TheVariants.{CounterEnd}
 use Rattle.precede.specs.declared.condition.Condition.{Condition}
 use Rattle.precede.specs.declared.condition.Condition.TheVariants.{DataLength, EncryptedDataLength}
 
--- the row of data that is refused: for its length, or since the mechanism has no counter for each block
+-- the condition for which data is refused: for its length, or since the mechanism has no counter for each block
 abbrev pub refused_row : Direction → ModeFault → Condition
 refused_row d CounterEnd = DataLength
 refused_row Encrypt _ = DataLength

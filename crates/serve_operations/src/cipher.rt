@@ -26,9 +26,10 @@ use serve_base::{Out, Refusal, ask_within};
 use std::alloc::Global;
 use streams::{Part, Stream};
 
-/// Takes all data at once: asks for what it is turned to, or tells the room for it, in bytes. It is the only data of its
-/// operation (`CKR_OPERATION_ACTIVE`), and of a length that the mechanism takes, with a counter for each block
-/// (`CKR_DATA_LEN_RANGE`, `CKR_ENCRYPTED_DATA_LEN_RANGE`); else the operation ends.
+/// C_Encrypt, C_Decrypt (PKCS #11 v3.1, 5.8 and 5.10).
+/// Codes: the checks of C_Encrypt and C_Decrypt (`precede`). Returns a job for the output of `input`. Without a buffer it returns the
+/// output's length, in bytes; with a short one `CKR_BUFFER_TOO_SMALL`; then the operation stays. After earlier data, and for data that is
+/// no text of the mechanism, the operation ends.
 pub fn single(
     alloc: Global,
     app: u64,
@@ -72,8 +73,10 @@ pub fn single(
     )?)
 }
 
-/// Takes a piece of any length: asks for what it adds to the output, or tells the room for it, in bytes. Where the
-/// mechanism has no counter for each block the operation ends (`CKR_DATA_LEN_RANGE`).
+/// C_EncryptUpdate, C_DecryptUpdate (PKCS #11 v3.1, 5.8 and 5.10).
+/// Codes: the checks of C_EncryptUpdate and C_DecryptUpdate (`precede`). Returns a job for what a part of any length adds to the output.
+/// Without a buffer it returns the length of that, in bytes; with a short one `CKR_BUFFER_TOO_SMALL`. Where the mechanism has no counter
+/// for each block the operation ends.
 pub fn update(
     alloc: Global,
     app: u64,
@@ -113,8 +116,9 @@ pub fn update(
     )?)
 }
 
-/// Ends the data: asks for the rest of the output, or tells the room for it, in bytes. Data that is no text of the
-/// mechanism ends the operation (`CKR_DATA_LEN_RANGE`, `CKR_ENCRYPTED_DATA_LEN_RANGE`).
+/// C_EncryptFinal, C_DecryptFinal (PKCS #11 v3.1, 5.8 and 5.10).
+/// Codes: the checks of C_EncryptFinal and C_DecryptFinal (`precede`). Returns a job for the final part of the output. Without a buffer it
+/// returns the length of that, in bytes; with a short one `CKR_BUFFER_TOO_SMALL`. Data that is no text of the mechanism ends the operation.
 pub fn last(
     alloc: Global,
     app: u64,
@@ -154,7 +158,7 @@ pub fn last(
     )?)
 }
 
-/// The operation at a place ends, with the code of a row.
+/// The operation at a place ends, with the code of a condition.
 fn end(desk: &mut Desk, session: u64, place: Place, row: Condition) -> Out
     ensures out { result ≡ OutReply (Code (code_of rv.Ok row)) }
     ensures ended { desk.new ≡ record desk.old { sessions = with_operation desk.old.sessions session place None } }
@@ -163,7 +167,7 @@ fn end(desk: &mut Desk, session: u64, place: Place, row: Condition) -> Out
     Out::Reply(Reply::Code(row.code(Rv::Ok)))
 }
 
-/// What a piece adds to the output. The operation that has taken it goes on.
+/// What a part adds to the output. The operation that has taken it continues.
 pub fn piece(desk: &mut Desk, session: u64, output: Bytes, stream: Stream) -> Reply
     ensures reply { result ≡ OutputReply (Data output) }
     ensures left { desk.new ≡ record desk.old { sessions = with_operation desk.old.sessions session (place_for stream.direction) (Some (operation_of stream)) } }
@@ -173,7 +177,7 @@ pub fn piece(desk: &mut Desk, session: u64, output: Bytes, stream: Stream) -> Re
     Reply::Output(Output::Data(output))
 }
 
-/// The rest of the output. The operation ends.
+/// The final part of the output. The operation ends.
 pub fn rest(desk: &mut Desk, session: u64, direction: Direction, output: Bytes) -> Reply
     ensures reply { result ≡ OutputReply (Data output) }
     ensures left { desk.new ≡ record desk.old { sessions = with_operation desk.old.sessions session (place_for direction) None } }

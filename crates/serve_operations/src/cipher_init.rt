@@ -21,7 +21,9 @@ use serve_base::{Refusal, Store, aes_key, find, is_aes, is_secret_key};
 use std::alloc::Global;
 use streams::Stream;
 
-/// Begins an operation of a direction under a copy of a key's value; without a mechanism the one that is in progress ends.
+/// C_EncryptInit, C_DecryptInit (PKCS #11 v3.1, 5.8 and 5.10).
+/// Codes: the checks of C_EncryptInit and C_DecryptInit (`precede`). Begins an operation of a direction under a copy of a key's value;
+/// without a mechanism the one that is in progress ends.
 pub fn serve<K: Keep>(
     alloc: Global,
     desk: &mut Desk,

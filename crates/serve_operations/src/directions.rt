@@ -11,7 +11,7 @@ use ck_types::AttrType;
 use ops::Place;
 use precede::Condition;
 
-/// Where the operation of a direction stands.
+/// The place of the operation of a direction.
 pub(crate) fn place_for(direction: Direction) -> Place
     ensures { result ≡ place_for direction }
 {
@@ -31,7 +31,7 @@ pub(crate) fn permission(direction: Direction) -> AttrType
     }
 }
 
-/// The row of data that is refused: for its length, or since the mechanism has no counter for each block.
+/// The condition for which data is refused: for its length, or since the mechanism has no counter for each block.
 pub(crate) fn refused_row(direction: Direction, fault: ModeFault) -> Condition
     ensures { result ≡ refused_row direction fault }
 {

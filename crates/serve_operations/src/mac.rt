@@ -24,8 +24,10 @@ use precede::Condition;
 use serve_base::{Out, Refusal, ask, ask_within};
 use std::alloc::Global;
 
-/// C_Sign: takes all data at once, and asks for its signature, or tells the room for it, in bytes. It is the only data of its
-/// operation (`CKR_OPERATION_ACTIVE`); else the operation ends.
+/// C_Sign (PKCS #11 v3.1, 5.13).
+/// Codes: the checks of C_Sign (`precede`). Returns a job for the signature of `input`, which is the only data of its operation. Without a
+/// buffer it returns the signature's length, in bytes; with a short one `CKR_BUFFER_TOO_SMALL`; then the operation stays. After earlier
+/// data the operation ends.
 pub fn sign(
     alloc: Global,
     app: u64,
@@ -60,7 +62,9 @@ pub fn sign(
     )?)
 }
 
-/// C_SignFinal: ends the data, and asks for its signature, or tells the room for it, in bytes.
+/// C_SignFinal (PKCS #11 v3.1, 5.13).
+/// Codes: the checks of C_SignFinal (`precede`). Returns a job for the signature of all data. Without a buffer it returns the signature's
+/// length, in bytes; with a short one `CKR_BUFFER_TOO_SMALL`; then the operation stays.
 pub fn sign_final(
     alloc: Global,
     app: u64,
@@ -94,9 +98,9 @@ pub fn sign_final(
     )?)
 }
 
-/// C_Verify: takes all data at once, and asks whether a signature is its. It is the only data of its operation
-/// (`CKR_OPERATION_ACTIVE`), and the signature has the length of the mechanism's (`CKR_SIGNATURE_LEN_RANGE`); else the
-/// operation ends.
+/// C_Verify (PKCS #11 v3.1, 5.15).
+/// Codes: the checks of C_Verify (`precede`). Returns a job that compares a signature with that of `input`, which is the only data of its
+/// operation. After earlier data, or for a signature of another length than the mechanism's, the operation ends.
 pub fn verify(
     alloc: Global,
     app: u64,
@@ -128,8 +132,9 @@ pub fn verify(
     Ok(Out::Ask(ask(alloc, app, desk, Function::Verify, session, work)?))
 }
 
-/// C_VerifyFinal: ends the data, and asks whether a signature is its. The signature has the length of the mechanism's
-/// (`CKR_SIGNATURE_LEN_RANGE`); else the operation ends.
+/// C_VerifyFinal (PKCS #11 v3.1, 5.15).
+/// Codes: the checks of C_VerifyFinal (`precede`). Returns a job that compares a signature with that of all data. For a signature of
+/// another length than the mechanism's the operation ends.
 pub fn verify_final(
     alloc: Global,
     app: u64,
@@ -157,7 +162,8 @@ pub fn verify_final(
     Ok(Out::Ask(ask(alloc, app, desk, Function::VerifyFinal, session, work)?))
 }
 
-/// C_SignUpdate and C_VerifyUpdate: asks for a piece of any length to be taken.
+/// C_SignUpdate, C_VerifyUpdate (PKCS #11 v3.1, 5.13 and 5.15).
+/// Codes: the checks of C_SignUpdate and C_VerifyUpdate (`precede`). Returns a job that takes a part of any length.
 pub fn update(
     alloc: Global,
     app: u64,
@@ -184,7 +190,7 @@ fn has_its_length(mac: &Mac, signature: &[u8]) -> bool
     signature.len() == mac.mechanism().tag_len()
 }
 
-/// The operation at a place ends, with the code of a row.
+/// The operation at a place ends, with the code of a condition.
 fn end(desk: &mut Desk, session: u64, place: MacPlace, row: Condition) -> Out
     ensures out { result ≡ OutReply (Code (code_of rv.Ok row)) }
     ensures ended { desk.new ≡ record desk.old { sessions = with_mac desk.old.sessions session place None } }
@@ -193,7 +199,7 @@ fn end(desk: &mut Desk, session: u64, place: MacPlace, row: Condition) -> Out
     Out::Reply(Reply::Code(row.code(Rv::Ok)))
 }
 
-/// A piece was taken. The operation that has taken it goes on.
+/// A part was taken. The operation that has taken it continues.
 pub fn taken(desk: &mut Desk, session: u64, place: MacPlace, mac: Mac) -> Reply
     ensures reply { result ≡ Code rv.Ok }
     ensures left { desk.new ≡ record desk.old { sessions = with_mac desk.old.sessions session place (Some (mac_of mac)) } }
@@ -211,7 +217,7 @@ pub fn signed(desk: &mut Desk, session: u64, signature: Bytes) -> Reply
     Reply::Output(Output::Data(signature))
 }
 
-/// Whether the signature is that of all data (`CKR_SIGNATURE_INVALID`). The operation ends.
+/// Whether the signature is that of all data; if not, `CKR_SIGNATURE_INVALID`. The operation ends.
 pub fn verified(desk: &mut Desk, session: u64, right: bool) -> Reply
     ensures reply { result ≡ Code (if right then rv.Ok else rv.SignatureInvalid) }
     ensures left { desk.new ≡ record desk.old { sessions = with_mac desk.old.sessions session places.Verify None } }

@@ -20,8 +20,9 @@ use precede::Condition;
 use serve_base::{Refusal, Store, find, is_of_type, is_secret_key};
 use std::alloc::Global;
 
-/// Begins an operation that signs or verifies under a copy of a key's value; without a mechanism the one that is in progress
-/// ends.
+/// C_SignInit, C_VerifyInit (PKCS #11 v3.1, 5.13 and 5.15).
+/// Codes: the checks of C_SignInit and C_VerifyInit (`precede`). Begins an operation that signs or verifies under a copy of a key's value;
+/// without a mechanism the one that is in progress ends.
 pub fn serve<K: Keep>(
     alloc: Global,
     desk: &mut Desk,

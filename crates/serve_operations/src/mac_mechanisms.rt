@@ -13,7 +13,7 @@ use attrs::Object;
 use ck_types::MechType;
 use macs::{Mac, Mechanism};
 
-/// A mechanism with its parameter, if it is one of the mechanism: none has any (PKCS #11 v3.1, 5.13 and 5.15).
+/// The mechanism of a type (PKCS #11 v3.1, 5.13 and 5.15). `None` where it makes no MAC, or has a parameter, which no MAC takes.
 pub(crate) fn with_parameter(mechanism: MechType, parameter: &[u8]) -> Option<Mechanism>
     ensures { result ≡ mac_mechanism_with mechanism parameter.now }
 {

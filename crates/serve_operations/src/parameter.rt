@@ -34,7 +34,8 @@ fn counters(parameter: &[u8]) -> Option<Mechanism>
     Some(Mechanism::Ctr { bits, start })
 }
 
-/// A mechanism with its parameter (PKCS #11 v3.1, 6.10 and 6.11), if it is one of the mechanism.
+/// The mechanism of a type and its parameter (PKCS #11 v3.1, 6.10 and 6.11). `None` where it is no cipher, or the parameter
+/// isn't its own.
 pub(crate) fn with_parameter(mechanism: MechType, parameter: &[u8]) -> Option<Mechanism>
     ensures { result ≡ with_parameter mechanism parameter.now }
 {

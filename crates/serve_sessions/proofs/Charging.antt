@@ -1,4 +1,4 @@
--- A record that is stored, and a check that is asked for after its charge.
+-- A record that is stored, and a check whose job is returned after its charge.
 use Rattle.std.proofs.Common.{◌≡◌, ℕ, ◌+◌, List, Some, inl, inr, refl, sym, ap, subst}
 use Rattle.ck_types.specs.declared.rv.Rv.{Rv}
 use Rattle.ck_types.specs.declared.rv.Rv.TheVariants as rv
@@ -19,7 +19,7 @@ use Rattle.serve_base.specs.Shown.{view_of, objects_of, question_of, Changes, Fi
 use Rattle.serve_base.specs.Stores.{StoreState, Has, LeavesOr, Refused}
 use Rattle.serve_sessions.specs.Recording.{asks_charged, codes_with}
 
--- ---- what is given
+-- ---- what is returned
 
 pub fits-recorded : (c : Contents) (r : TokenRecord) (hs : List Handle) → Fits c hs → Fits (with_record r c) hs
 fits-recorded c r hs fits = record { given = fits.given; noted = fits.noted }

@@ -11,7 +11,8 @@ use desk::Desk;
 use precede::Condition;
 use serve_base::Refusal;
 
-/// Closes a session, with its objects. `CKR_SESSION_HANDLE_INVALID` where there is none.
+/// C_CloseSession (PKCS #11 v3.1, 5.6).
+/// Codes: the checks of C_CloseSession (`precede`). Closes a session, with its objects.
 pub fn serve(desk: &mut Desk, session: u64) -> Result<Reply, Refusal>
     ensures { AtDesk Replies (λ v. close_session v session) desk.old result desk.new }
 {
@@ -20,7 +21,8 @@ pub fn serve(desk: &mut Desk, session: u64) -> Result<Reply, Refusal>
     Ok(Reply::Code(Rv::Ok))
 }
 
-/// Closes all sessions of the application. `CKR_SLOT_ID_INVALID` where the slot isn't the one that there is.
+/// C_CloseAllSessions (PKCS #11 v3.1, 5.6).
+/// Codes: the checks of C_CloseAllSessions (`precede`). Closes all sessions of the application.
 pub fn serve_all(desk: &mut Desk, slot: u64) -> Result<Reply, Refusal>
     ensures { AtDesk Replies (λ v. close_all_sessions v slot) desk.old result desk.new }
 {

@@ -11,8 +11,8 @@ use ck_mechanisms::{find, info_of};
 use precede::Condition;
 use serve_base::Refusal;
 
-/// The sizes of a mechanism's keys, and its flags. `CKR_SLOT_ID_INVALID` where the slot isn't the one that there is,
-/// `CKR_MECHANISM_INVALID` where the token hasn't the mechanism.
+/// C_GetMechanismInfo (PKCS #11 v3.1, 5.5).
+/// Codes: the checks of C_GetMechanismInfo (`precede`). Returns the sizes of a mechanism's keys, and its flags. Changes nothing.
 pub fn serve(slot: u64, mechanism: u64) -> Result<Reply, Refusal>
     ensures { (d : DeskState) → AtDesk Replies (λ v. get_mechanism_info v slot mechanism) d result d }
 {

@@ -15,7 +15,8 @@ use precede::Condition;
 use serve_base::Refusal;
 use std::alloc::{AllocError, Global};
 
-/// The numbers of the token's mechanisms, rising. `CKR_SLOT_ID_INVALID` where the slot isn't the one that there is.
+/// C_GetMechanismList (PKCS #11 v3.1, 5.5).
+/// Codes: the checks of C_GetMechanismList (`precede`). Returns the types of the token's mechanisms, rising. Changes nothing.
 pub fn serve(alloc: Global, slot: u64) -> Result<Reply, Refusal>
     ensures { (d : DeskState) → AtDesk Replies (λ v. get_mechanism_list v slot) d result d }
 {

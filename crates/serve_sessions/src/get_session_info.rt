@@ -10,7 +10,8 @@ use desk::Desk;
 use precede::Condition;
 use serve_base::Refusal;
 
-/// What a session is: its slot, its state and whether it is read/write. `CKR_SESSION_HANDLE_INVALID` where there is none.
+/// C_GetSessionInfo (PKCS #11 v3.1, 5.6).
+/// Codes: the checks of C_GetSessionInfo (`precede`). Returns a session's slot, its state and whether it is read/write. Changes nothing.
 pub fn serve(desk: &Desk, session: u64) -> Result<Reply, Refusal>
     ensures { AtDesk Replies (λ v. get_session_info v session) desk.now result desk.now }
 {

@@ -11,8 +11,9 @@ use pin_record::token_flags;
 use precede::Condition;
 use serve_base::{Refusal, Store};
 
-/// What the token is: its label and flags, and how many sessions the application has. `CKR_SLOT_ID_INVALID` where the slot
-/// isn't the one that there is.
+/// C_GetTokenInfo (PKCS #11 v3.1, 5.5).
+/// Codes: the checks of C_GetTokenInfo (`precede`). Returns the token's label and flags, and how many sessions the application has. Changes
+/// nothing.
 pub fn serve<K: Keep>(desk: &Desk, store: &Store<K>, slot: u64) -> Result<Reply, Refusal>
     ensures { IsDone K.terms 0 (λ v. get_token_info v slot) store.now store.now desk.now result desk.now }
 {

@@ -27,8 +27,9 @@ fn is_so(login: Option<UserType>) -> bool
     }
 }
 
-/// Asks for the verifier of the user's new PIN, with random bytes as its salt: `CKR_SESSION_HANDLE_INVALID`,
-/// `CKR_USER_NOT_LOGGED_IN` where the SO isn't, `CKR_PIN_LEN_RANGE`.
+/// C_InitPIN (PKCS #11 v3.1, 5.5).
+/// Codes: the checks of C_InitPIN (`precede`). Returns a job for the verifier of the user's new PIN, with the call's random bytes as its
+/// salt. The call is pending then.
 pub fn serve(
     alloc: Global,
     app: u64,
@@ -54,8 +55,8 @@ pub fn serve(
     Ok(Out::Ask(ask(alloc, app, desk, Function::InitPin, session, work)?))
 }
 
-/// The PIN is set. Its tries are the checks of the user's PIN that other applications have in progress.
-/// `CKR_FUNCTION_FAILED` where the token isn't initialised any more.
+/// The outcome of C_InitPIN: the user's PIN is set. As many of its tries are spent as other applications have checks of it in
+/// progress. `CKR_FUNCTION_FAILED` where the token isn't initialised any more.
 pub fn made<K: Keep>(
     desk: &Desk,
     store: &mut Store<K>,

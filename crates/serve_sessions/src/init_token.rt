@@ -21,9 +21,9 @@ use precede::Condition;
 use serve_base::{Out, Refusal, Store, ask, random_block};
 use std::alloc::Global;
 
-/// Begins a check of the SO's PIN, which is charged before it; or, where the token isn't initialised, asks for the
-/// verifier of this PIN, with random bytes as its salt: `CKR_SLOT_ID_INVALID`, `CKR_ARGUMENTS_BAD` for a label that hasn't
-/// 32 bytes, `CKR_SESSION_EXISTS`, `CKR_PIN_LEN_RANGE`, `CKR_PIN_LOCKED`.
+/// C_InitToken (PKCS #11 v3.1, 5.5).
+/// Codes: the checks of C_InitToken (`precede`). Returns a job for a check of the SO's PIN, which is charged before it. Where the token
+/// isn't initialised, the job is for the verifier of this PIN, with the call's random bytes as its salt. The call is pending then.
 pub fn serve<K: Keep>(
     alloc: Global,
     app: u64,
@@ -77,8 +77,8 @@ pub fn serve<K: Keep>(
     )
 }
 
-/// The SO's first PIN is set, and the token has this label. `CKR_FUNCTION_FAILED` where it was initialised meanwhile,
-/// `CKR_SESSION_EXISTS` where there is a session by now.
+/// The outcome of C_InitToken where the token wasn't initialised: the SO's first PIN is set, and the token has this label.
+/// `CKR_FUNCTION_FAILED` where it was initialised meanwhile, `CKR_SESSION_EXISTS` where there is a session by now.
 pub fn made<K: Keep>(
     desk: &Desk,
     store: &mut Store<K>,
@@ -98,8 +98,8 @@ pub fn made<K: Keep>(
     reset_to(desk, store, Record::initialized(label, verifier, 0))
 }
 
-/// The SO's PIN was right: the token has no objects, this label, the SO's PIN and no user's. `CKR_SESSION_EXISTS` where
-/// there is a session by now.
+/// The outcome of C_InitToken where the SO's PIN was right: the token has no objects, this label, the SO's PIN and no user's.
+/// `CKR_SESSION_EXISTS` where there is a session by now.
 pub fn reset<K: Keep>(
     desk: &Desk,
     store: &mut Store<K>,
@@ -124,7 +124,7 @@ pub fn reset<K: Keep>(
     reset_to(desk, store, record)
 }
 
-/// The record of a token that is initialised again: of what it was, the SO's PIN stays.
+/// The record of a token that is initialised again. It keeps the SO's PIN.
 fn renewed(before: &Record, label: Label, under_way: u8) -> Option<Record>
     requires { under_way ≤ tries_limit }
     ensures { result ≡ option_map (λ verifier. initialized_record label verifier under_way) (verifier_of before.now So) }

@@ -1,19 +1,14 @@
 //! Calls on sessions and on the token with its PINs (PKCS #11 v3.1, 5.5 and 5.6).
 //!
-//! Each function answers by the rows of its call's table, and its one clause says that the answer is the written one to
-//! what the application sees, or that it was refused and nothing has changed: `AtDesk` where no store is asked, `IsDone`
-//! where one is, and `IsDoneAs` where the call returns a job and writes, or where its answer takes something from the
-//! store that the application doesn't see.
+//! Each function returns the code of the first check of its call's table that fails. Its one clause says that the answer is
+//! the written one to what the application sees, or that it was refused and nothing has changed. The clause is `AtDesk` where
+//! no store is used, and `IsDone` where one is. It is `IsDoneAs` where the call returns a job and writes. It is that also where
+//! the answer depends on something in the store that the application doesn't see.
 //!
 //! A PIN is checked in two steps. `login::serve`, `set_pin::serve` and `init_token::serve` store the charge of the check and
-//! only then give its job. What its outcome does is said by `login::right`, `set_pin::changed`, `init_pin::made`,
-//! `init_token::made` and `init_token::reset`, for a desk whose question has ended; a wrong PIN changes nothing, since its
+//! only then return its job. What its outcome does is defined by `login::right`, `set_pin::changed`, `init_pin::made`,
+//! `init_token::made` and `init_token::reset`, for a desk without the pending call. A wrong PIN changes nothing, since its
 //! charge is stored already.
-//!
-//! ```text
-//! settle(open_session::serve(desk, slot, flags))
-//! settle_asking(login::serve(app, desk, store, session, user_type, pin))
-//! ```
 #![tactic(auto)]
 
 pub mod close_session;

@@ -1,4 +1,4 @@
-//! C_Login (PKCS #11 v3.1, 5.6): a check of a PIN, and its end.
+//! C_Login (PKCS #11 v3.1, 5.6): a check of a PIN, and its outcome.
 
 ghost use Rattle.std.specs.Prelude.{◌≡◌, ◌<◌, ◌^◌, IfOk, IsFalse, IsTrue, None, length};
 ghost use Rattle.ck_types.specs.declared.user_type.UserType.TheVariants.{So};
@@ -45,7 +45,7 @@ fn is_in(who: UserType, login: Option<UserType>) -> bool
     }
 }
 
-/// Whether a read-only session keeps this one out, as it does the SO.
+/// Whether a read-only session keeps this user from logging in, as it does the SO.
 fn keeps_out(who: UserType, read_only: bool) -> bool
     ensures { result ≡ keeps_out who read_only }
 {
@@ -55,16 +55,15 @@ fn keeps_out(who: UserType, read_only: bool) -> bool
     }
 }
 
-/// Whether all tries of a PIN are used, so that no check of it may begin.
+/// Whether all tries of a PIN are spent, so that no check of it may begin.
 fn has_no_try_left(record: &Record, who: UserType) -> bool
     ensures { result ≡ is_locked «record».now who }
 {
     record.is_locked(who)
 }
 
-/// Begins a check of a PIN, which is charged before it: `CKR_SESSION_HANDLE_INVALID`, `CKR_USER_TYPE_INVALID`,
-/// `CKR_USER_ALREADY_LOGGED_IN`, `CKR_USER_ANOTHER_ALREADY_LOGGED_IN`, `CKR_SESSION_READ_ONLY_EXISTS`,
-/// `CKR_USER_PIN_NOT_INITIALIZED`, `CKR_PIN_LOCKED`.
+/// C_Login (PKCS #11 v3.1, 5.6).
+/// Codes: the checks of C_Login (`precede`). Returns a job for a check of a PIN, which is charged before it. The call is pending then.
 pub fn serve<K: Keep>(
     alloc: Global,
     app: u64,
@@ -109,7 +108,7 @@ pub fn serve<K: Keep>(
     )
 }
 
-/// Whether this one may be logged in: nobody is, and there are sessions, none of which keeps this one out.
+/// Whether this user may be logged in: nobody is, and there are sessions, none of which prevents it.
 fn may_log_in(desk: &Desk, who: UserType) -> bool
     ensures value { (c : Contents) → result ≡ may_log_in (view_of c desk.now) who }
     ensures open { IsTrue result → 0 < length desk.now.sessions.sessions }
@@ -122,8 +121,8 @@ fn may_log_in(desk: &Desk, who: UserType) -> bool
         && !keeps_out(who, desk.has_read_only_session())
 }
 
-/// The PIN was right: its tries are the checks of it that other applications have in progress, and then this one is logged
-/// in. `CKR_FUNCTION_FAILED` where that is no longer possible.
+/// The outcome of C_Login where the PIN was right: this user is logged in. As many tries of the PIN are spent as other
+/// applications have checks of it in progress. `CKR_FUNCTION_FAILED` where the login is no longer possible.
 pub fn right<K: Keep>(
     desk: &mut Desk,
     store: &mut Store<K>,

@@ -10,8 +10,9 @@ use desk::Desk;
 use precede::Condition;
 use serve_base::Refusal;
 
-/// Logs out, which ends all operations and the handles of private objects. `CKR_SESSION_HANDLE_INVALID` where there is no
-/// such session, `CKR_USER_NOT_LOGGED_IN` where nobody is logged in.
+/// C_Logout (PKCS #11 v3.1, 5.6).
+/// Codes: the checks of C_Logout (`precede`). Logs out, which ends all operations, destroys private session objects, and retires the
+/// handles of private token objects.
 pub fn serve(desk: &mut Desk, session: u64) -> Result<Reply, Refusal>
     ensures { AtDesk Replies (λ v. logout v session) desk.old result desk.new }
 {

@@ -12,10 +12,11 @@ use desk::Desk;
 use precede::Condition;
 use serve_base::Refusal;
 
-/// All flags that there are.
+/// All flags of a session.
 const FLAGS: u64 = RW_SESSION | SERIAL_SESSION;
 
-/// Opens a session with these flags. It fails because an allocation failed, or by a row of the call's table.
+/// C_OpenSession (PKCS #11 v3.1, 5.6).
+/// Codes: the checks of C_OpenSession (`precede`), and an allocation failure. Opens a session with these flags.
 pub fn serve(desk: &mut Desk, slot: u64, flags: u64) -> Result<Reply, Refusal>
     requires { desk.old.sessions.next_number < 2 ^ 63 }
     ensures { AtDesk Replies (λ v. open_session v slot flags) desk.old result desk.new }

@@ -28,8 +28,8 @@ pub(crate) fn is_pin_length(pin: &[u8]) -> bool
     4 <= pin.len() && pin.len() <= 64
 }
 
-/// Asks for a check of a PIN. Its charge is stored before its question is put. The job's memory is taken before both, so that no
-/// try is charged for want of it.
+/// Returns a job for a check of a PIN. The charge is stored before the call is pending. The job is allocated before both, so
+/// an allocation failure charges no try.
 pub(crate) fn ask_charged<K: Keep>(
     alloc: Global,
     app: u64,
@@ -54,7 +54,7 @@ pub(crate) fn ask_charged<K: Keep>(
     Ok(Out::Ask(job))
 }
 
-/// Stores another record, and answers a code.
+/// Stores another record, and returns a code.
 pub(crate) fn store_record<K: Keep>(
     desk: &Desk,
     store: &mut Store<K>,
@@ -68,7 +68,7 @@ pub(crate) fn store_record<K: Keep>(
     Ok(Reply::Code(code))
 }
 
-/// Takes all token objects away and stores another record.
+/// Removes all token objects and stores another record.
 pub(crate) fn reset_to<K: Keep>(
     desk: &Desk,
     store: &mut Store<K>,

@@ -27,9 +27,9 @@ fn owner(login: Option<UserType>) -> UserType
     }
 }
 
-/// Begins a check of the old PIN, which is charged before it, for a new one with random bytes as its salt:
-/// `CKR_SESSION_HANDLE_INVALID`, `CKR_SESSION_READ_ONLY`, `CKR_USER_PIN_NOT_INITIALIZED`, `CKR_PIN_LEN_RANGE`,
-/// `CKR_PIN_LOCKED`.
+/// C_SetPIN (PKCS #11 v3.1, 5.5).
+/// Codes: the checks of C_SetPIN (`precede`). Returns a job for a check of the old PIN, which is charged before it. The job also makes the
+/// verifier of the new PIN, with the call's random bytes as its salt. The call is pending then.
 pub fn serve<K: Keep>(
     alloc: Global,
     app: u64,
@@ -79,8 +79,8 @@ pub fn serve<K: Keep>(
     )
 }
 
-/// The old PIN was right: the new one is set. Its tries are the checks of the PIN that other applications have under
-/// way. `CKR_FUNCTION_FAILED` where the token isn't initialised any more.
+/// The outcome of C_SetPIN where the old PIN was right: the new one is set. As many of its tries are spent as other applications
+/// have checks of the PIN in progress. `CKR_FUNCTION_FAILED` where the token isn't initialised any more.
 pub fn changed<K: Keep>(
     desk: &Desk,
     store: &mut Store<K>,

@@ -1,5 +1,5 @@
 //! The tests of `token`'s calls that encrypt and decrypt, sign and verify, wrap and unwrap keys, and search: scripts of what
-//! applications do and are told (`test_scripts`), each by calls one after the other and in one list of events.
+//! applications do and get (`test_scripts`), each by calls one after the other and in one list of events.
 //!
 //! ```text
 //! const ROWS: &[Row] = &[

@@ -1,5 +1,6 @@
-//! Tests of the hall: rows that four seats in threads of their own play before one token (`tests/seats.rt`), jobs that are done
-//! beside one another, and threads that are not started. The rows of all chapters go over a list, and over one behind a cache.
+//! Tests of the hall, a worker pool. Four seats in threads of their own play rows before one token (`tests/seats.rt`). Other
+//! tests have jobs that are done beside one another, and threads that are not started. The rows of all chapters go over a list, and over
+//! one behind a cache.
 //!
 //! ```text
 //! const ROWS: &[Row] = &[

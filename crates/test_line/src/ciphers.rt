@@ -189,7 +189,7 @@ fn expect_replies(
     Ok(())
 }
 
-/// Sees that a line for a new token goes as the rows say.
+/// Sees that a line for a new token goes as the rows are written.
 pub(crate) fn expect_line(rt: &impl Abort, alloc: Global, rows: &[Row]) -> Result<(), Fail> {
     let (ended, written, _) = served(alloc, &frames_of(alloc, rows)?)?;
     assert_eq!(rt; ended, Ok(rows.len() as u64));

@@ -1,5 +1,5 @@
-//! Calls with several faults through a line, each answered with the code of the one that stands first: the payloads of calls
-//! and of their replies, in hexadecimal.
+//! Calls with several faults through a line, each answered with the code of the one that stands first in the call's table. The
+//! payloads of the calls and of their replies are in hexadecimal.
 
 use crate::ciphers::{Row, expect_line};
 use std::test::*;

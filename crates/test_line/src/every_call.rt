@@ -51,7 +51,7 @@ fn ok_reply(alloc: Global, step: Step, payload: &[u8]) -> Result<Reply, Fail> {
     Ok(read_reply(alloc, function.number(), payload)?)
 }
 
-/// Sees that these are the frames of what all rows are told.
+/// Sees that these are the frames of what all rows get.
 fn expect_replies(alloc: Global, written: &[u8]) -> Result<(), Fail> {
     let mut frames = FrameReader::new(alloc);
     frames.feed(written)?;

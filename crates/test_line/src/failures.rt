@@ -64,7 +64,7 @@ impl Write for FailingWriter {
     }
 }
 
-/// How a line ended, and how many failures its reader and its writer noted.
+/// How a line ended, and how many failures its reader and its writer counted.
 #[derive(Drop, PartialEq)]
 struct Ended {
     ended: Result<u64, LineFault>,

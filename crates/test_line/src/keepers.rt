@@ -20,7 +20,7 @@ const STEPS: &[Step] = &[
     Step::DestroyObject(1, 1),
 ];
 
-/// How often these calls, and the token's making before them, ask the keeper for what may be refused.
+/// How often these calls, and the token's making before them, call the keeper for what may be refused.
 const CALLS: u64 = 5;
 
 /// The frame of a step's call.

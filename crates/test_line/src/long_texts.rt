@@ -1,4 +1,4 @@
-//! Long texts through a line: in pieces as at once, by each mechanism both ways.
+//! Long texts through a line: in parts as at once, by each mechanism both ways.
 
 use crate::tests::served;
 use ck_calls::{Call, Function};

@@ -134,7 +134,7 @@ fn run(
     Ok((ended, bytes))
 }
 
-/// Whether a line over the input ends so for a new token, and writes just this, where the writer has so much room.
+/// Whether a line over the input ends so for a new token, and writes just this, where the writer takes at most so many bytes.
 fn goes(
     alloc: Global,
     input: &[u8],
@@ -317,7 +317,7 @@ const ENDINGS: &[(&[u8], Result<u64, LineFault>)] = &[
     (b"\xff\xff\xff\xff", Err(LineFault::TooLong)),
 ];
 
-/// What the application is told that asks after its first session.
+/// What the application gets that asks after its first session.
 fn session_info(alloc: Global, token: &mut Token<ListKeep>) -> Result<Reply, Fail> {
     match token.call(alloc, 0, Call::GetSessionInfo { session: 1 }, &[]) {
         Out::Reply(reply) => Ok(reply),

@@ -1,6 +1,7 @@
-//! The tests of `token`'s calls of PINs: scripts of what applications do and are told (`test_scripts`), by chapter, most of them by
-//! calls one after the other and as a run; the order in which each of these calls' faults are told (`tests/order.rt`); and the
-//! tries of a PIN where its checks overlap (`tests/tries.rt`).
+//! The tests of `token`'s calls of PINs, in three parts:
+//! - scripts of what applications do and get (`test_scripts`), by chapter, most of them by calls one after the other and as a run;
+//! - the order of each of these calls' faults (`tests/order.rt`);
+//! - the tries of a PIN where its checks overlap (`tests/tries.rt`).
 //!
 //! ```text
 //! const ROWS: &[Row] = &[

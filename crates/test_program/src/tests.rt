@@ -76,7 +76,7 @@ fn stdio_answers_the_first_run_byte_for_byte(rt: HostRuntime) -> Result<(), Fail
     expect_run(&rt, rt, &["stdio"], FIRST_RUN, (0, FIRST_REPLIES, b""))
 }
 
-/// Sees that a command line with this input ends with this status and output, and says this failure and this cause.
+/// Sees that a command line with this input ends with this status and output, and reports this failure and this cause.
 fn expect_refusal<R: Threads + Wait + Copy + Send + Drop + 'static>(
     rt: &HostRuntime,
     threads: R,
@@ -94,7 +94,7 @@ fn expect_refusal<R: Threads + Wait + Copy + Send + Drop + 'static>(
     )
 }
 
-/// A frame that is cut, and lengths above the limit, and what is said of each.
+/// A frame that is cut, and lengths above the limit, and what is reported of each.
 const ENDINGS: &[(&[u8], &str)] = &[
     (b"\x00\x00\x00\x12\x00", "the input ends within a frame"),
     (b"\x00\x10\x00\x01", "a frame is too long"),

@@ -14,7 +14,7 @@ use std::fmt::Debug;
 use std::test::Fail;
 use token::{Job, Out, Token};
 
-/// A token over a keeper, with the jobs of the pending questions.
+/// A token over a keeper, with the jobs of the pending calls.
 #[derive(Drop)]
 pub struct BenchOver<K: Keep> {
     alloc: Global,
@@ -47,7 +47,7 @@ impl<K: Keep> BenchOver<K> {
         token.into_keep()
     }
 
-    /// Sees that each row goes as it says.
+    /// Sees that each row goes as it is written.
     pub fn play(&mut self, rows: &[Row]) -> Result<(), Fail> {
         for (number, row) in rows.iter().enumerate() {
             self.expect(number, *row)?;
@@ -55,7 +55,7 @@ impl<K: Keep> BenchOver<K> {
         Ok(())
     }
 
-    /// Sees that a step, again and again, is told the numbers from `first` to `last`, of sessions or objects.
+    /// Sees that a step, again and again, returns the sessions or objects from `first` to `last`.
     pub fn fill(&mut self, (app, step): (u64, Step), first: u64, last: u64) -> Result<(), Fail> {
         for number in first..=last {
             let told = match step {
@@ -67,7 +67,7 @@ impl<K: Keep> BenchOver<K> {
         Ok(())
     }
 
-    /// Sees that a row goes as it says. A question is finished at once, if the row says what comes of it.
+    /// Sees that a row goes as it is written. A job is run and its result taken at once, if the row has a reply to it.
     pub fn expect(&mut self, place: impl Debug + Drop, row: Row) -> Result<(), Fail> {
         let (app, step, told) = row;
         let wanted = reply_of(self.alloc, told)?;
@@ -80,7 +80,7 @@ impl<K: Keep> BenchOver<K> {
         }
     }
 
-    /// What the application is told, at once or, if it is to be told something, of the question's result.
+    /// What the application gets: at once, or, if it is to get something, for the job's result.
     fn told_at_last(&mut self, app: u64, step: Step, is_told: bool) -> Result<Option<Reply>, Fail> {
         match self.told(app, step)? {
             None if is_told => self.told(app, Step::Finish),
@@ -88,7 +88,7 @@ impl<K: Keep> BenchOver<K> {
         }
     }
 
-    /// What the application is told at once.
+    /// What the application gets at once.
     pub fn told(&mut self, app: u64, step: Step) -> Result<Option<Reply>, Fail> {
         match step {
             Step::Finish => Ok(self.finish(app, app)),
@@ -128,7 +128,7 @@ impl<K: Keep> BenchOver<K> {
         }
     }
 
-    /// What an application is told of the result of the asker's question.
+    /// What an application gets for the result of the caller's job.
     fn finish(&mut self, app: u64, asker: u64) -> Option<Reply> {
         let job = take_job(&mut self.out, asker)?;
         let done = job.run(self.alloc);
@@ -153,7 +153,7 @@ fn expect_so(
     told
 }
 
-/// Sees that the step at a place was told what is wanted.
+/// Sees that the step at an index got what is wanted.
 pub fn expect_told(
     place: impl Debug + Drop,
     (app, step): (u64, Step),
@@ -168,7 +168,7 @@ pub fn expect_told(
     )))
 }
 
-/// Sees that a row was told as it says. What was got is let go.
+/// Sees that a row got what is written. What it got is dropped.
 pub fn expect_row(
     alloc: Global,
     place: impl Debug + Drop,
@@ -184,7 +184,7 @@ pub fn expect_row(
     }
 }
 
-/// Sees that a new token over the keeper goes as the rows say, and gives the keeper back.
+/// Sees that a new token over the keeper goes as the rows are written, and returns the keeper.
 pub fn play_over<K: Keep>(alloc: Global, keep: K, rows: &[Row]) -> Result<K, Fail> {
     let mut bench = BenchOver::over(alloc, keep)?;
     match bench.play(rows) {
@@ -196,7 +196,7 @@ pub fn play_over<K: Keep>(alloc: Global, keep: K, rows: &[Row]) -> Result<K, Fai
     }
 }
 
-/// Sees that a new token goes as the rows say by calls one after the other.
+/// Sees that a new token goes as the rows are written, by calls one after the other.
 pub fn play(alloc: Global, rows: &[Row]) -> Result<(), Fail> {
     Bench::new(alloc)?.play(rows)?;
     BenchOver::over(alloc, cached_list(alloc, Record::new())?)?.play(rows)

@@ -1,6 +1,6 @@
-//! Scripts of each chapter over objects of the token, which tests play over several keepers and by seats. Where one goes otherwise
-//! its name and the number of the row are told. A function tells the rows of one script alone, since a constant of many rows is proved
-//! anew in each function that names it.
+//! Scripts of each chapter over objects of the token, which tests play over several keepers and by seats. Where one goes wrong
+//! its name and the number of the row are reported. A function returns the rows of one script alone, since a constant of many
+//! rows is proved anew in each function that names it.
 
 mod ciphers;
 mod keys;
@@ -20,7 +20,7 @@ fn every_call() -> &'static [Row] {
     EVERY_CALL
 }
 
-/// The script of a new token at this place, if there is one. Its questions end where they are asked.
+/// The script of a new token at this index, if there is one. Its jobs are run where they are returned.
 pub fn script_at(place: usize) -> Option<Script<'static>> {
     match place {
         0 => Some(("every call", every_call())),
@@ -36,7 +36,7 @@ pub fn script_at(place: usize) -> Option<Script<'static>> {
     }
 }
 
-/// The script at this place whose questions end by rows of their own, if there is one.
+/// The script at this index whose jobs are run by rows of their own, if there is one.
 pub fn questions_at(place: usize) -> Option<Script<'static>> {
     match place {
         0 => Some(("an outlived key", objects::outlived_key())),
@@ -48,7 +48,8 @@ pub fn questions_at(place: usize) -> Option<Script<'static>> {
     }
 }
 
-/// The record of a token before the script of questions at this place: a new one, or one with both PINs and these tries of the SO's.
+/// The record of a token before the script at this index whose jobs have rows of their own: a new one, or one with both PINs and
+/// these tries of the SO's.
 pub fn record_at(place: usize) -> Result<Record, Fail> {
     match place {
         0 => Ok(Record::new()),

@@ -23,7 +23,7 @@ const MECHANISMS: &[u64] = &[
     0x251, 0x256, 0x261, 0x271, 0x350, 0x1080, 0x1081, 0x1082, 0x1085, 0x1086, 0x108a, 0x2109,
 ];
 
-/// What is told of the user's session.
+/// What C_GetSessionInfo returns of the user's session.
 const INFO: SessionInfo = SessionInfo {
     slot: 0,
     state: SessionState::RwUser,
@@ -51,8 +51,8 @@ const GENERATED: Given = &[
 
 const UNWRAPPED: Given = &[(AttrType::KeyType, AES), (AttrType::Private, NO)];
 
-/// The calls of an application of a new token. Its first random bytes are those of `random`; nothing else that it is told
-/// depends on random bytes.
+/// The calls of an application of a new token. Its first random bytes are those of `random`; no other reply depends on random
+/// bytes.
 pub const EVERY_CALL: &[Row] = &[
     (A, GetMechanismList(0), Told::MechanismList(MECHANISMS)),
     (

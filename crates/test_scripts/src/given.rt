@@ -47,8 +47,8 @@ pub const CBC_PAD: Option<GivenMechanism> = Some((CBC_PAD_NUMBER, IV));
 pub const PADDED_NOTHING: &[u8] =
     b"\xc8\x4a\xf0\xb6\x13\x43\x5d\x5d\x91\x82\x80\x1a\x9b\xd9\x32\x0b";
 
-/// CKM_AES_CBC_PAD with initialization vectors that turn a byte of the padding of no text: its last byte to 0, to 17 and
-/// to 1, and its first one.
+/// CKM_AES_CBC_PAD with initialization vectors that change a byte of the padding of no text: its last byte to 0, to 17 and to 1,
+/// and its first one.
 pub const PAD_OF_0: Option<GivenMechanism> = Some((
     CBC_PAD_NUMBER,
     b"\x00\x01\x02\x03\x04\x05\x06\x07\x08\x09\x0a\x0b\x0c\x0d\x0e\x1f",
@@ -84,7 +84,7 @@ pub const AES_KEY_WRAP: GivenMechanism = (0x2109, b"");
 
 pub const AES_KEY_GEN: GivenMechanism = (0x1080, b"");
 
-/// The key of SP 800-38B, D.1, a message, and its code.
+/// The key of SP 800-38B, D.1, a message, and its MAC.
 const CMAC_KEY_BYTES: &[u8] = b"\x2b\x7e\x15\x16\x28\xae\xd2\xa6\xab\xf7\x15\x88\x09\xcf\x4f\x3c";
 
 pub const BLOCK: &[u8] = b"\x6b\xc1\xbe\xe2\x2e\x40\x9f\x96\xe9\x3d\x7e\x11\x73\x93\x17\x2a";
@@ -100,7 +100,7 @@ pub const NO: &[u8] = b"\x00";
 
 pub const YES: &[u8] = b"\x01";
 
-/// The numbers of classes and key types, as their attributes have them.
+/// The values of classes and key types, as their attributes have them.
 pub const DATA: &[u8] = b"\x00\x00\x00\x00\x00\x00\x00\x00";
 
 pub const SECRET_KEY: &[u8] = b"\x00\x00\x00\x00\x00\x00\x00\x04";
@@ -109,7 +109,7 @@ pub const AES: &[u8] = b"\x00\x00\x00\x00\x00\x00\x00\x1f";
 
 pub const GENERIC_SECRET: &[u8] = b"\x00\x00\x00\x00\x00\x00\x00\x10";
 
-/// The numbers of attributes.
+/// Attribute types.
 pub const LABEL: u64 = 0x3;
 
 pub const UNIQUE_ID: u64 = 0x4;

@@ -1,17 +1,15 @@
-//! Scripts for tests of the token: tables of rows, each of which says what an application does and what it is told, and
-//! what plays them. A row that goes otherwise ends the test, which prints the row's number, what was wanted, what was told,
-//! and the step.
+//! Scripts for tests of the token: tables of rows, each with what an application does and what it gets, and what plays them. A
+//! row that goes wrong ends the test, which prints the row's number, what was wanted, what was returned, and the step.
 //!
 //! - `given` names what many scripts speak of: applications, keys, texts, templates and codes.
-//! - `script_at` and `questions_at` tell scripts of ciphers, objects and PINs, for tests that play them over several keepers and by
-//!   seats.
+//! - `script_at` and `questions_at` return scripts of ciphers, objects and PINs, for tests that play them over several keepers
+//!   and by seats.
 //! - `EVERY_CALL` has rows of all calls, each answered with CKR_OK; `FIRST_RUN` and `FIRST_REPLIES` are a first run in frames.
 //! - `Row`, `Step` and `Told` are the vocabulary; `call_of` and `reply_of` make a call and a reply of them, and `random_for`
 //!   gives a call its random bytes.
-//! - `Bench` is a token that takes steps one after the other. `play` plays rows on a new one, `play_over` on one over a keeper
-//!   that it gives back, `run` gives them to a new
-//!   token as one list of events, and `play_and_run` does both, each over a list and over a list behind a cache. `BenchOver` and
-//!   `run_over` take a keeper, as one that has a record of `record_with`.
+//! - `Bench` is a token that takes steps one after the other. `play` plays rows on a new one, and `play_over` on one over a keeper
+//!   that it returns. `run` gives them to a new token as one list of events, and `play_and_run` does both. Each does so over a
+//!   list and over a list behind a cache. `BenchOver` and `run_over` take a keeper, as one that has a record of `record_with`.
 //! - `expect_neighbours` sees that the cases of a test have all neighbours of the tables of faults.
 //! - `Token`, `Event`, `Out` and `Job` are those of `token`, and `token_over` makes a token, for tests that use one without a
 //!   bench: `told_at_once`, `told_code` and `opened_session` make a call of it.

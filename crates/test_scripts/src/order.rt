@@ -1,4 +1,4 @@
-//! The order of faults: of two faults of a call the one is told that stands first in the call's table. Here it is seen that the
+//! The order of faults: of two faults of a call, the code is that of the first in the call's table. Here it is checked that the
 //! cases of a test have all neighbours of the tables.
 
 use crate::calls::call_of;
@@ -14,8 +14,8 @@ pub type Pair = (Fault, Fault, Step);
 /// Two faults of a function that can't both hold.
 pub type LeftOut = (Function, Fault, Fault);
 
-/// Sees that of each call's table the fault given is the second row, after a pending call, and that each row after it has a
-/// pair with the one before it, or that these are left out.
+/// Sees that of each call's table the fault given is the second row, after a pending call. Each row after it must have a pair with
+/// the one before it, or be left out.
 pub fn expect_neighbours(
     alloc: Global,
     seconds: &[(Fault, Step)],

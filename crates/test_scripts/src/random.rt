@@ -1,4 +1,4 @@
-//! What calls are given for random bytes.
+//! The random bytes that calls get.
 
 ghost use Rattle.std.specs.Prelude.{◌≡◌, IfOk, length, vec_len};
 ghost use Rattle.ck_calls.specs.Need.{random_bytes};
@@ -7,7 +7,7 @@ use ck_calls::{Call, need};
 use std::alloc::Global;
 use std::test::Fail;
 
-/// What a token is given for random bytes, again and again.
+/// The random bytes that a token gets, again and again.
 pub(crate) const RANDOM: &[u8; 16] =
     b"\x76\xb8\xe0\xad\xa0\xf1\x3d\x90\x40\x5d\x6a\xe5\x53\x86\xbd\x28";
 

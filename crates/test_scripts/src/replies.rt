@@ -1,4 +1,4 @@
-//! The replies that applications are told.
+//! The replies that applications get.
 
 use crate::steps::{Told, Values};
 use ck_calls::{AttributeValue, MechanismInfo, Output, Reply, TokenInfo};
@@ -6,7 +6,7 @@ use ck_types::{Bytes, Items, Label};
 use std::alloc::Global;
 use std::test::Fail;
 
-/// The reply that an application is told, if it is told anything.
+/// The reply that an application gets, if it gets any.
 pub fn reply_of(alloc: Global, told: Told) -> Result<Option<Reply>, Fail> {
     match told {
         Told::Nothing => Ok(None),

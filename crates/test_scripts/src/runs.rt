@@ -18,8 +18,8 @@ use std::alloc::Global;
 use std::test::Fail;
 use token::Event;
 
-/// Sees that a new token that takes all rows as one list of events gives the replies that they say, and that no question
-/// is left.
+/// Sees that a new token takes all rows as one list of events and gives the replies that are written. No call is pending at the
+/// end.
 pub fn run(alloc: Global, rows: &[Row]) -> Result<(), Fail> {
     run_over(alloc, ListKeep::new(alloc, Record::new()), rows)?;
     run_over(alloc, cached_list(alloc, Record::new())?, rows)
@@ -36,15 +36,15 @@ pub fn run_script<K: Keep>(alloc: Global, keep: K, (name, rows): Script<'_>) -> 
     expect_replies(alloc, &replies, (name, rows))
 }
 
-/// Sees that a new token goes as the rows say, after those that come before, by calls one after the other and in one list of
-/// events. They leave no question pending.
+/// Sees that a new token goes as the rows are written, after those that come before. It takes them by calls one after the other
+/// and in one list of events. They leave no call pending.
 pub fn play_and_run(alloc: Global, before: &[Row], rows: &[Row]) -> Result<(), Fail> {
     let all = joined(alloc, before, rows)?;
     play(alloc, &all)?;
     run(alloc, &with_finishes(alloc, &all)?)
 }
 
-/// The same for rows some of which leave a question pending until its own row.
+/// The same for rows some of which leave a call pending until its own row.
 pub fn play_and_run_questions(alloc: Global, before: &[Row], rows: &[Row]) -> Result<(), Fail> {
     let all = joined(alloc, before, rows)?;
     play(alloc, &all)?;
@@ -57,7 +57,7 @@ fn joined(alloc: Global, before: &[Row], rows: &[Row]) -> Result<Vec<Row>, Fail>
     Ok(all)
 }
 
-/// The rows, and after each the end of the question, if there is one.
+/// The rows, and after each the result of its job, if there is one.
 pub fn with_finishes(alloc: Global, rows: &[Row]) -> Result<Vec<Row>, Fail> {
     let mut all = Vec::new(alloc);
     for row in rows {
@@ -67,7 +67,7 @@ pub fn with_finishes(alloc: Global, rows: &[Row]) -> Result<Vec<Row>, Fail> {
     Ok(all)
 }
 
-/// What a new token over the keeper replies to the events, which leave no question. Calls are given their random bytes here.
+/// What a new token over the keeper replies to the events, which leave no call pending. Calls get their random bytes here.
 pub fn replies_to<K: Keep>(
     alloc: Global,
     keep: K,

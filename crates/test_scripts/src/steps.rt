@@ -1,21 +1,21 @@
-//! What the rows of a script say: steps of applications, and what these are told.
+//! The rows of a script: steps of applications, and what these get.
 
 use ck_calls::SessionInfo;
 use ck_types::{AttrType, Rv};
 
-/// A row of a script: the application, what it does, and what it is told.
+/// A row of a script: the application, what it does, and what it gets.
 pub type Row = (u64, Step, Told);
 
-/// What a template says.
+/// The attributes of a template.
 pub type Given = &'static [(AttrType, &'static [u8])];
 
-/// The attributes that are asked for, each with the room for its value.
+/// The wanted attributes, each with the length of its buffer.
 pub type Asked = &'static [(u64, Option<u64>)];
 
-/// What is told of each attribute: its length and its value.
+/// What is returned of each attribute: its length and its value.
 pub type Values = &'static [(u64, Option<&'static [u8]>)];
 
-/// The number of a mechanism, and its parameter.
+/// The type of a mechanism, and its parameter.
 pub type GivenMechanism = (u64, &'static [u8]);
 
 /// What an application does. The steps up to `Finish` are calls.
@@ -25,7 +25,7 @@ pub enum Step {
     GetTokenInfo(u64),
     /// Of a slot.
     GetMechanismList(u64),
-    /// Of a slot, of a mechanism's number.
+    /// Of a slot, of a mechanism's type.
     GetMechanismInfo(u64, u64),
     /// In a slot, with the SO's PIN and a label.
     InitToken(u64, &'static [u8], &'static [u8]),
@@ -49,14 +49,14 @@ pub enum Step {
     SetAttributeValue(u64, u64, Given),
     /// In a session, by a template.
     FindObjectsInit(u64, Given),
-    /// In a session, by a template with one attribute, of this number, which may be none of an attribute type.
+    /// In a session, by a template with one attribute, of this type, which may be none that is known.
     FindByNumber(u64, u64, &'static [u8]),
     /// In a session, as many as this at most.
     FindObjects(u64, u64),
     FindObjectsFinal(u64),
     /// In a session, by a mechanism if there is one, under a key.
     EncryptInit(u64, Option<GivenMechanism>, u64),
-    /// In a session, of a text, with the room for the output.
+    /// In a session, of a text, with the length of the output buffer.
     Encrypt(u64, &'static [u8], Option<u64>),
     EncryptUpdate(u64, &'static [u8], Option<u64>),
     EncryptFinal(u64, Option<u64>),
@@ -66,7 +66,7 @@ pub enum Step {
     DecryptFinal(u64, Option<u64>),
     /// In a session, by a mechanism if there is one, under a key.
     SignInit(u64, Option<GivenMechanism>, u64),
-    /// In a session, of a text, with the room for the signature.
+    /// In a session, of a text, with the length of the signature's buffer.
     Sign(u64, &'static [u8], Option<u64>),
     SignUpdate(u64, &'static [u8]),
     SignFinal(u64, Option<u64>),
@@ -75,7 +75,7 @@ pub enum Step {
     Verify(u64, &'static [u8], &'static [u8]),
     VerifyUpdate(u64, &'static [u8]),
     VerifyFinal(u64, &'static [u8]),
-    /// In a session, by a mechanism, under a wrapping key, of a key, with the room for the wrapped key.
+    /// In a session, by a mechanism, under a wrapping key, of a key, with the length of the wrapped key's buffer.
     WrapKey(u64, GivenMechanism, u64, u64, Option<u64>),
     /// In a session, by a mechanism, under an unwrapping key, of a wrapped key, by a template.
     UnwrapKey(u64, GivenMechanism, u64, &'static [u8], Given),
@@ -83,17 +83,17 @@ pub enum Step {
     GenerateKey(u64, GivenMechanism, Given),
     /// In a session, so many bytes.
     GenerateRandom(u64, u64),
-    /// The job of the application's question is run, and the question ends.
+    /// The job of the application's pending call is run, and the call is answered.
     Finish,
-    /// The job of another application's question is run, and its result handed in as one's own.
+    /// The job of another application's pending call is run, and its result handed in as one's own.
     FinishOf(u64),
     Goes,
 }
 
-/// What an application is told.
+/// What an application gets.
 #[derive(Clone, Copy)]
 pub enum Told {
-    /// Nothing yet: its question is pending, or there is nothing to be told.
+    /// Nothing yet: its call is pending, or nothing is returned.
     Nothing,
     Code(Rv),
     /// A label, flags, and how many sessions there are, and how many of them may write.
@@ -105,7 +105,7 @@ pub enum Told {
     SessionInfo(SessionInfo),
     Object(u64),
     ObjectSize(u64),
-    /// The handles that are answered.
+    /// The handles that are returned.
     Objects(&'static [u64]),
     AttributeValues(Rv, Values),
     Length(u64),

@@ -15,11 +15,11 @@ use token::Event;
 
 /// Whatever answers the calls of an application, from its first one on.
 pub trait Server {
-    /// What it gives out for the calls, one after the other.
+    /// The output that it returns for the calls, one after the other.
     fn output(&self, alloc: Global, calls: Vec<Call>) -> Result<Vec<u8>, Fail>;
 }
 
-/// A new token over a list, which takes the calls, each with the end of its question, as one list of events.
+/// A new token over a list, which takes the calls, each with the result of its job, as one list of events.
 #[derive(Clone, Copy)]
 pub struct NewToken;
 
@@ -34,7 +34,7 @@ impl Server for NewToken {
     }
 }
 
-/// The calls, each with the end of its question.
+/// The calls, each with the result of its job.
 fn with_ends(alloc: Global, calls: Vec<Call>) -> Result<Vec<Event>, Fail> {
     let mut events = Vec::new(alloc);
     for call in calls {
@@ -49,7 +49,7 @@ fn with_ends(alloc: Global, calls: Vec<Call>) -> Result<Vec<Event>, Fail> {
     Ok(events)
 }
 
-/// Adds what a reply gives out. One that refuses the call is a failure.
+/// Adds the output of a reply. One that refuses the call is a failure.
 pub fn add_output(bytes: &mut Vec<u8>, reply: &Reply) -> Result<(), Fail> {
     match reply {
         Reply::Output(Output::Data(piece)) => {
@@ -61,14 +61,14 @@ pub fn add_output(bytes: &mut Vec<u8>, reply: &Reply) -> Result<(), Fail> {
     }
 }
 
-/// How the pieces of a text are long in turn, and how long such a turn is.
+/// The lengths of the parts of a text in turn, and the length of such a turn.
 type Cut = (&'static [usize], usize);
 
 const BLOCKS: Cut = (&[16], 16);
 
 const ODD: Cut = (&[1, 15, 17, 31], 64);
 
-/// Which way a text goes.
+/// The direction of a text.
 #[derive(Clone, Copy, Debug)]
 enum Way {
     Encrypts,
@@ -140,7 +140,7 @@ fn beginning(
     Ok(calls)
 }
 
-/// Adds the updates of one turn of pieces.
+/// Adds the updates of one turn of parts.
 fn add_turn(
     alloc: Global,
     calls: &mut Vec<Call>,
@@ -157,7 +157,7 @@ fn add_turn(
     Ok(())
 }
 
-/// The calls by which the text goes this way at once.
+/// The calls by which the text is encrypted or decrypted at once.
 fn at_once(
     alloc: Global,
     way: Way,
@@ -169,7 +169,7 @@ fn at_once(
     Ok(calls)
 }
 
-/// The calls by which it goes in parts.
+/// The calls by which it is encrypted or decrypted in parts.
 fn in_pieces(
     alloc: Global,
     way: Way,
@@ -209,7 +209,7 @@ const MECHANISMS: &[(Option<GivenMechanism>, usize)] = &[
     (LOW_CTR, 9_590),
 ];
 
-/// Sees that a text of 64,000 bytes in 4,000 pieces is chained as at once, there and back.
+/// Sees that a text of 64,000 bytes in 4,000 parts is chained as at once, there and back.
 pub fn expect_long_chain(server: &impl Server, alloc: Global) -> Result<(), Fail> {
     let text = text_of(alloc, 8_000)?;
     expect_pieces_as_at_once(server, alloc, CBC, &text)

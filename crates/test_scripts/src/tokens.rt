@@ -1,4 +1,4 @@
-//! New tokens, and calls that ask no question.
+//! New tokens, and calls that return no job.
 
 ghost use Rattle.std.specs.Prelude.{[], IfOk};
 ghost use Rattle.model_worlds.specs.Worlds.{World};
@@ -25,7 +25,7 @@ pub fn token_over<K: Keep>(alloc: Global, keep: K) -> Result<Token<K>, Fail>
     }
 }
 
-/// What an application is told of a call that asks no question.
+/// What an application gets for a call that returns no job.
 pub fn told_at_once<K: Keep>(
     alloc: Global,
     token: &mut Token<K>,
@@ -48,7 +48,7 @@ pub fn told_at_once<K: Keep>(
     }
 }
 
-/// The number of the session that an application opens.
+/// The session that an application opens.
 pub fn opened_session<K: Keep>(alloc: Global, token: &mut Token<K>, app: u64) -> Result<u64, Fail> {
     let reply = told_at_once(alloc, token, app, Call::OpenSession { slot: 0, flags: 6 })?;
     let session = match &reply {
@@ -59,7 +59,7 @@ pub fn opened_session<K: Keep>(alloc: Global, token: &mut Token<K>, app: u64) ->
     session
 }
 
-/// The code that an application is told of a call, or none where it is told more.
+/// The code that an application gets for a call, or none where it gets more.
 pub fn told_code<K: Keep>(
     alloc: Global,
     token: &mut Token<K>,

@@ -1,6 +1,6 @@
-//! The tests of `token`: scripts of what applications do and are told (`test_scripts`), and the order in which each call's
-//! faults are told (`tests/order.rt`). They stand in a crate of their own, so that neither waits for the other where `token`
-//! is proved and its edits are tried.
+//! The tests of `token`: scripts of what applications do and get (`test_scripts`), and the order of each call's faults
+//! (`tests/order.rt`). They stand in a crate of their own, so that neither waits for the other where `token` is proved and its
+//! edits are tried.
 //!
 //! ```text
 //! const ROWS: &[Row] = &[

@@ -1,4 +1,4 @@
--- Which definition answers a call, and what is told of it.
+-- Which definition answers a call, and what it returns.
 use Rattle.std.proofs.Common.{◌≡◌, ℕ, ◌^◌, ◌≤◌, arith, Bool, true, false, cond, List, length, Option, Some, None, Result, Ok, Err, refl, sym, ap, subst}
 use Rattle.std.specs.Prelude.{is_some, ◌||◌, nat_le, IfOk}
 use Rattle.std.specs.Option.{option_map}
@@ -59,7 +59,7 @@ busy-is c d x random r busy = rw (closed-is c d, busy) refl
 pub serves-is : {K : Type 0} (terms : Terms K) (a b : Answer) (c : Contents) (old new : StoreState K) (before desk : DeskState) (r : Result Out Fault) → a ≡ b → Serves terms said_of b c old new before before r desk → Serves terms said_of a c old new before before r desk
 serves-is terms a b c old new before desk r is serves = subst (λ x. Serves terms said_of x c old new before before r desk) (sym is) serves
 
--- ---- what is told
+-- ---- what is returned
 
 -- a reply is no other application's job
 for-reply : (app : ℕ) (r : Result Reply Refusal) → IfOk (settled OutReply r) (IsFor app)
@@ -87,7 +87,7 @@ module _ {K : Type 0} (terms : Terms K) (app : ℕ) (others_have_sessions : Bool
   pub call-done : (writes : ℕ) (old new : StoreState K) (before desk : DeskState) (r : Result Reply Refusal) (out : Result Out Fault) → writes ≤ 1 → out ≡ settled OutReply r → IsDoneIf (IsShortCall x) terms Replies writes (λ c. answers) old new before r desk → IsCallServed old new before out desk
   call-done writes old new before desk r out few told done = rw (is, told) (served-as terms Replies OutReply (IsFor app) writes answers old new before desk r (λ t. refl) few (for-reply app r) done)
 
-  -- which may ask
+  -- which may return a job
   pub call-asked : (writes : ℕ) → writes ≤ 1 → (old new : StoreState K) (before desk : DeskState) (r : Result Out Refusal) (out : Result Out Fault) → out ≡ settled (λ out. out) r → IfOk r (IsFor app) → IsDoneIf (IsShortCall x) terms said_of writes (λ c. answers) old new before r desk → IsCallServed old new before out desk
   call-asked writes few old new before desk r out told for done = rw (is, told) (served-as terms said_of (λ out. out) (IsFor app) writes answers old new before desk r (λ t. refl) few (for-out app r for) done)
 

@@ -1,4 +1,4 @@
--- The end of a question at its desk.
+-- The result of a pending call at its desk.
 use Rattle.std.proofs.Common.{◌≡◌, ℕ, false, true, Option, Some, None, Result, Ok, Err, refl, sym, ◌∙◌, ap, subst, inl, arith}
 use Rattle.std.specs.Prelude.{IfErr, IfOk, IsSome, IsErrOf}
 use Rattle.std.specs.Option.{option_map}
@@ -41,7 +41,7 @@ use Rattle.model_views.specs.Views.{sees}
 use Rattle.model_views.specs.Changes.{Stays, in_list}
 use Rattle.serve_base.specs.Stores.{LeavesTried}
 
--- ---- the outcome of a question that is over
+-- ---- the outcome of a call that is pending no more
 
 pub over-view : (c : Contents) (d : DeskState) → d.question ≡ None → answered (view_of c d) ≡ view_of c d
 over-view c d none = let f : Option Job → View = λ q. record (view_of c d) { question = option_map question_of q } in ap f (sym none)
@@ -95,7 +95,7 @@ module _ {K : Type 0} (terms : Terms K) where
     short = λ few. tt;
   }
 
-  -- what another crate has done at a view without a question
+  -- what another crate has done at a view without a pending call
   pub done-over : {given : Type 0} (f : Contents → View → Answer) (old new : StoreState K) (d desk : DeskState) (r : Result Reply Refusal) → d.question ≡ None → IsDoneAs terms Replies 1 f old new d r desk → IsDoneIf given terms Replies 1 (λ c v. f c (answered v)) old new d r desk
   done-over f old new d desk r none done =
       let over_done = done-is 1 (λ c v. f c (answered v)) f old new d r desk (λ c. ap (f c) (over-view c d none)) done in
@@ -108,7 +108,7 @@ module _ {K : Type 0} (terms : Terms K) where
         short = λ few. over_done.short tt;
       }
 
--- ---- and what is told of it
+-- ---- and what is returned for it
 
 served-told : {K : Type 0} (terms : Terms K) (a : Answer) (c : Contents) (old new : StoreState K) (before mid desk : DeskState) (r : Result Reply Refusal) → mid ≡ over before → Fits c mid.handles.entries → DoesAs terms Replies a c old new mid r desk → Serves terms Replies a c old new before mid (settled_reply r) desk
 served-told terms a c old new before mid desk (Ok reply) is fits does = subst (λ login. Gave terms a login c old new (Replies reply) desk) (ap (λ (d : DeskState). d.sessions.login) is) does
@@ -180,7 +180,7 @@ module _ {K : Type 0} (terms : Terms K) (job : Job) (others : Others) (old new :
       })
 
 module _ {K : Type 0} (terms : Terms K) (job : Job) (reveal : Contents → Reveal) (store : StoreState K) (before : DeskState) where
-  -- memory was refused in the job
+  -- an allocation failed in the job
   pub finishes-memory : (desk : DeskState) → desk ≡ over before → Finishes terms job reveal store store before (Err Memory) desk
   finishes-memory desk is = rw is (record {
     serves = λ sure c h fits. record { has = h; same = refl; leaves = λ l may. inl may };
@@ -191,7 +191,7 @@ module _ {K : Type 0} (terms : Terms K) (job : Job) (reveal : Contents → Revea
     short = λ few. tt;
   })
 
-  -- no question is pending
+  -- no call is pending
   none-answer : (c : Contents) → before.question ≡ None → answer_to_job job (view_of c before) (reveal c) ≡ refuses (view_of c before) FunctionFailed
   unfolding answer_result
   none-answer c none =
@@ -232,7 +232,7 @@ module _ {K : Type 0} (terms : Terms K) (job : Job) (reveal : Contents → Revea
   stays-finished (Ok reply) desk done some = let k : false ≡ true = subst IsSome done.plain some in cc
   stays-finished (Err fault) desk done some = done.stays
 
--- what is told of a fault is short
+-- what is returned for a fault is short
 pub short-result : (r : Result Reply Fault) → IfOk r (λ reply. IsShort reply) → IsShort (told_result r)
 short-result (Ok reply) short = short
 short-result (Err Memory) short = tt

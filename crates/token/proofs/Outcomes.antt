@@ -1,4 +1,4 @@
--- What the definition of a question answers, by what its work gives.
+-- What the definition of a pending call answers, by what its work gives.
 use Rattle.std.proofs.Common.{◌≡◌, ℕ, Bool, true, false, cond, List, Option, Some, None, refl}
 use Rattle.std.specs.Str.{bytes_eq}
 use Rattle.ck_types.specs.declared.entry.Entry.{Entry}
@@ -52,7 +52,7 @@ work-value (ResetToken label verifier pin) = refl
 -- ---- the answers
 
 module _ (v : View) (objects : List (List Entry)) (f : UserType → ℕ) (others_have_sessions : Bool) where
-  -- by the outcome alone, at the session of the question
+  -- by the outcome alone, at the session of the pending call
   abbrev pub ends_by : ℕ → Outcome → Answer
   ends_by s (out.Piece output stream) = becomes (Output (Data output)) (with_operation (answered v) s (place_for stream.direction) (Some (operation_of stream)))
   ends_by s (out.Rest direction output) = becomes (Output (Data output)) (with_operation (answered v) s (place_for direction) None)

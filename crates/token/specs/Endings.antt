@@ -1,4 +1,4 @@
--- The end of a question at its desk, by what the other applications have in progress.
+-- The result of a pending call at its desk, by what the other applications have in progress.
 use Rattle.std.specs.Prelude.{◌≡◌, ℕ, ◌≤◌, Result, Ok, Err, length}
 use Rattle.ck_types.specs.declared.rv.Rv.TheVariants as rv
 use Rattle.ck_types.specs.declared.user_type.UserType.{UserType}
@@ -32,17 +32,17 @@ abbrev pub under_way_of : Others → UserType → ℕ
 under_way_of o So = o.so_checks
 under_way_of o User = o.user_checks
 
--- a frame has room for what the work gave
+-- what the work gave fits into a frame
 abbrev pub IsShortOutcome : Outcome → Type 0
 IsShortOutcome outcome = length (given_of outcome) ≤ most_data
 
--- The outcome of some work is answered as the definition of its question says, and shortly where it is short.
+-- The outcome of some work is answered as the definition of the pending call says, and shortly where it is short.
 abbrev pub EndsBy : {K : Type 0} → Terms K → ℕ → Outcome → Others → StoreState K → StoreState K → DeskState → Result Reply Refusal → DeskState → Type 0
 EndsBy terms session outcome others old new before result desk =
     (work : Work) (q : Question) → outcome ≡ outcome_of work → q.session ≡ session
     → IsDoneIf (IsShortOutcome outcome) terms Replies 1 (λ c v. answer_outcome v q (task_of work) (told_of outcome) (reveal_by_outcome (task_of work) (told_of outcome) (objects_of c) (under_way_of others) others.others_have_sessions)) old new before result desk
 
--- what is told of it
+-- what is returned for it
 abbrev pub settled_reply : Result Reply Refusal → Result Reply Fault
 settled_reply (Ok reply) = Ok reply
 settled_reply (Err (refusals.Condition row)) = Ok (Code (code_of rv.Ok row))

@@ -37,7 +37,7 @@ impl Others {
     }
 }
 
-/// The result of the pending call, which is over then.
+/// The result of the pending call, which is pending no more.
 pub(crate) fn finish_at<K: Keep>(
     desk: &mut Desk,
     store: &mut Store<K>,
@@ -57,7 +57,7 @@ pub(crate) fn finish_at<K: Keep>(
     }
 }
 
-/// The outcome of a question that is over.
+/// The outcome of a call that is pending no more.
 fn serve_outcome<K: Keep>(
     desk: &mut Desk,
     store: &mut Store<K>,
@@ -104,7 +104,7 @@ fn serve_outcome<K: Keep>(
     }
 }
 
-/// What is told of the end of a question.
+/// What is returned at the end of a pending call.
 fn settle_reply(outcome: Result<Reply, Refusal>) -> Result<Reply, Fault>
     ensures { result ≡ settled_reply outcome }
 {

@@ -11,6 +11,6 @@ pub struct Ran {
     pub replies: Vec<(u64, Reply)>,
     /// The pending jobs.
     pub out: Vec<(u64, Job)>,
-    /// The events that were not taken, which are some only where memory was refused.
+    /// The events that were not taken. There are some only where an allocation failed.
     pub left: Vec<Event>,
 }

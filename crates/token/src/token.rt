@@ -60,14 +60,14 @@ impl<K: Keep> Model for Token<K> {
 }
 
 impl<K: Keep> Token<K> {
-    /// A token over a keeper, which nobody has called yet. It reads the ids of the keeper's objects. A
-    /// keeper that refuses comes back beside its fault, as it was.
+    /// A token over a keeper, which nobody has called yet. It reads the ids of the keeper's objects. A keeper that fails comes back
+    /// beside its fault, as it was.
     pub fn new(alloc: Global, keep: K) -> Result<Token<K>, (KeepFault, K)>
-        // It shows what the keeper holds, and no application.
+        // It refines what the keeper holds, with no application.
         ensures shows { (c : Contents) → K.terms.holds keep c → IfOk result (λ t. K.terms.doubt t.store.keep ≡ 0 → Shows K.terms t (opening c)) }
         // The ten tries begin.
         ensures sound { IfOk result (λ t. (w : World) → Shows K.terms t w → ((who : Who) → tries_of (w.token_record) who ≤ tries_limit) → IsSound (tries_of (w.token_record)) w) }
-        // No question is pending.
+        // No call is pending.
         ensures jobs { IfOk result (λ t. (w : World) → Shows K.terms t w → HasJobs w []) }
         ensures leaves { (c : Contents) → K.terms.holds keep c → IfOk result (λ t. (left : Option Contents) → K.terms.may_leave t.store.keep left → K.terms.may_leave keep left) }
         ensures back { IfErr result (λ e. Stays K.terms keep e.1) }
@@ -80,7 +80,7 @@ impl<K: Keep> Token<K> {
         })
     }
 
-    /// The keeper, with all that was acknowledged. The applications are gone.
+    /// The keeper, with all that was acknowledged. All applications are disconnected.
     pub fn into_keep(self) -> K
         ensures { result ≡ self.store.keep }
     {
@@ -88,13 +88,13 @@ impl<K: Keep> Token<K> {
         store.into_keep()
     }
 
-    /// One call of an application, with its random bytes (`ck_calls::need`). Where memory was refused the
-    /// reply is `CKR_HOST_MEMORY`, where the keeper failed `CKR_DEVICE_ERROR`; then nothing has changed.
+    /// One call of an application, with its random bytes (`ck_calls::need`). Where an allocation failed the reply is
+    /// `CKR_HOST_MEMORY`, where the keeper failed `CKR_DEVICE_ERROR`; then nothing has changed.
     pub fn call(&mut self, alloc: Global, app: u64, call: Call, random: &[u8]) -> Out
         requires { length random.now ≡ random_bytes call }
-        // The token shows the world after the call.
+        // The token refines the world after the call.
         ensures world { K.terms.doubt self.new.store.keep ≡ 0 → (w : World) → Shows K.terms self.old w → Shows K.terms self.new (called w app call random.now (resource_error_in (said_of result))) }
-        // What is said is the answer to what the application sees, or a resource error.
+        // What is returned is the answer to what the application sees, or a resource error.
         ensures says { K.terms.doubt self.new.store.keep ≡ 0 → (w : World) → Shows K.terms self.old w → said_of result ≡ says_called w app call random.now (resource_error_in (said_of result)) }
         // A job is the application's.
         ensures asker { IsFor app result }
@@ -104,10 +104,10 @@ impl<K: Keep> Token<K> {
         ensures counts { Counted K.terms self.old.store.keep self.new.store.keep 0 1 }
         // CKR_DEVICE_ERROR comes only where a failure of the keeper was counted.
         ensures cause { result ≡ OutReply (Code DeviceError) → Rises (K.terms.failures self.old.store.keep) (K.terms.failures self.new.store.keep) }
-        // Of the other applications nothing changes, nor where it is refused of this one, but the memory at hand.
+        // Of the other applications nothing changes, nor where it is refused of this one, but capacities.
         ensures others { (b : ℕ) → b ≢ app → SameDesk (desk_at self.old.desks b) (desk_at self.new.desks b) }
         ensures stays { IsSome (resource_error_in (said_of result)) → SameDesk (desk_at self.old.desks app) (desk_at self.new.desks app) }
-        // A call with data that a frame has room for is told of as shortly, or asks for what is.
+        // A call with data that fits into a frame returns something as short, or a job for it.
         ensures short { IsShortCall call → IsShortSaid (said_of result) }
     {
         told_as(serve_app(
@@ -121,13 +121,13 @@ impl<K: Keep> Token<K> {
         ))
     }
 
-    /// The end of an application's question. A `Done` of another application, question or function, or
-    /// without a pending call, answers `CKR_FUNCTION_FAILED` and changes nothing. Where memory was
-    /// refused, in the job too, the reply is `CKR_HOST_MEMORY`; the question is over.
+    /// The result of an application's pending call. A `Done` of another application, job number or function, or without a pending
+    /// call, returns `CKR_FUNCTION_FAILED` and changes nothing. Where an allocation failed, in the job too, the reply is
+    /// `CKR_HOST_MEMORY`; the call is pending no more.
     pub fn finish(&mut self, _alloc: Global, app: u64, done: Done) -> Reply
-        // The token shows the world after the result.
+        // The token refines the world after the result.
         ensures world { K.terms.doubt self.new.store.keep ≡ 0 → (w : World) → Shows K.terms self.old w → IsOpen w app done.job.value → Shows K.terms self.new (happens w (move_of (Finish app) (OutReply result))) }
-        // What is told is the answer to the result of the question, or a resource error.
+        // What is returned is the answer to the result of the pending call, or a resource error.
         ensures told { K.terms.doubt self.new.store.keep ≡ 0 → (w : World) → Shows K.terms self.old w → IsOpen w app done.job.value → reply_to w (move_of (Finish app) (OutReply result)) ≡ (app, result) ∷ [] }
         // A result that has the pending call's numbers is taken by its own value, whatever job it is of.
         ensures taken { K.terms.doubt self.new.store.keep ≡ 0 → (w : World) → Shows K.terms self.old w → HasNumbers (w.views app).question app done.job.value → IsTakenBy (Shows K.terms self.new) (MayLeave K.terms self.old) (MayLeave K.terms self.new) w app done.job.value result }
@@ -138,10 +138,10 @@ impl<K: Keep> Token<K> {
         ensures counts { Counted K.terms self.old.store.keep self.new.store.keep 0 1 }
         // CKR_DEVICE_ERROR comes only where a failure of the keeper was counted.
         ensures cause { result ≡ Code DeviceError → Rises (K.terms.failures self.old.store.keep) (K.terms.failures self.new.store.keep) }
-        // Of the other applications nothing changes, nor where it is refused of this one, but its question and the memory at hand.
+        // Of the other applications nothing changes, nor where it is refused of this one, but its pending call and capacities.
         ensures others { (b : ℕ) → b ≢ app → desk_at self.new.desks b ≡ desk_at self.old.desks b }
         ensures stays { IsSome (resource_error result) → SameDesk (over (desk_at self.old.desks app)) (desk_at self.new.desks app) }
-        // What is told of a short job is short.
+        // What is returned for a short job is short.
         ensures short { IsShortTask (task_of done.job.value.work.value) → IsShort result }
     {
         if !is_pending_job(&self.desks, app, &done) {
@@ -158,7 +158,7 @@ impl<K: Keep> Token<K> {
         reply
     }
 
-    /// The application goes, with all that it has. This takes no memory.
+    /// A disconnect: the application's state ends. Allocates nothing.
     pub fn gone(&mut self, app: u64)
         ensures world { (w : World) → Shows K.terms self.old w → Shows K.terms self.new (goes w (Gone app)) }
         // Neither the keeper nor what a crash may leave changes.
@@ -168,7 +168,7 @@ impl<K: Keep> Token<K> {
         retain_others(&mut self.checks, app);
     }
 
-    /// One event, with the pending jobs. A call may add one, for which there is room.
+    /// One event, with the pending jobs. A call may add one, for which memory is allocated.
     fn event(
         &mut self,
         alloc: Global,
@@ -232,14 +232,14 @@ impl<K: Keep> Token<K> {
         Ok(())
     }
 
-    /// Takes the events in turn, as long as there is memory for the replies and jobs. `out` has the
-    /// job of each pending call, once, and nothing else.
+    /// Takes the events in turn, as long as there is memory for the replies and jobs. `out` has the job of each pending call, once,
+    /// and nothing else.
     pub fn run(&mut self, alloc: Global, mut events: Vec<Event>, mut out: Vec<(u64, Job)>) -> Ran
         requires random { All HasRandom events.items }
         requires jobs { (w : World) → Shows K.terms self.old w → HasJobs w out.items }
         ensures run { K.terms.doubt self.new.store.keep ≡ 0 → (w : World) → Shows K.terms self.old w
             → IsRun (Shows K.terms self.new) (MayLeave K.terms self.old) (MayLeave K.terms self.new) w events.items result.replies.items result.left.items result.out.items }
-        // No lie of the disk is forgotten.
+        // No fault of the disk is forgotten.
         ensures doubt { K.terms.doubt self.old.store.keep ≤ K.terms.doubt self.new.store.keep }
         // For each CKR_DEVICE_ERROR a failure of the keeper was counted.
         ensures accounts { AccountsFor (K.terms.failures self.old.store.keep) (K.terms.failures self.new.store.keep) (map (λ r. r.1) result.replies.items) }
@@ -261,7 +261,7 @@ impl<K: Keep> Token<K> {
     }
 }
 
-/// What an application is told of its call.
+/// What an application gets of its call.
 fn told_as(outcome: Result<Out, Fault>) -> Out
     ensures { result ≡ told_as outcome }
 {
@@ -271,7 +271,7 @@ fn told_as(outcome: Result<Out, Fault>) -> Out
     }
 }
 
-/// What an application is told of its result.
+/// What an application gets of its result.
 fn told_result(outcome: Result<Reply, Fault>) -> Reply
     ensures { result ≡ told_result outcome }
 {
@@ -281,7 +281,7 @@ fn told_result(outcome: Result<Reply, Fault>) -> Reply
     }
 }
 
-/// What an application is answered where its event was refused.
+/// What an application gets where its event was refused.
 fn refusal(fault: Fault) -> Reply
     ensures { result ≡ refusal fault }
 {
@@ -291,7 +291,7 @@ fn refusal(fault: Fault) -> Reply
     }
 }
 
-/// One call, at the desk of its application. There is room for a check before it is charged.
+/// One call, at the desk of its application. Memory for a check is allocated before it is charged.
 fn serve_app<K: Keep>(
     alloc: Global,
     app: u64,
@@ -348,7 +348,7 @@ fn serve_seated<K: Keep>(
     }
 }
 
-/// Whether another application has a session, where the call asks.
+/// Whether another application has a session, where the call depends on it.
 fn is_in_use_for(desks: &BTreeMap<u64, Desk>, app: u64, call: &Call) -> bool
     ensures { reveal_by_call call.now result ≡ reveal_by_call call.now (are_others_in_session desks.now.entries app) }
 {
@@ -387,7 +387,7 @@ fn note_check(checks: &mut Vec<Check>, app: u64, out: &Out)
     }
 }
 
-/// The PIN that a question checks.
+/// The PIN that a pending call checks.
 fn pin_checked(out: &Out) -> Option<UserType>
     ensures { result ≡ pin_checked_in (said_of out.now) }
 {
@@ -408,7 +408,7 @@ fn pin_checked(out: &Out) -> Option<UserType>
     }
 }
 
-/// Sees that the application has a desk.
+/// Adds a desk for the application where it has none.
 fn add_desk(alloc: Global, desks: &mut BTreeMap<u64, Desk>, app: u64) -> Result<(), Fault>
     ensures same { (b : ℕ) → SameDesk (desk_at desks.old.entries b) (desk_at desks.new.entries b) }
     ensures there { OnOk result (IsSome (get nat_cmp desks.new app)) }
@@ -422,7 +422,7 @@ fn add_desk(alloc: Global, desks: &mut BTreeMap<u64, Desk>, app: u64) -> Result<
     Ok(())
 }
 
-/// Whether a job that was run is of the application's question.
+/// Whether a job that was run is of this pending call.
 fn is_of(done: &Done, app: u64, question: &Question) -> bool
     ensures { result ≡ is_answer (Some question.now) app done.now.job.value }
 {
@@ -515,7 +515,7 @@ fn take_job(out: &mut Vec<(u64, Job)>, app: u64) -> Option<Job>
     Some(out.remove(place).1)
 }
 
-/// The place of the application's job.
+/// The index of the application's job.
 fn index_of_job(out: &[(u64, Job)], app: u64) -> Option<usize>
     ensures { result ≡ position (λ j. app == j.0) out.now }
 {

@@ -82,7 +82,7 @@ const COUNTER_ENCRYPTED: &[u64] = &[
     0x25b2072f00000000,
 ];
 
-// Whether the first 36 bytes are turned to the others.
+// Whether the first 36 bytes become the others.
 fn is_counted(alloc: Global, direction: Direction, from: &[u64], to: &[u64]) -> Result<bool, Fail> {
     let key = key_of(alloc, COUNTER_KEY)?;
     let bits = CounterBits::new(32).ok_or("no such number of bits")?;

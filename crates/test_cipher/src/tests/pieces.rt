@@ -11,7 +11,7 @@ const KEY: &[u64] = &[0x2b7e151628aed2a6, 0xabf7158809cf4f3c];
 
 const VECTOR: Block = [7; 16];
 
-// How long the pieces are that a text is cut into.
+// How long the parts are that a text is cut into.
 const LENGTHS: &[usize] = &[1, 15, 16, 17, 31];
 
 // A text under the mode over whole texts.
@@ -33,8 +33,7 @@ fn whole(
 // How many bytes come with the last call: none, some and all.
 const LAST: &[usize] = &[0, 17, usize::MAX];
 
-// The same in parts of this length, and so many bytes with the last call. Each piece gives as many
-// bytes as it wants room for.
+// The same in parts of this length, and so many bytes with the last call. Each part gives as many bytes as it needs a buffer for.
 fn in_pieces(
     alloc: Global,
     mut stream: Stream,
@@ -55,7 +54,7 @@ fn in_pieces(
     Ok(out)
 }
 
-// Whether a text, cut into pieces of each length, is encrypted and decrypted as the whole one.
+// Whether a text, cut into parts of each length, is encrypted and decrypted as the whole one.
 fn is_as_whole(
     alloc: Global,
     key: &Key,
@@ -107,7 +106,7 @@ fn texts_of_any_length_in_pieces_are_as_the_whole(rt: HostRuntime) -> Result<(),
     Ok(())
 }
 
-// Whether a copy of a stream that has taken part of a block goes on by itself.
+// Whether a copy of a stream that has taken part of a block continues by itself.
 fn goes_on_by_itself(alloc: Global, mut stream: Stream) -> Result<bool, ModeFault> {
     stream.update(alloc, &[1; 20])?;
     let mut copy = stream.copied();

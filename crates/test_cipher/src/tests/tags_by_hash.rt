@@ -4,12 +4,12 @@ use vectors::{DERIVATIONS, KEY_LENGTHS, RFC_4231, Tags};
 
 pub(crate) mod vectors;
 
-// The bytes of a code that is given by its first 128 bits.
+// The bytes of a tag that is given by its first 128 bits.
 const TRUNCATED: usize = 16;
 
 static DIGITS: [u8; 16] = *b"0123456789abcdef";
 
-// Whether the digits spell the whole code, or its first 128 bits.
+// Whether the digits spell the whole tag, or its first 128 bits.
 pub(crate) fn spells(digits: &str, tag: &[u8]) -> bool {
     let digits = digits.as_bytes();
     if digits.len() != 2 * tag.len() && (digits.len() != 2 * TRUNCATED || tag.len() < TRUNCATED) {
@@ -26,7 +26,7 @@ pub(crate) fn spells(digits: &str, tag: &[u8]) -> bool {
     true
 }
 
-// Whether the four functions give these codes.
+// Whether the four functions give these tags.
 fn are_tags(case: &Tags) -> bool {
     spells(case.sha224, &hmac224(case.key, case.message))
         && spells(case.sha256, &hmac256(case.key, case.message))
@@ -34,7 +34,7 @@ fn are_tags(case: &Tags) -> bool {
         && spells(case.sha512, &hmac512(case.key, case.message))
 }
 
-// Whether the message that comes in these pieces has this code.
+// Whether the message that comes in these parts has this tag.
 fn is_tag_of_pieces<D: HashFunction>(digits: &str, key: &[u8], pieces: &[&[u8]]) -> bool
 where
     D::Output: Drop,

@@ -5,7 +5,7 @@ use crate::tests::tags_by_hash::vectors::RFC_4231;
 use macs::{Mac, Mechanism, Tag};
 use std::test::Fail;
 
-// How long the pieces are that a message is cut into.
+// How long the parts are that a message is cut into.
 const LENGTHS: &[usize] = &[1, 15, 16, 17, 31];
 
 // The tag of a message in parts of this length, where there is such a key.
@@ -72,8 +72,7 @@ const MECHANISMS: &[Mechanism] = &[
     Mechanism::Sha512Hmac,
 ];
 
-// Whether a copy of a message's first part goes on by itself, and the message goes on behind its
-// code.
+// Whether a copy of a message's first part continues by itself, and the message continues behind its tag.
 fn goes_on_by_itself(mechanism: Mechanism, key: &[u8]) -> Option<bool> {
     let mut mac = Mac::new(mechanism, key)?;
     mac.update(b"a first part");

@@ -32,7 +32,7 @@ fn hold_over_list<R: Threads + Wait + Clock + Copy + Send + Sync + Drop + 'stati
     hold_rows(rt, alloc, ListKeep::new(alloc, Record::new()), script)
 }
 
-/// B's job is asked for, run and answered while A's waits at the gate.
+/// B's job is returned, run and answered while A's waits at the gate.
 #[test]
 fn a_job_waits_for_no_other(rt: HostRuntime) -> Result<(), Fail> {
     const ROWS: &[Row] = &[
@@ -51,7 +51,7 @@ fn a_job_waits_for_no_other(rt: HostRuntime) -> Result<(), Fail> {
     hold_over_list(rt, rt.alloc(), ("a job", ROWS))
 }
 
-/// The jobs of all four seats are asked for, and then run, the last first.
+/// The jobs of all four seats are returned, and then run, the last first.
 #[test]
 fn four_jobs_are_out_at_once(rt: HostRuntime) -> Result<(), Fail> {
     const ROWS: &[Row] = &[

@@ -14,7 +14,7 @@ use std::thread::Threads;
 use test_scripts::{opened_session, token_over, told_code};
 use token::Token;
 
-/// A seat that has no event, and notes that it was asked for one.
+/// A seat that has no event, and records that it was called.
 #[derive(Drop)]
 struct Silent {
     number: u64,
@@ -81,8 +81,8 @@ fn has_session<K: Keep>(alloc: Global, token: &mut Token<K>) -> Result<bool, Fai
     Ok(told_code(alloc, token, 1, ask)?.is_none())
 }
 
-/// Sees whether all seats were asked, where no stack is too large; or that none was, that this is told, and that the token comes
-/// back as it was.
+/// Sees whether all seats were called, where no stack is too large; or that none was, that this is returned, and that the token
+/// comes back as it was.
 fn expect_asked<K: Keep, R: Threads + Wait + Copy + Send + Drop + 'static>(
     rt: R,
     alloc: Global,
@@ -125,7 +125,7 @@ fn expect_asked<K: Keep, R: Threads + Wait + Copy + Send + Drop + 'static>(
     }
 }
 
-/// A stack that no thread has room for.
+/// A stack that is too large for any thread.
 const LARGE: usize = usize::MAX;
 
 const STACKS: &[(usize, usize, usize, usize)] = &[

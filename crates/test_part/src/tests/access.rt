@@ -72,7 +72,7 @@ fn written_in(object: &Object) -> [bool; 5] {
     STATES.map(|state| writable(state, object))
 }
 
-/// What the key has, and whether its value is kept back.
+/// What the key has, and whether its value is masked.
 const MASKED: &[(&[Given], bool)] = &[
     (&[], true),
     (&[EXTRACTABLE], false),
@@ -80,7 +80,7 @@ const MASKED: &[(&[Given], bool)] = &[
     (&[SENSITIVE, EXTRACTABLE], true),
 ];
 
-/// Whether the object keeps its value back or not, as it should, and nothing else.
+/// Whether the object's value is masked or not, as it should be, and nothing else is.
 fn keeps_back(object: &Object, is_masked: bool) -> bool {
     masked(object) == is_masked
         && reveals(object, AttrType::Value) != is_masked

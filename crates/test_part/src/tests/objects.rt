@@ -36,7 +36,7 @@ fn data_object(alloc: Global) -> Result<Object, Fail> {
     object_of(alloc, ObjectClass::Data, &[])
 }
 
-/// How many attributes the object has, and the length of its stored form as it is told and as it is.
+/// How many attributes the object has, and the length of its stored form as it is returned and as it is.
 fn lengths(alloc: Global, object: &Object) -> Result<(usize, usize, usize), Fail> {
     let stored = encode(alloc, object)?.len();
     Ok((object.entries().len(), size(object), stored))
@@ -50,7 +50,7 @@ fn an_aes_key_has_309_bytes_and_a_data_object_128(rt: HostRuntime) -> Result<(),
     Ok(())
 }
 
-/// The class, the key type, the length of the value as the object says it, and whether it is sensitive.
+/// The class, the key type, the length of the value as the object returns it, and whether it is sensitive.
 fn told(object: &Object) -> (ObjectClass, Option<KeyType>, Option<u64>, Option<bool>) {
     let sensitive = object.get(AttrType::Sensitive).is_some();
     (
@@ -113,7 +113,7 @@ fn expect_cut(rt: &impl Abort, alloc: Global, stored: &[u8]) {
     }
 }
 
-/// A key's type, its value, the length that it says, and whether there is such a key.
+/// A key's type, its value, the length that it returns, and whether there is such a key.
 type Case = (&'static [u8], &'static [u8], &'static [u8], bool);
 
 static CASES: [Case; 7] = [

@@ -59,7 +59,7 @@ const CODES: &[(u16, &[u64])] = &[
     (41, &[0x6, 0xb3, 0x7]),
 ];
 
-/// The number of the code that answers the call where the places from `from` to `to` hold.
+/// The number of the code that the call returns where the places from `from` to `to` hold.
 fn answer(function: u16, from: usize, to: usize) -> Option<u64> {
     let mut facts = Facts::new(function, Rv::TemplateIncomplete);
     for place in 0..16 {
@@ -68,8 +68,8 @@ fn answer(function: u16, from: usize, to: usize) -> Option<u64> {
     first_fault(&facts).map(|code| code.number())
 }
 
-/// Whether the call answers by its first row where all hold, by the last where it alone holds, and
-/// nothing where none of its rows holds.
+/// Whether the call returns the code of its first row where all hold, and of the last where it alone holds. Where none of its
+/// rows holds it must return none.
 fn is_answered_by_its_ends(function: u16, codes: &[u64]) -> bool {
     let count = codes.len();
     let answers = [
@@ -81,7 +81,7 @@ fn is_answered_by_its_ends(function: u16, codes: &[u64]) -> bool {
     answers == [Some(0x6), Some(0x6), codes.last().copied(), None]
 }
 
-/// Whether the row answers its code where it alone holds, and where all from it on hold.
+/// Whether the row's code is returned where it alone holds, and where all from it on hold.
 fn is_answered_by_its_row(function: u16, place: usize, count: usize, code: u64) -> bool {
     answer(function, place, place.saturating_add(1)) == Some(code)
         && answer(function, place, count) == Some(code)

@@ -114,8 +114,8 @@ fn with_user_pin(record: Record, verifier: Verifier, under_way: u8) -> Record
     }
 }
 
-/// How many wrong PINs of the SO and of the user a record with both has seen, whether the user's PIN is then set anew,
-/// and the flags that the token shows by it.
+/// How many wrong PINs of the SO and of the user a record with both has seen, and whether the user's PIN is then set anew. And
+/// the flags of the token by it.
 const FLAGS: &[(u8, u8, bool, u64)] = &[
     (0, 0, false, 0x40d),
     (0, 1, false, 0x1040d),

@@ -26,7 +26,7 @@ fn opened(sessions: &mut Sessions<Steps>, read_write: bool) -> Result<u64, Fail>
     }
 }
 
-/// Whether the session is there, with its access, until it is closed, and the one before it is gone.
+/// Whether the session is there, with its access, until it is closed, and the one before it is closed.
 fn is_closed_once(sessions: &mut Sessions<Steps>, session: u64, read_write: bool) -> bool {
     !sessions.has(session.saturating_sub(1))
         && sessions.is_read_write(session) == Some(read_write)

@@ -321,7 +321,7 @@ fn code_of(alloc: Global, case: &Case) -> Rv {
     }
 }
 
-/// The code of an unwrapping that is told before the value is known.
+/// The code of an unwrapping that is returned before the value is known.
 fn early_code_of(alloc: Global, case: &Case, len: usize) -> Result<Rv, AllocError> {
     let template = template(alloc, case.given)?;
     Ok(unwrap_fault(case.state, &template, len).unwrap_or(Rv::Ok))
@@ -432,7 +432,7 @@ fn a_copy_has_an_identifier_of_its_own(rt: HostRuntime) -> Result<(), Fail> {
     Ok(())
 }
 
-/// A length that is asked for, and how many random bytes are taken for it.
+/// A wanted length, and how many random bytes are taken for it.
 const LENGTHS: &[(&[u8], usize)] = &[(N16, 32), (N513, 16)];
 
 #[test]
@@ -451,7 +451,7 @@ const UNWRAPPED_KEYS: &[(&[Given], (bool, bool))] = &[
     (&[(KEY_TYPE, N31), (PRIVATE, FALSE)], (false, false)),
 ];
 
-/// What is told of a template before there is a value.
+/// What is returned of a template before there is a value.
 fn told_early(alloc: Global, given: &[Given]) -> Result<(bool, bool), Fail> {
     let template = template(alloc, given)?;
     Ok((unwraps_token_key(&template), unwraps_private_key(&template)))

@@ -1,4 +1,4 @@
-//! What C_GetTokenInfo tells of a token and its PINs.
+//! What C_GetTokenInfo returns of a token and its PINs.
 
 use super::given::*;
 use super::stored::{play_and_run, record_with};

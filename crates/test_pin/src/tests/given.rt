@@ -4,7 +4,7 @@ use ck_types::{AttrType, Rv};
 use test_scripts::given::*;
 use test_scripts::{Given, Step, Told};
 
-/// A third application, and one that only asks what the token is.
+/// A third application, and one that only calls C_GetTokenInfo.
 pub(super) const C: u64 = 3;
 
 pub(super) const ASKER: u64 = 99;

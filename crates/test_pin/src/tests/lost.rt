@@ -83,7 +83,7 @@ fn reply_to(
     }
 }
 
-/// The code that a late result is answered. The check of a right PIN began with a try before it.
+/// The code that a late result returns. The check of a right PIN began with a try before it.
 fn late_code(alloc: Global, token: &mut Token<ListKeep>, before: &[Step]) -> Result<Reply, Fail> {
     drop(reply_to(alloc, token, A, OPEN)?);
     let job = job_of(alloc, token, A, LOGIN)?;
@@ -99,7 +99,7 @@ fn token_with_a_try(alloc: Global) -> Result<Token<ListKeep>, Fail> {
     token_over(alloc, ListKeep::new(alloc, record_with(0, 1)?))
 }
 
-/// What a late result is answered, and the replies to the next steps of an application of the number.
+/// The reply to a late result, and the replies to the next steps of an application of the number.
 fn late_replies(alloc: Global, before: &[Step], steps: &[Step]) -> Result<(Vec<Reply>, u8), Fail> {
     let mut token = token_with_a_try(alloc)?;
     let mut replies = Vec::new(alloc);

@@ -1,4 +1,4 @@
-//! Of two faults of a call the one is told that stands first in the call's table.
+//! Of two faults of a call, the code is that of the first in the call's table.
 
 mod cases;
 
@@ -13,7 +13,7 @@ use std::test::*;
 use test_scripts::given::*;
 use test_scripts::{Bench, Pair, Step, Told, expect_neighbours};
 
-/// What is told of a call whose first fault this is.
+/// What a call returns whose first fault this is.
 fn told_of(fault: Fault) -> Result<Told, Fail> {
     Ok(match fault {
         Fault::Busy => FAILED,
@@ -55,7 +55,7 @@ fn bench_for(alloc: Global, case: &Case) -> Result<Bench, Fail> {
     Ok(bench)
 }
 
-/// Sees that the second fault is told where it holds alone, and the first where both do.
+/// Sees that the second fault's code is returned where it holds alone, and the first's where both do.
 fn expect_order(bench: &mut Bench, case: &Case) -> Result<(), Fail> {
     let (first, second) = (case.first, case.second);
     bench.expect(second, (A, case.alone, told_of(second)?))?;
@@ -72,7 +72,7 @@ fn of_two_faults_the_first_is_told(rt: HostRuntime) -> Result<(), Fail> {
     Ok(())
 }
 
-/// Sees that each call with its second fault is told that.
+/// Sees that each call with its second fault returns that one's code.
 fn expect_seconds(bench: &mut Bench) -> Result<(), Fail> {
     for (fault, step) in SECONDS {
         bench.expect(fault, (A, *step, told_of(*fault)?))?;

@@ -1,5 +1,5 @@
-//! The ten tries of the user's PIN where its checks overlap: what is told is what a count of charges tells, and there is never
-//! an eleventh check that ends wrong or abandoned before one ends right.
+//! The ten tries of the user's PIN where its checks overlap. The replies are those of a count of charges, and there is never an
+//! eleventh check that ends wrong or abandoned before one ends right.
 
 mod charges;
 mod numbers;
@@ -22,7 +22,7 @@ enum Deed {
     Begins(bool),
     /// Its result is handed in.
     Ends,
-    /// The application goes, and comes again.
+    /// The application disconnects, and comes again.
     Goes,
 }
 
@@ -50,7 +50,7 @@ impl Walk {
         })
     }
 
-    /// Adds what the application does and is told, and the flags that are told then.
+    /// Adds what the application does and gets, and the flags that are returned then.
     fn add(&mut self, app: u64, deed: Deed) -> Result<(), Fail> {
         match deed {
             Deed::Begins(is_right) => self.begin(app, is_right)?,
@@ -92,7 +92,7 @@ impl Walk {
         Ok(())
     }
 
-    /// Sees that a token goes as the rows say, in one list of events. At the end all applications go.
+    /// Sees that a token goes as the rows are written, in one list of events. At the end all applications disconnect.
     fn see(&mut self, alloc: Global) -> Result<(), Fail> {
         for app in 1..=self.last {
             self.push((app, Step::Goes, Told::Nothing))?;
@@ -113,7 +113,7 @@ fn next_deed(numbers: &mut Numbers, is_under_way: bool) -> Deed {
     }
 }
 
-/// Sees what each of ten applications is told in an order that the numbers give.
+/// Sees what each of ten applications gets in an order that the numbers give.
 fn see_ten(alloc: Global, numbers: &mut Numbers) -> Result<(), Fail> {
     let tries = numbers.next(11) as u8;
     let mut walk = Walk::new(alloc, tries, 10)?;

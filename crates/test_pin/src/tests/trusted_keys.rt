@@ -1,4 +1,4 @@
-//! Keys that only a trusted key wraps (PKCS #11 v3.1, 4.10): the SO alone makes a key trusted, and nobody takes the bar away.
+//! Keys that only a trusted key wraps (PKCS #11 v3.1, 4.10): the SO alone makes a key trusted, and nobody removes the restriction.
 
 use super::given::*;
 use super::stored::{play_and_run, record_with};

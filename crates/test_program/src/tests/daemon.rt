@@ -51,7 +51,7 @@ pub(super) const SEARCH_REPLIES: &[u8] =
 \x00\x00\x00\x08\x00\x00\x00\x00\x00\x00\x00\x00\
 \x00\x00\x00\x14\x00\x00\x00\x00\x00\x00\x00\x00\x00\x00\x00\x01\x00\x00\x00\x00\x00\x00\x00\x01";
 
-/// What is said where the socket's path is taken.
+/// What is reported where the socket's path is taken.
 const TAKEN: &str = "another program listens on --socket, or its file is no socket";
 
 /// Runs `tokend serve` in a thread of its own, each seat of which accepts one connection.
@@ -164,7 +164,7 @@ pub(super) fn expect_end<R: Threads + Drop>(
     expect_ended(&ended, 0, b"ready\n", b"")
 }
 
-/// Sees that a daemon is refused, and what it says: the failure, and its cause.
+/// Sees that a daemon is refused, and what it reports: the failure, and its cause.
 pub(super) fn expect_refusal(
     rt: &HostRuntime,
     ended: Ended,

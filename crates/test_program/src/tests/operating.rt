@@ -1,4 +1,4 @@
-//! What an operator asks for and is told: modes, lines on standard error, a look through a store, a copy of it.
+//! What an operator asks for and gets: modes, lines on standard error, a look through a store, a copy of it.
 
 use super::daemon::{
     NEW_OBJECT, NEW_OBJECT_REPLIES, SEARCH, SEARCH_REPLIES, clear, expect, expect_end,

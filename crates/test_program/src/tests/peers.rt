@@ -1,4 +1,4 @@
-//! Peers of the daemon that cut their streams, send lengths above the limit, or are gone before their reply.
+//! Peers of the daemon that cut their streams, send lengths above the limit, or disconnect before their reply.
 
 use super::daemon::{clear, connect, expect, expect_end, start_for};
 use super::{OPEN_SESSION, SESSION_ONE};
@@ -80,7 +80,7 @@ fn a_length_above_the_limit_ends_its_connection_alone(rt: HostRuntime) -> Result
     Ok(())
 }
 
-/// What a seat asks, and of which application.
+/// What a seat puts, and of which application.
 #[derive(Clone, Copy, Debug, PartialEq, Eq)]
 enum Asks {
     Call(u64),
@@ -115,7 +115,7 @@ fn give(rt: &HostRuntime, seat: &mut SocketSeat<Discard>) -> Result<(), Fail> {
     Ok(())
 }
 
-/// What a seat asks whose peer is gone before its reply: before that, and after.
+/// What a seat puts whose peer disconnects before its reply: before that, and after.
 fn asked_of(rt: &HostRuntime, seat: &mut SocketSeat<Discard>) -> Result<(Asks, Asks, Asks), Fail> {
     let peer = send_twice(rt, "unread.sock")?;
     let first = what_is_asked(seat.next());
@@ -140,7 +140,7 @@ fn a_reply_that_cannot_be_written_is_followed_by_gone(rt: HostRuntime) -> Result
     Ok(())
 }
 
-/// What a seat does that is told to stop while a connection waits, and how it ended.
+/// What a seat does that is stopped while a connection waits, and how it ended.
 fn stopped(rt: &HostRuntime) -> Result<(Asks, Asks, Asks, bool), Fail> {
     let listener = UnixListener::bind(rt, "stopped.sock")?;
     let is_stopping = Arc::new(rt.alloc(), AtomicBool::new(false))?;
@@ -160,7 +160,7 @@ fn a_seat_that_is_told_to_stop_reads_and_accepts_no_more(rt: HostRuntime) -> Res
     clear(&rt, STOPPED);
     let ended = stopped(&rt);
     clear(&rt, STOPPED);
-    // The second call is not asked, though it has come, and the seat is over before its five connections.
+    // The second call is not put, though it has come, and the seat is over before its five connections.
     assert!(rt; ended? == (Asks::Call(3), Asks::Gone(3), Asks::Nothing, false));
     Ok(())
 }

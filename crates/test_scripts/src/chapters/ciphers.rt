@@ -1,4 +1,4 @@
-//! Ciphers, codes and wrapping with keys of the token (FIPS 197, SP 800-38A, SP 800-38B, RFC 4231, RFC 3394).
+//! Ciphers, MACs and wrapping with keys of the token (FIPS 197, SP 800-38A, SP 800-38B, RFC 4231, RFC 3394).
 
 use super::keys::*;
 use crate::given::*;
@@ -123,8 +123,8 @@ const PADDINGS: &[Row] = &[
     ),
 ];
 
-/// The codes of no message under the key of SP 800-38B, and of "Hi There"; the second also with its last bit turned and
-/// without its last byte.
+/// The MACs of no message under the key of SP 800-38B, and of "Hi There"; the second also with its last bit flipped and without
+/// its last byte.
 const CODE_OF_NOTHING: &[u8] = b"\xbb\x1d\x69\x29\xe9\x59\x37\x28\x7f\xa3\x7d\x12\x9b\x75\x67\x46";
 
 const CODE: &[u8] =
@@ -158,7 +158,7 @@ const CODES: &[Row] = &[
     ),
 ];
 
-/// The wrapping of the vector without its last byte, and with its last bit turned.
+/// The wrapping of the vector without its last byte, and with its last bit flipped.
 const SHORTER: &[u8] =
     b"\x1f\xa6\x8b\x0a\x81\x12\xb4\x47\xae\xf3\x4b\xd8\xfb\x5a\x7b\x82\x9d\x3e\x86\x23\x71\xd2\xcf";
 
@@ -201,7 +201,7 @@ const WRAPPED_KEYS: &[Row] = &[
     (A, DestroyObject(1, 3), OK),
 ];
 
-/// Blocks of the standard, and what of an operation is left after each call.
+/// Blocks of the standard, and what of an operation stays after each call.
 pub(super) fn blocks() -> &'static [Row] {
     BLOCKS
 }
@@ -216,7 +216,7 @@ pub(super) fn paddings() -> &'static [Row] {
     PADDINGS
 }
 
-/// Codes that are made and compared.
+/// MACs that are made and compared.
 pub(super) fn codes() -> &'static [Row] {
     CODES
 }

@@ -1,4 +1,4 @@
-//! Objects of the token: what is told of them, what is refused, and what one application makes of another's.
+//! Objects of the token: what is returned of them, what is refused, and what one application makes of another's.
 
 use super::keys::*;
 use crate::given::*;
@@ -136,7 +136,7 @@ const CLOSED_SESSION: &[Row] = &[
     (A, CreateObject(2, TOKEN_DATA), Told::Object(1)),
 ];
 
-/// The value of a sensitive key, asked for and searched for.
+/// The value of a sensitive key, read and searched for.
 pub(super) fn hidden_values() -> &'static [Row] {
     HIDDEN_VALUES
 }
@@ -146,7 +146,7 @@ pub(super) fn refused_objects() -> &'static [Row] {
     REFUSED_OBJECTS
 }
 
-/// An operation whose key another application destroys. Its question has a row of its own.
+/// An operation whose key another application destroys. Its job has a row of its own.
 pub(super) fn outlived_key() -> &'static [Row] {
     OUTLIVED_KEY
 }

@@ -1,4 +1,4 @@
-//! PINs and private objects of a token in which both PINs are set. A question has a row of its own.
+//! PINs and private objects of a token in which both PINs are set. A job has a row of its own.
 
 use crate::given::*;
 use crate::steps::Step::{
@@ -22,7 +22,7 @@ const LOGIN_SO: Step = Login(1, SO, b"so-pin");
 
 const LOGIN: Step = Login(1, USER, b"user-pin");
 
-/// The end of a question.
+/// The result of a job.
 const ENDS: Row = (A, Finish, OK);
 
 const PRIVATE_TOKEN_DATA: Given = &[

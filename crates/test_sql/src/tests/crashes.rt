@@ -20,8 +20,7 @@ const CHANGES: [Change; 8] = [
     Insert(4),
 ];
 
-/// Makes the changes up to the first that is refused. Answers how many were made, and whether the
-/// refusal was counted.
+/// Makes the changes up to the first that is refused. Returns how many were made, and whether the refusal was counted.
 fn make_all<K: Keep>(alloc: Global, keep: &mut K) -> (usize, bool) {
     for (at, change) in CHANGES.iter().enumerate() {
         match make(alloc, keep, *change) {

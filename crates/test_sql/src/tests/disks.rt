@@ -1,5 +1,5 @@
 //! Files of disks in memory that stop after so many calls, and work over stores in them. What is done to a store is generic in
-//! what it is on, so that the one function which names the store of files costs its proof once.
+//! what it is on. So the one function that names the store of files costs its proof once.
 
 use keep::Keep;
 use keep_sql::{OpenFault, Refused, SqlKeep, store_options};

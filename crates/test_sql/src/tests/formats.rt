@@ -22,7 +22,7 @@ fn opened<S: Alter + Drop>(alloc: Global, conn: Connection<S>) -> Result<SqlKeep
     }
 }
 
-/// Whether an open leaves each body in format 2, and answers the same as it does of a store that had them so.
+/// Whether an open leaves each body in format 2, and returns the same as it does of a store that had them so.
 fn is_taken_over<S: Alter + Drop>(alloc: Global, conn: Connection<S>) -> Result<bool, Fail> {
     let keep = opened(alloc, conn)?;
     let has_rounds = has_old_rounds(&keep.get_record());
@@ -127,7 +127,7 @@ fn marked(mut body: Vec<u8>) -> Vec<u8> {
     body
 }
 
-/// The objects, of which the one at a place is a byte short, or has another first byte.
+/// The objects, of which the one at an index is a byte short, or has another first byte.
 fn spoilt(
     alloc: Global,
     objects: Vec<(i64, Vec<u8>)>,

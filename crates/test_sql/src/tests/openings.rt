@@ -1,4 +1,4 @@
-//! What is found in files of which a bit is flipped, or which are cut or gone.
+//! What is found in files of which a bit is flipped, or which are cut or missing.
 
 use super::disks::{OverStore, files_of, store_in};
 use super::given::{Change, make};
@@ -274,7 +274,7 @@ fn a_file_that_is_cut_is_no_new_token(rt: HostRuntime) -> Result<(), Fail> {
     Ok(())
 }
 
-/// A log that is gone costs what came since the last opening, and a file that is gone is missed.
+/// A log that is missing costs what came since the last opening, and a file that is missing is noticed.
 #[test]
 fn a_file_that_is_gone_is_missed(rt: HostRuntime) -> Result<(), Fail> {
     let alloc = rt.alloc();

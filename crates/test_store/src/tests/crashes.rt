@@ -13,7 +13,7 @@ use std::process::Abort;
 use std::test::*;
 use test_scripts::BenchOver;
 
-/// How many rows of the script were told as they say.
+/// How many rows of the script got what they have.
 #[derive(Clone, Copy)]
 struct Told(usize);
 
@@ -57,8 +57,8 @@ fn what_lasts(alloc: Global, files: Files<Memory>, frames: usize) -> Result<Last
     }
 }
 
-/// Sees that after a stop what was acknowledged is found, and perhaps the next change, whole, however the machine ends. How many rows
-/// were told as they say before.
+/// Sees that after a stop what was acknowledged is found, and perhaps the next change, whole, however the machine ends. Returns
+/// how many rows got what they have before.
 fn expect_whole(
     alloc: Global,
     states: &[Lasting],

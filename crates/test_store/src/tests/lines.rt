@@ -78,7 +78,7 @@ fn a_line_is_answered_byte_for_byte(rt: HostRuntime) -> Result<(), Fail> {
     Ok(())
 }
 
-/// The front of a frame that names function 1, and the length of its payload, of which nothing but zeros is left.
+/// The front of a frame that names function 1, and the length of its payload, of which nothing but zeros follows.
 const LONGEST: &[(&[u8], usize)] = &[
     (b"\x00\x01\x00\x00\x00\x01", 65_536),
     (b"\x00\x10\x00\x00\x00\x01", 1_048_576),
@@ -151,7 +151,7 @@ impl Script for After<'_> {
     }
 }
 
-/// Sees that the line's application is gone, and its objects.
+/// Sees that the line's application is disconnected, and its objects destroyed.
 fn expect_left<K: Keep>(alloc: Global, token: &mut Token<K>) -> Result<(), Fail> {
     expect_gone(alloc, token)?;
     expect_no_object(alloc, token)

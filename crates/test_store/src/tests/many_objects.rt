@@ -1,5 +1,5 @@
-//! One object of the token more than a cache has room for: all are told as they were made, as often as they are asked, and
-//! what one application changes another is told at once.
+//! One object of the token more than a cache can hold: all are returned as they were made, as often as they are read, and what one
+//! application changes another gets at once.
 
 use super::keepers::{Script, see_over_each};
 use ck_calls::{AttributeQuery, AttributeValue, Call, Query, Reply};
@@ -18,7 +18,7 @@ use token::Event;
 
 const COUNT: u8 = 129;
 
-/// What applications do, and what they are told.
+/// What applications do, and what they get.
 #[derive(Drop)]
 struct Talk {
     alloc: Global,
@@ -90,7 +90,7 @@ impl Talk {
         self.ask(A, call, Reply::Object(number as u64))
     }
 
-    /// A asks for the value of an object.
+    /// A reads the value of an object.
     fn read(&mut self, number: u8) -> Result<(), Fail> {
         let mut query = Query::new(self.alloc);
         query.push(AttributeQuery {

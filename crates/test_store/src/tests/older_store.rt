@@ -58,7 +58,7 @@ fn rounds(record: &Record) -> [Option<u32>; 2] {
     [UserType::So, UserType::User].map(|who| record.verifier(who).map(|verifier| verifier.rounds()))
 }
 
-/// Sees that a token over the keeper goes as the rows say, and that its record then has these rounds.
+/// Sees that a token over the keeper goes as the rows are written, and that its record then has these rounds.
 fn played<K: Keep>(alloc: Global, keep: K, rows: &[Row], wanted: [u32; 2]) -> Result<K, Fail> {
     let keep = play_over(alloc, keep, rows)?;
     if rounds(&keep.get_record()) == wanted.map(Some) {

@@ -43,8 +43,8 @@ pub(super) fn frames_of(alloc: Global, rows: &[Row]) -> Result<Vec<u8>, Fail> {
     Ok(frames)
 }
 
-/// Sees that a line for a new token over the keeper tells what the rows say, each of which has a reply. The replies are given
-/// back as they were written.
+/// Sees that a line for a new token over the keeper returns what the rows have, each of which has a reply. The replies are
+/// returned as they were written.
 pub(super) fn expect_served<K: Keep>(
     alloc: Global,
     keep: K,
@@ -63,7 +63,7 @@ pub(super) fn expect_served<K: Keep>(
     Ok(written)
 }
 
-/// Sees that these are the frames of what the rows are told.
+/// Sees that these are the frames of what the rows get.
 fn expect_frames(alloc: Global, rows: &[Row], written: &[u8]) -> Result<(), Fail> {
     let mut frames = FrameReader::new(alloc);
     frames.feed(written)?;

@@ -109,7 +109,7 @@ fn see_beside<K: Keep>(alloc: Global, one: &mut BenchOver<K>, other: K) -> Resul
     seen
 }
 
-/// Sees that A is told the same on both, though the keys differ, which a result that is asked for shows.
+/// Sees that A gets the same on both, though the keys differ, as a result that A asks for depends on them.
 fn expect_alike<K: Keep>(one: &mut BenchOver<K>, other: &mut BenchOver<K>) -> Result<(), Fail> {
     one.play(ONE)?;
     other.play(OTHER)?;
@@ -129,7 +129,7 @@ fn expect_alike<K: Keep>(one: &mut BenchOver<K>, other: &mut BenchOver<K>) -> Re
     Ok(())
 }
 
-/// Whether both tell A the same, and at once.
+/// Whether both return A the same, and at once.
 fn tell_alike<K: Keep>(
     one: &mut BenchOver<K>,
     other: &mut BenchOver<K>,

@@ -17,7 +17,7 @@ const ASKED: Asked = &[(LABEL, Some(2))];
 
 const NAMED: Values = &[(2, Some(b"k1"))];
 
-/// Each call that asks the keeper.
+/// Each call that uses the keeper.
 const ROWS: &[Row] = &[
     (A, OPEN, Told::Session(1)),
     (A, Step::CreateObject(1, TOKEN_KEY), Told::Object(1)),
@@ -52,7 +52,7 @@ fn code_of(failure: Failure) -> Rv {
     }
 }
 
-/// The place of the row that is refused where the n-th call fails. It goes as it says when it comes again, and each other
+/// The index of the row that is refused where the n-th call fails. It goes as it is written when it comes again, and each other
 /// one goes so at once.
 fn refused_row(
     rt: &impl Abort,
@@ -83,7 +83,7 @@ fn refused_on(
     Ok(refused)
 }
 
-/// Whether a row is refused by the code. It goes as it says otherwise.
+/// Whether a row is refused by the code. If not, it goes as it is written.
 fn is_refused(
     alloc: Global,
     bench: &mut BenchOver<FailingKeep<ListKeep>>,
@@ -120,7 +120,7 @@ fn rows_with_refusal(alloc: Global, place: usize, failure: Failure) -> Result<Ve
     Ok(rows)
 }
 
-/// Sees that each failure is told once, by calls one after the other and in a list of events.
+/// Sees that each failure is returned once, by calls one after the other and in a list of events.
 fn expect_refusals(rt: &impl Abort, alloc: Global, failure: Failure) -> Result<(), Fail> {
     for n in 2..=CALLS {
         match refused_row(rt, alloc, n, failure)? {

@@ -155,13 +155,13 @@ fn with_key_beside_others(alloc: Global, key: Given) -> Result<Bench, Fail> {
     Ok(bench)
 }
 
-/// What A is told of a text that is encrypted.
+/// What A gets for a text that is encrypted.
 fn ciphertext(bench: &mut Bench) -> Result<Option<Reply>, Fail> {
     bench.expect(0, (A, Step::Encrypt(1, TEXT, Some(16)), Told::Nothing))?;
     bench.told(A, Step::Finish)
 }
 
-/// Sees that both tell A the same of each call.
+/// Sees that both return A the same for each call.
 fn expect_same(rt: &impl Abort, one: &mut Bench, other: &mut Bench) -> Result<(), Fail> {
     for step in ASKED {
         let is_same = one.told(A, *step)? == other.told(A, *step)?;
@@ -180,7 +180,7 @@ fn what_an_application_cannot_see_is_in_none_of_its_replies(rt: HostRuntime) -> 
     let mut one = with_key(rt.alloc(), ONE_KEY)?;
     let mut other = with_key_beside_others(rt.alloc(), OTHER_KEY)?;
     expect_same(&rt, &mut one, &mut other)?;
-    // The keys do differ, which a result that is asked for shows.
+    // The keys do differ, as a result that A asks for depends on them.
     let alike = encrypt_alike(&mut one, &mut other)?;
     assert!(rt; !alike);
     Ok(())

@@ -16,7 +16,7 @@ const KEY_TYPE: u64 = 0x100;
 
 const UNKNOWN: u64 = 0x9999_9999;
 
-/// What is told of an attribute that is not there, that is kept back or for which there is no room.
+/// What is returned of an attribute that is not there, that is masked or whose buffer is too short.
 const UNAVAILABLE: (u64, Option<&'static [u8]>) = (0xffff_ffff_ffff_ffff, None);
 
 const AES_KEY: Given = &[
@@ -76,7 +76,7 @@ const OPEN_KEY: Given = &[
     (AttrType::Extractable, YES),
 ];
 
-/// Data objects that are public as nothing else is said.
+/// Data objects that are public as nothing else is given.
 const PLAIN_DATA: Given = &[(AttrType::Class, DATA)];
 
 const PLAIN_TOKEN_DATA: Given = &[(AttrType::Class, DATA), (AttrType::Token, YES)];
@@ -260,7 +260,7 @@ fn the_size_of_an_object_is_the_length_of_its_stored_form(rt: HostRuntime) -> Re
     play(rt.alloc(), ROWS)
 }
 
-/// The objects that are asked, and what is told of each attribute that is asked for.
+/// The objects that are read, and what is returned of each wanted attribute.
 const ASKED: &[Row] = &[
     (A, OPEN, Told::Session(1)),
     (A, Step::CreateObject(1, LABELLED_KEY), Told::Object(1)),

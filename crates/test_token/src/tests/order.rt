@@ -1,4 +1,4 @@
-//! Of two faults of a call the one is told that stands first in the call's table.
+//! Of two faults of a call, the code is that of the first in the call's table.
 
 mod cases;
 mod cipher_cases;
@@ -29,7 +29,7 @@ const ALL_CASES: &[&[Case]] = &[
     UNWRAPPING_CASES,
 ];
 
-/// How long the output of a call is: a block, a code of CKM_AES_CMAC, or the wrapping of a key of 16 bytes.
+/// How long the output of a call is: a block, a tag of CKM_AES_CMAC, or the wrapping of a key of 16 bytes.
 fn output_len(step: Step) -> u64 {
     match step {
         Step::WrapKey(..) => 24,
@@ -37,7 +37,7 @@ fn output_len(step: Step) -> u64 {
     }
 }
 
-/// What is told of a call whose first fault this is.
+/// What a call returns whose first fault this is.
 fn told_of(fault: Fault, step: Step) -> Result<Told, Fail> {
     Ok(match fault {
         Fault::Busy => FAILED,
@@ -103,7 +103,7 @@ fn prepare(bench: &mut Bench, fault: Fault) -> Result<(), Fail> {
     }
 }
 
-/// Sees that the second fault is told where it holds alone, and the first where both do.
+/// Sees that the second fault's code is returned where it holds alone, and the first's where both do.
 fn expect_order(bench: &mut Bench, case: Case) -> Result<(), Fail> {
     let (first, second, alone, both) = case;
     bench.expect(second, (A, alone, told_of(second, alone)?))?;
@@ -142,7 +142,7 @@ fn of_two_faults_of_a_wrapping_the_first_is_told(rt: HostRuntime) -> Result<(), 
     expect_orders(rt.alloc(), UNWRAPPING_CASES)
 }
 
-/// Sees that each call with its second fault is told that.
+/// Sees that each call with its second fault returns that one's code.
 fn expect_seconds(bench: &mut Bench) -> Result<(), Fail> {
     for (fault, step) in SECONDS {
         bench.expect(fault, (A, *step, told_of(*fault, *step)?))?;
@@ -150,7 +150,7 @@ fn expect_seconds(bench: &mut Bench) -> Result<(), Fail> {
     Ok(())
 }
 
-/// Sees that each of them fails while a question is pending.
+/// Sees that each of them fails while a call is pending.
 fn expect_busy(bench: &mut Bench) -> Result<(), Fail> {
     const ASKS: Step = Step::Encrypt(BEGUN, TEXT, Some(16));
     bench.expect("the question", (A, ASKS, Told::Nothing))?;

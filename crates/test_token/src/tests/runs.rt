@@ -4,8 +4,8 @@ use std::test::*;
 use test_scripts::given::*;
 use test_scripts::{Row, Step, Told, play, run};
 
-/// A job waits while others call; a result without a question is passed over; an application that goes
-/// takes its job along.
+/// A job waits while others call. A result without a pending call is passed over. An application that disconnects takes its job
+/// along.
 const ROWS: &[Row] = &[
     (A, OPEN, Told::Session(1)),
     (B, OPEN, Told::Session(1)),

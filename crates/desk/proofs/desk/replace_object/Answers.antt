@@ -29,7 +29,7 @@ module _ (handle : ℕ) (o : List Entry) where
     | inr other ↦ let rest = some (k + 1) es place d (rw other at is) in (suc rest.0, omega (arith, rest.1), rw other (ap (λ xs. e ∷ xs) rest.2))
   ]
 
--- the place is counted from 0 on
+-- the index is counted from 0 on
 from_zero : (handle : ℕ) (o : List Entry) (es : List OwnObject) (r : Option ℕ) → position (test handle o) es ≡ r → position_from (test handle o) 0 es ≡ r
 from_zero handle o es r is = sym (position_from-zero (test handle o) es) ∙ is
 

@@ -14,7 +14,7 @@ use Rattle.serve_operations.proofs.Ciphering.{under-way, IsTested, fault_in, tes
 use Rattle.serve_operations.proofs.cipher.last.Goals as goal
 use Rattle.serve_operations.proofs.cipher.last.Goals.{After-room_of}
 
--- an operation is in progress, and it was asked for the room
+-- an operation is in progress, and the call gave no buffer
 asked : (c : After-room_of)
     → (operation_in (session_at c.args.desk.now.sessions.sessions c.args.session) (place_for c.args.direction) ≡ Some (operation_of c.in_ok-operation.operation.now))
     × IsTested (fault_in c.room_of.result) c.in_ok-operation.operation.now Last []

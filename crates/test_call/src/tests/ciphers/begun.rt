@@ -38,8 +38,8 @@ const KEY_WRAP: Option<GivenMechanism> = Some((0x2109, b""));
 
 const CMAC: Option<GivenMechanism> = Some((0x108a, b""));
 
-/// Parameters that are none of the mechanism's: too long, too short, and counters of no bit, of 129 bits, of more than 64
-/// bits can say, and without a block.
+/// Parameters that are none of the mechanism's: too long, too short, and counters of no bit, of 129 bits, of more than fit into 64
+/// bits, and without a block.
 const LONG_ECB: Option<GivenMechanism> = Some((ECB_NUMBER, b"\x00"));
 
 const SHORT_CBC: Option<GivenMechanism> = Some((CBC_NUMBER, &[0; 15]));

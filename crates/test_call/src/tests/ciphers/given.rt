@@ -1,4 +1,4 @@
-//! What the scripts speak of beside what all do: keys, texts, mechanisms and codes; and how each is played.
+//! What the scripts have beside what all have: keys, texts, mechanisms and codes; and how each is played.
 
 use ck_types::{AttrType, Rv};
 use std::alloc::Global;
@@ -6,8 +6,8 @@ use std::test::*;
 use test_scripts::given::*;
 use test_scripts::{Given, GivenMechanism, Row, Step, Told};
 
-/// The keys that each script begins with: that of SP 800-38A, appendix F, that of FIPS 197, C.3, a secret that is no AES
-/// key, one that doesn't decrypt, and one that doesn't encrypt.
+/// The keys that each script begins with: those of SP 800-38A, appendix F, and of FIPS 197, C.3; a secret that is no AES key; one
+/// that doesn't decrypt, and one that doesn't encrypt.
 pub(super) const KEY: u64 = 1;
 
 pub(super) const KEY_256: u64 = 2;
@@ -106,13 +106,13 @@ pub(super) const WRONG_LENGTH: Told = Told::Code(Rv::DataLenRange);
 
 pub(super) const WRONG_ENCRYPTED_LENGTH: Told = Told::Code(Rv::EncryptedDataLenRange);
 
-/// Sees that a token with the keys goes as the rows say, which leave no question pending: by calls one after the other, and
+/// Sees that a token with the keys goes as the rows are written, which leave no call pending: by calls one after the other, and
 /// in one list of events.
 pub(super) fn play_and_run(alloc: Global, rows: &[Row]) -> Result<(), Fail> {
     test_scripts::play_and_run(alloc, BEFORE, rows)
 }
 
-/// The same for rows some of which leave a question pending until its own row.
+/// The same for rows some of which leave a call pending until its own row.
 pub(super) fn play_and_run_questions(alloc: Global, rows: &[Row]) -> Result<(), Fail> {
     test_scripts::play_and_run_questions(alloc, BEFORE, rows)
 }

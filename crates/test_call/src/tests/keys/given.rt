@@ -17,14 +17,14 @@ const HMAC_KEY_BYTES: &[u8] =
 
 pub(super) const HI_THERE: &[u8] = b"Hi There";
 
-/// The code of no message under the key of SP 800-38B.
+/// The MAC of no message under the key of SP 800-38B.
 pub(super) const CODE_OF_NOTHING: &[u8] =
     b"\xbb\x1d\x69\x29\xe9\x59\x37\x28\x7f\xa3\x7d\x12\x9b\x75\x67\x46";
 
 pub(super) const SHA256_CODE: &[u8] =
     b"\xb0\x34\x4c\x61\xd8\xdb\x38\x53\x5c\xa8\xaf\xce\xaf\x0b\xf1\x2b\x88\x1d\xc2\x00\xc9\x83\x3d\xa7\x26\xe9\x37\x6c\x2e\x32\xcf\xf7";
 
-/// The same with its last bit turned, and without its last byte.
+/// The same with its last bit flipped, and without its last byte.
 pub(super) const OTHER_CODE: &[u8] =
     b"\xb0\x34\x4c\x61\xd8\xdb\x38\x53\x5c\xa8\xaf\xce\xaf\x0b\xf1\x2b\x88\x1d\xc2\x00\xc9\x83\x3d\xa7\x26\xe9\x37\x6c\x2e\x32\xcf\xf6";
 

@@ -1,5 +1,5 @@
-//! Keys that are wrapped and unwrapped (PKCS #11 v3.1, 5.18): the vector of RFC 3394, 4.1, what may be wrapped, and what an
-//! unwrapped key tells.
+//! Keys that are wrapped and unwrapped (PKCS #11 v3.1, 5.18): the vector of RFC 3394, 4.1, what may be wrapped, and what is read of
+//! an unwrapped key.
 
 use super::given::*;
 use ck_types::{AttrType, Rv};
@@ -47,7 +47,7 @@ const BEFORE: &[Row] = &[
     (A, CreateObject(1, SHORT_SECRET), Told::Object(5)),
 ];
 
-/// The wrapping of the vector with its last bit turned, and without its last byte.
+/// The wrapping of the vector with its last bit flipped, and without its last byte.
 const OTHER: &[u8] =
     b"\x1f\xa6\x8b\x0a\x81\x12\xb4\x47\xae\xf3\x4b\xd8\xfb\x5a\x7b\x82\x9d\x3e\x86\x23\x71\xd2\xcf\xe4";
 
@@ -139,7 +139,7 @@ const PRIVATE_KEY: Given = &[(AttrType::KeyType, AES)];
 
 const NOTHING_SAID: Given = &[];
 
-/// What is asked of an unwrapped key: its value and the value's length.
+/// What is read of an unwrapped key: its value and the value's length.
 const ASKED: Asked = &[(VALUE, Some(64)), (VALUE_LEN, Some(8))];
 
 #[test]

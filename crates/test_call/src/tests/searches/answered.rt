@@ -1,4 +1,4 @@
-//! How what is found is told (PKCS #11 v3.1, 5.7.6 and 5.7.7): a part at a time, and once.
+//! How what is found is returned (C_FindObjects, C_FindObjectsFinal; PKCS #11 v3.1, 5.7.8 and 5.7.9): a part at a time, and once.
 
 use super::given::*;
 use ck_calls::Reply;
@@ -89,7 +89,7 @@ fn a_search_and_a_cipher_stand_beside_each_other(rt: HostRuntime) -> Result<(), 
     play_and_run(rt.alloc(), &[], ROWS)
 }
 
-/// How many handles are told of so many that are asked for, if the reply tells some.
+/// How many handles are returned of so many that are wanted, if the reply has some.
 fn told_of(bench: &mut Bench, max_count: u64) -> Result<usize, Fail> {
     match bench.told(A, Step::FindObjects(1, max_count))? {
         Some(Reply::Objects(handles)) => Ok(handles.len()),

@@ -37,7 +37,7 @@ pub(super) const READABLE_KEY: Given = &[
     (AttrType::Extractable, YES),
 ];
 
-/// Keys whose value is kept back: as it is sensitive, and as it is unextractable.
+/// Keys whose value is masked: as it is sensitive, and as it is unextractable.
 pub(super) const SENSITIVE_KEY: Given = &[
     (AttrType::Class, SECRET_KEY),
     (AttrType::KeyType, AES),
@@ -62,13 +62,13 @@ pub(super) const BY_LABEL: Given = &[(AttrType::Label, b"k1")];
 
 pub(super) const BY_VALUE: Given = &[(AttrType::Value, KEY_BYTES)];
 
-/// What a search without a match is told, and one that has no more to tell.
+/// What a search without a match returns, and one that has no more to return.
 pub(super) const NONE: Told = Told::Objects(&[]);
 
 /// A session of A and one of B.
 pub(super) const OPENED: &[Row] = &[(A, OPEN, Told::Session(1)), (B, OPEN, Told::Session(1))];
 
-/// Begins the search for all objects in the first session, tells some of what it finds, and ends it.
+/// Begins the search for all objects in the first session, returns some of what it finds, and ends it.
 pub(super) const FINDS_ALL: Step = Step::FindObjectsInit(1, NOTHING);
 
 pub(super) const TELLS: Step = Step::FindObjects(1, 16);

@@ -1,4 +1,4 @@
-//! Which objects a template finds (PKCS #11 v3.1, 5.7.5), and in which order they are told.
+//! Which objects a template finds (C_FindObjectsInit; PKCS #11 v3.1, 5.7.7), and in which order they are returned.
 
 use super::given::*;
 use ck_types::AttrType;
@@ -93,7 +93,7 @@ fn a_value_that_is_kept_back_is_never_a_match(rt: HostRuntime) -> Result<(), Fai
         (A, Step::FindObjectsInit(1, BY_VALUE), OK),
         (A, TELLS, Told::Objects(&[3])),
         (A, ENDS, OK),
-        // It is kept back from now on.
+        // It is masked from now on.
         (
             A,
             Step::SetAttributeValue(1, 3, &[(AttrType::Sensitive, YES)]),

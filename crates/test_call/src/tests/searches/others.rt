@@ -6,7 +6,7 @@ use std::test::*;
 use test_scripts::given::*;
 use test_scripts::{Given, Row, Step, Told, play_and_run};
 
-/// A label that is changed, and what is told of it.
+/// A label that is changed, and what is returned of it.
 const OTHER_LABEL: Given = &[(AttrType::Label, b"k2")];
 
 const ASKS_LABEL: Step = Step::GetAttributeValue(1, 1, &[(LABEL, Some(16))]);

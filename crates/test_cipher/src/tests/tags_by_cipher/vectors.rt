@@ -1,5 +1,5 @@
-// The known answers of SP 800-38B (May 2005), appendix D. Keys and the message are in words of 64 bits
-// and codes in one of 128, the first byte highest.
+// The known answers of SP 800-38B (May 2005), appendix D. Keys and the message are in words of 64 bits and tags in one of 128,
+// the first byte highest.
 
 /// A known answer, of the first `len` bytes of the message.
 pub(crate) struct Vector {

@@ -1,6 +1,6 @@
 //! Published values, in hexadecimal digits.
 
-/// A key, a message and its codes under the four hash functions.
+/// A key, a message and its tags under the four hash functions.
 pub struct Tags {
     pub key: &'static [u8],
     pub message: &'static [u8],
@@ -10,7 +10,7 @@ pub struct Tags {
     pub sha512: &'static str,
 }
 
-/// Test cases 1 to 7 of RFC 4231, sections 4.2 to 4.8. Case 5 gives the first 128 bits of its codes.
+/// Test cases 1 to 7 of RFC 4231, sections 4.2 to 4.8. Case 5 gives the first 128 bits of its tags.
 pub static RFC_4231: [Tags; 7] = [
     Tags {
         key: &[0x0b; 20],
@@ -143,9 +143,9 @@ pub struct Derivation {
     pub key: &'static str,
 }
 
-/// The first two are of RFC 7914, section 11 (the first half of its keys). The next six have the
-/// passwords and salts of RFC 6070, section 2, and like the last two the keys that Python 3.11's
-/// `hashlib.pbkdf2_hmac("sha256", password, salt, rounds)` gives.
+/// The first two are of RFC 7914, section 11 (the first half of its keys). The next six have the passwords and salts of RFC 6070,
+/// section 2. Their keys and those of the last two are what Python 3.11's
+/// `hashlib.pbkdf2_hmac("sha256", password, salt, rounds)` returns.
 pub static DERIVATIONS: [Derivation; 10] = [
     Derivation {
         password: b"passwd",

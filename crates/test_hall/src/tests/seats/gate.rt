@@ -1,4 +1,4 @@
-//! A gate that a job passes in its turn.
+//! A `Gate` that a job passes in its turn.
 
 use super::turns::Turns;
 use hall::Gate;

@@ -18,7 +18,7 @@ use test_scripts::{Row, Script, cached_list, reply_of, token_over};
 
 type Seats<R> = (TurnSeat<R>, TurnSeat<R>, TurnSeat<R>, TurnSeat<R>);
 
-/// What the applications of a seat were told.
+/// What the applications of a seat got.
 type Told = Vec<(u64, Reply)>;
 
 /// Sees it over a list with this record, and over one behind a cache.
@@ -32,8 +32,8 @@ pub(crate) fn hold_over_lists<R: Threads + Wait + Clock + Copy + Send + Sync + D
     hold_rows(rt, alloc, cached_list(alloc, record)?, script)
 }
 
-/// Sees that four seats that play the rows of a script before a new token over the keeper are told what these say, and that each
-/// row had its turn. An application makes no step while its own question is pending, and none where another one of its seat waits.
+/// Sees that four seats play the rows of a script before a new token over the keeper and get what is written. Each row has its
+/// turn. An application makes no step while its own call is pending, and none where another one of its seat waits.
 pub(crate) fn hold_rows<K: Keep, R: Threads + Wait + Clock + Copy + Send + Sync + Drop + 'static>(
     rt: R,
     alloc: Global,
@@ -53,7 +53,7 @@ pub(crate) fn hold_rows<K: Keep, R: Threads + Wait + Clock + Copy + Send + Sync 
     }
 }
 
-/// What the applications of each seat were told.
+/// What the applications of each seat got.
 fn told_by_seats<K: Keep, R: Threads + Wait + Clock + Copy + Send + Sync + Drop + 'static>(
     rt: R,
     alloc: Global,
@@ -109,7 +109,7 @@ fn told_of<R: Clock + Drop>(seats: Seats<R>) -> (Told, Told, Told, Told) {
     )
 }
 
-/// Sees that the applications of all seats were told what the rows say.
+/// Sees that the applications of all seats got what the rows have.
 fn expect_all(
     alloc: Global,
     script: Script<'_>,
@@ -121,7 +121,7 @@ fn expect_all(
         .and_then(|()| expect(alloc, script, 3, &told.3))
 }
 
-/// Sees that the applications of a seat were told what the rows say.
+/// Sees that the applications of a seat got what the rows have.
 fn expect(
     alloc: Global,
     (name, rows): Script<'_>,

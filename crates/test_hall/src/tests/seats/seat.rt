@@ -19,9 +19,9 @@ pub(crate) struct TurnSeat<R: Clock + Drop> {
     rt: R,
     turns: Arc<Turns, Global>,
     number: u64,
-    /// What is left to be put, each with the place of its row.
+    /// What is still to be put, each with the index of its row.
     events: LinkedList<(usize, SeatEvent)>,
-    /// The application that goes by the row that was begun last.
+    /// The application that disconnects by the row that was begun last.
     going: Option<u64>,
     gone: Vec<u64>,
     told: Vec<(u64, Reply)>,
@@ -52,7 +52,7 @@ impl<R: Clock + Drop> TurnSeat<R> {
         })
     }
 
-    /// What its applications were told, in order.
+    /// What its applications got, in order.
     pub(crate) fn into_told(self) -> Vec<(u64, Reply)> {
         self.told
     }
@@ -74,8 +74,8 @@ impl<R: Clock + Drop> TurnSeat<R> {
         }
     }
 
-    /// Whether the event is one of its applications, and none that has gone before. Of an application that goes this is noted;
-    /// false where memory ran out.
+    /// Whether the event is one of its applications, and none that has disconnected before. A disconnect is recorded; false where an
+    /// allocation failed.
     fn may_put(&mut self, event: &SeatEvent) -> bool
         ensures number { self.new.number ≡ self.old.number }
         ensures own { IsTrue result → seat_app event.now % 4 ≡ self.old.number }
@@ -106,7 +106,7 @@ fn app_of(event: &SeatEvent) -> u64
     }
 }
 
-/// The events of the rows that a seat begins, each with the place of its row. A question is begun by its call.
+/// The events of the rows that a seat begins, each with the index of its row. A pending call is begun by its call.
 fn events_of(
     alloc: Global,
     rows: &[Row],

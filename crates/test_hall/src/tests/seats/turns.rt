@@ -23,7 +23,7 @@ impl Turns {
         }
     }
 
-    /// The place of the first end of the application's question after the row whose turn it is.
+    /// The index of the first `Finish` of the application's pending call after the row whose turn it is.
     fn finish_of(&self, app: u64) -> Option<usize> {
         let from = self.turn().checked_add(1)?;
         for place in from..self.rows.len() {
@@ -60,7 +60,7 @@ impl Turns {
         false
     }
 
-    /// The row whose turn it is is a call that returns a job: the next row may begin, and this waits for the question's end.
+    /// The row whose turn it is is a call that returns a job: the next row may begin, and this waits for the job's result.
     pub(crate) fn wait_for_finish<R: Clock>(&self, rt: &R, app: u64) {
         let Some(place) = self.finish_of(app) else {
             return;
@@ -70,7 +70,7 @@ impl Turns {
         let _ = self.wait_for(rt, place);
     }
 
-    /// The row whose turn it is is over, and so is the end of a question that it did not ask.
+    /// The row whose turn it is is over, and so is the result of a job that it did not return.
     pub(crate) fn go_on(&self, app: u64) {
         let mut next = self.turn().wrapping_add(1);
         if let Some(row) = self.rows.get(next)
@@ -83,7 +83,7 @@ impl Turns {
     }
 }
 
-/// Whether the step is the end of a question.
+/// Whether the step is the result of a job.
 pub(crate) fn is_finish(step: Step) -> bool {
     matches!(step, Step::Finish)
 }

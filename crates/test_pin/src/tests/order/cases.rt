@@ -20,7 +20,7 @@ pub(super) enum Store {
     Locked,
 }
 
-/// Two faults of a call: where the second holds alone and the call that is told it, and what happens between that and the
+/// Two faults of a call: where the second holds alone and the call that returns its code, and what happens between that and the
 /// call with both.
 pub(super) struct Case {
     pub(super) first: Fault,

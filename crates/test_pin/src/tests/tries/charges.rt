@@ -4,7 +4,7 @@
 use std::alloc::Global;
 use std::test::Fail;
 
-/// The tries of a PIN, the checks of it in progress, each with its application and whether its PIN is right, and how many
+/// The tries of a PIN, and the checks of it in progress, each with its application and whether its PIN is right. And how many
 /// have ended wrong or abandoned since one ended right.
 #[derive(Drop)]
 pub(super) struct Charges {
@@ -37,7 +37,7 @@ impl Charges {
         Ok(true)
     }
 
-    /// Ends the check of the application, and tells whether its PIN is right.
+    /// Ends the check of the application, and returns whether its PIN is right.
     pub(super) fn end(&mut self, app: u64) -> Result<bool, Fail> {
         let is_right = self.under_way.iter().any(|check| *check == (app, true));
         if is_right {

@@ -6,8 +6,8 @@ use std::alloc::Global;
 use std::test::*;
 use test_scripts::given::*;
 
-/// The application that makes the step at a place of an order. An order is a number of as many digits to the base of three
-/// as it has steps.
+/// The application that makes the step at an index of an order. An order is a number of as many digits to the base of three as it
+/// has steps.
 fn app_at(order: u64, place: u64) -> u64 {
     let mut rest = order;
     for _ in 0..place {
@@ -39,7 +39,7 @@ fn begins_by(order: u64, beginning: &[u64]) -> bool {
     true
 }
 
-/// Sees what each application is told in this order, each step of which begins or ends a check. One of them has the right
+/// Sees what each application gets in this order, each step of which begins or ends a check. One of them has the right
 /// PIN, if it is one of them.
 fn see_order(alloc: Global, tries: u8, order: u64, steps: u64, knows: u64) -> Result<(), Fail> {
     let mut walk = Walk::new(alloc, tries, 3)?;
@@ -89,7 +89,7 @@ const fn eight(beginning: &'static [u64]) -> Orders {
     }
 }
 
-/// Sees that for each of the orders. It tells how many these are.
+/// Sees that for each of the orders. Returns how many these are.
 fn see_orders(alloc: Global, tries: u8, orders: Orders, knows: u64) -> Result<u64, Fail> {
     let mut count = 0u64;
     for order in 0..orders.numbers {
@@ -124,8 +124,8 @@ fn a_right_check_leaves_those_beside_it_charged(rt: HostRuntime) -> Result<(), F
     Ok(())
 }
 
-/// Sees that C's two right checks leave those beside them charged, in the orders of eight steps that begin so. It tells how
-/// many these are.
+/// Sees that C's two right checks leave those beside them charged, in the orders of eight steps that begin so. Returns how many
+/// these are.
 fn see_two_right_checks(alloc: Global, beginning: &'static [u64]) -> Result<u64, Fail> {
     see_orders(alloc, 8, eight(beginning), C)
 }

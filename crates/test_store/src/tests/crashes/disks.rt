@@ -1,5 +1,5 @@
 //! Files of disks in memory that stop after so many calls, and work over stores on them. What is done to a store is generic in
-//! its keeper, so that the one function which names the store of files costs its proof once.
+//! its keeper. So the one function that names the store of files costs its proof once.
 
 use keep::Keep;
 use keep_sql::{SqlKeep, store_options};

@@ -43,8 +43,8 @@ pub(super) const ROWS: &[Row] = &[
     (A, Step::Finish, OK),
 ];
 
-/// How many rows are told as they say. A row that is told otherwise is told CKR_DEVICE_ERROR, as is whatever writes the store
-/// after it.
+/// How many rows get what they have. A row that gets another reply gets CKR_DEVICE_ERROR, as does whatever writes the store after
+/// it.
 pub(super) fn told_as_wanted<K: Keep>(
     alloc: Global,
     bench: &mut BenchOver<K>,

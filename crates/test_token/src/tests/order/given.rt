@@ -35,8 +35,8 @@ pub(super) const PADS: u64 = 7;
 
 pub(super) const PADDED: u64 = 8;
 
-/// The objects: an AES key, another that may do nothing, a key of another type that may do nothing, data that may be neither
-/// copied, changed nor destroyed, data without such bars, and none.
+/// The objects: an AES key; another that may do nothing; a key of another type that may do nothing; data that may be neither
+/// copied, changed nor destroyed; data without such restrictions; and none.
 pub(super) const KEY: u64 = 1;
 
 pub(super) const IDLE_KEY: u64 = 2;
@@ -49,7 +49,7 @@ pub(super) const FREE: u64 = 5;
 
 pub(super) const MISSING: u64 = 99;
 
-/// More keys: one that wraps and unwraps, one that may be wrapped, one that only a trusted key wraps, one that none wraps, and
+/// More keys: one that wraps and unwraps; one that may be wrapped; one that only a trusted key wraps; one that none wraps; and
 /// secrets that are too short, which every key may wrap and which a trusted one may.
 pub(super) const WRAPS: u64 = 6;
 
