@@ -13,12 +13,6 @@
 //!
 //! What others may see of an object is a definition, `mask` of `specs/Masking.antt`: the object without
 //! the value of a sensitive or unextractable key.
-//!
-//! ```
-//! let bytes = encode(alloc, &object)?;
-//! let again = decode(alloc, &bytes)?; // equal to object
-//! let label = again.get(AttrType::Label); // Some(..)
-//! ```
 #![tactic(auto)]
 
 mod check;

@@ -10,15 +10,6 @@
 //! as the disk is faithful each object that is remembered is the one held under its id
 //! (`specs/CachedState.antt`). Which objects are remembered, how many, and that any are, is in no clause, so
 //! nothing may rely upon it.
-//!
-//! ```text
-//! let Some(capacity) = NonZeroUsize::new(128) else { .. };
-//! let mut keep = Cached::new(alloc, ListKeep::new(alloc, Record::new()), capacity)?;
-//! let id = keep.insert(&object)?;
-//! keep.object(alloc, id)?; // of the keeper behind it
-//! keep.object(alloc, id)?; // from memory
-//! let list = keep.into_keep();
-//! ```
 #![tactic(auto)]
 
 mod cached;

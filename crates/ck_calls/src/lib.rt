@@ -4,12 +4,6 @@
 //! - `Reply` is what a call returns: a code, or what comes with `CKR_OK`, with `CKR_BUFFER_TOO_SMALL` or
 //!   with the codes of C_GetAttributeValue.
 //! - `need` is how many random bytes a call takes, by the call alone.
-//!
-//! ```
-//! let call = Call::GenerateRandom { session: 1, len: 16 };
-//! let bytes = need(&call); // 16
-//! let function = Function::of(&call); // Function::GenerateRandom, whose number is 41
-//! ```
 #![tactic(auto)]
 
 mod call;
@@ -22,8 +16,5 @@ mod reply;
 pub use call::Call;
 pub use fields::{AttributeQuery, Mechanism, Query};
 pub use function::Function;
-pub use random::{MAX_RANDOM_LEN, need};
-pub use reply::{
-    AttributeValue, MAX_PIN_LEN, MAX_SESSION_COUNT, MIN_PIN_LEN, MechanismInfo, Output, Reply,
-    SessionInfo, TokenInfo,
-};
+pub use random::need;
+pub use reply::{AttributeValue, MechanismInfo, Output, Reply, SessionInfo, TokenInfo};

@@ -3,11 +3,6 @@
 //!
 //! A call that begins an operation, or makes or wraps a key, finds its mechanism here by its number (`find_for`). So
 //! what is reported of a mechanism is what it may be used for.
-//!
-//! ```
-//! let mechanism = find_for(Purpose::Cipher, number).ok_or(Condition::WrongMechanism)?;
-//! let info = info_of(mechanism);
-//! ```
 #![tactic(auto)]
 
 mod purpose;

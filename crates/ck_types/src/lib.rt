@@ -9,12 +9,6 @@
 //!   how it is decoded. Each format is canonical: what is decoded is encoded by just the bytes that
 //!   were taken, and what is encoded is decoded again, whatever follows.
 //! - `RW_SESSION`, `SERIAL_SESSION` and others are numbers that are no codes.
-//!
-//! ```
-//! let (flags, rest) = u64::decode(alloc, bytes)?;
-//! flags.encode(&mut out)?;
-//! let code = Rv::from_number(0x54); // Some(Rv::FunctionNotSupported)
-//! ```
 #![tactic(auto)]
 
 mod attr_type;
@@ -36,7 +30,8 @@ mod user_type;
 pub use attr_type::AttrType;
 pub use codec::{Codec, decode_u32, decode_whole, encode_len, split_first};
 pub use constants::{
-    MAX_SECRET_LEN, RW_SESSION, SERIAL_SESSION, UNAVAILABLE_INFORMATION, UNIQUE_ID_BYTES,
+    MAX_ENTRIES, MAX_PIN_LEN, MAX_RANDOM_LEN, MAX_SECRET_LEN, MAX_SESSION_COUNT, MIN_PIN_LEN,
+    RW_SESSION, SERIAL_SESSION, UNAVAILABLE_INFORMATION, UNIQUE_ID_BYTES,
 };
 pub use entry::{Bytes, Entry, Template};
 pub use fault::CodecFault;

@@ -1,12 +1,14 @@
 //! Lists of values behind their count.
 
 ghost use Rattle.std.specs.Prelude.{◌≡◌, ◌+◌, ℕ};
+ghost use Rattle.ck_types.specs.declared.constants.TheConstants.{MAX_ENTRIES};
 ghost use Rattle.ck_types.specs.Format.{decode_many, list_below};
 ghost use Rattle.ck_types.specs.Canonical.{list_below_canonical};
 ghost use Rattle.ck_types.specs.Coding.{Decodes, Encodes, EncodesAll};
 ghost use Rattle.ck_types.specs.Entry.{entry, entry_canonical};
 
 use crate::codec::{Codec, decode_u32, encode_len};
+use crate::constants::MAX_ENTRIES;
 use crate::entry::{Bytes, Entry};
 use crate::fault::CodecFault;
 use crate::items::Items;
@@ -72,10 +74,10 @@ impl<T: ListItem> Codec for Items<T> {
 
 /// A template has at most 32 entries.
 impl ListItem for Entry {
-    ghost most = { 32 };
+    ghost most = { MAX_ENTRIES };
 
     fn max_count() -> u32 {
-        32
+        MAX_ENTRIES
     }
 }
 

@@ -6,14 +6,6 @@
 //! numbers reveal nothing of other applications.
 //!
 //! What follows a write to the store can't fail: memory for a handle is allocated before it (`reserve_handles`).
-//!
-//! ```text
-//! let session = desk.open_session(true)?;
-//! desk.reserve_handles(1)?;
-//! let id = store.insert(&object)?;
-//! let handle = desk.give_handle(id, false);
-//! desk.close(session);
-//! ```
 #![tactic(auto)]
 
 mod desk;

@@ -7,12 +7,6 @@
 //! template matches every object.
 //!
 //! `search` reads one object at a time, and keeps no more of it than a note.
-//!
-//! ```
-//! for own in objects {
-//!     find::search(&template, &own.object, own.handle, &mut found)?;
-//! }
-//! ```
 #![tactic(auto)]
 
 mod matching;

@@ -10,12 +10,6 @@
 //!
 //! No call takes memory. `masked`, `reveals`, `reveals_number` and what may be seen are the same for an
 //! object without its masked value, so no result depends on that value.
-//!
-//! ```
-//! if guard::visible(state, &object) && guard::reveals(&object, AttrType::Value) {
-//!     let value = object.value();
-//! }
-//! ```
 #![tactic(auto)]
 
 mod access;

@@ -14,17 +14,6 @@
 //!
 //! Where a call returns that a channel has ended, nothing was put or taken. No clause says that a message comes, or that a call
 //! returns. A receive first yields to the other threads, the token 200 times and a seat 40, and then sleeps.
-//!
-//! ```text
-//! let mut inbox = Inbox::open(alloc)?;
-//! let (mut outbox, outward, outward_pass) = Outbox::open(alloc)?;
-//! let (inward, inward_pass) = inbox.add_seat()?;
-//! let mut port = Port { seat: 0, message: None, inward, inward_pass, outward, outward_pass };
-//! outbox.begin(&rt);
-//! port.get_empty(&rt);
-//! port.put(&rt, Event::Gone { app: 0 });
-//! inbox.take(&rt);
-//! ```
 #![tactic(auto)]
 
 pub mod inbox;

@@ -9,15 +9,6 @@
 //! the next one. They are stored twice, by rising number and by rising id, so that a handle is found
 //! by bisection either way. A new handle comes last by its number, and mostly by its id too, since the
 //! ids of new objects rise.
-//!
-//! ```text
-//! handles.reserve(1)?;
-//! let id = store.insert(object)?;
-//! let handle = handles.give(id, private);
-//! assert_eq!(handles.object_of(handle), Some(id));
-//! handles.retire(id);
-//! assert_eq!(handles.object_of(handle), None);
-//! ```
 #![tactic(auto)]
 
 ghost use Rattle.std.specs.Prelude.{◌≡◌, ◌+◌, ◌^◌, ◌<◌, ◌≤◌, nat_lt, Some, IsOk, IfSome, OnOk, vec_len};

@@ -6,16 +6,6 @@
 //! key from a password and a salt. Each is proved to be its standard's function, as `specs/` writes
 //! it over the digests of the crate `sha2`. None takes memory or fails.
 //!
-//! ```rust
-//! use hmac_sha2::{Hmac, hmac256};
-//! use sha2::Sha256;
-//!
-//! let mut hmac = Hmac::<Sha256>::new(b"key");
-//! hmac.update(b"Hi ");
-//! hmac.update(b"There");
-//! assert!(rt; hmac.finalize() == hmac256(b"key", b"Hi There"));
-//! ```
-//!
 //! A clause speaks of the state of an `Hmac<D>` by `HoldsMessage D.holds D.hash D.BLOCK_SIZE h key message`
 //! of `specs/Stepwise.antt`: it has taken this message under this key. `HoldsMessage256` is that of SHA-256.
 //! Nothing is said of secrecy, of time, or of what stays in memory.

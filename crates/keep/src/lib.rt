@@ -18,16 +18,6 @@
 //!
 //! `laws` proves what is found under an id after a change, and that an id which has lost its object never
 //! has one again.
-//!
-//! ```text
-//! let mut keep = ListKeep::new(alloc, Record::new());
-//! let id = keep.insert(&object)?; // 1
-//! keep.replace(id, &other)?;
-//! let read = keep.object(alloc, id)?; // equal to other
-//! keep.remove(id)?;
-//! assert!(keep.object(alloc, id).is_err()); // KeepFault::Device
-//! assert_eq!(keep.insert(&object)?, 2);
-//! ```
 #![tactic(auto)]
 
 mod keep;

@@ -25,13 +25,6 @@
 //! else writes the file and the disk is faithful: it returns what was written (`doubt` is 0; in memory always).
 //! After an acknowledged change a crash leaves the change alone, after a fault what
 //! it could leave before, or the whole change (`keep`).
-//!
-//! ```text
-//! let mut keep = SqlKeep::open(&rt, "token.db", Wary)?;
-//! let id = keep.insert(&object)?;
-//! let read = keep.object(alloc, id)?; // equal to object
-//! drop(keep.close().close()); // copies sqlite's log into the file
-//! ```
 #![tactic(auto)]
 
 mod changes;

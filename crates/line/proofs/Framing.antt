@@ -4,6 +4,7 @@ use Rattle.std.specs.Int.{w16, w64, to_be_bytes}
 use Rattle.std.specs.List.{flat_map, AllByRecursion}
 use Rattle.std.proofs.lemmas.List.{length-append}
 use Rattle.std.proofs.lemmas.List.Concat.{flat_map-cons}
+use Rattle.ck_types.specs.declared.constants.TheConstants.{MAX_ENTRIES}
 use Rattle.ck_types.specs.declared.rv.Rv.{Rv}
 use Rattle.ck_types.specs.declared.rv.Rv.TheVariants as rv
 use Rattle.ck_types.specs.Format.{number64, pair}
@@ -50,7 +51,7 @@ each_fits : (vs : List AttributeValue) → AllByRecursion IsShortValue vs → Al
 each_fits [] short = tt
 each_fits (v ∷ vs) short = ((short.0.told, has_length v.len v.value short.0.value), each_fits vs short.1)
 
-within-values : (code : Rv) (vs : List AttributeValue) → IsCodeOfValues code → length vs ≤ 32 → AllByRecursion attribute_value.Fits vs → IsWithinLimits (replies.AttributeValues code vs)
+within-values : (code : Rv) (vs : List AttributeValue) → IsCodeOfValues code → length vs ≤ MAX_ENTRIES → AllByRecursion attribute_value.Fits vs → IsWithinLimits (replies.AttributeValues code vs)
 within-values rv.Ok vs is count each = (refl, count, each)
 within-values rv.AttributeSensitive vs is count each = (refl, count, each)
 within-values rv.AttributeTypeInvalid vs is count each = (refl, count, each)

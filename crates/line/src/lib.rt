@@ -7,13 +7,6 @@
 //!   to a payload that is no call is `CKR_ARGUMENTS_BAD`, and `CKR_FUNCTION_NOT_SUPPORTED` where it names no known function.
 //!   Neither changes the token nor takes random bytes. `specs/Serve.antt` defines the bytes that it reads and writes, and
 //!   `specs/Lines.antt` what the token does meanwhile.
-//!
-//! ```
-//! let mut words = Words::for_app([0; 32], 0);
-//! let mut reader = Watched::new(input);
-//! let mut writer = Watched::new(Vec::<u8>::new(alloc));
-//! let replies = serve_one(alloc, &mut reader, &mut writer, &mut token, &mut words)?;
-//! ```
 #![tactic(auto)]
 
 mod fault;

@@ -11,11 +11,6 @@
 //! - A PIN's work is to check a PIN against a verifier, to make a new one's verifier, or both (C_Login,
 //!   C_InitPIN, C_SetPIN and C_InitToken; 5.5 and 5.6). It takes no memory. Tries are counted elsewhere,
 //!   before the check and after it, and nothing is claimed of the time that a check takes.
-//!
-//! ```text
-//! let done = job.run(alloc);
-//! let reply = token.finish(alloc, app, done);
-//! ```
 #![tactic(auto)]
 
 mod done;

@@ -1,5 +1,6 @@
 -- C_OpenSession (PKCS #11 v3.1, 5.6).
 use Rattle.std.specs.Prelude.{bit_and, bit_or, ℕ, Bool, false, ◌&&◌, ◌==◌, not, nat_le, length}
+use Rattle.ck_types.specs.declared.constants.TheConstants.{MAX_SESSION_COUNT}
 use Rattle.ck_calls.specs.declared.function.Function.TheVariants.{OpenSession}
 use Rattle.ck_calls.specs.declared.reply.Reply.TheVariants.{Session as SessionReply}
 use Rattle.precede.specs.declared.condition.Condition.TheVariants.{NoSlot, NotSerial, UnknownFlag, SoLoggedIn, SessionLimit}
@@ -31,7 +32,7 @@ open_row v slot flags NoSlot = not (is_slot slot)
 open_row v slot flags NotSerial = not (is_serial flags)
 open_row v slot flags UnknownFlag = has_other_flags flags
 open_row v slot flags SoLoggedIn = is_so v.sessions.login && not (is_read_write flags)
-open_row v slot flags SessionLimit = nat_le 64 (length v.sessions.sessions)
+open_row v slot flags SessionLimit = nat_le MAX_SESSION_COUNT (length v.sessions.sessions)
 open_row v slot flags _ = false
 
 -- the next number, and a session with nothing in progress

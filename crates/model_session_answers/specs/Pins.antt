@@ -1,6 +1,7 @@
 -- What the calls of PINs share (PKCS #11 v3.1, 5.5 and 5.6): checks of PINs, new ones, and what they make of the record.
 use Rattle.std.specs.Prelude.{ℕ, Bool, true, false, ◌&&◌, nat_le, nat_lt, List, [], length, is_some, Option, Some, None}
 use Rattle.std.specs.Option.{unwrap_or}
+use Rattle.ck_types.specs.declared.constants.TheConstants.{MAX_PIN_LEN, MIN_PIN_LEN}
 use Rattle.ck_types.specs.declared.user_type.UserType.TheVariants.{So, User}
 use Rattle.ck_calls.specs.declared.reply.Reply.{Reply}
 use Rattle.pin_record.specs.Verifiers.{PinVerifier, hidden_verifier}
@@ -17,7 +18,7 @@ is_so (Some User) = false
 
 -- a new PIN has 4 to 64 bytes
 abbrev pub is_pin_length : List ℕ → Bool
-is_pin_length pin = nat_le 4 (length pin) && nat_le (length pin) 64
+is_pin_length pin = nat_le MIN_PIN_LEN (length pin) && nat_le (length pin) MAX_PIN_LEN
 
 abbrev pub is_set : TokenRecord → UserType → Bool
 is_set r who = is_some (verifier_of r who)

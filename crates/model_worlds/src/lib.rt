@@ -4,14 +4,6 @@
 //! from its view (`model_answers`). `specs/Traces.antt` is what comes to one of them, and `specs/Tries.antt` how the tries of
 //! PINs change. The laws (`laws`) speak of these definitions alone, for any worlds and any runs; the crates above prove that
 //! the token's code refines them.
-//!
-//! ```text
-//! match event {
-//!     Event::Call { app, call, words } => token.call(alloc, app, call, &words),
-//!     Event::Finish { app } => ..,
-//!     Event::Gone { app } => token.gone(app),
-//! }
-//! ```
 #![tactic(auto)]
 
 mod check;

@@ -4,11 +4,6 @@
 //! Contracts see an operation that encrypts or decrypts as its mechanism with parameter and direction, the data taken, its
 //! output so far, and the key. The view of an application leaves the key out (`specs/Operations.antt`). They see
 //! one that signs or verifies as its mechanism, the data and the key; and a search as the handles that it didn't return yet.
-//!
-//! ```text
-//! places.set(Place::Encrypt, Some(Stream::new(mechanism, Direction::Encrypt, key)));
-//! let operation = places.get(Place::Encrypt).ok_or(Condition::NoOperation)?;
-//! ```
 #![tactic(auto)]
 
 mod place;

@@ -18,19 +18,6 @@
 //! What applications may learn of a record is a definition, `record_view` of `specs/Records.antt`. No
 //! verifier is in it. But for `encode`, nothing here takes memory. Nothing is claimed of the time that
 //! a check takes.
-//!
-//! ```text
-//! let so = Verifier::made(b"so-pin", salt);
-//! let record = Record::initialized(label, so, 0);
-//!
-//! let charged = begin_check(record, UserType::So);
-//! // the charged record is stored; then
-//! let right = so.accepts(pin);
-//! let record = end_check(charged, UserType::So, right, 0);
-//!
-//! let bytes = encode(alloc, &record)?;
-//! assert_eq!(decode(&bytes), Ok(record));
-//! ```
 #![tactic(auto)]
 
 mod checks;

@@ -2,6 +2,7 @@
 -- so.
 use Rattle.std.specs.Prelude.{◌≡◌, ℕ, ◌<◌, ◌≤◌, ◌^◌, List, Option, Some, None, IfSome, length}
 use Rattle.std.specs.List.{AllByRecursion}
+use Rattle.ck_types.specs.declared.constants.TheConstants.{MAX_ENTRIES, MAX_RANDOM_LEN}
 use Rattle.ck_types.specs.declared.rv.Rv.{Rv}
 use Rattle.ck_types.specs.declared.rv.Rv.TheVariants as rv
 use Rattle.ck_calls.specs.declared.call.Call.{Call}
@@ -30,10 +31,10 @@ pub record IsShortValue (v : AttributeValue) : Type 0 where
   pub told : v.len < 2 ^ 64
   pub value : IfSome v.value (λ bytes. (length bytes ≡ v.len) × (length bytes ≤ 1024))
 
--- at most 32 values, with a code that comes with values
+-- at most as many values as a query has, with a code that comes with values
 pub record AreShortValues (code : Rv) (values : List AttributeValue) : Type 0 where
   pub code_is : IsCodeOfValues code
-  pub count : length values ≤ 32
+  pub count : length values ≤ MAX_ENTRIES
   pub each : AllByRecursion IsShortValue values
 
 -- how much data fits into a frame: a payload of 1,048,576 bytes, less a code, a byte and a length
@@ -49,7 +50,7 @@ IsShort (replies.MechanismList mechanisms) = length mechanisms ≤ 1024
 IsShort (replies.AttributeValues code values) = AreShortValues code values
 IsShort (replies.Objects objects) = length objects ≤ 1024
 IsShort (replies.Output output) = IsShortOutput output
-IsShort (replies.Random bytes) = length bytes ≤ 32768
+IsShort (replies.Random bytes) = length bytes ≤ MAX_RANDOM_LEN
 IsShort _ = Unit {0}
 
 -- a task whose result gives such a reply
@@ -69,9 +70,9 @@ abbrev pub IsShortData : List ℕ → Option ℕ → Type 0
 IsShortData input None = Unit {0}
 IsShortData input (Some buffer_len) = length input ≤ 1048553
 
--- a call with such data, or that asks for at most 32 attributes
+-- a call with such data, or that asks for at most as many attributes as a query has
 abbrev pub IsShortCall : Call → Type 0
-IsShortCall (calls.GetAttributeValue session object query) = length query ≤ 32
+IsShortCall (calls.GetAttributeValue session object query) = length query ≤ MAX_ENTRIES
 IsShortCall (calls.Encrypt session input buffer_len) = IsShortData input buffer_len
 IsShortCall (calls.EncryptUpdate session input buffer_len) = IsShortData input buffer_len
 IsShortCall (calls.Decrypt session input buffer_len) = IsShortData input buffer_len

@@ -6,18 +6,15 @@ ghost use Rattle.model_session_answers.specs.GenerateRandom.{generate_random};
 ghost use Rattle.serve_base.specs.Refusing.{AtDeskIf};
 
 use ck_calls::Reply;
-use ck_types::Bytes;
+use ck_types::{Bytes, MAX_RANDOM_LEN};
 use desk::Desk;
 use precede::Condition;
 use serve_base::Refusal;
 use std::alloc::Global;
 
-/// The greatest number of bytes that one call returns.
-pub const RANDOM_LIMIT: u64 = 32_768;
-
 /// C_GenerateRandom (PKCS #11 v3.1, 5.19).
 /// Codes: the checks of C_GenerateRandom (`precede`). Returns the call's random bytes, which are as many as are wanted, at most
-/// `RANDOM_LIMIT`. Changes nothing.
+/// `MAX_RANDOM_LEN`. Changes nothing.
 pub fn serve(
     alloc: Global,
     desk: &Desk,
@@ -25,10 +22,10 @@ pub fn serve(
     len: u64,
     random: &[u8],
 ) -> Result<Reply, Refusal>
-    ensures { AtDeskIf (length random.now ≤ 32768) Replies (λ v. generate_random v session len random.now) desk.now result desk.now }
+    ensures { AtDeskIf (length random.now ≤ MAX_RANDOM_LEN) Replies (λ v. generate_random v session len random.now) desk.now result desk.now }
 {
     let _ = desk.state(session).ok_or(Condition::NoSession)?;
-    if len > RANDOM_LIMIT {
+    if len > MAX_RANDOM_LEN {
         return Err(Refusal::Condition(Condition::RandomLength));
     }
     Ok(Reply::Random(Bytes::from_slice(alloc, random)?))

@@ -4,10 +4,6 @@
 //! the written one to what the application sees, or that it was refused and nothing has changed. The clause is `AtDesk` where
 //! no store is used, `IsDone` where one is, and `IsDoneAs` where the call may return a job. `unwrap_key::unwrapped` takes the
 //! outcome of that job.
-//!
-//! ```text
-//! settle(generate_random::serve(alloc, desk, session, len, random))
-//! ```
 #![tactic(auto)]
 
 mod found_key;

@@ -3,6 +3,7 @@ use Rattle.std.proofs.Common.{ℕ, ◌≤◌, List, [], ◌∷◌, length, map, 
 use Rattle.std.specs.Prelude.{nat_lt}
 use Rattle.std.specs.List.{AllByRecursion}
 use Rattle.std.proofs.lemmas.Bool.{cond_both}
+use Rattle.ck_types.specs.declared.constants.TheConstants.{MAX_ENTRIES}
 use Rattle.ck_types.specs.declared.entry.Entry.{Entry}
 use Rattle.ck_types.specs.declared.rv.Rv.{Rv}
 use Rattle.ck_types.specs.declared.rv.Rv.TheVariants.{Ok, AttributeSensitive, AttributeTypeInvalid, BufferTooSmall}
@@ -43,7 +44,7 @@ code-short codes =
     (λ _. cond_both (has_code AttributeTypeInvalid codes) AttributeTypeInvalid _ IsCodeOfValues (λ _. tt)
     (λ _. cond_both (has_code BufferTooSmall codes) BufferTooSmall Ok IsCodeOfValues (λ _. tt) (λ _. tt)))
 
-pub told-short : (o : List Entry) → IsObject o → (query : List AttributeQuery) → length query ≤ 32 → IsShort (attributes_told o query)
+pub told-short : (o : List Entry) → IsObject o → (query : List AttributeQuery) → length query ≤ MAX_ENTRIES → IsShort (attributes_told o query)
 told-short o is query few = record {
   code_is = code-short (map (λ q. (attribute_told o q).0) query);
   count = rw (length-map (λ q. (attribute_told o q).1) query) few;

@@ -8,7 +8,7 @@ ghost use Rattle.serve_base.specs.Short.{IsShort};
 
 use attrs::{Object, find_attribute};
 use ck_calls::{AttributeQuery, AttributeValue, Query, Reply};
-use ck_types::{Bytes, Items, Rv, UNAVAILABLE_INFORMATION};
+use ck_types::{Bytes, Items, MAX_ENTRIES, Rv, UNAVAILABLE_INFORMATION};
 use desk::Desk;
 use guard::reveals_number;
 use keep::Keep;
@@ -27,7 +27,7 @@ pub fn serve<K: Keep>(
     handle: u64,
     query: &Query,
 ) -> Result<Reply, Refusal>
-    ensures { IsDoneIf (length query.now ≤ 32) K.terms Replies 0 (λ c v. get_attribute_value v session handle query.now) store.old store.new desk.now result desk.now }
+    ensures { IsDoneIf (length query.now ≤ MAX_ENTRIES) K.terms Replies 0 (λ c v. get_attribute_value v session handle query.now) store.old store.new desk.now result desk.now }
 {
     let _ = desk.state(session).ok_or(Condition::NoSession)?;
     let found = find(alloc, desk, store, handle)?.ok_or(Condition::NoObject)?;
@@ -37,7 +37,7 @@ pub fn serve<K: Keep>(
 /// The wanted attributes, and the code of the whole.
 fn tell(alloc: Global, object: &Object, query: &[AttributeQuery]) -> Result<Reply, AllocError>
     ensures told { IfOk result (λ reply. reply ≡ attributes_told object.now query.now) }
-    ensures short { IfOk result (λ reply. length query.now ≤ 32 → IsShort reply) }
+    ensures short { IfOk result (λ reply. length query.now ≤ MAX_ENTRIES → IsShort reply) }
 {
     let _entries = object.entries();
     let mut code = Rv::Ok;

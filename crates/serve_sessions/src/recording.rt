@@ -13,7 +13,7 @@ ghost use Rattle.serve_base.specs.Shown.{IsFor, said_of, task_of};
 ghost use Rattle.serve_sessions.specs.Recording.{asks_charged, codes_with};
 
 use ck_calls::{Function, Reply};
-use ck_types::{Rv, UserType};
+use ck_types::{MAX_PIN_LEN, MIN_PIN_LEN, Rv, UserType};
 use desk::Desk;
 use keep::Keep;
 use mech::Work;
@@ -25,7 +25,7 @@ use std::alloc::Global;
 pub(crate) fn is_pin_length(pin: &[u8]) -> bool
     ensures { result ≡ is_pin_length pin.now }
 {
-    4 <= pin.len() && pin.len() <= 64
+    MIN_PIN_LEN <= pin.len() as u64 && pin.len() as u64 <= MAX_PIN_LEN
 }
 
 /// Returns a job for a check of a PIN. The charge is stored before the call is pending. The job is allocated before both, so

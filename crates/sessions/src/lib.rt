@@ -11,15 +11,6 @@
 //! Contracts see the sessions as a list in the order in which they were opened, with the login and
 //! the number of the next one. How they are stored, in a slab whose keys are used again, is in no
 //! contract.
-//!
-//! ```text
-//! let session = sessions.open(true)?;
-//! sessions.login(UserType::User);
-//! assert_eq!(sessions.state(session), Some(SessionState::RwUser));
-//! sessions.close(session);
-//! assert_eq!(sessions.state(session), None);
-//! assert_eq!(sessions.logged_in(), None);
-//! ```
 #![tactic(auto)]
 
 ghost use Rattle.std.specs.Prelude.{◌≡◌, ◌<◌, ◌==◌, [], length, find, map, count_by, nat_lt, nat_le, Some, None, is_some, option_copied, option_map, IsTrue, IsFalse, IfOk, OnOk, OnErr};
@@ -29,14 +20,14 @@ ghost use Rattle.slab.specs.Slab.{entries};
 ghost use Rattle.lists.specs.InOrder.{in_order};
 ghost use Rattle.sessions.specs.Sessions.{no_sessions, session_at, state_of, has_read_only, with_session, without_session, busy_with, logged_out, IsTable};
 
-use ck_types::{SessionState, UserType};
+use ck_types::{MAX_SESSION_COUNT, SessionState, UserType};
 use lists::NUMBER_LIMIT;
 use slab::Slab;
 use std::alloc::{AllocError, Global};
 use std::marker::Model;
 
 /// How many sessions an application has at most.
-pub const SESSION_LIMIT: usize = 64;
+pub const SESSION_LIMIT: usize = MAX_SESSION_COUNT as usize;
 
 /// What is in progress in a session, as its operations.
 pub trait Activity {

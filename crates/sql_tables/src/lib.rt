@@ -1,11 +1,6 @@
 //! The two tables of a token's store, and the statements on them, over the crate `sqlite`.
 //!
-//! Both tables are STRICT:
-//!
-//! ```text
-//! CREATE TABLE record(id INTEGER PRIMARY KEY CHECK (id = 1), body BLOB NOT NULL) STRICT
-//! CREATE TABLE objects(id INTEGER PRIMARY KEY AUTOINCREMENT, body BLOB NOT NULL) STRICT
-//! ```
+//! Both tables are STRICT.
 //!
 //! - `make_tables` makes both, with the row of a record.
 //! - `put_record`, `insert_object`, `replace_object` and `remove_object` write one row, and `reset_rows` the
@@ -20,12 +15,6 @@
 //! crash leaves what it could leave before, or the whole write; after `Ok` it leaves the write alone. All of
 //! it holds as long as the disk is faithful: it returns what was written. Each function but `make_tables` and
 //! `renew_bodies` first checks that the connection is open (`ensure_open`): sqlite says nothing of one that is shut.
-//!
-//! ```text
-//! make_tables(&mut conn, record)?;
-//! let id = insert_object(&mut conn, body)?;
-//! let row = read_row(&mut conn, id)?; // one column: body
-//! ```
 #![tactic(auto)]
 
 mod listing;

@@ -23,11 +23,6 @@
 //! A copied or changed key that is sensitive or unextractable stays so: what is masked of it is masked
 //! in the copy. `unwrap_fault` and its kin report on an unwrapped key before its value is known.
 //! Which attributes a call takes, and the defaults, are the table of the crate `attrs`.
-//!
-//! ```
-//! let key = templates::created(alloc, state, &template, &random)?;
-//! let copy = templates::copied(alloc, state, &key, &changes, &more_random)?;
-//! ```
 #![tactic(auto)]
 
 mod ahead;

@@ -3,6 +3,7 @@ use Rattle.std.proofs.Common.{◌≡◌, ℕ, ◌^◌, ◌≤◌, arith, Bool, t
 use Rattle.std.specs.Prelude.{is_some, ◌||◌, nat_le, IfOk}
 use Rattle.std.specs.Option.{option_map}
 use Rattle.std.proofs.lemmas.Bool.{cond_both, leb-true}
+use Rattle.ck_types.specs.declared.constants.TheConstants.{MAX_RANDOM_LEN}
 use Rattle.ck_calls.specs.declared.call.Call.{Call}
 use Rattle.ck_calls.specs.declared.call.Call.TheVariants as calls
 use Rattle.ck_calls.specs.Need.{random_bytes}
@@ -118,8 +119,8 @@ module _ {K : Type 0} (terms : Terms K) (app : ℕ) (others_have_sessions : Bool
   call-unchecked store before desk r out quiet told for does = at-desk said_of (λ out. out) store before desk r out (λ t. refl) quiet told (for-out app r for) does
 
 -- no more random bytes come with a call than it may ask for
-pub random-few : (call : Call) (s len : ℕ) (random : List ℕ) → call ≡ calls.GenerateRandom s len → length random ≡ random_bytes call → length random ≤ 32768
-random-few call s len random is as_many = rw (as_many, is) (cond_both (nat_le len 32768) len 0 (λ n. n ≤ 32768) (λ yes. leb-true len 32768 yes) (λ no. omega arith))
+pub random-few : (call : Call) (s len : ℕ) (random : List ℕ) → call ≡ calls.GenerateRandom s len → length random ≡ random_bytes call → length random ≤ MAX_RANDOM_LEN
+random-few call s len random is as_many = rw (as_many, is) (cond_both (nat_le len MAX_RANDOM_LEN) len 0 (λ n. n ≤ MAX_RANDOM_LEN) (λ yes. leb-true len MAX_RANDOM_LEN yes) (λ no. omega arith))
 
 -- C_InitPIN changes nothing that others see before its end
 pub still-init_pin : (v : View) (s : ℕ) (pin random : List ℕ) → (init_pin v s pin random).change ≡ Stays

@@ -3,6 +3,7 @@
 -- function of its call.
 use Rattle.std.specs.Prelude.{◌≡◌, ℕ, ◌<◌, ◌≤◌, ◌^◌, List, length, Option, Some, None, Result, Err, Bool, true, false, nat_lt, ◌==◌, ◌||◌, if◌then◌else◌}
 use Rattle.std.specs.List.{AllByRecursion}
+use Rattle.ck_types.specs.declared.constants.TheConstants.{MAX_ENTRIES}
 use Rattle.ck_types.specs.declared.rv.Rv.{Rv}
 use Rattle.ck_types.specs.declared.rv.Rv.TheVariants as rv
 use Rattle.ck_types.specs.Numbers.{rv_number}
@@ -111,7 +112,7 @@ Fits-reply (replies.Random bytes) = (pair return_code byte_string).Fits (rv.Ok, 
 -- with one of their codes. Then each part has an encoding, since the types bound its other numbers.
 abbrev pub IsWithinLimits : Reply → Type 0
 IsWithinLimits (replies.MechanismList mechanisms) = length mechanisms ≤ 1024
-IsWithinLimits (replies.AttributeValues code values) = (carries shapes.AttributeValues code ≡ true) × (length values ≤ 32) × AllByRecursion attribute_value.Fits values
+IsWithinLimits (replies.AttributeValues code values) = (carries shapes.AttributeValues code ≡ true) × (length values ≤ MAX_ENTRIES) × AllByRecursion attribute_value.Fits values
 IsWithinLimits (replies.Objects objects) = length objects ≤ 1024
 IsWithinLimits (replies.Output (Data bytes)) = length bytes < 2 ^ 32
 IsWithinLimits (replies.Random bytes) = length bytes < 2 ^ 32

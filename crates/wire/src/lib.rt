@@ -10,15 +10,6 @@
 //!   returns the next one without a copy, and `consume` drops it. After a length above the limit it returns
 //!   `TooLong` for ever.
 //! - `write_reply_over` writes a reply's frame over the last one, whose memory it takes.
-//!
-//! ```
-//! let frame = write_call(alloc, &Call::CloseSession { session: 1 })?;
-//! let mut frames = FrameReader::new(alloc);
-//! frames.feed(&frame)?;
-//! if let Some(payload) = frames.next(alloc)? {
-//!     let call = read_call(alloc, &payload)?; // Call::CloseSession { session: 1 }
-//! }
-//! ```
 #![tactic(auto)]
 
 mod call;
