@@ -150,13 +150,13 @@ class Daemon:
         return self.said
 
     def stop(self):
-        """Kills it, and answers what it said."""
+        """Kills it, and returns what it logged."""
         self.run.kill()
         self.run.wait()
         return self.errors()
 
     def end(self, seconds=SECONDS):
-        """Its status and what it said, once it has ended by itself."""
+        """Its status and what it logged, once it has ended by itself."""
         status = self.run.wait(seconds)
         return status, self.errors()
 
@@ -342,7 +342,7 @@ def a_folder_that_cannot_be_written_is_said(folder):
 
 
 @check
-def a_second_daemon_is_refused_and_told_why(folder):
+def a_second_daemon_is_refused_with_its_reason(folder):
     filled(folder)
     with Daemon(folder) as daemon:
         refused(folder, 3, b"cannot open the store", b"another program has the store open", path="t")
@@ -365,7 +365,7 @@ def a_seed_file_that_is_none_is_said(folder):
 
 
 def random_bytes(folder, *words):
-    """The random bytes of the first connection of each seat, in no order of theirs, and what was said."""
+    """The random bytes of the first connection of each seat, in no order of theirs, and what was logged."""
     with Daemon(folder, *words, store=":memory:") as daemon:
         clients = [daemon.client() for _ in range(4)]
         for client in clients:
@@ -489,7 +489,7 @@ def what_is_handed_over_wrongly_is_said(folder):
 
 
 @check
-def a_service_manager_is_told_that_it_is_ready(folder):
+def a_service_manager_is_notified_that_it_is_ready(folder):
     for name in (os.path.join(folder, "notify"), "@tokend-test-%d" % os.getpid()):
         with socket.socket(socket.AF_UNIX, socket.SOCK_DGRAM) as manager:
             manager.bind("\0" + name[1:] if name[0] == "@" else name)
@@ -530,7 +530,7 @@ def page_sum(page):
 
 
 def damage(folder, statement):
-    """Changes a store by another program, copies its log into it, and gives its pages the sums that are theirs then."""
+    """Changes a store by another program, copies its log into it, and writes the new sums of its pages."""
     path = os.path.join(folder, "token.db")
     with contextlib.closing(sqlite3.connect(path)) as it:
         it.execute(statement)
@@ -605,7 +605,7 @@ def small_disk(folder, size):
 
 
 @check
-def a_full_disk_is_said_and_writes_go_on_when_there_is_room(folder):
+def a_full_disk_is_reported_and_writes_go_on_when_there_is_space(folder):
     with small_disk(folder, "1m") as disk:
         with Daemon(disk) as daemon:
             client = daemon.client()
@@ -616,7 +616,7 @@ def a_full_disk_is_said_and_writes_go_on_when_there_is_room(folder):
                 while True:
                     os.write(filler, bytes(4096))
             os.close(filler)
-            # (the log that is there has room for some)
+            # (the log that is there has space for some)
             made, code = 1, OK
             while code == OK and made < 200:
                 code = client.ask(data_object(bytes(1000)))[0]

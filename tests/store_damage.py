@@ -5,9 +5,11 @@
 
 makes a small store with the program TOKEND, and then starts it on copies of which a bit is flipped, a file is cut, or a file is gone.
 Every STEP-th bit of the file is flipped, and every STEP-th length of it is a cut (1: each; without it 199), and of the log every
-STEP_OF_LOG-th (without it as of the file). A start has to end with status 3 and leave both files byte for byte. Or the store has to be
-the whole one, the one at its last checkpoint where the log was touched, or the one before its last commits. It prints how many of how many were which, and ends with status 1 where one was anything else. As many starts
-run side by side as there are processors, each in a folder of its own.
+STEP_OF_LOG-th (without it as of the file).
+
+A start has to end with status 3 and leave both files byte for byte. Or the store has to be the whole one, the one at its last checkpoint
+where the log was touched, or the one before its last commits. It prints how many of how many were which, and ends with status 1 where one
+was anything else. As many starts run side by side as there are processors, each in a folder of its own.
 """
 import concurrent.futures, itertools, os, shutil, socket, struct, subprocess, sys, tempfile, threading
 
