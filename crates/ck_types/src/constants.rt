@@ -28,3 +28,6 @@ pub const MIN_PIN_LEN: u64 = 4;
 
 /// The most random bytes of one C_GenerateRandom.
 pub const MAX_RANDOM_LEN: u64 = 32_768;
+
+/// The most session objects of an application.
+pub const MAX_SESSION_OBJECTS: usize = 256;

@@ -30,8 +30,9 @@ mod user_type;
 pub use attr_type::AttrType;
 pub use codec::{Codec, decode_u32, decode_whole, encode_len, split_first};
 pub use constants::{
-    MAX_ENTRIES, MAX_PIN_LEN, MAX_RANDOM_LEN, MAX_SECRET_LEN, MAX_SESSION_COUNT, MIN_PIN_LEN,
-    RW_SESSION, SERIAL_SESSION, UNAVAILABLE_INFORMATION, UNIQUE_ID_BYTES,
+    MAX_ENTRIES, MAX_PIN_LEN, MAX_RANDOM_LEN, MAX_SECRET_LEN, MAX_SESSION_COUNT,
+    MAX_SESSION_OBJECTS, MIN_PIN_LEN, RW_SESSION, SERIAL_SESSION, UNAVAILABLE_INFORMATION,
+    UNIQUE_ID_BYTES,
 };
 pub use entry::{Bytes, Entry, Template};
 pub use fault::CodecFault;

@@ -16,7 +16,7 @@ ghost use Rattle.ck_types.specs.declared.attr_type.AttrType.TheVariants.{Private
 use crate::own_object::OwnObject;
 use crate::question::Question;
 use attrs::Object;
-use ck_types::{AttrType, SessionState, UserType};
+use ck_types::{AttrType, MAX_SESSION_OBJECTS, SessionState, UserType};
 use handles::Handles;
 use lists::NUMBER_LIMIT;
 use macs::Mac;
@@ -26,9 +26,6 @@ use sessions::Sessions;
 use std::alloc::{AllocError, Global};
 use std::marker::Model;
 use streams::Stream;
-
-/// The greatest number of session objects of one application.
-pub const SESSION_OBJECT_LIMIT: usize = 256;
 
 /// One application's part of a token.
 #[derive(Drop)]
@@ -245,9 +242,9 @@ impl Desk {
 
     /// Whether there are as many session objects as an application may have.
     pub fn has_all_objects(&self) -> bool
-        ensures { result ≡ nat_le 256 (length self.now.own) }
+        ensures { result ≡ nat_le MAX_SESSION_OBJECTS (length self.now.own) }
     {
-        self.own.len() >= SESSION_OBJECT_LIMIT
+        self.own.len() >= MAX_SESSION_OBJECTS
     }
 
     /// Adds a session object, and returns its handle. It fails only if an allocation fails, and then the desk is unchanged.

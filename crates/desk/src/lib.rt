@@ -12,6 +12,6 @@ mod desk;
 mod own_object;
 mod question;
 
-pub use desk::{Desk, SESSION_OBJECT_LIMIT};
+pub use desk::Desk;
 pub use own_object::OwnObject;
 pub use question::Question;

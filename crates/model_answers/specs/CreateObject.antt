@@ -1,5 +1,6 @@
 -- C_CreateObject (PKCS #11 v3.1, 5.7.1).
 use Rattle.std.specs.Prelude.{ℕ, ◌+◌, Bool, false, ◌&&◌, not, nat_le, List, [], ◌∷◌, ◌++◌, length, if◌then◌else◌, Option, Some, None, is_some, is_none}
+use Rattle.ck_types.specs.declared.constants.TheConstants.{MAX_SESSION_OBJECTS}
 use Rattle.ck_types.specs.declared.attr_type.AttrType.TheVariants as attr
 use Rattle.ck_calls.specs.declared.function.Function.TheVariants.{CreateObject}
 use Rattle.ck_calls.specs.declared.reply.Reply.TheVariants.{Object}
@@ -38,7 +39,7 @@ abbrev pub makes_row : View → SessionState → Option Rv → List Entry → Co
 makes_row v state fault o TemplateRefused = is_some fault
 makes_row v state fault o TokenObjectReadOnly = flag o attr.Token && not (is_rw state)
 makes_row v state fault o PrivateObject = not (is_visible state o)
-makes_row v state fault o ObjectLimit = not (flag o attr.Token) && nat_le 256 (length v.own)
+makes_row v state fault o ObjectLimit = not (flag o attr.Token) && nat_le MAX_SESSION_OBJECTS (length v.own)
 makes_row v state fault o _ = false
 
 -- an object that is made is added, where none of these conditions holds

@@ -7,6 +7,7 @@ use attrs::Object;
 use ck_types::{AttrType, ObjectClass};
 use keep::KeepFault;
 use keep_sql::{OpenFault, SqlKeep, store_options};
+use sql_statements::READ_RECORD;
 use sqlite::types::ValueRef;
 use sqlite::{Connection, Error, FileStore, Row};
 use sqlite_disk::Memory;
@@ -112,7 +113,7 @@ fn look_through(
     conn: &mut Connection<FileStore<Memory>>,
     found: &mut Findings,
 ) -> Result<(), Error> {
-    let record = conn.query_all("SELECT body FROM record", &[])?;
+    let record = conn.query_all(READ_RECORD, &[])?;
     if !has_record(&record) {
         found.add_fault(Failure::Store.because(Cause::Record));
     }

@@ -1,8 +1,9 @@
 -- What a read by id finds.
-use Rattle.std.proofs.Common.{◌≡◌, inl, inr, ℕ, ◌==◌, List, [], ◌∷◌, map, filter, codes, if◌then◌else◌, Bool, true, false, Some, Option, Ok, refl, ap, subst, ◌∙◌}
+use Rattle.std.proofs.Common.{◌≡◌, inl, inr, ℕ, ◌==◌, List, [], ◌∷◌, map, filter, if◌then◌else◌, Bool, true, false, Some, Option, Ok, refl, ap, subst, ◌∙◌}
 use Rattle.std.specs.List.Sorted.{IsPermutation}
 use Rattle.std.specs.Prelude.{find}
 use Rattle.std.specs.Option.{option_map}
+use Rattle.sql_statements.specs.declared.sql.TheConstants.{READ_OBJECT}
 use Rattle.sqlite_value.specs.declared.value.Value.TheVariants.{Null, Blob}
 use Rattle.sqlite.specs.Order.{Row}
 use Rattle.sqlite_sql.specs.Term.{col}
@@ -20,7 +21,7 @@ use Rattle.sql_statements.proofs.Texts.{by_id, plain_query, read_is}
 use Rattle.sql_statements.proofs.Remove.{id_params, picks, one_found, none_permuted}
 
 abbrev pub read_text : List ℕ
-read_text = codes "SELECT body FROM objects WHERE id = ?1"
+read_text = READ_OBJECT.now
 
 abbrev pub read_query : Query
 read_query = record plain_query { filter = by_id; project = col 1 2 ∷ [] }

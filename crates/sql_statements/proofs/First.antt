@@ -1,5 +1,6 @@
 -- What the three statements make of a database with no tables.
-use Rattle.std.proofs.Common.{◌≡◌, ℕ, pos, List, [], ◌∷◌, codes, true, None, Option, Ok, refl, sym, ap, subst, ◌∙◌, arith}
+use Rattle.std.proofs.Common.{◌≡◌, ℕ, pos, List, [], ◌∷◌, true, None, Option, Ok, refl, sym, ap, subst, ◌∙◌, arith}
+use Rattle.sql_statements.specs.declared.sql.TheConstants.{FIRST_RECORD}
 use Rattle.sqlite_value.specs.declared.value.Value.TheVariants.{Null, Int, Blob}
 use Rattle.sqlite.specs.Order.{Row}
 use Rattle.sqlite.specs.Tree.{Trees}
@@ -30,7 +31,7 @@ use Rattle.sql_statements.proofs.Update.{set_params}
 use Rattle.sql_statements.proofs.Make.{makes_record, makes_objects}
 
 abbrev pub first_text : List ℕ
-first_text = codes "INSERT INTO record VALUES (1, ?1)"
+first_text = FIRST_RECORD.now
 
 abbrev first_terms : List Term
 first_terms = lit (Int (pos 1)) ∷ lit Null ∷ col 0 0 ∷ []

@@ -1,6 +1,7 @@
 -- What the three texts of whole tables show.
-use Rattle.std.proofs.Common.{◌≡◌, pos, List, [], ◌∷◌, map, codes, Ok, Err, Result, IfOk, OnOk, IsTrue, refl, subst, arith}
+use Rattle.std.proofs.Common.{◌≡◌, pos, List, [], ◌∷◌, map, Ok, Err, Result, IfOk, OnOk, IsTrue, refl, subst, arith}
 use Rattle.std.specs.List.Sorted.{IsPermutation}
+use Rattle.sql_statements.specs.declared.sql.TheConstants.{READ_IDS, READ_OBJECTS, READ_RECORD}
 use Rattle.sqlite_value.specs.declared.value.Value.TheVariants.{Null, Int}
 use Rattle.sqlite_value.specs.Order.{Row}
 use Rattle.sqlite_tied.specs.Compute.{everything}
@@ -14,7 +15,7 @@ use Rattle.sql_statements.specs.Rows.{bodies, ids_and_bodies}
 use Rattle.sql_statements.proofs.Texts.{ids_read_is, objects_read_is, record_read_is}
 use Rattle.sql_statements.proofs.Listed.{ids_shown, object_rows, record_rows}
 
-pub ids_is_query : IsQuery (codes "SELECT id FROM objects ORDER BY id")
+pub ids_is_query : IsQuery READ_IDS.now
 unfolding understood everything
 ids_is_query = ((refl, refl), refl)
 
@@ -22,8 +23,8 @@ ids_is_query = ((refl, refl), refl)
 pub was_at : (old new : State) (c : Bodies) → HoldsRows old c → OnlyReads old new → HasCleanDisk new → IsTrue new.is_open → IsAtRows old c
 was_at old new c h reads clean up = h (let old_clean : HasCleanDisk old = omega (arith, reads.clean) in old_clean) (reads.was_open clean up)
 
-pub ids_found : {V E : Type 0} (old new : State) (c : Bodies) → HoldsRows old c → (IsQuery (codes "SELECT id FROM objects ORDER BY id") → OnlyReads old new) → (items : V → List Row) (r : Result V E)
-    → IfOk r (λ rows. Reads (command (codes "SELECT id FROM objects ORDER BY id")) old.now [] (items rows)) → OnOk r (IsTrue new.is_open) → HasCleanDisk new
+pub ids_found : {V E : Type 0} (old new : State) (c : Bodies) → HoldsRows old c → (IsQuery READ_IDS.now → OnlyReads old new) → (items : V → List Row) (r : Result V E)
+    → IfOk r (λ rows. Reads (command READ_IDS.now) old.now [] (items rows)) → OnOk r (IsTrue new.is_open) → HasCleanDisk new
     → IfOk r (λ rows. items rows ≡ map (λ id. Int (pos id) ∷ []) (ids_of c))
 ids_found old new c h reads items (Err e) shown up clean = tt
 ids_found old new c h reads items (Ok rows) shown up clean =
@@ -33,21 +34,21 @@ ids_found old new c h reads items (Ok rows) shown up clean =
 
 -- ---- whole tables, in any order
 
-pub record_is_query : IsQuery (codes "SELECT body FROM record")
+pub record_is_query : IsQuery READ_RECORD.now
 unfolding understood everything
 record_is_query = ((refl, refl), refl)
 
-pub objects_is_query : IsQuery (codes "SELECT id, body FROM objects")
+pub objects_is_query : IsQuery READ_OBJECTS.now
 unfolding understood everything
 objects_is_query = ((refl, refl), refl)
 
-pub record_listed : {V E : Type 0} (db : Database) (items : V → List Row) (r : Result V E) → IfOk r (λ rows. Reads (command (codes "SELECT body FROM record")) db [] (items rows)) → IfOk r (λ rows. IsPermutation (bodies (db.trees 0)) (items rows))
+pub record_listed : {V E : Type 0} (db : Database) (items : V → List Row) (r : Result V E) → IfOk r (λ rows. Reads (command READ_RECORD.now) db [] (items rows)) → IfOk r (λ rows. IsPermutation (bodies (db.trees 0)) (items rows))
 record_listed db items (Err e) reads = tt
 record_listed db items (Ok rows) reads =
     let it = subst (λ (k : Command). Reads k db [] (items rows)) record_read_is reads in
     record_rows db.trees (items rows) (it.answer Null)
 
-pub objects_listed : {V E : Type 0} (db : Database) (items : V → List Row) (r : Result V E) → IfOk r (λ rows. Reads (command (codes "SELECT id, body FROM objects")) db [] (items rows)) → IfOk r (λ rows. IsPermutation (ids_and_bodies (db.trees 1)) (items rows))
+pub objects_listed : {V E : Type 0} (db : Database) (items : V → List Row) (r : Result V E) → IfOk r (λ rows. Reads (command READ_OBJECTS.now) db [] (items rows)) → IfOk r (λ rows. IsPermutation (ids_and_bodies (db.trees 1)) (items rows))
 objects_listed db items (Err e) reads = tt
 objects_listed db items (Ok rows) reads =
     let it = subst (λ (k : Command). Reads k db [] (items rows)) objects_read_is reads in

@@ -1,10 +1,11 @@
 -- What UPDATE of one object does.
-use Rattle.std.proofs.Common.{◌≡◌, inl, inr, ℕ, pos, ◌<◌, ◌≤◌, ◌==◌, List, [], ◌∷◌, map, filter, codes, if◌then◌else◌, Bool, true, false, None, Option, Ok, refl, sym, ap, subst, ◌∙◌, arith}
+use Rattle.std.proofs.Common.{◌≡◌, inl, inr, ℕ, pos, ◌<◌, ◌≤◌, ◌==◌, List, [], ◌∷◌, map, filter, if◌then◌else◌, Bool, true, false, None, Option, Ok, refl, sym, ap, subst, ◌∙◌, arith}
 use Rattle.std.proofs.lemmas.Bool.{cases_lt}
 use Rattle.std.proofs.lemmas.Int.{ints}
 use Rattle.std.proofs.lemmas.Bool.Decides.{nat_tests}
 use Rattle.std.specs.declared.cmp.Ordering.TheVariants.{Less, Greater}
 use Rattle.std.specs.List.Sorted.{IsPermutation}
+use Rattle.sql_statements.specs.declared.sql.TheConstants.{REPLACE_OBJECT}
 use Rattle.sqlite_value.specs.declared.value.Value.TheVariants.{Null, Int, Blob}
 use Rattle.sqlite.specs.Order.{Row}
 use Rattle.sqlite_value.specs.Order.{value_cmp}
@@ -37,7 +38,7 @@ use Rattle.sql_statements.proofs.Steps.{concluded}
 use Rattle.sql_statements.proofs.Lift.{IsStep}
 
 abbrev pub replace_text : List ℕ
-replace_text = codes "UPDATE objects SET body = ?2 WHERE id = ?1"
+replace_text = REPLACE_OBJECT.now
 
 abbrev pub replace_params : ℕ → List ℕ → Row
 replace_params id bytes = Int (pos id) ∷ Blob bytes ∷ []
@@ -138,7 +139,7 @@ replace_rows s text objects id o tally after has are rise h =
 
 -- ---- as a step of the bodies
 
-pub replace_plain : IsPlain (understood token_schema (codes "UPDATE objects SET body = ?2 WHERE id = ?1"))
+pub replace_plain : IsPlain (understood token_schema REPLACE_OBJECT.now)
 unfolding understood everything
 replace_plain = (refl, refl)
 
@@ -155,7 +156,7 @@ replace_does id o s text c tally after has it h =
       },
     )
 
-pub replace_step : (id : ℕ) (o : List ℕ) → IsStep (codes "UPDATE objects SET body = ?2 WHERE id = ?1") (replace_params id o) (Update 1 (record { lets = []; body = replace_query })) (with_body_at id o)
+pub replace_step : (id : ℕ) (o : List ℕ) → IsStep REPLACE_OBJECT.now (replace_params id o) (Update 1 (record { lets = []; body = replace_query })) (with_body_at id o)
 replace_step id o = record {
   is = replace_is;
   plain = replace_plain;

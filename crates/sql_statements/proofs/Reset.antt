@@ -1,5 +1,6 @@
 -- DELETE of all objects and UPDATE of the record, in one transaction.
-use Rattle.std.proofs.Common.{◌≡◌, ℕ, List, [], codes, true, None, Ok, refl, sym, ap, subst, ◌∙◌}
+use Rattle.std.proofs.Common.{◌≡◌, ℕ, List, [], true, None, Ok, refl, sym, ap, subst, ◌∙◌}
+use Rattle.sql_statements.specs.declared.sql.TheConstants.{CLEAR_OBJECTS, SET_RECORD}
 use Rattle.sqlite.specs.Schema.{Schema}
 use Rattle.sqlite.specs.Command.TheVariants.{Delete, Update}
 use Rattle.sqlite.specs.Effect.{Database, IsDatabase}
@@ -22,7 +23,7 @@ use Rattle.sql_statements.proofs.Set.{set_step}
 use Rattle.sql_statements.proofs.Update.{set_query, set_params}
 use Rattle.sql_statements.proofs.Lift.{IsStep}
 
-clear_plain : IsPlain (understood token_schema (codes "DELETE FROM objects"))
+clear_plain : IsPlain (understood token_schema CLEAR_OBJECTS.now)
 unfolding understood everything
 clear_plain = (refl, refl)
 
@@ -41,7 +42,7 @@ clear_does s text c tally after has it h =
       },
     )
 
-clear_step : IsStep (codes "DELETE FROM objects") [] (Delete 1 (record { lets = []; body = clear_query })) (λ c. record c { objects = [] })
+clear_step : IsStep CLEAR_OBJECTS.now [] (Delete 1 (record { lets = []; body = clear_query })) (λ c. record c { objects = [] })
 clear_step = record {
   is = clear_is;
   plain = clear_plain;
@@ -52,14 +53,14 @@ clear_step = record {
 }
 
 abbrev pub clear_text : List ℕ
-clear_text = codes "DELETE FROM objects"
+clear_text = CLEAR_OBJECTS.now
 
 abbrev pub set_text : List ℕ
-set_text = codes "UPDATE record SET body = ?1"
+set_text = SET_RECORD.now
 
 -- both, in turn
 pub reset_is : {S : Type 0} (g : Ghosts S) (old : Held S) (to : List ℕ) (c : Bodies) (db : Database) → (state g old).now.schema ≡ token_schema → HasRows (state g old).now.trees c
-    → RanPair g (codes "DELETE FROM objects") (codes "UPDATE record SET body = ?1") to old db → (db.schema ≡ token_schema) × HasRows db.trees (after_reset to c) × IsDatabase db
+    → RanPair g CLEAR_OBJECTS.now SET_RECORD.now to old db → (db.schema ≡ token_schema) × HasRows db.trees (after_reset to c) × IsDatabase db
 reset_is g old to c db has it ran =
     let first = clear_step in
     let second = set_step to in

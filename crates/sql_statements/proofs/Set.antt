@@ -1,5 +1,6 @@
 -- UPDATE record as a step of the bodies.
-use Rattle.std.proofs.Common.{◌≡◌, ℕ, List, [], ◌∷◌, codes, None, Ok, refl, ap, subst, ◌∙◌}
+use Rattle.std.proofs.Common.{◌≡◌, ℕ, List, [], ◌∷◌, None, Ok, refl, ap, subst, ◌∙◌}
+use Rattle.sql_statements.specs.declared.sql.TheConstants.{SET_RECORD}
 use Rattle.sqlite.specs.Schema.{Schema}
 use Rattle.sqlite.specs.Command.TheVariants.{Update}
 use Rattle.sqlite.specs.Effect.{Database}
@@ -17,7 +18,7 @@ use Rattle.sql_statements.proofs.Steps.{concluded}
 use Rattle.sql_statements.proofs.Update.{set_query, set_params, updates}
 use Rattle.sql_statements.proofs.Lift.{IsStep}
 
-pub set_plain : IsPlain (understood token_schema (codes "UPDATE record SET body = ?1"))
+pub set_plain : IsPlain (understood token_schema SET_RECORD.now)
 unfolding understood everything
 set_plain = (refl, refl)
 
@@ -44,7 +45,7 @@ set_does r s text c tally after has it h =
       },
     )
 
-pub set_step : (r : List ℕ) → IsStep (codes "UPDATE record SET body = ?1") (set_params r) (Update 0 (record { lets = []; body = set_query })) (with_record r)
+pub set_step : (r : List ℕ) → IsStep SET_RECORD.now (set_params r) (Update 0 (record { lets = []; body = set_query })) (with_record r)
 set_step r = record {
   is = set_is;
   plain = set_plain;

@@ -1,5 +1,5 @@
 -- The insert, as a step of the bodies.
-use Rattle.std.proofs.Common.{◌≡◌, ℕ, pos, ℤ, ◌+◌, List, [], ◌∷◌, codes, length, Some, None, Option, Ok, Err, Result, refl, ap, subst, ◌∙◌, arith}
+use Rattle.std.proofs.Common.{◌≡◌, ℕ, pos, ℤ, ◌+◌, List, [], ◌∷◌, length, Some, None, Option, Ok, Err, Result, refl, ap, subst, ◌∙◌, arith}
 use Rattle.sqlite_value.specs.declared.value.Value.TheVariants.{Blob}
 use Rattle.sqlite.specs.Order.{Row}
 use Rattle.sqlite.specs.Table.{Table}
@@ -11,6 +11,7 @@ use Rattle.sqlite.specs.declared.run.Mode.{Mode}
 use Rattle.sqlite.specs.Rows.{Written}
 use Rattle.sqlite.specs.Does.{Tally, Does, Concludes}
 use Rattle.std.specs.Prelude.{unwrap_or, OnOk}
+use Rattle.sql_statements.specs.declared.sql.TheConstants.{INSERT_OBJECT}
 use Rattle.sqlite.specs.declared.error.Error.{Error}
 use Rattle.sqlite.specs.State.{State, mode_of, Writes, Executes}
 use Rattle.sqlite_tied.specs.Compute.{everything}
@@ -30,7 +31,7 @@ concluded limit table params mode w tally after h =
     let both = same_value (went (went h).2).2 in
     (ap (λ (p : Tally × Database). p.1) both, ap (λ (p : Tally × Database). p.0.last) both, ap (λ (p : Tally × Database). p.0.rows) both)
 
-insert_plain : IsPlain (understood token_schema (codes "INSERT INTO objects (body) VALUES (?1)"))
+insert_plain : IsPlain (understood token_schema INSERT_OBJECT.now)
 unfolding understood everything
 insert_plain = (refl, refl)
 
@@ -49,7 +50,7 @@ insert_does body s text c tally after has it h =
       },
     )
 
-pub insert_step : (body : List ℕ) → IsStep (codes "INSERT INTO objects (body) VALUES (?1)") (Blob body ∷ []) (Insert 1 (Values terms 3)) (λ c. with_body body c)
+pub insert_step : (body : List ℕ) → IsStep INSERT_OBJECT.now (Blob body ∷ []) (Insert 1 (Values terms 3)) (λ c. with_body body c)
 insert_step body = record {
   is = insert_is;
   plain = insert_plain;
@@ -60,7 +61,7 @@ insert_step body = record {
 }
 
 abbrev pub insert_text : List ℕ
-insert_text = codes "INSERT INTO objects (body) VALUES (?1)"
+insert_text = INSERT_OBJECT.now
 
 insert_tally : (body : List ℕ) (s : State) (text : List ℕ) (c : Bodies) (tally : Tally) (after : Database) → s.now.schema ≡ token_schema → HasRows s.now.trees c
     → Does s.step_limit (mode_of s) (Blob body ∷ []) s.now text None (Insert 1 (Values terms 3)) (Ok (tally, after)) → tally.last ≡ Some (pos (c.last_id + 1))

@@ -1,5 +1,6 @@
 -- DELETE of one object as a step of the bodies.
-use Rattle.std.proofs.Common.{◌≡◌, ℕ, List, [], codes, None, Ok, refl, ap, subst, ◌∙◌}
+use Rattle.std.proofs.Common.{◌≡◌, ℕ, List, [], None, Ok, refl, ap, subst, ◌∙◌}
+use Rattle.sql_statements.specs.declared.sql.TheConstants.{REMOVE_OBJECT}
 use Rattle.sqlite.specs.Schema.{Schema}
 use Rattle.sqlite.specs.Command.TheVariants.{Delete}
 use Rattle.sqlite.specs.Effect.{Database}
@@ -18,7 +19,7 @@ use Rattle.sql_statements.proofs.Steps.{concluded}
 use Rattle.sql_statements.proofs.Remove.{remove_query, id_params, deletes}
 use Rattle.sql_statements.proofs.Lift.{IsStep}
 
-remove_plain : IsPlain (understood token_schema (codes "DELETE FROM objects WHERE id = ?1"))
+remove_plain : IsPlain (understood token_schema REMOVE_OBJECT.now)
 unfolding understood everything
 remove_plain = (refl, refl)
 
@@ -37,7 +38,7 @@ remove_does id s text c tally after has it h =
       },
     )
 
-pub remove_step : (id : ℕ) → IsStep (codes "DELETE FROM objects WHERE id = ?1") (id_params id) (Delete 1 (record { lets = []; body = remove_query })) (without_body id)
+pub remove_step : (id : ℕ) → IsStep REMOVE_OBJECT.now (id_params id) (Delete 1 (record { lets = []; body = remove_query })) (without_body id)
 remove_step id = record {
   is = remove_is;
   plain = remove_plain;

@@ -1,6 +1,7 @@
 -- The two tables of the store.
 use Rattle.sqlite.specs.Collation.TheVariants.{Binary}
 use Rattle.std.specs.Prelude.{true, false, [], ◌∷◌, Some, None, codes, List, ℕ, pos}
+use Rattle.sql_statements.specs.declared.sql.TheConstants.{MAKE_OBJECTS, MAKE_RECORD}
 use Rattle.sqlite.specs.declared.types.Value.TheVariants.{Null, Int}
 use Rattle.sqlite_sql.specs.Term.{lit, col, op2}
 use Rattle.sqlite_sql.specs.declared.ops.BinaryOp.TheVariants.{Compare}
@@ -10,10 +11,10 @@ use Rattle.sqlite.specs.Schema.{Schema}
 use Rattle.sqlite.specs.Kind.TheVariants.{Integer, Blob, Any}
 
 abbrev pub record_text : List ℕ
-record_text = codes "CREATE TABLE record(id INTEGER PRIMARY KEY CHECK (id = 1), body BLOB NOT NULL) STRICT"
+record_text = MAKE_RECORD.now
 
 abbrev pub objects_text : List ℕ
-objects_text = codes "CREATE TABLE objects(id INTEGER PRIMARY KEY AUTOINCREMENT, body BLOB NOT NULL) STRICT"
+objects_text = MAKE_OBJECTS.now
 
 abbrev pub record_table : Table
 record_table = record {

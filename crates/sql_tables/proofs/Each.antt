@@ -1,6 +1,7 @@
 -- Objects that are written again one after the other, in a transaction.
-use Rattle.std.proofs.Common.{◌≡◌, ℕ, List, [], ◌∷◌, ◌++◌, codes, take, length, get_or, false, true, inl, Ok, Err, Result, OnOk, ◌≤◌, IsTrue, refl, sym, subst, ◌<◌, ◌+◌, arith}
+use Rattle.std.proofs.Common.{◌≡◌, ℕ, List, [], ◌∷◌, ◌++◌, take, length, get_or, false, true, inl, Ok, Err, Result, OnOk, ◌≤◌, IsTrue, refl, sym, subst, ◌<◌, ◌+◌, arith}
 use Rattle.std.proofs.lemmas.List.{take_more, take_all}
+use Rattle.sql_statements.specs.declared.sql.TheConstants.{REPLACE_OBJECT, SET_RECORD}
 use Rattle.sqlite_value.specs.declared.value.Value.TheVariants.{Blob, Int}
 use Rattle.sqlite.specs.Store.{Ghosts}
 use Rattle.sqlite.specs.State.{State, HasCleanDisk, Executes, ExecutesInside, KeepsCommit, Survives}
@@ -14,7 +15,7 @@ use Rattle.sql_tables.specs.RanEach.{RanEach, RanRenewals}
 use Rattle.sql_tables.proofs.Inside.{Inside}
 
 abbrev pub again_text : List ℕ
-again_text = codes "UPDATE objects SET body = ?2 WHERE id = ?1"
+again_text = REPLACE_OBJECT.now
 
 -- so many were written, and nothing was committed
 abbrev pub Wrote : {S : Type 0} → Ghosts S → List Renewal → Held S → Held S → Type 0
@@ -64,7 +65,7 @@ stopped_keeps g es begun old new params r wrote lasts ran clean mode =
 
 -- and then the record
 module _ {S : Type 0} (g : Ghosts S) (all : List Renewal) (bytes : List ℕ) (begun mid last : Held S) (r : Result ℕ Error) (each : HasCleanDisk (state g mid) → IsTrue begun.in_transaction → IsTrue mid.in_transaction × RanEach g all begun mid)
-    (one : Inside (codes "UPDATE record SET body = ?1") (Blob bytes ∷ []) (state g mid) (state g last) r)
+    (one : Inside SET_RECORD.now (Blob bytes ∷ []) (state g mid) (state g last) r)
     (stays : Survives (state g mid) (state g last) (λ _. ⊥)) (clean : HasCleanDisk (state g last)) where
   mid_clean : HasCleanDisk (state g mid)
   mid_clean = omega (arith, stays.clean)
@@ -72,7 +73,7 @@ module _ {S : Type 0} (g : Ghosts S) (all : List Renewal) (bytes : List ℕ) (be
   pub all_ran : (before : Held S) → begun ≡ record before { in_transaction = true } → OnOk r (RanRenewals g all bytes before (state g last).now)
   all_ran before is = made r one
     where
-      made : (r : Result ℕ Error) → Inside (codes "UPDATE record SET body = ?1") (Blob bytes ∷ []) (state g mid) (state g last) r → OnOk r (RanRenewals g all bytes before (state g last).now)
+      made : (r : Result ℕ Error) → Inside SET_RECORD.now (Blob bytes ∷ []) (state g mid) (state g last) r → OnOk r (RanRenewals g all bytes before (state g last).now)
       made (Err e) one = tt
       made (Ok n) one =
           let ran = each mid_clean (rw is) in

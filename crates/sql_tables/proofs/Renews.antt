@@ -1,5 +1,6 @@
 -- What the transaction that writes bodies again makes of the tables.
-use Rattle.std.proofs.Common.{◌≡◌, ℕ, ℤ, pos, ◌==◌, List, [], ◌∷◌, map, codes, Bool, true, false, cond, None, Ok, refl, sym, ap, subst, ◌∙◌}
+use Rattle.std.proofs.Common.{◌≡◌, ℕ, ℤ, pos, ◌==◌, List, [], ◌∷◌, map, Bool, true, false, cond, None, Ok, refl, sym, ap, subst, ◌∙◌}
+use Rattle.sql_statements.specs.declared.sql.TheConstants.{SET_RECORD}
 use Rattle.sqlite_value.specs.declared.value.Value.TheVariants.{Blob, Int}
 use Rattle.sqlite.specs.Command.TheVariants.{Update}
 use Rattle.sqlite.specs.Effect.{Database, IsDatabase}
@@ -58,7 +59,7 @@ each_is g (e ∷ es) old new xs ids has are rise ran =
 pub renews_is : {S : Type 0} (g : Ghosts S) (es : List Renewal) (old : Held S) (db : Database) (to : List ℕ) (b : Bodies) → AreNatural es → (state g old).now.schema ≡ token_schema → HasRows (state g old).now.trees b → RanRenewals g es to old db
     → (db.schema ≡ token_schema) × HasRows db.trees (renewed es to b) × IsDatabase db
 renews_is g es old db to b ids has it ran =
-    let set_text = codes "UPDATE record SET body = ?1" in
+    let set_text = SET_RECORD.now in
     let mid = state g ran.mid in
     let last = state g ran.last in
     let each = each_is g es (record old { in_transaction = true }) ran.mid b.objects ids has it.objects_are (rising (state g old).now.trees b it) ran.each in

@@ -1,5 +1,5 @@
 -- A connection that returns `Closed` was shut.
-use Rattle.std.proofs.Common.{◌≡◌, ◌⊎◌, inl, inr, false, List, ℕ, [], refl, sym, ◌∙◌}
+use Rattle.std.proofs.Common.{◌≡◌, inl, inr, false, List, ℕ, [], sym, ◌∙◌}
 use Rattle.sqlite.specs.State.{HasCause, IsNotRun, State, store_error}
 use Rattle.sqlite_value.specs.Order.{Row}
 use Rattle.sqlite.specs.declared.error.Error.{Error}

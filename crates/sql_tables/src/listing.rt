@@ -11,6 +11,7 @@ ghost use Rattle.sql_statements.specs.Store.{HoldsRows, IsQuery, OnlyReads, Rows
 ghost use Rattle.sql_statements.specs.Rows.{bodies, ids_and_bodies};
 
 use crate::statements::ensure_open;
+use sql_statements::{READ_IDS, READ_OBJECTS, READ_RECORD};
 use sqlite::{Alter, Connection, Error, Row};
 
 /// All rows of a query, at once.
@@ -29,7 +30,7 @@ pub fn read_ids<S: Alter>(conn: &mut Connection<S>) -> Result<Vec<Row>, Error>
     ensures open { HasCleanDisk (state S.Store conn.new) → (b : Bodies) → HoldsRows (state S.Store conn.old) b → OnOk result (IsTrue (state S.Store conn.new).is_open) }
     ensures same { RowsStayed (state S.Store conn.old) (state S.Store conn.new) }
 {
-    read_all(conn, "SELECT id FROM objects ORDER BY id")
+    read_all(conn, READ_IDS)
 }
 
 /// The body in each row of the record's table, in any order. It writes nothing.
@@ -38,7 +39,7 @@ pub fn read_record_bodies<S: Alter>(conn: &mut Connection<S>) -> Result<Vec<Row>
     ensures open { HasCleanDisk (state S.Store conn.new) → (db : Database) → SeesTables (state S.Store conn.old) db → OnOk result (IsTrue (state S.Store conn.new).is_open) }
     ensures same { OnlyReads (state S.Store conn.old) (state S.Store conn.new) }
 {
-    read_all(conn, "SELECT body FROM record")
+    read_all(conn, READ_RECORD)
 }
 
 /// The id and the body in each row of the objects' table, in any order. It writes nothing.
@@ -47,5 +48,5 @@ pub fn read_ids_and_bodies<S: Alter>(conn: &mut Connection<S>) -> Result<Vec<Row
     ensures open { HasCleanDisk (state S.Store conn.new) → (db : Database) → SeesTables (state S.Store conn.old) db → OnOk result (IsTrue (state S.Store conn.new).is_open) }
     ensures same { OnlyReads (state S.Store conn.old) (state S.Store conn.new) }
 {
-    read_all(conn, "SELECT id, body FROM objects")
+    read_all(conn, READ_OBJECTS)
 }

@@ -11,6 +11,7 @@ ghost use Rattle.sql_statements.specs.Tables.{no_schema};
 ghost use Rattle.sql_statements.specs.Store.{HasTables, IsAtRows, IsReady, Sees, ShowsNow};
 
 use crate::transactions::{Three, run_all};
+use sql_statements::{FIRST_RECORD, MAKE_OBJECTS, MAKE_RECORD};
 use sqlite::{Alter, Connection, Error};
 
 /// Makes both tables, with a body in the row of the record, in one transaction. It returns `false` where a transaction
@@ -30,9 +31,9 @@ pub fn make_tables<S: Alter>(conn: &mut Connection<S>, bytes: &[u8]) -> Result<b
     run_all(
         conn,
         &Three {
-            first: "CREATE TABLE record(id INTEGER PRIMARY KEY CHECK (id = 1), body BLOB NOT NULL) STRICT",
-            second: "CREATE TABLE objects(id INTEGER PRIMARY KEY AUTOINCREMENT, body BLOB NOT NULL) STRICT",
-            third: "INSERT INTO record VALUES (1, ?1)",
+            first: MAKE_RECORD,
+            second: MAKE_OBJECTS,
+            third: FIRST_RECORD,
             bytes,
         },
     )

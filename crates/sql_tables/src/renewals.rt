@@ -1,6 +1,6 @@
 //! Bodies that are written again, in one transaction.
 
-ghost use Rattle.std.specs.Prelude.{◌≡◌, ◌≤◌, ◌⊎◌, [], ◌∷◌, codes, false, true, IsTrue, IfOk, OnOk, OnErr};
+ghost use Rattle.std.specs.Prelude.{◌≡◌, ◌≤◌, ◌⊎◌, [], ◌∷◌, false, true, IsTrue, IfOk, OnOk, OnErr};
 ghost use Rattle.sqlite.specs.Effect.{Database};
 ghost use Rattle.sqlite.specs.Tree.{Trees};
 ghost use Rattle.sqlite_trees.specs.View.{doubt};
@@ -13,6 +13,7 @@ ghost use Rattle.sql_tables.specs.RanEach.{RanEach, RanRenewals};
 ghost use Rattle.sql_tables.specs.Renewed.{AreNatural, renewed};
 
 use crate::transactions::{Statements, run_all};
+use sql_statements::{REPLACE_OBJECT, SET_RECORD};
 use sqlite::{Alter, Connection, Error, Transaction, params};
 
 /// A body that is written again, and the row that it goes into.
@@ -27,13 +28,10 @@ pub struct Renewal {
 fn write_one<S: Alter>(tx: &mut Transaction<'_, S>, renewal: &Renewal) -> Result<usize, Error>
     ensures same_reference { tx.new.conn.ghost_name ≡ tx.old.conn.ghost_name }
     ensures runs { HasCleanDisk (state S.Store tx.new.conn.now) → IsTrue (state S.Store tx.old.conn.now).in_transaction
-        → ExecutesInside 0 (codes "UPDATE objects SET body = ?2 WHERE id = ?1") (Int renewal.now.id ∷ Blob renewal.now.body.items ∷ []) (state S.Store tx.old.conn.now) (state S.Store tx.new.conn.now) result }
+        → ExecutesInside 0 REPLACE_OBJECT.now (Int renewal.now.id ∷ Blob renewal.now.body.items ∷ []) (state S.Store tx.old.conn.now) (state S.Store tx.new.conn.now) result }
     ensures survives { Survives (state S.Store tx.old.conn.now) (state S.Store tx.new.conn.now) (λ _. ⊥) }
 {
-    tx.execute(
-        "UPDATE objects SET body = ?2 WHERE id = ?1",
-        params![renewal.id, renewal.body.as_slice()],
-    )
+    tx.execute(REPLACE_OBJECT, params![renewal.id, renewal.body.as_slice()])
 }
 
 /// Writes each body, up to the first that sqlite refuses.
@@ -63,7 +61,7 @@ impl<S: Alter> Statements<S> for Renewals<'_> {
 
     fn run(&self, tx: &mut Transaction<'_, S>) -> Result<usize, Error> {
         write_each(tx, self.each)?;
-        tx.execute("UPDATE record SET body = ?1", params![self.bytes])
+        tx.execute(SET_RECORD, params![self.bytes])
     }
 }
 

@@ -3,7 +3,7 @@
 //! Each is sent only where the connection was found open: of a connection that is shut sqlite says nothing.
 
 ghost use Rattle.std.specs.Prelude.{◌≡◌, ◌+◌, ◌<◌, ◌≤◌, ◌^◌, false, true, ℕ, List, pos, IfOk, IfErr, OnOk, OnErr, IsTrue};
-ghost use Rattle.std.specs.Prelude.{codes, [], ◌∷◌};
+ghost use Rattle.std.specs.Prelude.{[], ◌∷◌};
 ghost use Rattle.sqlite.specs.declared.types.Value.TheVariants.{Blob, Int};
 ghost use Rattle.sqlite.specs.declared.error.Error.TheVariants.{SqliteFailure};
 ghost use Rattle.sqlite.specs.declared.error.ErrorCode.TheVariants.{Closed};
@@ -13,6 +13,9 @@ ghost use Rattle.sql_statements.specs.Bodies.{Bodies, after_reset, greatest_id, 
 ghost use Rattle.sql_statements.specs.Store.{Committed, HoldsRows, IsReady, RowsChanged, RowsFailed, RowsStayed, ShowsBody, Uncommitted, Unwritten};
 
 use crate::transactions::{Pair, run_all};
+use sql_statements::{
+    CLEAR_OBJECTS, INSERT_OBJECT, READ_OBJECT, REMOVE_OBJECT, REPLACE_OBJECT, SET_RECORD,
+};
 use sqlite::{Alter, Connection, Error, Row, params};
 
 fn insert_row<S: Alter>(conn: &mut Connection<S>, bytes: &[u8]) -> Result<usize, Error>
@@ -20,45 +23,42 @@ fn insert_row<S: Alter>(conn: &mut Connection<S>, bytes: &[u8]) -> Result<usize,
     ensures err { OnErr result (Uncommitted (state S.Store conn.old) (state S.Store conn.new) (with_body bytes.now)) }
     ensures id { HasCleanDisk (state S.Store conn.new) → (b : Bodies) → IsReady (state S.Store conn.old) → HoldsRows (state S.Store conn.old) b → OnOk result ((state S.Store conn.new).last_rowid ≡ pos (b.last_id + 1)) }
 {
-    conn.execute("INSERT INTO objects (body) VALUES (?1)", params![bytes])
+    conn.execute(INSERT_OBJECT, params![bytes])
 }
 
 fn set_row<S: Alter>(conn: &mut Connection<S>, bytes: &[u8]) -> Result<usize, Error>
     ensures ok { OnOk result (Committed (state S.Store conn.old) (state S.Store conn.new) (with_record bytes.now)) }
     ensures err { OnErr result (Uncommitted (state S.Store conn.old) (state S.Store conn.new) (with_record bytes.now)) }
 {
-    conn.execute("UPDATE record SET body = ?1", params![bytes])
+    conn.execute(SET_RECORD, params![bytes])
 }
 
 // The cast of an id is hidden by these clauses.
 fn delete_by<S: Alter>(conn: &mut Connection<S>, id: u64) -> Result<usize, Error>
     requires { id < 2 ^ 63 }
-    ensures runs { HasCleanDisk (state S.Store conn.new) → Executes (codes "DELETE FROM objects WHERE id = ?1") (Int (pos id) ∷ []) (state S.Store conn.old) (state S.Store conn.new) result }
-    ensures survives { Survives (state S.Store conn.old) (state S.Store conn.new) (CommitsBy (codes "DELETE FROM objects WHERE id = ?1") (Int (pos id) ∷ []) (state S.Store conn.old)) }
+    ensures runs { HasCleanDisk (state S.Store conn.new) → Executes REMOVE_OBJECT.now (Int (pos id) ∷ []) (state S.Store conn.old) (state S.Store conn.new) result }
+    ensures survives { Survives (state S.Store conn.old) (state S.Store conn.new) (CommitsBy REMOVE_OBJECT.now (Int (pos id) ∷ []) (state S.Store conn.old)) }
 {
     let id = id as i64;
-    conn.execute("DELETE FROM objects WHERE id = ?1", params![id])
+    conn.execute(REMOVE_OBJECT, params![id])
 }
 
 fn replace_by<S: Alter>(conn: &mut Connection<S>, id: u64, bytes: &[u8]) -> Result<usize, Error>
     requires { id < 2 ^ 63 }
-    ensures runs { HasCleanDisk (state S.Store conn.new) → Executes (codes "UPDATE objects SET body = ?2 WHERE id = ?1") (Int (pos id) ∷ Blob bytes.now ∷ []) (state S.Store conn.old) (state S.Store conn.new) result }
-    ensures survives { Survives (state S.Store conn.old) (state S.Store conn.new) (CommitsBy (codes "UPDATE objects SET body = ?2 WHERE id = ?1") (Int (pos id) ∷ Blob bytes.now ∷ []) (state S.Store conn.old)) }
+    ensures runs { HasCleanDisk (state S.Store conn.new) → Executes REPLACE_OBJECT.now (Int (pos id) ∷ Blob bytes.now ∷ []) (state S.Store conn.old) (state S.Store conn.new) result }
+    ensures survives { Survives (state S.Store conn.old) (state S.Store conn.new) (CommitsBy REPLACE_OBJECT.now (Int (pos id) ∷ Blob bytes.now ∷ []) (state S.Store conn.old)) }
 {
     let id = id as i64;
-    conn.execute(
-        "UPDATE objects SET body = ?2 WHERE id = ?1",
-        params![id, bytes],
-    )
+    conn.execute(REPLACE_OBJECT, params![id, bytes])
 }
 
 fn read_by<S: Alter>(conn: &mut Connection<S>, id: u64) -> Result<Row, Error>
     requires { id < 2 ^ 63 }
-    ensures row { HasCleanDisk (state S.Store conn.new) → QueriesRow (codes "SELECT body FROM objects WHERE id = ?1") (Int (pos id) ∷ []) (state S.Store conn.old) (state S.Store conn.new) result }
-    ensures survives { Survives (state S.Store conn.old) (state S.Store conn.new) (CommitsShowing (codes "SELECT body FROM objects WHERE id = ?1") (Int (pos id) ∷ []) (state S.Store conn.old)) }
+    ensures row { HasCleanDisk (state S.Store conn.new) → QueriesRow READ_OBJECT.now (Int (pos id) ∷ []) (state S.Store conn.old) (state S.Store conn.new) result }
+    ensures survives { Survives (state S.Store conn.old) (state S.Store conn.new) (CommitsShowing READ_OBJECT.now (Int (pos id) ∷ []) (state S.Store conn.old)) }
 {
     let id = id as i64;
-    conn.query_row("SELECT body FROM objects WHERE id = ?1", params![id])
+    conn.query_row(READ_OBJECT, params![id])
 }
 
 fn remove_row<S: Alter>(conn: &mut Connection<S>, id: u64) -> Result<usize, Error>
@@ -106,7 +106,7 @@ pub fn insert_object<S: Alter>(conn: &mut Connection<S>, bytes: &[u8]) -> Result
     ensures id { HasCleanDisk (state S.Store conn.new) → (b : Bodies) → HoldsRows (state S.Store conn.old) b → IfOk result (λ id. id ≡ b.last_id + 1) }
     ensures limit { IfOk result (λ id. id ≤ greatest_id) }
 {
-    ensure_open(conn, "INSERT INTO objects (body) VALUES (?1)")?;
+    ensure_open(conn, INSERT_OBJECT)?;
     insert_row(conn, bytes)?;
     Ok(last_id(conn))
 }
@@ -120,12 +120,12 @@ pub fn reset_rows<S: Alter>(conn: &mut Connection<S>, bytes: &[u8]) -> Result<bo
     ensures refused { IfOk result (λ done. done ≡ false → RowsFailed (state S.Store conn.old) (state S.Store conn.new) (after_reset bytes.now)) }
     ensures err { OnErr result (RowsFailed (state S.Store conn.old) (state S.Store conn.new) (after_reset bytes.now)) }
 {
-    ensure_open(conn, "DELETE FROM objects")?;
+    ensure_open(conn, CLEAR_OBJECTS)?;
     run_all(
         conn,
         &Pair {
-            first: "DELETE FROM objects",
-            second: "UPDATE record SET body = ?1",
+            first: CLEAR_OBJECTS,
+            second: SET_RECORD,
             bytes,
         },
     )
@@ -137,7 +137,7 @@ pub fn put_record<S: Alter>(conn: &mut Connection<S>, bytes: &[u8]) -> Result<()
     ensures ok { OnOk result (RowsChanged (state S.Store conn.old) (state S.Store conn.new) (with_record bytes.now)) }
     ensures err { OnErr result (RowsFailed (state S.Store conn.old) (state S.Store conn.new) (with_record bytes.now)) }
 {
-    ensure_open(conn, "UPDATE record SET body = ?1")?;
+    ensure_open(conn, SET_RECORD)?;
     set_row(conn, bytes)?;
     Ok(())
 }
@@ -149,7 +149,7 @@ pub fn remove_object<S: Alter>(conn: &mut Connection<S>, id: u64) -> Result<(), 
     ensures ok { OnOk result (RowsChanged (state S.Store conn.old) (state S.Store conn.new) (without_body id)) }
     ensures err { OnErr result (RowsFailed (state S.Store conn.old) (state S.Store conn.new) (without_body id)) }
 {
-    ensure_open(conn, "DELETE FROM objects WHERE id = ?1")?;
+    ensure_open(conn, REMOVE_OBJECT)?;
     remove_row(conn, id)?;
     Ok(())
 }
@@ -165,7 +165,7 @@ pub fn replace_object<S: Alter>(
     ensures ok { OnOk result (RowsChanged (state S.Store conn.old) (state S.Store conn.new) (with_body_at id bytes.now)) }
     ensures err { OnErr result (RowsFailed (state S.Store conn.old) (state S.Store conn.new) (with_body_at id bytes.now)) }
 {
-    ensure_open(conn, "UPDATE objects SET body = ?2 WHERE id = ?1")?;
+    ensure_open(conn, REPLACE_OBJECT)?;
     replace_row(conn, id, bytes)?;
     Ok(())
 }
@@ -178,6 +178,6 @@ pub fn read_row<S: Alter>(conn: &mut Connection<S>, id: u64) -> Result<Row, Erro
     ensures open { HasCleanDisk (state S.Store conn.new) → OnOk result (IsTrue (state S.Store conn.old).is_open) }
     ensures same { RowsStayed (state S.Store conn.old) (state S.Store conn.new) }
 {
-    ensure_open(conn, "SELECT body FROM objects WHERE id = ?1")?;
+    ensure_open(conn, READ_OBJECT)?;
     read_by(conn, id)
 }

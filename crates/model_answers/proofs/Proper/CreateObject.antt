@@ -2,6 +2,7 @@
 use Rattle.std.proofs.Common.{◌≢◌, ◌+◌, ◌++◌, length, ◌≡◌, ℕ, Bool, false, not, List, [], ◌∷◌, map, Option, Some, None, refl, sym, ◌∙◌, ap, arith}
 use Rattle.std.specs.Prelude.{◌&&◌, nat_le}
 use Rattle.std.proofs.lemmas.Bool.{false≢true}
+use Rattle.ck_types.specs.declared.constants.TheConstants.{MAX_SESSION_OBJECTS}
 use Rattle.ck_types.specs.declared.attr_type.AttrType.{AttrType}
 use Rattle.ck_types.specs.declared.attr_type.AttrType.TheVariants as attr
 use Rattle.ck_types.specs.Numbers.{attr_type_number}
@@ -82,8 +83,8 @@ module _ (x y : List Entry) (same : mask_object x ≡ mask_object y) where
   makes-mask v state fault TokenObjectReadOnly = ap (λ b. b && not (is_rw state)) (same-flag attr.Token (λ e. absurd (omega (arith, e))))
   makes-mask v state fault PrivateObject = ap not (same-visible state)
   makes-mask v state fault ObjectLimit =
-      ap (λ b. not b && nat_le 256 (length (map mask_session_object v.own))) (same-flag attr.Token (λ e. absurd (omega (arith, e))))
-      ∙ ap (λ n. not (flag y attr.Token) && nat_le 256 n) (length-map mask_session_object v.own)
+      ap (λ b. not b && nat_le MAX_SESSION_OBJECTS (length (map mask_session_object v.own))) (same-flag attr.Token (λ e. absurd (omega (arith, e))))
+      ∙ ap (λ n. not (flag y attr.Token) && nat_le MAX_SESSION_OBJECTS n) (length-map mask_session_object v.own)
   makes-mask v state fault _ = refl
 
   create-mask : (v : View) (s : ℕ) (fault : Option Rv) (row : Condition) → create_row (mask v) s fault x row ≡ create_row v s fault y row
