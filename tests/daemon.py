@@ -5,6 +5,7 @@ Takes the program's path. Prints a line for each check, `ok NAME`, `FAILED NAME:
 """
 import contextlib
 import os
+import re
 import select
 import shutil
 import socket
@@ -20,6 +21,7 @@ import time
 PROGRAM = os.path.abspath(sys.argv[1]) if len(sys.argv) == 2 else sys.exit(__doc__)
 if not os.access(PROGRAM, os.X_OK):
     sys.exit(f"daemon.py: no program: {PROGRAM}")
+TOP = os.path.dirname(os.path.dirname(os.path.abspath(__file__)))
 NOBODY = 65534
 SECONDS = 60
 OK, DEVICE_ERROR, PIN_INCORRECT, PIN_LOCKED = 0, 0x30, 0xA0, 0xA4
@@ -654,6 +656,16 @@ def a_store_that_is_shut_ends_the_daemon(folder):
         idle.close()
     with Daemon(folder) as daemon:
         see(found(daemon) in (1, 2), "other objects")
+
+
+@check
+def the_version_is_the_changelogs_and_the_modules(folder):
+    status, out, _ = ran(folder, "--version")
+    with open(os.path.join(TOP, "CHANGELOG.md"), encoding="utf-8") as file:
+        newest = re.search(r"^## (.*)$", file.read(), re.M).group(1)
+    with open(os.path.join(TOP, "clients/pkcs11/Cargo.toml"), encoding="utf-8") as file:
+        module = re.search(r'^version = "(.*)"$', file.read(), re.M).group(1)
+    see(status == 0 and out == f"tokend {newest}\n".encode() and newest == module, status, out, newest, module)
 
 
 def main():
