@@ -10,4 +10,4 @@ pub mod Listing
 mod Searched
 pub mod Lengths
 pub mod Reading
-pub mod Adding
+pub mod NewObjects

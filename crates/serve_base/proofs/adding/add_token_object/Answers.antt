@@ -1,7 +1,7 @@
 use Rattle.std.proofs.Common.{refl, rules}
 use Rattle.keep.specs.Contents.{with_object}
 use Rattle.serve_base.proofs.Gaves.{gave-change}
-use Rattle.serve_base.proofs.Adding.{gives-added}
+use Rattle.serve_base.proofs.NewObjects.{gives-added}
 use Rattle.serve_base.proofs.adding.add_token_object.Goals as goal
 
 pub returns : goal.returns
