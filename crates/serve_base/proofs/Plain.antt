@@ -16,7 +16,7 @@ use Rattle.templates.specs.Made.{Answers as IsAnswered}
 use Rattle.desk.specs.Desks.{DeskState, SameDesk}
 use Rattle.model_views.specs.Views.{View}
 use Rattle.model_views.specs.Answering.{Said, Replies, Answer}
-use Rattle.model_views.specs.Refusals.{apart, resource_error}
+use Rattle.model_views.specs.Refusals.{resource_error_in, resource_error}
 use Rattle.model_views.proofs.Checks.{plain-row}
 use Rattle.model_views.proofs.Blind.{IsPlainFault}
 use Rattle.serve_base.specs.declared.out.Out.{Out}
@@ -53,14 +53,14 @@ pub plain-made : (r : Result Reply Refusal) (e : MakeFault) (fault : Option Rv) 
 plain-made (Ok reply) e fault made is answered plain = absurd is
 plain-made (Err x) e fault made is answered plain = subst (λ y. IsPlain (Err y)) (sym is) (plain-make e fault made answered plain)
 
-pub plain-done_as : {T : Type 0} (tell : T → Said) (as_out : T → Out) (r : Result T Refusal) → ((t : T) → said_of (as_out t) ≡ tell t) → IsPlainAs tell r → IfOk (settled as_out r) (λ out. apart (said_of out) ≡ None)
-plain-done_as tell as_out (Ok t) same plain = ap apart (same t) ∙ plain
+pub plain-done_as : {T : Type 0} (tell : T → Said) (as_out : T → Out) (r : Result T Refusal) → ((t : T) → said_of (as_out t) ≡ tell t) → IsPlainAs tell r → IfOk (settled as_out r) (λ out. resource_error_in (said_of out) ≡ None)
+plain-done_as tell as_out (Ok t) same plain = ap resource_error_in (same t) ∙ plain
 plain-done_as tell as_out (Err (refusals.Condition row)) same plain = plain-row row
 plain-done_as tell as_out (Err (refusals.Code code)) same plain = plain
 plain-done_as tell as_out (Err refusals.Memory) same plain = tt
 plain-done_as tell as_out (Err refusals.Device) same plain = tt
 
-pub plain-done : (r : Result Reply Refusal) → IsPlain r → IfOk (settled OutReply r) (λ out. apart (said_of out) ≡ None)
+pub plain-done : (r : Result Reply Refusal) → IsPlain r → IfOk (settled OutReply r) (λ out. resource_error_in (said_of out) ≡ None)
 plain-done r plain = plain-done_as Replies OutReply r (λ t. refl) plain
 
 pub stays-settled : {T : Type 0} (as_out : T → Out) (before desk : DeskState) (r : Result T Refusal) → IfErr r (λ refusal. SameDesk before desk) → IfErr (settled as_out r) (λ fault. SameDesk before desk)
@@ -98,14 +98,14 @@ module _ {T : Type 0} (tell : T → Said) (as_out : T → Out) (f : View → Ans
   abbrev at : Contents
   at = fitting before.handles.entries
 
-  plain-does : (r : Result T Refusal) → ((t : T) → said_of (as_out t) ≡ tell t) → ((v : View) → apart (f v).says ≡ None) → DoesAtDesk tell (f (view_of at before)) at before r desk → IfOk (settled as_out r) (λ out. apart (said_of out) ≡ None)
-  plain-does (Ok t) same plain does = ap apart (same t ∙ does.says) ∙ plain (view_of at before)
+  plain-does : (r : Result T Refusal) → ((t : T) → said_of (as_out t) ≡ tell t) → ((v : View) → resource_error_in (f v).says ≡ None) → DoesAtDesk tell (f (view_of at before)) at before r desk → IfOk (settled as_out r) (λ out. resource_error_in (said_of out) ≡ None)
+  plain-does (Ok t) same plain does = ap resource_error_in (same t ∙ does.says) ∙ plain (view_of at before)
   plain-does (Err (refusals.Condition row)) same plain does = plain-row row
-  plain-does (Err (refusals.Code code)) same plain does = sym (ap (λ a. apart a.says) does.0) ∙ plain (view_of at before)
+  plain-does (Err (refusals.Code code)) same plain does = sym (ap (λ a. resource_error_in a.says) does.0) ∙ plain (view_of at before)
   plain-does (Err refusals.Memory) same plain does = tt
   plain-does (Err refusals.Device) same plain does = tt
 
-  pub plain-at-desk : {given : Type 0} (r : Result T Refusal) → ((t : T) → said_of (as_out t) ≡ tell t) → ((v : View) → apart (f v).says ≡ None) → AtDeskIf given tell f before r desk → IfOk (settled as_out r) (λ out. apart (said_of out) ≡ None)
+  pub plain-at-desk : {given : Type 0} (r : Result T Refusal) → ((t : T) → said_of (as_out t) ≡ tell t) → ((v : View) → resource_error_in (f v).says ≡ None) → AtDeskIf given tell f before r desk → IfOk (settled as_out r) (λ out. resource_error_in (said_of out) ≡ None)
   plain-at-desk r same plain does = plain-does r same plain (does.serves at (fits-fitting before.handles.entries))
 
   stays-does : (r : Result T Refusal) → DoesAtDesk tell (f (view_of at before)) at before r desk → IfErr (settled as_out r) (λ fault. SameDesk before desk)

@@ -10,7 +10,7 @@ use Rattle.desk.specs.Desks.{DeskState, SameDesk}
 use Rattle.model_views.specs.Views.{View}
 use Rattle.model_views.specs.Changes.{Stays}
 use Rattle.model_views.specs.Answering.{Said, Answer, refuses_by}
-use Rattle.model_views.specs.Refusals.{apart}
+use Rattle.model_views.specs.Refusals.{resource_error_in}
 use Rattle.model_views.proofs.Checks.{plain-row}
 use Rattle.serve_base.specs.declared.refusal.Refusal.{Refusal}
 use Rattle.serve_base.specs.declared.refusal.Refusal.TheVariants as refusals
@@ -29,10 +29,10 @@ module _ {K T : Type 0} (terms : Terms K) (tell : T → Said) (f a : View → An
   does-read c (Err refusals.Memory) is still h leaves does = record { has = h; same = does; leaves = λ l may. inl (leaves l may) }
   does-read c (Err refusals.Device) is still h leaves does = absurd does
 
-  plain-read : (c : Contents) (r : Result T Refusal) → apart (a (view_of c before)).says ≡ None → DoesAtDesk tell (a (view_of c before)) c before r desk → IsPlainAs tell r
-  plain-read c (Ok out) plain does = ap apart does.says ∙ plain
+  plain-read : (c : Contents) (r : Result T Refusal) → resource_error_in (a (view_of c before)).says ≡ None → DoesAtDesk tell (a (view_of c before)) c before r desk → IsPlainAs tell r
+  plain-read c (Ok out) plain does = ap resource_error_in does.says ∙ plain
   plain-read c (Err (refusals.Condition row)) plain does = tt
-  plain-read c (Err (refusals.Code code)) plain does = ap (λ (x : Answer). apart x.says) (sym does.0) ∙ plain
+  plain-read c (Err (refusals.Code code)) plain does = ap (λ (x : Answer). resource_error_in x.says) (sym does.0) ∙ plain
   plain-read c (Err refusals.Memory) plain does = tt
   plain-read c (Err refusals.Device) plain does = tt
 
@@ -43,7 +43,7 @@ module _ {K T : Type 0} (terms : Terms K) (tell : T → Said) (f a : View → An
   stays-read c (Err refusals.Memory) does = does
   stays-read c (Err refusals.Device) does = absurd does
 
-  pub done-read : (r : Result T Refusal) → KeepStays terms old.keep new.keep → new.ids ≡ old.ids → Counted terms old.keep new.keep 0 0 → ((v : View) → (a v).change ≡ Stays) → ((v : View) → apart (a v).says ≡ None)
+  pub done-read : (r : Result T Refusal) → KeepStays terms old.keep new.keep → new.ids ≡ old.ids → Counted terms old.keep new.keep 0 0 → ((v : View) → (a v).change ≡ Stays) → ((v : View) → resource_error_in (a v).says ≡ None)
       → (terms.doubt new.keep ≡ 0 → (c : Contents) → Has terms old c → Fits c before.handles.entries → f (view_of c before) ≡ a (view_of c before)) → AtDesk tell a before r desk → IsDoneAs terms tell 0 (λ c v. f v) old new before r desk
   done-read r same ids counts still plain is at =
       let some = some-fits before.handles.entries in

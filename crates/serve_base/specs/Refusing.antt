@@ -15,7 +15,7 @@ use Rattle.model_views.specs.declared.fault.Fault.{Fault}
 use Rattle.model_views.specs.declared.fault.Fault.TheVariants as faults
 use Rattle.model_views.specs.Views.{View}
 use Rattle.model_views.specs.Answering.{Said, Replies, Answer, refuses, refuses_by}
-use Rattle.model_views.specs.Refusals.{apart, resource_error}
+use Rattle.model_views.specs.Refusals.{resource_error_in, resource_error}
 use Rattle.serve_base.specs.declared.out.Out.{Out}
 use Rattle.serve_base.specs.declared.out.Out.TheVariants.{Reply as OutReply}
 use Rattle.serve_base.specs.declared.refusal.Refusal.{Refusal}
@@ -77,7 +77,7 @@ DoneAs terms tell f old new before result desk =
 
 -- what is returned is no resource error, nor is the code of a refusal
 abbrev pub IsPlainAs : {T : Type 0} → (T → Said) → Result T Refusal → Type 0
-IsPlainAs tell (Ok out) = apart (tell out) ≡ None
+IsPlainAs tell (Ok out) = resource_error_in (tell out) ≡ None
 IsPlainAs tell (Err (refusals.Condition row)) = Unit {0}
 IsPlainAs tell (Err (refusals.Code code)) = resource_error (Code code) ≡ None
 IsPlainAs tell (Err refusals.Memory) = Unit {0}
@@ -126,6 +126,6 @@ pub record IsServedIf (given : Type 0) {K : Type 0} (terms : Terms K) (kind : Ou
   pub says : IfOk result kind
   pub counts : Counted terms old.keep new.keep 0 1
   pub cause : IsErrOf result faults.Device → Rises (terms.failures old.keep) (terms.failures new.keep)
-  pub plain : IfOk result (λ out. apart (said_of out) ≡ None)
+  pub plain : IfOk result (λ out. resource_error_in (said_of out) ≡ None)
   pub stays : IfErr result (λ fault. SameDesk before desk)
   pub short : given → IfOk result (λ out. IsShortSaid (said_of out))
