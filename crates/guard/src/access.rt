@@ -27,12 +27,11 @@ pub fn is_read_write(state: SessionState) -> bool
     }
 }
 
-/// Whether a session in a state may not write an object, since a token object is written in a R/W session alone (PKCS #11
-/// v3.1, 3.3).
-pub fn needs_read_write(state: SessionState, is_token: bool) -> bool
-    ensures { result ≡ (is_token && not (is_rw state)) }
+/// Whether a session may not write an object, since a token object is written in a R/W session alone (PKCS #11 v3.1, 3.3).
+pub fn needs_read_write(read_write: bool, is_token: bool) -> bool
+    ensures { result ≡ (is_token && not read_write) }
 {
-    is_token && !is_read_write(state)
+    is_token && !read_write
 }
 
 /// Whether a session in a state sees the object (PKCS #11 v3.1, 4.4, CKA_PRIVATE).
@@ -48,5 +47,5 @@ pub fn writable(state: SessionState, object: &Object) -> bool
     ensures access { result ≡ is_writable state object.now }
     ensures on_mask { result ≡ is_writable state (mask object.now) }
 {
-    visible(state, object) && !needs_read_write(state, object.flag(AttrType::Token))
+    visible(state, object) && !needs_read_write(is_read_write(state), object.flag(AttrType::Token))
 }

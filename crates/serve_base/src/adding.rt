@@ -14,7 +14,7 @@ use attrs::Object;
 use ck_calls::Reply;
 use ck_types::{AttrType, SessionState};
 use desk::Desk;
-use guard::{needs_read_write, visible};
+use guard::{is_read_write, needs_read_write, visible};
 use keep::Keep;
 use precede::Condition;
 
@@ -31,7 +31,7 @@ pub fn add_object<K: Keep>(
     ensures { IsDone K.terms 1 (λ v. adds_where v session state object) store.old store.new desk.old result desk.new }
 {
     let is_token = object.flag(AttrType::Token);
-    if needs_read_write(state, is_token) {
+    if needs_read_write(is_read_write(state), is_token) {
         return Err(Refusal::Condition(Condition::TokenObjectReadOnly));
     }
     if !visible(state, &object) {

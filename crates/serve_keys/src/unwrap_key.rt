@@ -18,7 +18,7 @@ use ck_calls::{Function, Mechanism, Reply};
 use ck_mechanisms::{Purpose, find_for};
 use ck_types::{AttrType, Bytes, Rv, SessionState, Template};
 use desk::Desk;
-use guard::{is_user, needs_read_write};
+use guard::{is_read_write, is_user, needs_read_write};
 use keep::Keep;
 use lists::NUMBER_LIMIT;
 use mech::Work;
@@ -149,7 +149,7 @@ fn ask_for_key(
         return Err(Refusal::Code(code));
     }
     let is_token = unwraps_token_key(&template);
-    if needs_read_write(state, is_token) {
+    if needs_read_write(is_read_write(state), is_token) {
         return Err(Refusal::Condition(Condition::TokenObjectReadOnly));
     }
     if unwraps_private_key(&template) && !is_user(state) {

@@ -35,9 +35,9 @@ pub fn serve<K: Keep>(
 ) -> Result<Reply, Refusal>
     ensures { IsDone K.terms 1 (λ v. destroy_object v session handle) store.old store.new desk.old result desk.new }
 {
-    let state = desk.state(session).ok_or(Condition::NoSession)?;
+    let read_write = desk.is_read_write(session).ok_or(Condition::NoSession)?;
     let found = find(alloc, desk, store, handle)?.ok_or(Condition::NoObject)?;
-    if needs_read_write(state, found.object.flag(AttrType::Token)) {
+    if needs_read_write(read_write, found.object.flag(AttrType::Token)) {
         return Err(Refusal::Condition(Condition::TokenObjectReadOnly));
     }
     if !found.object.flag(AttrType::Destroyable) {

@@ -20,7 +20,7 @@ use attrs::Object;
 use ck_calls::Reply;
 use ck_types::{AttrType, Rv, Template};
 use desk::Desk;
-use guard::needs_read_write;
+use guard::{is_read_write, needs_read_write};
 use keep::Keep;
 use precede::Condition;
 use serve_base::{Refusal, Store, find};
@@ -41,7 +41,7 @@ pub fn serve<K: Keep>(
 {
     let state = desk.state(session).ok_or(Condition::NoSession)?;
     let found = find(alloc, desk, store, handle)?.ok_or(Condition::NoObject)?;
-    if needs_read_write(state, found.object.flag(AttrType::Token)) {
+    if needs_read_write(is_read_write(state), found.object.flag(AttrType::Token)) {
         return Err(Refusal::Condition(Condition::TokenObjectReadOnly));
     }
     if !found.object.flag(AttrType::Modifiable) {

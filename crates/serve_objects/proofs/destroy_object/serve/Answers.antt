@@ -7,7 +7,6 @@ use Rattle.serve_base.proofs.InSession.{in_session}
 use Rattle.serve_base.proofs.Storing.{has-still}
 use Rattle.serve_objects.proofs.Destroying.{IsFree, destroy-is}
 use Rattle.serve_objects.proofs.destroy_object.serve.Goals as goal
-use Rattle.serve_objects.proofs.destroy_object.serve.Goals.{else-flag-via-then-flag+else-not-read_write, else-flag-via-else-flag}
 
 pub returns : goal.returns
 returns g c = record {
@@ -17,9 +16,9 @@ returns g c = record {
       let clean : g.K.Keep.terms.doubt c.find.new.store.keep ≡ 0 = omega (arith, c.destroy.ensures.counts.doubt, sure) in
       let found = subst (λ x. IsFound k d c.args.handle x) c.in_ok-found.ensures.ok_part (c.in_ok-find.ensures.found clean k h fits) in
       let held = has-still _ _ _ k c.find.ensures.same c.find.ensures.ids h in
-      let s = in_session _ _ c.state.result _ c.state.ensures c.in_ok-state.ensures.ok_part in
-      let writable = ap (λ b. b && not (is_rw c.in_ok-state.state)) (sym c.flag.ensures) ∙ sym c.needs_read_write.ensures ∙ c.if-needs_read_write.false in
-      let free : IsFree o (is_rw s.0) = (rw s.2 writable, ap not (sym c.flag-2.ensures ∙ c.if-not-flag.false)) in
+      let s = in_session _ _ c.is_read_write.result _ c.is_read_write.ensures c.in_ok-read_write.ensures.ok_part in
+      let writable = sym c.needs_read_write.ensures ∙ c.if-needs_read_write.false in
+      let free : IsFree o s.0.read_write = (ap (λ b. b && not s.0.read_write) (sym c.flag.ensures) ∙ ap (λ b. c.flag.result && not b) s.2 ∙ writable, ap not (sym c.flag-2.ensures ∙ c.if-not-flag.false)) in
       does-is _ _ _ k _ _ d c.destroy.new.desk c.destroy.result (destroy-is (view_of k d) c.args.session c.args.handle s.0 o s.1 found.0 free)
       (does-after _ _ k _ c.find.new.store _ d c.destroy.new.desk c.destroy.result (λ left may. c.find.ensures.same.crash k left h.held may) (c.destroy.ensures.serves o sure k held fits found.1));
   counts = search rules;

@@ -11,7 +11,6 @@ use Rattle.serve_base.proofs.Storing.{has-still}
 use Rattle.templates.proofs.Results.{made-object}
 use Rattle.serve_objects.proofs.Making.{set-is}
 use Rattle.serve_objects.proofs.set_attribute_value.serve.Goals as goal
-use Rattle.serve_objects.proofs.set_attribute_value.serve.Goals.{else-flag-via-then-flag+else-not-is_read_write, else-flag-via-else-flag}
 
 pub returns : goal.returns
 returns g c = record {
@@ -22,10 +21,7 @@ returns g c = record {
       let held = has-still _ _ _ k c.find.ensures.same c.find.ensures.ids h in
       let s = in_session _ _ c.state.result _ c.state.ensures c.in_ok-state.ensures.ok_part in
       let o = c.in_ok-found.found.object in
-      let test : (c.flag.result && not (is_rw c.in_ok-state.state)) ≡ false = elim c.else-flag.branch [
-        | else-flag-via-then-flag+else-not-is_read_write w ↦ rw (w.if-flag.true, ← w.is_read_write.ensures, w.if-not-is_read_write.false) refl
-        | else-flag-via-else-flag w ↦ rw w.if-flag.false refl
-      ] in
+      let test = ap (λ b. c.flag.result && not b) (sym c.is_read_write.ensures) ∙ sym c.needs_read_write.ensures ∙ c.if-needs_read_write.false in
       let writable = ap (λ b. b && not (is_rw c.in_ok-state.state)) (sym c.flag.ensures) ∙ test in
       let made = made-object _ _ c.in_ok-object.object c.in_ok-object.ensures.made in
       does-is _ _ _ k _ _ d c.put.new.desk c.put.result

@@ -36,7 +36,7 @@ returns-clause-serves c = record {
       let met = asked (goal.at.returns-clause-serves c).After-room_of in
       let v = view_of k c.args.desk.now in
       let s = c.in_ok-operation.operation.now in
-      let buffer_len : c.in-Ok.wanted ≡ wanted Last s 0 = c.in-Ok.ensures.buffer_len in
+      let buffer_len : c.in-Ok.wanted ≡ wanted Last s 0 = c.in-Ok.ensures.room in
       gives-is _ (asks_within (final_function c.args.direction) c.args.session (Ciphers Last (operation_of s) []) (wanted Last s 0) c.args.buffer_len v) k c.args.desk.now _ _
       (final-asks v c.args.session c.args.direction s met.0 c.args.buffer_len (rw c.in-Ok.is at met.1))
       (rw (c.final_function.ensures, c.copied-stream.ensures, c.from_vec.ensures ∙ c.new.ensures.items, buffer_len) at (c.in_ok-ask_within.ensures.gives k fits));

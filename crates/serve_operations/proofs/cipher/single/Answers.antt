@@ -39,7 +39,7 @@ returns-clause-serves c = record {
       let met = asked (goal.at.returns-clause-serves c).After-room_of in
       let v = view_of k c.args.desk.now in
       let s = c.in_ok-operation.operation.now in
-      let buffer_len : c.in-Ok.wanted ≡ wanted Last s (length c.args.input) = rw c.as_slice.ensures at c.in-Ok.ensures.buffer_len in
+      let buffer_len : c.in-Ok.wanted ≡ wanted Last s (length c.args.input) = rw c.as_slice.ensures at c.in-Ok.ensures.room in
       gives-is _ (asks_within (single_function c.args.direction) c.args.session (Ciphers Last (operation_of s) c.args.input) (wanted Last s (length c.args.input)) c.args.buffer_len v) k c.args.desk.now _ _
       (single-asks v c.args.session c.args.direction s met.0 c.args.input c.args.buffer_len met.1 (rw c.in-Ok.is at met.2))
       (rw (c.single_function.ensures, c.copied-stream.ensures, buffer_len) at (c.in_ok-ask_within.ensures.gives k fits));
