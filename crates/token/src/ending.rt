@@ -11,9 +11,8 @@ use keep::Keep;
 use mech::{Done, Outcome};
 use model_views::Fault;
 use serve_base::{Refusal, Store};
-use serve_ciphers::cipher;
 use serve_keys::unwrap_key;
-use serve_macs::mac;
+use serve_operations::{cipher, mac};
 use serve_sessions::{init_pin, init_token, login, set_pin};
 
 /// What the other applications have in progress.

@@ -19,14 +19,12 @@ use model_views::Fault;
 use ops::MacPlace;
 use precede::Condition;
 use serve_base::{Out, Store, settle, settle_asking};
-use serve_ciphers::{cipher, cipher_init};
 use serve_keys::{generate_key, generate_random, unwrap_key, wrap_key};
-use serve_macs::{mac, mac_init};
 use serve_objects::{
-    copy_object, create_object, destroy_object, get_attribute_value, get_object_size,
-    set_attribute_value,
+    copy_object, create_object, destroy_object, find_objects, find_objects_init,
+    get_attribute_value, get_object_size, set_attribute_value,
 };
-use serve_search::{find_objects, find_objects_init};
+use serve_operations::{cipher, cipher_init, mac, mac_init};
 use serve_sessions::{
     close_session, get_mechanism_info, get_mechanism_list, get_session_info, get_token_info,
     init_pin, init_token, login, logout, open_session, set_pin,
