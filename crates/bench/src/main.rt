@@ -255,7 +255,7 @@ fn print_usage(rt: &impl Print) -> io::Result<()> {
 }
 
 /// Does what the words say, after the program's name.
-fn run<T: Threads>(rt: HostRuntime, threads: &T, words: &[String]) -> io::Result<()> {
+fn measure<T: Threads>(rt: HostRuntime, threads: &T, words: &[String]) -> io::Result<()> {
     match words {
         [_] => print_all(&rt, FULL),
         [_, what] if what.as_str() == "small" => {
@@ -278,5 +278,5 @@ fn main(rt: HostRuntime) -> io::Result<()> {
     for word in env::args(&rt)? {
         words.push(word)?;
     }
-    run(rt, &rt, &words)
+    measure(rt, &rt, &words)
 }
