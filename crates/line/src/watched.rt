@@ -1,23 +1,25 @@
 //! A reader or a writer that counts its failures.
 
-ghost use Rattle.std.specs.Prelude.{◌≡◌, ◌↔◌, IsTrue};
+ghost use Rattle.std.specs.Prelude.{◌≡◌, ◌↔◌, [], IsTrue};
 ghost use Rattle.std.specs.Io.{ReadsAtMost, WritesAtMost};
 ghost use Rattle.std.specs.Io.KnownBytes.{Keeps, ReadConsumes, WriteAppends};
 ghost use Rattle.keep.specs.Keeping.{Rises};
-ghost use Rattle.line.specs.Noting.{IsInterruption, Notes, NotesWrite};
+ghost use Rattle.line.specs.Noting.{HoldsBack, IsInterruption, LetsOut, Notes, NotesWrite};
 
 use keep::WriteCount as CallCount;
+use lists::GhostBytes;
 use std::io::{self, Error, ErrorKind, Read, Write};
 use std::marker::Model;
 
 /// A reader or a writer that counts how many of its calls failed. A call that was interrupted did not
-/// fail; a write that took nothing of bytes that were there did. For clauses alone, without bytes, it
-/// counts all calls.
+/// fail; one that would block did, and a write that took nothing of bytes that were there. For clauses alone, without bytes, it
+/// counts all calls, and has the bytes that a writer took and were not flushed yet.
 #[derive(Drop)]
 pub struct Watched<T> {
     inner: T,
     failures: u64,
     calls: CallCount,
+    unflushed: GhostBytes,
 }
 
 impl<T> Model for Watched<T> {
@@ -25,7 +27,7 @@ impl<T> Model for Watched<T> {
 
     ghost Value = { Noting T };
 
-    ghost view = { λ n. record { inner = n.inner; failures = n.failures; calls = n.calls } };
+    ghost view = { λ n. record { inner = n.inner; failures = n.failures; calls = n.calls; unflushed = n.unflushed.bytes } };
 }
 
 /// Whether a read, a write or a flush may be tried again.
@@ -55,12 +57,13 @@ fn note(failures: &mut u64, error: &Error)
 impl<T> Watched<T> {
     /// A reader or a writer of which no call was made yet.
     pub fn new(inner: T) -> Watched<T>
-        ensures { result ≡ record { inner = inner; failures = 0; calls = 0 } }
+        ensures { result ≡ record { inner = inner; failures = 0; calls = 0; unflushed = [] } }
     {
         Watched {
             inner,
             failures: 0,
             calls: CallCount::new(),
+            unflushed: GhostBytes::new(),
         }
     }
 
@@ -105,6 +108,7 @@ impl<W: Write> Write for Watched<W> {
         ensures bound { WritesAtMost result buf.now }
         ensures bytes { WriteAppends (W.contents self.old.inner) (W.contents self.new.inner) result buf.now }
         ensures noted { NotesWrite self.old self.new buf.now result }
+        ensures unflushed { HoldsBack self.old self.new buf.now result }
     {
         self.calls.add();
         match self.inner.write(buf) {
@@ -112,6 +116,8 @@ impl<W: Write> Write for Watched<W> {
                 if count == 0 && !buf.is_empty() {
                     count_failure(&mut self.failures);
                 }
+                let (taken, _) = buf.split_at(count);
+                self.unflushed.push(taken);
                 Ok(count)
             }
             Err(error) => {
@@ -124,10 +130,14 @@ impl<W: Write> Write for Watched<W> {
     fn flush(&mut self) -> io::Result<()>
         ensures bytes { Keeps (W.contents self.old.inner) (W.contents self.new.inner) }
         ensures noted { Notes self.old self.new result }
+        ensures flushed { LetsOut self.old self.new result }
     {
         self.calls.add();
         match self.inner.flush() {
-            Ok(()) => Ok(()),
+            Ok(()) => {
+                self.unflushed = GhostBytes::new();
+                Ok(())
+            }
             Err(error) => {
                 note(&mut self.failures, &error);
                 Err(error)

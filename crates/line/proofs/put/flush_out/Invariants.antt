@@ -1,6 +1,6 @@
 use Rattle.std.specs.Io.KnownBytes.{Keeps}
 use Rattle.line.proofs.Noting.{Made}
-use Rattle.line.proofs.serve.flush_out.Given as goal
+use Rattle.line.proofs.put.flush_out.Given as goal
 
 abbrev pub invariant-flushes : goal.invariant-flushes
 invariant-flushes g l = record {

@@ -1,0 +1,21 @@
+use Rattle.std.proofs.Common.{refl}
+use Rattle.line.proofs.Turning.{account-begin, account-turn, account-nothing, account-flush, beginning-end, beginning-cut}
+use Rattle.line.proofs.law.accounts.Goals as goal
+
+pub returns-clause-begins : goal.returns-clause-begins
+returns-clause-begins g = λ a read written held. account-begin a.words a refl read written held
+
+pub returns-clause-turn : goal.returns-clause-turn
+returns-clause-turn g = account-turn
+
+pub returns-clause-nothing : goal.returns-clause-nothing
+returns-clause-nothing g = account-nothing
+
+pub returns-clause-flush : goal.returns-clause-flush
+returns-clause-flush g = account-flush
+
+pub returns-clause-ended : goal.returns-clause-ended
+returns-clause-ended g = beginning-end
+
+pub returns-clause-cut : goal.returns-clause-cut
+returns-clause-cut g = beginning-cut
