@@ -104,7 +104,7 @@ took_is : (ts : History) → map event_of (moves_in ts) ++ [] ≡ model_events t
 took_is [] = refl
 took_is (x ∷ xs) = let a = event_moved_by (as_event x.1.0) x.1.1 in let b = took_is xs in λ i. a i ∷ b i
 
-replied_is : (w : World) (ts : History) → Unfolds w ts → told_in ts ≡ replies w (moves_in ts)
+pub replied_is : (w : World) (ts : History) → Unfolds w ts → told_in ts ≡ replies w (moves_in ts)
 replied_is w [] u = refl
 replied_is w (x ∷ xs) u = let a = sym (tells_is w x.1.0 x.1.1 u.0) in let b = replied_is (happens w (move_in x.1)) xs u.1 in λ i. a i ++ b i
 

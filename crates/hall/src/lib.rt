@@ -26,6 +26,8 @@
 mod closing;
 mod fault;
 mod holding;
+pub mod laws;
+mod link;
 mod machine;
 mod opening;
 mod seat_loop;
@@ -34,6 +36,7 @@ mod seats;
 mod serving;
 mod starting;
 mod token_machine;
+mod worker;
 
 pub use closing::Passes;
 pub use fault::HallFault;
