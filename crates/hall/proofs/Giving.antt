@@ -39,6 +39,9 @@ module _ {T : Type 0} (doubt failures : T → ℕ) (shows : T → World → Type
       pub given_led : HasGiven doubt failures shows leaves m n taken outboxes → IsLed doubt failures shows leaves m n
       given_led so = record { history = so.history; served = so.served }
 
+      pub given_on : (taken' : List (ℕ × Event)) → HasGiven doubt failures shows leaves m n taken outboxes → taken' ≡ taken ++ [] → HasGiven doubt failures shows leaves m n taken' outboxes
+      given_on taken' so is = record { history = so.history; taken_is = is ∙ append-nil taken ∙ so.taken_is; gave = so.gave; served = so.served }
+
       pub has_taken : (taken' : List (ℕ × Event)) (s : ℕ) (e : Event) → HasGiven doubt failures shows leaves m n taken outboxes → taken' ≡ taken ++ (s, e) ∷ [] → HasTaken doubt failures shows leaves m n taken' outboxes s e
       has_taken taken' s e so is = record { history = so.history; taken_is = is ∙ (λ i. so.taken_is i ++ (s, e) ∷ []); gave = so.gave; served = so.served }
 
