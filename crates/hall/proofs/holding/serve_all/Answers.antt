@@ -23,8 +23,8 @@ returns-in-Some-clause-held g c =
       runs = λ sure w shows idle. history_is _ _ _ w t.history all.0.settled (t.served.runs sure w shows idle all.0.proper);
     }
 
-pub returns-in-None-clause-led : goal.returns-in-None-clause-led
-returns-in-None-clause-led g c = led_from g.M.Machine.doubt g.M.Machine.failures g.M.Machine.shows g.M.Machine.leaves _ c.args.machine _ (c.serve_seats.ensures.began ∙ c.of-began.ensures) c.serve_seats.ensures.led
+pub returns-clause-led : goal.returns-clause-led
+returns-clause-led g c = led_from g.M.Machine.doubt g.M.Machine.failures g.M.Machine.shows g.M.Machine.leaves _ c.args.machine _ (c.serve_seats.ensures.began ∙ c.of-began.ensures) c.serve_seats.ensures.led
 
 pub returns-then-not-serve_seats-clause-led : goal.returns-then-not-serve_seats-clause-led
 returns-then-not-serve_seats-clause-led g c = led_from g.M.Machine.doubt g.M.Machine.failures g.M.Machine.shows g.M.Machine.leaves _ c.args.machine _ (c.serve_seats.ensures.began ∙ c.of-began.ensures) c.serve_seats.ensures.led

@@ -4,8 +4,10 @@ use Rattle.hall.proofs.Giving.{answered, given_more}
 use Rattle.hall.proofs.MoreHistory.{same_outboxes}
 use Rattle.hall.proofs.serving.give.Goals as goal
 
-pub answer-requires-clause-allowed : goal.answer-requires-clause-allowed
-answer-requires-clause-allowed g c = answered g.M.Machine.doubt g.M.Machine.failures g.M.Machine.shows g.M.Machine.leaves _ _ _ _ c.args.seat c.args.out c.requires.may
+pub answer-requires : goal.answer-requires
+answer-requires g c = record {
+  allowed = answered g.M.Machine.doubt g.M.Machine.failures g.M.Machine.shows g.M.Machine.leaves _ _ _ _ c.args.seat c.args.out c.requires.may;
+}
 
 pub returns-clause-same : goal.returns-clause-same
 returns-clause-same g c =
