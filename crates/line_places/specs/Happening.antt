@@ -1,0 +1,37 @@
+-- What becomes of a worker's clients.
+use Rattle.std.specs.Prelude.{◌≡◌, ℕ, ◌%◌, List, [], ◌∷◌, ◌++◌, length, Bool, true, false, Option, Some, None, slice_get}
+use Rattle.ck_calls.specs.declared.reply.Reply.{Reply}
+use Rattle.hall_channels.specs.declared.messages.AppCall.{AppCall}
+use Rattle.line_places.specs.declared.client.Came.{Came}
+use Rattle.line_places.specs.declared.client.Came.TheVariants.{Call, Nothing, Ended}
+use Rattle.line_places.specs.declared.client.Client.{Client}
+use Rattle.line_places.specs.declared.places.Places.{Places}
+use Rattle.line_places.specs.Keeping.{HasGone, IsOwed}
+
+module _ {R W : Type 0} where
+  -- it is the same worker, with the same seed and as many places
+  pub record SameWorker (old new : Places R W) : Type 0 where
+    pub seed : new.seed ≡ old.seed
+    pub number : new.number ≡ old.number
+    pub count : length new.places.items ≡ length old.places.items
+
+  -- nothing was given and nothing taken
+  pub record IsQuiet (old new : Places R W) : Type 0 where
+    pub asked : new.asked.items ≡ old.asked.items
+    pub told : new.told.items ≡ old.told.items
+
+  -- an application of this worker, which has a client now
+  pub record IsThere (places : Places R W) (app : ℕ) : Type 0 where
+    pub own : app % 4 ≡ places.number
+    pub there : ¬ HasGone places.past.items app
+
+  -- a call was given, of the client at this place, or none
+  abbrev pub Gives : Places R W → Places R W → ℕ → Came → Type 0
+  Gives old new j (Call call) = IsThere old call.app × (new.asked.items ≡ old.asked.items ++ call ∷ []) × (new.told.items ≡ old.told.items) × IsOwed new.places.items j call.app
+  Gives old new j Nothing = IsQuiet old new
+  Gives old new j (Ended ending) = IsQuiet old new
+
+  -- the client at a place is there no more
+  abbrev pub Closes : Places R W → Places R W → Option ℕ → Type 0
+  Closes old new (Some app) = IsThere old app × ((c : Client R W) × (new.past.items ≡ old.past.items ++ c ∷ []) × (c.app ≡ app))
+  Closes old new None = new ≡ old
