@@ -1,5 +1,5 @@
 -- The clients of one worker, each at its place: which applications they are of, and what each of them gave and took.
-use Rattle.std.specs.Prelude.{◌≡◌, ◌≢◌, ℕ, ◌+◌, ◌*◌, ◌^◌, ◌<◌, ◌≤◌, ◌⊎◌, cond, nat_eq, List, [], ◌∷◌, ◌++◌, length, Bool, true, Option, Some, None, slice_get}
+use Rattle.std.specs.Prelude.{◌≡◌, ◌≢◌, ℕ, ◌+◌, ◌*◌, ◌^◌, ◌<◌, ◌≤◌, ◌⊎◌, List, [], ◌∷◌, ◌++◌, length, map, Bool, true, Option, Some, None, slice_get}
 use Rattle.ck_calls.specs.declared.reply.Reply.{Reply}
 use Rattle.hall_channels.specs.Lists.{of}
 use Rattle.hall_channels.specs.declared.messages.AppCall.{AppCall}
@@ -15,8 +15,7 @@ app_at s n j t = s + 4 * (j + n * t)
 
 -- the calls of one application, in order
 abbrev pub asked_by : ℕ → List AppCall → List AppCall
-asked_by app [] = []
-asked_by app (c ∷ cs) = cond (nat_eq c.app app) (c ∷ asked_by app cs) (asked_by app cs)
+asked_by app calls = of app (map (λ (c : AppCall). (c.app, c)) calls)
 
 -- ---- lives
 

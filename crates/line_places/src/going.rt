@@ -6,7 +6,7 @@ ghost use Rattle.line_places.specs.Coming.{Gave, SameApp, Takes};
 use crate::client::{Came, Client};
 use ck_calls::Reply;
 use hall_channels::messages::AppCall;
-use line::{Connection, Given, Next, Watched, Words};
+use line::{Connection, Given, Next, Watched, Words, accounts};
 use lists::GhostList;
 use std::alloc::Global;
 use std::io::{Read, Write};
@@ -21,6 +21,7 @@ impl<R, W> Client<R, W> {
         ensures told { result.told.items ≡ [] }
         ensures idle { result.is_owed ≡ false }
     {
+        accounts();
         let app = words.app();
         let first = Snapshot::of(&words);
         Client {
@@ -54,6 +55,7 @@ impl<R: Read, W: Write> Client<R, W> {
         if self.is_owed {
             return Came::Nothing;
         }
+        accounts();
         match self
             .connection
             .next_call(alloc, &mut self.reader, &mut self.writer, piece)
@@ -79,6 +81,7 @@ impl<R: Read, W: Write> Client<R, W> {
         ensures same { SameApp self.old self.new }
         ensures takes { Takes self.old self.new reply.now }
     {
+        accounts();
         self.connection.reply(alloc, &mut self.writer, reply);
         self.told.push(reply);
         self.is_owed = false;

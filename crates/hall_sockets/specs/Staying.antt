@@ -1,0 +1,51 @@
+-- What a seat does.
+use Rattle.std.specs.Prelude.{◌≡◌, ◌%◌, ◌∷◌, [], ◌++◌, ℕ, List, Option, Some, None}
+use Rattle.hall.specs.declared.seats.SeatEvent.{SeatEvent}
+use Rattle.hall.specs.declared.seats.SeatEvent.TheVariants.{Call, Gone}
+use Rattle.line_places.specs.Keeping.{HasGone, IsOwed}
+use Rattle.hall_sockets.specs.declared.seat.SocketSeat.{SocketSeat}
+
+-- nothing was given and nothing taken yet
+abbrev pub IsNew : {L C : Type 0} → SocketSeat L C → List ℕ → ℕ → Type 0
+IsNew seat seed number =
+    (seat.clients.number ≡ number)
+    × (seat.clients.seed ≡ seed)
+    × (seat.clients.past.items ≡ [])
+    × (seat.clients.asked.items ≡ [])
+    × (seat.clients.told.items ≡ [])
+    × (seat.asked.items ≡ [])
+
+-- between two events it gives and takes nothing, and nobody disconnects
+abbrev pub Stays : {L C : Type 0} → SocketSeat L C → SocketSeat L C → Type 0
+Stays old new =
+    (new.clients.number ≡ old.clients.number)
+    × (new.clients.seed ≡ old.clients.seed)
+    × (new.clients.past.items ≡ old.clients.past.items)
+    × (new.clients.asked.items ≡ old.clients.asked.items)
+    × (new.clients.told.items ≡ old.clients.told.items)
+    × (new.asked.items ≡ old.asked.items)
+
+-- the application of an event is of this seat, and is there
+abbrev pub IsThere : {L C : Type 0} → SocketSeat L C → ℕ → Type 0
+IsThere seat app = (app % 4 ≡ seat.clients.number) × (¬ HasGone seat.clients.past.items app)
+
+-- after a call the seat may take its reply, and after a disconnect the application is there no more
+abbrev pub IsNoted : {L C : Type 0} → SocketSeat L C → SeatEvent → Type 0
+IsNoted seat (Call c) = IsOwed seat.clients.places.items seat.answering c.app
+IsNoted seat (Gone app) = HasGone seat.clients.past.items app
+
+abbrev pub app_in : SeatEvent → ℕ
+app_in (Call c) = c.app
+app_in (Gone app) = app
+
+-- an event is given, which the seat keeps, or nothing
+abbrev pub Gives : {L C : Type 0} → SocketSeat L C → SocketSeat L C → Option SeatEvent → Type 0
+Gives old new None = Stays old new
+Gives old new (Some event) =
+    (new.clients.number ≡ old.clients.number)
+    × (new.clients.seed ≡ old.clients.seed)
+    × (new.clients.told.items ≡ old.clients.told.items)
+    × (new.asked.items ≡ old.asked.items ++ event ∷ [])
+    × IsThere old (app_in event)
+    × IsNoted new event
+    × ((app : ℕ) → HasGone old.clients.past.items app → HasGone new.clients.past.items app)

@@ -1,0 +1,131 @@
+//! How a seat comes to its connections.
+
+ghost use Rattle.hall_sockets.specs.Staying.{Stays};
+
+use crate::seat::SocketSeat;
+use crate::waiting::PATIENCE;
+use log::{Log, error, warn};
+use mio::unix::SourceFd;
+use mio::{Interest, Token};
+use std::io::{self, ErrorKind};
+use std::os::fd::AsRawFd;
+use std::os::unix::net::UnixStream;
+use std::sync::atomic::Ordering;
+use std::time::{Clock, Duration};
+
+/// How long a seat waits at most while somebody waits to be accepted by another one.
+const SHORT_WAIT: Duration = Duration::from_millis(1);
+
+/// EMFILE, ENFILE, ENOBUFS and ENOMEM: no more descriptors or memory at the moment.
+const SHORTAGES: [i32; 4] = [24, 23, 105, 12];
+
+impl<L: Log, C: Clock> SocketSeat<L, C> {
+    pub(crate) fn is_stopping(&self) -> bool {
+        self.is_stopping.load(Ordering::SeqCst)
+    }
+
+    /// Whether no connection is there, and none comes any more.
+    pub(crate) fn is_over(&self) -> bool {
+        self.left == 0 && self.count == 0
+    }
+
+    /// A place where a connection may come to.
+    fn free_place(&self) -> Option<usize> {
+        if self.left == 0 {
+            return None;
+        }
+        'places: for place in 0..self.clients.len() {
+            if self.clients.is_free(place) {
+                return Some(place);
+            }
+        }
+        None
+    }
+
+    /// Accepts who waits, if it is this seat's turn, and else waits until something comes.
+    #[inline(never)]
+    pub(crate) fn look_round(&mut self)
+        ensures { Stays self.old self.new }
+    {
+        let mut longest = PATIENCE;
+        if self.may_accept {
+            if let Some(place) = self.free_place() {
+                if self.loads.is_least(self.clients.number) {
+                    self.accept_at(place);
+                } else {
+                    longest = SHORT_WAIT;
+                }
+            }
+        }
+        if self.due.is_empty() {
+            self.wait(longest);
+        }
+    }
+
+    /// Accepts one, to stand at a place.
+    fn accept_at(&mut self, place: usize)
+        ensures { Stays self.old self.new }
+    {
+        match self.listener.accept() {
+            Ok((stream, _)) => match self.halves(place, stream) {
+                Ok((reader, writer)) => self.seat_at(place, reader, writer),
+                Err(error) => warn!(self.log; "a connection is not accepted: {error}"),
+            },
+            Err(error) => self.not_accepted(error),
+        }
+    }
+
+    /// Both halves of a new connection, which is waited for from now on.
+    fn halves(&mut self, place: usize, stream: UnixStream) -> io::Result<(UnixStream, UnixStream)>
+        ensures { Stays self.old self.new }
+    {
+        stream.set_nonblocking(true)?;
+        let writer = stream.try_clone()?;
+        let fd = stream.as_raw_fd();
+        self.poll.registry().register(&mut SourceFd(&fd), Token(place), Interest::READABLE)?;
+        if let Some(known) = self.descriptors.get_mut(place) {
+            *known = fd;
+        }
+        Ok((stream, writer))
+    }
+
+    fn seat_at(&mut self, place: usize, reader: UnixStream, writer: UnixStream)
+        ensures { Stays self.old self.new }
+    {
+        self.clients.open(self.alloc, place, reader, writer);
+        if let (Some(stuck), Some(used)) = (self.is_stuck.get_mut(place), self.used.get_mut(place)) {
+            *stuck = false;
+            *used = self.time;
+        }
+        self.left = self.left.saturating_sub(1);
+        self.count = self.count.saturating_add(1);
+        self.tell_load();
+        self.note(place);
+    }
+
+    /// Tells the other seats how many connections there are.
+    pub(crate) fn tell_load(&self) {
+        let count = if self.left == 0 { usize::MAX } else { self.count };
+        self.loads.set(self.clients.number, count);
+    }
+
+    /// Nobody was accepted: none waits any more, or a peer disconnected before, or the listener failed.
+    fn not_accepted(&mut self, error: io::Error)
+        ensures { Stays self.old self.new }
+    {
+        match error.kind() {
+            ErrorKind::ConnectionAborted | ErrorKind::Interrupted => {}
+            ErrorKind::WouldBlock => self.may_accept = false,
+            _ => {
+                let is_short = error.raw_os_error().is_some_and(|code| SHORTAGES.contains(&code));
+                if is_short {
+                    // Who waits is accepted once somebody else connects, or a connection ends.
+                    self.may_accept = false;
+                    error!(self.log; "a connection is not accepted: {error}");
+                } else {
+                    self.has_failed = true;
+                }
+            }
+        }
+    }
+}

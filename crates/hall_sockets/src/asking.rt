@@ -1,0 +1,112 @@
+//! A seat's events.
+
+ghost use Rattle.std.specs.Prelude.{◌≡◌, ◌%◌, ◌∷◌, [], ◌++◌, ℕ, IfSome, IfNone};
+ghost use Rattle.hall.specs.SeatEvents.{seat_app};
+ghost use Rattle.line_places.specs.Keeping.{HasGone};
+ghost use Rattle.hall_sockets.specs.Staying.{Gives, Stays};
+
+use crate::seat::SocketSeat;
+use hall::SeatEvent;
+use line::Ending;
+use line_places::Came;
+use log::{Log, error, info, warn};
+use std::time::Clock;
+
+impl<L: Log, C: Clock> SocketSeat<L, C> {
+    /// The next event of the connection at a place, if it has one.
+    pub(crate) fn event_at(&mut self, place: usize) -> Option<SeatEvent>
+        ensures { Gives self.old self.new result }
+    {
+        self.asked_since = self.asked_since.saturating_add(1);
+        match self.clients.next_call(self.alloc, place, &mut self.piece) {
+            Came::Call(call) => {
+                // More may have come with it.
+                self.note(place);
+                self.answering = place;
+                let event = SeatEvent::Call(call);
+                self.asked.push(&event);
+                Some(event)
+            }
+            Came::Nothing => {
+                let is_stuck = self.is_pending(place);
+                self.watch(place, is_stuck);
+                None
+            }
+            Came::Ended(ending) => {
+                self.report(place, &ending);
+                self.end(place)
+            }
+        }
+    }
+
+    /// Whether bytes of replies are to be written yet at a place.
+    pub(crate) fn is_pending(&self, place: usize) -> bool {
+        match self.clients.client(place) {
+            Some(client) => client.is_pending(),
+            None => false,
+        }
+    }
+
+    /// The connection at a place ends, and its application disconnects.
+    #[inline(never)]
+    pub(crate) fn end(&mut self, place: usize) -> Option<SeatEvent>
+        ensures { Gives self.old self.new result }
+    {
+        let app = self.clients.close(place)?;
+        self.count = self.count.saturating_sub(1);
+        self.may_accept = true;
+        self.tell_load();
+        let event = SeatEvent::Gone { app };
+        self.asked.push(&event);
+        Some(event)
+    }
+
+    /// One of the connections ends, if there is one.
+    #[inline(never)]
+    pub(crate) fn leave(&mut self) -> Option<SeatEvent>
+        ensures { Gives self.old self.new result }
+    {
+        'places: for place in 0..self.clients.len() {
+            let event = self.end(place);
+            if event.is_some() {
+                return event;
+            }
+        }
+        None
+    }
+
+    /// The connection of which nothing came for too long ends, if there is one.
+    #[inline(never)]
+    pub(crate) fn end_idle(&mut self) -> Option<SeatEvent>
+        ensures { Gives self.old self.new result }
+    {
+        let Some(place) = self.idle_place() else {
+            self.looked = self.time;
+            return None;
+        };
+        if let Some(client) = self.clients.client(place) {
+            let app = client.app;
+            info!(self.log; "connection {app} is ended: nothing came of it for too long");
+        }
+        self.end(place)
+    }
+
+    /// Logs why a connection ends.
+    #[inline(never)]
+    fn report(&self, place: usize, ending: &Ending) {
+        let Some(client) = self.clients.client(place) else {
+            return;
+        };
+        let app = client.app;
+        match ending {
+            Ending::Closed => {}
+            Ending::TooLong | Ending::Cut => {
+                warn!(self.log; "connection {app} is refused: {ending}");
+            }
+            Ending::Memory | Ending::Reply => error!(self.log; "connection {app} is ended: {ending}"),
+            Ending::Read(_) | Ending::Write(_) => {
+                info!(self.log; "connection {app} is ended: {ending}");
+            }
+        }
+    }
+}

@@ -1,0 +1,73 @@
+//! A seat on a socket before the token.
+
+ghost use Rattle.std.specs.Prelude.{◌≡◌, Some, true};
+ghost use Rattle.line_places.specs.Keeping.{HasGone, IsOwed};
+
+use crate::seat::SocketSeat;
+use ck_calls::Reply;
+use hall::{Seat, SeatEvent};
+use log::Log;
+use std::time::{Clock, Duration};
+
+impl<L: Log, C: Clock + Drop> Seat for SocketSeat<L, C> {
+    ghost number = { λ s. s.clients.number };
+
+    ghost over = { λ s. s.has_ended ≡ true };
+
+    ghost gone = { λ s app. HasGone s.clients.past.items app };
+
+    ghost ready = { λ s app. IsOwed s.clients.places.items s.answering app };
+
+    ghost asked = { λ s. Some s.asked.items };
+
+    ghost heard = { λ s. Some s.clients.told.items };
+
+    fn next(&mut self) -> Option<SeatEvent> {
+        'turns: for _ in 0..u64::MAX {
+            if self.has_failed || self.is_stopping() {
+                break;
+            }
+            if self.asked_since >= self.clients.len() {
+                self.wait(Duration::ZERO);
+            }
+            match self.due.pop_front() {
+                Some(place) => {
+                    if let Some(due) = self.is_due.get_mut(place) {
+                        *due = false;
+                    }
+                    let event = self.event_at(place);
+                    if event.is_some() {
+                        return event;
+                    }
+                }
+                None => {
+                    if self.is_over() {
+                        break;
+                    }
+                    if self.must_look() {
+                        let event = self.end_idle();
+                        if event.is_some() {
+                            return event;
+                        }
+                    }
+                    self.look_round();
+                }
+            }
+        }
+        self.left = 0;
+        self.tell_load();
+        let event = self.leave();
+        if event.is_none() {
+            self.has_ended = true;
+        }
+        event
+    }
+
+    fn take(&mut self, app: u64, reply: Reply) {
+        let place = self.answering;
+        self.clients.reply(self.alloc, place, app, reply);
+        if self.is_pending(place) {
+            self.watch(place, true);
+        }
+    }
+}
