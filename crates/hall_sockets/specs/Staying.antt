@@ -49,3 +49,7 @@ Gives old new (Some event) =
     × IsThere old (app_in event)
     × IsNoted new event
     × ((app : ℕ) → HasGone old.clients.past.items app → HasGone new.clients.past.items app)
+
+-- the four seats of a daemon, seat 0 first, with one seed
+abbrev pub AreNew : {L C : Type 0} → List ℕ → SocketSeat L C × SocketSeat L C × SocketSeat L C × SocketSeat L C → Type 0
+AreNew seed seats = IsNew seats.0 seed 0 × IsNew seats.1 seed 1 × IsNew seats.2 seed 2 × IsNew seats.3 seed 3

@@ -27,7 +27,7 @@ mod seat;
 mod serving;
 mod waiting;
 
-pub use holding::hold_sockets;
+pub use holding::{Seats, hold_sockets};
 pub use loads::Loads;
 pub use opening::Shared;
 pub use seat::{MAX_CLIENTS, Settings, SocketSeat};

@@ -4,7 +4,7 @@ use Rattle.std.specs.List.{slice_get}
 use Rattle.std.proofs.lemmas.List.{map-append, length-set}
 use Rattle.std.proofs.lemmas.Option.{slice_get_within}
 use Rattle.std.proofs.lemmas.Nat.{div-mul-add, mod-mul-add}
-use Rattle.std.proofs.Math.Nat.{mul-comm}
+use Rattle.std.proofs.Math.Nat.{mul_comm}
 use Rattle.ck_calls.specs.declared.reply.Reply.{Reply}
 use Rattle.hall_channels.specs.Lists.{of}
 use Rattle.hall_channels.specs.declared.messages.AppCall.{AppCall}
@@ -20,7 +20,7 @@ pub same_place : (s n j j' t t' : ℕ) → j < n → j' < n → app_at s n j t �
 same_place s n j j' t t' l l' e =
     let four : (a b : ℕ) → s + 4 * a ≡ s + 4 * b → a ≡ b = λ a b h. omega (arith, h) in
     let plain : j + n * t ≡ j' + n * t' = four _ _ e in
-    let turned : (a b : ℕ) → a + n * b ≡ b * n + a = λ a b. let m = mul-comm n b in omega (arith, m) in
+    let turned : (a b : ℕ) → a + n * b ≡ b * n + a = λ a b. let m = mul_comm n b in omega (arith, m) in
     let x : t * n + j ≡ t' * n + j' = sym (turned j t) ∙ plain ∙ turned j' t' in
     (sym (mod-mul-add t n j l) ∙ ap (λ a. a % n) x ∙ mod-mul-add t' n j' l', sym (div-mul-add t n j l) ∙ ap (λ a. a / n) x ∙ div-mul-add t' n j' l')
 
@@ -43,10 +43,10 @@ told-other app other rs r not = of-append app rs ((other, r) ∷ []) ∙ ap (λ 
 
 -- ---- places
 
-same_some : {A : Type 0} (x y : A) → Some x ≡ Some y → x ≡ y
+pub same_some : {A : Type 0} (x y : A) → Some x ≡ Some y → x ≡ y
 same_some x y e = cc
 
-get_set : {A : Type 0} (xs : List A) (i j : ℕ) (a b : A) → slice_get (set xs i a) j ≡ Some b → ((j ≡ i) × (a ≡ b)) ⊎ ((j ≢ i) × (slice_get xs j ≡ Some b))
+pub get_set : {A : Type 0} (xs : List A) (i j : ℕ) (a b : A) → slice_get (set xs i a) j ≡ Some b → ((j ≡ i) × (a ≡ b)) ⊎ ((j ≢ i) × (slice_get xs j ≡ Some b))
 get_set [] i j a b e = absurd (let h : None ≡ Some b = e in cc)
 get_set (x ∷ xs) zero zero a b e = inl (refl, let h : Some a ≡ Some b = e in cc)
 get_set (x ∷ xs) zero (suc j) a b e = inr ((λ h. omega arith), e)
@@ -58,18 +58,24 @@ get_same [] i a x e = absurd (let h : None ≡ Some x = e in cc)
 get_same (y ∷ xs) zero a x e = refl
 get_same (y ∷ xs) (suc i) a x e = get_same xs i a x e
 
-get_other : {A : Type 0} (xs : List A) (i j : ℕ) (a x : A) → j ≢ i → slice_get xs j ≡ Some x → slice_get (set xs i a) j ≡ Some x
+pub get_other : {A : Type 0} (xs : List A) (i j : ℕ) (a x : A) → j ≢ i → slice_get xs j ≡ Some x → slice_get (set xs i a) j ≡ Some x
 get_other [] i j a x n e = e
 get_other (y ∷ xs) zero zero a x n e = absurd (n refl)
 get_other (y ∷ xs) zero (suc j) a x n e = e
 get_other (y ∷ xs) (suc i) zero a x n e = e
 get_other (y ∷ xs) (suc i) (suc j) a x n e = get_other xs i j a x (λ h. n (ap suc h)) e
 
-one_place : {A : Type 0} (xs : List A) (j i : ℕ) (p q : A) → slice_get xs j ≡ Some p → slice_get xs i ≡ Some q → i ≡ j → q ≡ p
+pub one_place : {A : Type 0} (xs : List A) (j i : ℕ) (p q : A) → slice_get xs j ≡ Some p → slice_get xs i ≡ Some q → i ≡ j → q ≡ p
 one_place xs j i p q a b is = same_some q p (sym b ∙ ap (slice_get xs) is ∙ a)
 
+pub same_or : (a b : ℕ) → (a ≡ b) ⊎ (a ≢ b)
+same_or zero zero = inl refl
+same_or zero (suc b) = inr (λ e. omega (arith, e))
+same_or (suc a) zero = inr (λ e. omega (arith, e))
+same_or (suc a) (suc b) = ⊎_elim (λ (e : a ≡ b). inl (ap suc e)) (λ (n : a ≢ b). inr (λ e. n (omega (arith, e)))) (same_or a b)
+
 module _ {R W : Type 0} where
-  among-snoc : (c d : Client R W) (past : List (Client R W)) → IsAmong c (past ++ d ∷ []) → IsAmong c past ⊎ (c ≡ d)
+  pub among-snoc : (c d : Client R W) (past : List (Client R W)) → IsAmong c (past ++ d ∷ []) → IsAmong c past ⊎ (c ≡ d)
   among-snoc c d [] h = ⊎_elim (λ (e : c ≡ d). inr e) (λ x. absurd x) h
   among-snoc c d (x ∷ past) h = ⊎_elim (λ (e : c ≡ x). inl (inl e)) (λ (t : IsAmong c (past ++ d ∷ [])). ⊎_elim (λ (u : IsAmong c past). inl (inr u)) (λ (u : c ≡ d). inr u) (among-snoc c d past t)) h
 
@@ -148,8 +154,14 @@ module _ {R W : Type 0} where
       } where
         moved : (d : Client R W) → WasAt s places d → WasAt s (set places j p') d
         moved d w = ⊎_elim
-            (λ (e : w.j ≡ j). record { j = j; t = w.t; place = p'; at = here; later = let x : w.place.turn ≡ p.turn = ap (λ (q : Place R W). q.turn) (one_place places j w.j p w.place at w.at e) in omega (arith, w.later, x, turn);
-              app = w.app ∙ ap (λ (z : ℕ × ℕ). app_at s z.0 z.1 w.t) (λ i. (sym same_length i, e i)) })
+            (λ (e : w.j ≡ j). record {
+              j = j;
+              t = w.t;
+              place = p';
+              at = here;
+              later = let x : w.place.turn ≡ p.turn = ap (λ (q : Place R W). q.turn) (one_place places j w.j p w.place at w.at e) in omega (arith, w.later, x, turn);
+              app = w.app ∙ ap (λ (z : ℕ × ℕ). app_at s z.0 z.1 w.t) (λ i. (sym same_length i, e i));
+            })
             (λ (n : w.j ≢ j). record { j = w.j; t = w.t; place = w.place; at = get_other places j w.j p' w.place n w.at; later = w.later; app = w.app ∙ ap (λ n. app_at s n w.j w.t) (sym same_length) })
             (same_or w.j j)
 
@@ -159,9 +171,3 @@ module _ {R W : Type 0} where
             (λ (e : x.0 ≡ j). λ same. mine (sym same ∙ ap (λ (z : Client R W). z.app) (same_some d c (sym x.1.client ∙ ap (λ (q : Place R W). q.client) (one_place places j x.0 p x.1.place at x.1.at e) ∙ is))))
             (λ (n : x.0 ≢ j). none d (inr (x.0, record { place = x.1.place; at = get_other places j x.0 p' x.1.place n x.1.at; client = x.1.client })))
             (same_or x.0 j)) life
-
-        same_or : (a b : ℕ) → (a ≡ b) ⊎ (a ≢ b)
-        same_or zero zero = inl refl
-        same_or zero (suc b) = inr (λ e. omega (arith, e))
-        same_or (suc a) zero = inr (λ e. omega (arith, e))
-        same_or (suc a) (suc b) = ⊎_elim (λ (e : a ≡ b). inl (ap suc e)) (λ (n : a ≢ b). inr (λ e. n (omega (arith, e)))) (same_or a b)

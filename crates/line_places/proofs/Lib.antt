@@ -1,2 +1,4 @@
+pub mod Changing
+pub mod Doing
 pub mod Keeping
 pub mod Standing

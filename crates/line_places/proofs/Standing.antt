@@ -6,6 +6,7 @@ use Rattle.ck_calls.specs.declared.reply.Reply.{Reply}
 use Rattle.hall_channels.specs.declared.messages.AppCall.{AppCall}
 use Rattle.line.specs.declared.ending.Ending.{Ending}
 use Rattle.line.specs.declared.next.Given.{Given}
+use Rattle.line.specs.declared.next.Next.TheVariants as next
 use Rattle.line.specs.State.{Connected}
 use Rattle.line.specs.Turns.{Ask}
 use Rattle.line.specs.Connecting.{Gives, Waits, Halts, Tells}
@@ -56,3 +57,24 @@ module _ (first : ChaCha) where
     by : (e : Option Ending) → c.ended ≡ e → Stands first c false asked (told ++ reply ∷ [])
     by None is = idle-none c asked (told ++ reply ∷ []) is (turn first b c reply (asks_in asked) told h t is)
     by (Some ending) is = idle-some c ending asked (told ++ reply ∷ []) is (cut first b c reply ending (asks_in asked) told h t is)
+
+  -- ---- by what `next_call` says of connections that ended before
+
+  pub came-call : CallLaw → (a b : Connected) (given : Given) (call : AppCall) (asked asked' : List AppCall) (told : List Reply) → ((why : Ending) → a.ended ≡ Some why → next.Call given ≡ next.Ended why) → (a.ended ≡ None → Gives a b given)
+      → Stands first a false asked told → ask_in call ≡ ask_of given → asked' ≡ asked ++ call ∷ [] → Stands first b true asked' told
+  came-call law a b given call asked asked' told over gives h is more = subst (λ l. Stands first b true l told) (sym more) (by a.ended refl) where
+    by : (e : Option Ending) → a.ended ≡ e → Stands first b true (asked ++ call ∷ []) told
+    by None none = stands-call law a b given call asked told none h (gives none) is
+    by (Some why) some = absurd (let e : next.Call given ≡ next.Ended why = over why some in cc)
+
+  pub came-nothing : NothingLaw → (a b : Connected) (asked : List AppCall) (told : List Reply) → ((why : Ending) → a.ended ≡ Some why → next.Nothing ≡ next.Ended why) → (a.ended ≡ None → Waits a b) → Stands first a false asked told → Stands first b false asked told
+  came-nothing law a b asked told over waits h = by a.ended refl where
+    by : (e : Option Ending) → a.ended ≡ e → Stands first b false asked told
+    by None none = stands-nothing law a b asked told none h (waits none)
+    by (Some why) some = absurd (let e : next.Nothing ≡ next.Ended why = over why some in cc)
+
+  pub came-ended : EndLaw → (a b : Connected) (ending : Ending) (asked : List AppCall) (told : List Reply) → ((why : Ending) → a.ended ≡ Some why → b ≡ a) → (a.ended ≡ None → Halts a b ending) → Stands first a false asked told → Stands first b false asked told
+  came-ended law a b ending asked told over halts h = by a.ended refl where
+    by : (e : Option Ending) → a.ended ≡ e → Stands first b false asked told
+    by None none = stands-end law a b ending asked told none h (halts none)
+    by (Some why) some = subst (λ c. Stands first c false asked told) (sym (over why some)) h

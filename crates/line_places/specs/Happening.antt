@@ -21,9 +21,8 @@ module _ {R W : Type 0} where
     pub told : new.told.items ≡ old.told.items
 
   -- an application of this worker, which has a client now
-  pub record IsThere (places : Places R W) (app : ℕ) : Type 0 where
-    pub own : app % 4 ≡ places.number
-    pub there : ¬ HasGone places.past.items app
+  abbrev pub IsThere : Places R W → ℕ → Type 0
+  IsThere places app = (app % 4 ≡ places.number) × (¬ HasGone places.past.items app)
 
   -- a call was given, of the client at this place, or none
   abbrev pub Gives : Places R W → Places R W → ℕ → Came → Type 0

@@ -2,8 +2,8 @@
 
 ghost use Rattle.line_places.specs.Standing.{Stands};
 
-use hall_channels::messages::AppCall;
 use ck_calls::Reply;
+use hall_channels::messages::AppCall;
 use line::{Connection, Ending, Watched, Words};
 use lists::GhostList;
 use std::snapshot::Snapshot;
@@ -21,7 +21,7 @@ pub struct Client<R, W> {
     pub first: Snapshot<Words>,
     pub asked: GhostList<AppCall>,
     pub told: GhostList<Reply>,
-    pub ghost stands: { Stands first.value connection is_owed asked.items told.items },
+    pub ghost stands: { ∥ Stands first.value connection is_owed asked.items told.items ∥₁ },
 }
 
 /// What comes next of a client.

@@ -17,6 +17,6 @@ mod place;
 mod places;
 mod placing;
 
-pub use client::{Client, Came};
+pub use client::{Came, Client};
 pub use place::Place;
 pub use places::Places;

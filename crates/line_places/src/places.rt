@@ -24,5 +24,5 @@ pub struct Places<R, W> {
     pub told: GhostList<(u64, Reply)>,
     pub ghost worker: { number < 4 },
     pub ghost count: { length places.items ≤ 64 },
-    pub ghost kept: { Kept seed number places.items past.items asked.items told.items },
+    pub ghost kept: { ∥ Kept seed number places.items past.items asked.items told.items ∥₁ },
 }

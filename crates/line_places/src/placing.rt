@@ -16,7 +16,7 @@ use std::io::{Read, Write};
 /// How many clients a place has at most, one after the other, so that no application's number is above 2^64.
 const TURNS: u64 = 1 << 55;
 
-impl<R, W> Places<R, W> {
+impl<R: Drop, W: Drop> Places<R, W> {
     /// The places of the worker with a number from 0 to 3, with no client. There are 1 to 64.
     pub fn new(
         alloc: Global,
@@ -30,7 +30,8 @@ impl<R, W> Places<R, W> {
         ensures none { IfOk result (λ p. (p.past.items ≡ []) × (p.asked.items ≡ []) × (p.told.items ≡ [])) }
     {
         let mut places = Vec::with_capacity(alloc, count)?;
-        'places: for _place in 0..count {
+        'places: for place in 0..count {
+            let _ = place;
             places.push(Place {
                 turn: 0,
                 client: None,
@@ -80,10 +81,14 @@ impl<R, W> Places<R, W> {
             return;
         }
         let count = self.places.len() as u64;
-        let turn = self.places[place].turn;
-        if self.places[place].client.is_some() || turn >= TURNS {
+        let it = &self.places[place];
+        let turn = it.turn;
+        if turn >= TURNS {
             return;
         }
+        let None = &it.client else {
+            return;
+        };
         let app = self.number + 4 * (place as u64 + count * turn);
         let words = Words::for_app(self.seed, app);
         self.places[place] = Place {
@@ -101,20 +106,19 @@ impl<R, W> Places<R, W> {
         if place >= self.places.len() {
             return None;
         }
-        let turn = self.places[place].turn;
-        let client = self.places[place].client.take()?;
-        let app = client.app;
-        self.places[place] = Place {
-            turn: turn + 1,
-            client: None,
+        let it = &mut self.places[place];
+        let Some(client) = it.client.take() else {
+            return None;
         };
+        it.turn += 1;
+        let app = client.app;
         self.past.push(&client);
         drop(client);
         Some(app)
     }
 }
 
-impl<R: Read, W: Write> Places<R, W> {
+impl<R: Read + Drop, W: Write + Drop> Places<R, W> {
     /// The next call of the client at a place, as `Client::next_call` returns it. `Nothing` where there is no client.
     pub fn next_call(&mut self, alloc: Global, place: usize, piece: &mut [u8]) -> Came
         requires { 0 < length piece.old }
@@ -128,11 +132,14 @@ impl<R: Read, W: Write> Places<R, W> {
         let Some(client) = &mut self.places[place].client else {
             return Came::Nothing;
         };
-        let came = client.next_call(alloc, piece);
-        if let Came::Call(call) = &came {
-            self.asked.push(call);
+        match client.next_call(alloc, piece) {
+            Came::Call(call) => {
+                self.asked.push(&call);
+                Came::Call(call)
+            }
+            Came::Nothing => Came::Nothing,
+            Came::Ended(ending) => Came::Ended(ending),
         }
-        came
     }
 
     /// The client at a place takes the reply to its last call.
