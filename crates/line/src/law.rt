@@ -6,8 +6,10 @@ ghost use Rattle.line.specs.Whole.{BeginLaw, CallLaw, CutLaw, EndLaw, FlushLaw, 
 /// and is to be are the frames of the answers in order (`Account`).
 ///
 /// So it is at first, after each call that was told a reply, where nothing came, and where more was written. Between a call and
-/// its reply that is so of all before the call (`Owes`). Where the connection ended or is given up, a beginning of that was
-/// written, and all where its reader ended (`Lived`).
+/// its reply that is so of all before the call (`Owes`).
+///
+/// Where `next_call` or `reply` ended the connection, or it is given up, a beginning of that was written. It is all where the reader
+/// ended or failed, or a frame was too long (`Lived`).
 pub fn accounts()
     ensures begins { BeginLaw }
     ensures call { CallLaw }
