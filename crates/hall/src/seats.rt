@@ -31,8 +31,8 @@ pub trait Seat {
     /// The applications that have disconnected.
     ghost gone: { Self → ℕ → Type 0 };
 
-    /// It can take a reply.
-    ghost ready: { Self → Type 0 };
+    /// It can take a reply to this application.
+    ghost ready: { Self → ℕ → Type 0 };
 
     /// The events that it has given, where it reports them.
     ghost asked: { Self → Option (List SeatEvent) };
@@ -55,7 +55,7 @@ pub trait Seat {
 
     /// Takes the reply to its last call, which was of this application. It can't fail, so `next` allocates for it before.
     fn take(&mut self, app: u64, reply: Reply)
-        requires { ready self.old }
+        requires { ready self.old app }
         ensures number { number self.new ≡ number self.old }
         ensures gone { (app : ℕ) → gone self.old app → gone self.new app }
         ensures asked { asked self.new ≡ asked self.old }

@@ -144,7 +144,7 @@ impl<L: Log> Seat for SocketSeat<L> {
 
     ghost gone = { λ s app. app < s.app };
 
-    ghost ready = { λ s. Unit {0} };
+    ghost ready = { λ s app. Unit {0} };
 
     ghost asked = { λ s. None };
 
