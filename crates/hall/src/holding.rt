@@ -2,6 +2,7 @@
 
 ghost use Rattle.std.specs.Prelude.{◌≡◌, ◌∷◌, [], IfOk, IfErr};
 ghost use Rattle.crossbeam_channel.specs.Claims.{view};
+ghost use Rattle.crossbeam_channel.specs.Ends.{sends_on};
 ghost use Rattle.token.specs.States.{Shows, MayLeave};
 ghost use Rattle.hall_channels.specs.Inward.{seats_of, taken_of, ended_of};
 ghost use Rattle.hall_channels.specs.Outward.{given_of};
@@ -13,6 +14,7 @@ use crate::closing::{Closed, Passes, close_all};
 use crate::fault::HallFault;
 use crate::machine::Machine;
 use crate::opening::open;
+use crate::seat_thread::SeatThread;
 use crate::seats::{Gate, Seat};
 use crate::serving::{Serving, serve_seats};
 use crate::starting::start_all;
@@ -38,6 +40,27 @@ fn apart(outboxes: [Outbox; 4]) -> (Outbox, Outbox, Outbox, Outbox)
 {
     let [first, second, third, fourth] = outboxes;
     (first, second, third, fourth)
+}
+
+/// Permits a worker's thread to begin, and parts the worker.
+fn permit<S: Seat + Drop + Send + 'static, R: Wait>(
+    rt: &R,
+    worker: Worker<S>,
+) -> (Outbox, SeatThread<S>)
+    ensures same { sends_on result.0.outward ≡ sends_on worker.outbox.outward }
+    ensures none { given_of (view result.0.outward_pass) ≡ given_of (view worker.outbox.outward_pass) }
+    ensures thread { result.1 ≡ worker.thread }
+{
+    let Worker { mut outbox, thread } = worker;
+    outbox.begin(rt);
+    (outbox, thread)
+}
+
+/// A worker of its parts.
+fn worker<S: Seat + Drop + Send + 'static>(outbox: Outbox, thread: SeatThread<S>) -> Worker<S>
+    ensures { (result.outbox ≡ outbox) × (result.thread ≡ thread) }
+{
+    Worker { outbox, thread }
 }
 
 /// Permits the four threads to begin, serves them, and joins them. Where a channel has ended early, the threads are left to
@@ -77,26 +100,10 @@ fn serve_all<M: Machine + Drop, S: Seat + Drop + Send + 'static, R: Threads + Wa
         worker2,
         worker3,
     } = started;
-    let Worker {
-        outbox: mut outbox0,
-        thread: thread0,
-    } = worker0;
-    let Worker {
-        outbox: mut outbox1,
-        thread: thread1,
-    } = worker1;
-    let Worker {
-        outbox: mut outbox2,
-        thread: thread2,
-    } = worker2;
-    let Worker {
-        outbox: mut outbox3,
-        thread: thread3,
-    } = worker3;
-    outbox0.begin(rt);
-    outbox1.begin(rt);
-    outbox2.begin(rt);
-    outbox3.begin(rt);
+    let (outbox0, thread0) = permit(rt, worker0);
+    let (outbox1, thread1) = permit(rt, worker1);
+    let (outbox2, thread2) = permit(rt, worker2);
+    let (outbox3, thread3) = permit(rt, worker3);
     let began = Snapshot::of(&machine);
     let mut serving = Serving { machine, began };
     let mut outboxes = [outbox0, outbox1, outbox2, outbox3];
@@ -106,22 +113,10 @@ fn serve_all<M: Machine + Drop, S: Seat + Drop + Send + 'static, R: Threads + Wa
     let (outbox0, outbox1, outbox2, outbox3) = apart(outboxes);
     let started = Started {
         inbox,
-        worker0: Worker {
-            outbox: outbox0,
-            thread: thread0,
-        },
-        worker1: Worker {
-            outbox: outbox1,
-            thread: thread1,
-        },
-        worker2: Worker {
-            outbox: outbox2,
-            thread: thread2,
-        },
-        worker3: Worker {
-            outbox: outbox3,
-            thread: thread3,
-        },
+        worker0: worker(outbox0, thread0),
+        worker1: worker(outbox1, thread1),
+        worker2: worker(outbox2, thread2),
+        worker3: worker(outbox3, thread3),
     };
     match close_all(rt, started) {
         Some(closed) => {

@@ -75,10 +75,7 @@ pub(crate) fn start_all<
         link2,
         link3,
     } = opened;
-    let worker0 = match start_worker(rt, alloc, stacks.0, gate, seat0, link0) {
-        Ok(worker) => worker,
-        Err(fault) => return Err(fault),
-    };
+    let worker0 = start_worker(rt, alloc, stacks.0, gate, seat0, link0)?;
     let worker1 = match start_worker(rt, alloc, stacks.1, gate, seat1, link1) {
         Ok(worker) => worker,
         Err(fault) => {
