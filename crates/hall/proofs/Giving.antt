@@ -10,7 +10,7 @@ use Rattle.hall_channels.specs.declared.messages.Event.{Event}
 use Rattle.hall_channels.specs.declared.outbox.Outbox.{Outbox}
 use Rattle.hall.specs.Exchanges.{Suits, app_of}
 use Rattle.hall.specs.Given.{HasAnswered, HasGiven, HasTaken, IsLed, MayGive}
-use Rattle.hall.specs.Histories.{Allowed, Counts, Takes, replies_in, taken_in, told_by}
+use Rattle.hall.specs.Histories.{Allowed, Counts, Takes, replies_in, told_by}
 use Rattle.hall.specs.Outboxes.{OutboxesGave}
 use Rattle.hall.proofs.MoreHistory.{outboxes_gave, served_more, served_none, taken_in-append}
 

@@ -1,12 +1,12 @@
 -- From what each thread knows, when all have ended, to one history.
-use Rattle.std.proofs.Common.{◌≡◌, ◌≢◌, ℕ, zero, suc, ◌+◌, ◌<◌, ◌≤◌, ◌⊎◌, nat_eq, cond, Bool, true, false, List, [], ◌∷◌, ◌++◌, length, map, sym, refl, ap, ◌∙◌, subst, append_assoc, append-nil, arith, inl, inr, Option, Some, None}
+use Rattle.std.proofs.Common.{◌≡◌, ℕ, zero, suc, ◌≤◌, ◌⊎◌, nat_eq, cond, true, false, List, [], ◌∷◌, ◌++◌, length, sym, refl, ap, ◌∙◌, subst, append-nil, arith, inl, inr, Option, Some, None}
 use Rattle.std.specs.List.{slice_get}
 use Rattle.ck_calls.specs.declared.reply.Reply.{Reply as ReplyType}
 use Rattle.crossbeam_channel.specs.Claims.{view}
 use Rattle.serve_base.specs.declared.out.Out.{Out}
 use Rattle.hall_channels.specs.Lists.{of, last}
 use Rattle.hall_channels.specs.Inward.{seats_of, taken_of, ended_of, IsTaking, SentInAll}
-use Rattle.hall_channels.specs.Outward.{given_of, got_of}
+use Rattle.hall_channels.specs.Outward.{given_of}
 use Rattle.hall_channels.specs.declared.inward.InwardView.{InwardView}
 use Rattle.hall_channels.specs.declared.inward.InwardView.TheVariants.{Taking, Sending, Spent}
 use Rattle.hall_channels.specs.declared.outward.OutwardView.{OutwardView}
@@ -19,7 +19,7 @@ use Rattle.hall.specs.declared.seat_thread.Joined.{Joined}
 use Rattle.hall.specs.declared.worker.Worker.{Worker}
 use Rattle.hall.specs.Exchanges.{Exchange, events, answers, listed, pending, Suits, AllSuit, Answered, Unanswered, IsProper}
 use Rattle.hall.specs.SeatEvents.{asked_in, heard_in}
-use Rattle.hall.specs.Histories.{History, taken_in, HistorySuits, AllProper}
+use Rattle.hall.specs.Histories.{History, taken_in, HistorySuits}
 use Rattle.hall.specs.Held.{HasEnded, IsKnown, IsPartOf, Interleaves}
 use Rattle.hall.specs.Outboxes.{OutboxesGave}
 use Rattle.hall.specs.Tells.{Grows}

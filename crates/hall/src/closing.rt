@@ -50,6 +50,10 @@ pub(crate) fn close_all<S: Seat + Drop + Send + 'static, R: Threads + Wait>(
     requires ready2 { Ready 2 started.worker2 started.inbox }
     requires ready3 { Ready 3 started.worker3 started.inbox }
     ensures over { IfSome result (λ r. S.over r.seats.0 × S.over r.seats.1 × S.over r.seats.2 × S.over r.seats.3) }
+    ensures fixed { IfSome result (λ r. (S.fixed r.seats.0 ≡ S.fixed started.worker0.thread.promise.seat.value)
+        × (S.fixed r.seats.1 ≡ S.fixed started.worker1.thread.promise.seat.value)
+        × (S.fixed r.seats.2 ≡ S.fixed started.worker2.thread.promise.seat.value)
+        × (S.fixed r.seats.3 ≡ S.fixed started.worker3.thread.promise.seat.value)) }
     ensures known0 { IfSome result (λ r. IsKnown S.asked S.heard (taken_of (view started.inbox.inward_pass)) 0
         started.worker0 (view r.passes.outward0) r.seats.0) }
     ensures known1 { IfSome result (λ r. IsKnown S.asked S.heard (taken_of (view started.inbox.inward_pass)) 1

@@ -2,6 +2,7 @@
 
 ghost use Rattle.std.specs.Prelude.{◌≡◌, ◌∷◌, [], IfOk, IfErr};
 ghost use Rattle.crossbeam_channel.specs.Claims.{view};
+ghost use Rattle.crossbeam_channel.specs.Ends.{sends_on};
 ghost use Rattle.token.specs.States.{Shows, MayLeave};
 ghost use Rattle.hall_channels.specs.Inward.{seats_of, taken_of, ended_of};
 ghost use Rattle.hall_channels.specs.Outward.{given_of};
@@ -13,6 +14,7 @@ use crate::closing::{Closed, Passes, close_all};
 use crate::fault::HallFault;
 use crate::machine::Machine;
 use crate::opening::open;
+use crate::seat_thread::SeatThread;
 use crate::seats::{Gate, Seat};
 use crate::serving::{Serving, serve_seats};
 use crate::starting::start_all;
@@ -40,6 +42,27 @@ fn apart(outboxes: [Outbox; 4]) -> (Outbox, Outbox, Outbox, Outbox)
     (first, second, third, fourth)
 }
 
+/// Permits a worker's thread to begin, and parts the worker.
+fn permit<S: Seat + Drop + Send + 'static, R: Wait>(
+    rt: &R,
+    worker: Worker<S>,
+) -> (Outbox, SeatThread<S>)
+    ensures same { sends_on result.0.outward ≡ sends_on worker.outbox.outward }
+    ensures none { given_of (view result.0.outward_pass) ≡ given_of (view worker.outbox.outward_pass) }
+    ensures thread { result.1 ≡ worker.thread }
+{
+    let Worker { mut outbox, thread } = worker;
+    outbox.begin(rt);
+    (outbox, thread)
+}
+
+/// A worker of its parts.
+fn worker<S: Seat + Drop + Send + 'static>(outbox: Outbox, thread: SeatThread<S>) -> Worker<S>
+    ensures { (result.outbox ≡ outbox) × (result.thread ≡ thread) }
+{
+    Worker { outbox, thread }
+}
+
 /// Permits the four threads to begin, serves them, and joins them. Where a channel has ended early, the threads are left to
 /// themselves: without the token's ends they end once their seats return.
 fn serve_all<M: Machine + Drop, S: Seat + Drop + Send + 'static, R: Threads + Wait>(
@@ -60,6 +83,10 @@ fn serve_all<M: Machine + Drop, S: Seat + Drop + Send + 'static, R: Threads + Wa
     requires ready2 { Ready 2 started.worker2 started.inbox }
     requires ready3 { Ready 3 started.worker3 started.inbox }
     ensures over { IfOk result (λ h. S.over h.seats.0 × S.over h.seats.1 × S.over h.seats.2 × S.over h.seats.3) }
+    ensures fixed { IfOk result (λ h. (S.fixed h.seats.0 ≡ S.fixed started.worker0.thread.promise.seat.value)
+        × (S.fixed h.seats.1 ≡ S.fixed started.worker1.thread.promise.seat.value)
+        × (S.fixed h.seats.2 ≡ S.fixed started.worker2.thread.promise.seat.value)
+        × (S.fixed h.seats.3 ≡ S.fixed started.worker3.thread.promise.seat.value)) }
     ensures held { IfOk result (λ h. WereHeld S.asked S.heard M.doubt M.failures M.shows M.leaves (view h.passes.inward)
         (view h.passes.outward0) (view h.passes.outward1) (view h.passes.outward2) (view h.passes.outward3) (
           started.worker0.thread.promise.seat.value,
@@ -77,26 +104,10 @@ fn serve_all<M: Machine + Drop, S: Seat + Drop + Send + 'static, R: Threads + Wa
         worker2,
         worker3,
     } = started;
-    let Worker {
-        outbox: mut outbox0,
-        thread: thread0,
-    } = worker0;
-    let Worker {
-        outbox: mut outbox1,
-        thread: thread1,
-    } = worker1;
-    let Worker {
-        outbox: mut outbox2,
-        thread: thread2,
-    } = worker2;
-    let Worker {
-        outbox: mut outbox3,
-        thread: thread3,
-    } = worker3;
-    outbox0.begin(rt);
-    outbox1.begin(rt);
-    outbox2.begin(rt);
-    outbox3.begin(rt);
+    let (outbox0, thread0) = permit(rt, worker0);
+    let (outbox1, thread1) = permit(rt, worker1);
+    let (outbox2, thread2) = permit(rt, worker2);
+    let (outbox3, thread3) = permit(rt, worker3);
     let began = Snapshot::of(&machine);
     let mut serving = Serving { machine, began };
     let mut outboxes = [outbox0, outbox1, outbox2, outbox3];
@@ -106,22 +117,10 @@ fn serve_all<M: Machine + Drop, S: Seat + Drop + Send + 'static, R: Threads + Wa
     let (outbox0, outbox1, outbox2, outbox3) = apart(outboxes);
     let started = Started {
         inbox,
-        worker0: Worker {
-            outbox: outbox0,
-            thread: thread0,
-        },
-        worker1: Worker {
-            outbox: outbox1,
-            thread: thread1,
-        },
-        worker2: Worker {
-            outbox: outbox2,
-            thread: thread2,
-        },
-        worker3: Worker {
-            outbox: outbox3,
-            thread: thread3,
-        },
+        worker0: worker(outbox0, thread0),
+        worker1: worker(outbox1, thread1),
+        worker2: worker(outbox2, thread2),
+        worker3: worker(outbox3, thread3),
     };
     match close_all(rt, started) {
         Some(closed) => {
@@ -152,6 +151,8 @@ pub(crate) fn hold_machine<
 ) -> Result<Held<M, S>, (HallFault, M)>
     requires numbers { (S.number seats.0 ≡ 0) × (S.number seats.1 ≡ 1) × (S.number seats.2 ≡ 2) × (S.number seats.3 ≡ 3) }
     ensures over { IfOk result (λ h. S.over h.seats.0 × S.over h.seats.1 × S.over h.seats.2 × S.over h.seats.3) }
+    ensures fixed { IfOk result (λ h. (S.fixed h.seats.0 ≡ S.fixed seats.0) × (S.fixed h.seats.1 ≡ S.fixed seats.1)
+        × (S.fixed h.seats.2 ≡ S.fixed seats.2) × (S.fixed h.seats.3 ≡ S.fixed seats.3)) }
     ensures held { IfOk result (λ h. WereHeld S.asked S.heard M.doubt M.failures M.shows M.leaves (view h.passes.inward)
         (view h.passes.outward0) (view h.passes.outward1) (view h.passes.outward2) (view h.passes.outward3)
         seats h.seats machine h.token) }
@@ -189,6 +190,9 @@ pub fn hold<
     requires numbers { (S.number seats.0 ≡ 0) × (S.number seats.1 ≡ 1) × (S.number seats.2 ≡ 2) × (S.number seats.3 ≡ 3) }
     // Each seat has returned that there is no more.
     ensures over { IfOk result (λ h. S.over h.seats.0 × S.over h.seats.1 × S.over h.seats.2 × S.over h.seats.3) }
+    // What never changes of a seat is as it was.
+    ensures fixed { IfOk result (λ h. (S.fixed h.seats.0 ≡ S.fixed seats.0) × (S.fixed h.seats.1 ≡ S.fixed seats.1)
+        × (S.fixed h.seats.2 ≡ S.fixed seats.2) × (S.fixed h.seats.3 ≡ S.fixed seats.3)) }
     // What the four seats put is one history, which is a run of the token's: each seat got what the model gives it there.
     ensures held { IfOk result (λ h. WereHeld S.asked S.heard (λ t. K.terms.doubt t.store.keep)
         (λ t. K.terms.failures t.store.keep) (Shows K.terms) (MayLeave K.terms) (view h.passes.inward)
@@ -221,6 +225,9 @@ pub fn hold_with<
     requires numbers { (S.number seats.0 ≡ 0) × (S.number seats.1 ≡ 1) × (S.number seats.2 ≡ 2) × (S.number seats.3 ≡ 3) }
     // Each seat has returned that there is no more.
     ensures over { IfOk result (λ h. S.over h.seats.0 × S.over h.seats.1 × S.over h.seats.2 × S.over h.seats.3) }
+    // What never changes of a seat is as it was.
+    ensures fixed { IfOk result (λ h. (S.fixed h.seats.0 ≡ S.fixed seats.0) × (S.fixed h.seats.1 ≡ S.fixed seats.1)
+        × (S.fixed h.seats.2 ≡ S.fixed seats.2) × (S.fixed h.seats.3 ≡ S.fixed seats.3)) }
     // What the four seats put is one history, which is a run of the token's: each seat got what the model gives it there.
     ensures held { IfOk result (λ h. WereHeld S.asked S.heard (λ t. K.terms.doubt t.store.keep)
         (λ t. K.terms.failures t.store.keep) (Shows K.terms) (MayLeave K.terms) (view h.passes.inward)

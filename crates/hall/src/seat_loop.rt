@@ -101,6 +101,7 @@ fn turn<S: Seat, G: Gate, R: Wait>(
     ensures message { IsTrue result → IsSome port.new.message }
     ensures same { SamePort port.old port.new }
     ensures number { S.number seat.new ≡ S.number seat.old }
+    ensures fixed { S.fixed seat.new ≡ S.fixed seat.old }
     ensures gone { (app : ℕ) → S.gone seat.old app → S.gone seat.new app }
     ensures exchanges { IsTrue result → (more : List Exchange) × IsTurn event more × Did port.old more port.new
         × (S.asked seat.new ≡ S.asked seat.old) × Grows (S.heard seat.old) (heard_in more) (S.heard seat.new) }
@@ -133,6 +134,7 @@ fn run_seat<S: Seat, G: Gate, R: Wait>(
     ensures same { SamePort port.old port.new }
     ensures exchanges { IsTrue result → PortDid port.old port.new (S.asked seat.old) (S.asked seat.new) (S.heard seat.old) (S.heard seat.new) }
     ensures over { IsTrue result → S.over seat.new }
+    ensures fixed { IsTrue result → S.fixed seat.new ≡ S.fixed seat.old }
 {
     for _ in rt.forever() {
         let Some(event) = seat.next() else {
@@ -158,6 +160,7 @@ pub(crate) fn run_permitted<S: Seat, G: Gate, R: Wait>(
     ensures same { SamePort port.old port.new }
     ensures exchanges { IsTrue result → PortDid port.old port.new (S.asked seat.old) (S.asked seat.new) (S.heard seat.old) (S.heard seat.new) }
     ensures over { IsTrue result → S.over seat.new }
+    ensures fixed { IsTrue result → S.fixed seat.new ≡ S.fixed seat.old }
 {
     if port.get_back(rt) && run_seat(rt, alloc, seat, port, gate) {
         return true;

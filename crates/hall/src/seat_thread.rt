@@ -50,7 +50,7 @@ impl<S: Seat> Runs<S> for SeatEnds {
     ghost ready = { λ ends seat. (S.number seat ≡ ends.seat) × AreSound ends };
 
     ghost ran = { λ old seat ends seat' whole. SameEnds old ends × AreSound ends
-        × (whole ≡ true → EndsDid old ends (S.asked seat) (S.asked seat') (S.heard seat) (S.heard seat') × S.over seat') };
+        × (whole ≡ true → EndsDid old ends (S.asked seat) (S.asked seat') (S.heard seat) (S.heard seat') × S.over seat' × (S.fixed seat' ≡ S.fixed seat)) };
 
     fn run<G: Gate, R: Wait>(self, rt: &R, alloc: Global, gate: &G, seat: S) -> Ended<S, SeatEnds> {
         begin(rt, alloc, gate, seat, self)
@@ -86,6 +86,7 @@ fn begin<S: Seat, G: Gate, R: Wait>(
     ensures sound { AreSound result.ends }
     ensures did { result.whole ≡ true → EndsDid ends result.ends (S.asked seat) (S.asked result.seat) (S.heard seat) (S.heard result.seat) }
     ensures over { result.whole ≡ true → S.over result.seat }
+    ensures fixed { result.whole ≡ true → S.fixed result.seat ≡ S.fixed seat }
 {
     let mut port = Port::enter(ends);
     let whole = run_permitted(rt, alloc, &mut seat, &mut port, gate);
@@ -177,6 +178,7 @@ pub(crate) fn join_seat<S: Seat + Drop + Send + 'static, R: Threads>(
     ensures seats { seats_of (view inbox.new.inward_pass) ≡ seats_of (view inbox.old.inward_pass) }
     ensures taken { taken_of (view inbox.new.inward_pass) ≡ taken_of (view inbox.old.inward_pass) }
     ensures over { IfSome result (λ j. S.over j.seat) }
+    ensures fixed { IfSome result (λ j. S.fixed j.seat ≡ S.fixed worker.thread.promise.seat.value) }
     ensures ended { IfSome result (λ j. HasEnded S.asked S.heard inbox.old worker inbox.new j) }
 {
     let Worker { outbox, thread } = worker;

@@ -67,7 +67,6 @@ pub(crate) fn start_all<
     ensures worker2 { IfOk result (λ r. StartedWith opened.link2 seats.2 r.worker2) }
     ensures worker3 { IfOk result (λ r. StartedWith opened.link3 seats.3 r.worker3) }
 {
-    let (seat0, seat1, seat2, seat3) = seats;
     let Opened {
         inbox,
         link0,
@@ -75,18 +74,15 @@ pub(crate) fn start_all<
         link2,
         link3,
     } = opened;
-    let worker0 = match start_worker(rt, alloc, stacks.0, gate, seat0, link0) {
-        Ok(worker) => worker,
-        Err(fault) => return Err(fault),
-    };
-    let worker1 = match start_worker(rt, alloc, stacks.1, gate, seat1, link1) {
+    let worker0 = start_worker(rt, alloc, stacks.0, gate, seats.0, link0)?;
+    let worker1 = match start_worker(rt, alloc, stacks.1, gate, seats.1, link1) {
         Ok(worker) => worker,
         Err(fault) => {
             stop(&rt, worker0);
             return Err(fault);
         }
     };
-    let worker2 = match start_worker(rt, alloc, stacks.2, gate, seat2, link2) {
+    let worker2 = match start_worker(rt, alloc, stacks.2, gate, seats.2, link2) {
         Ok(worker) => worker,
         Err(fault) => {
             stop(&rt, worker0);
@@ -94,7 +90,7 @@ pub(crate) fn start_all<
             return Err(fault);
         }
     };
-    let worker3 = match start_worker(rt, alloc, stacks.3, gate, seat3, link3) {
+    let worker3 = match start_worker(rt, alloc, stacks.3, gate, seats.3, link3) {
         Ok(worker) => worker,
         Err(fault) => {
             stop(&rt, worker0);

@@ -41,7 +41,7 @@ impl Seat for Silent {
 
     ghost gone = { λ s app. Unit {0} };
 
-    ghost ready = { λ s. Unit {0} };
+    ghost ready = { λ s app. Unit {0} };
 
     ghost asked = { λ s. None };
 

@@ -11,3 +11,4 @@ invariant-loop g l =
     × (g.S.Seat.number l.seat ≡ l.fn.port.seat)
     × HasDone l.fn.port l.port (g.S.Seat.gone l.seat) (g.S.Seat.asked l.fn.seat) (g.S.Seat.asked l.seat) (g.S.Seat.heard l.fn.seat) (g.S.Seat.heard l.seat)
     × IsSome l.port.message
+    × (g.S.Seat.fixed l.seat ≡ g.S.Seat.fixed l.fn.seat)

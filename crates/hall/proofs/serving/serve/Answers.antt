@@ -1,7 +1,6 @@
-use Rattle.std.proofs.Common.{◌≡◌, ◌∙◌, ap, sym, get_or, Some, None}
+use Rattle.std.proofs.Common.{◌∙◌, ap, sym, get_or, Some, None}
 use Rattle.std.proofs.lemmas.Option.{slice_get-get_or}
 use Rattle.serve_base.specs.declared.out.Out.TheVariants.{Reply}
-use Rattle.hall_channels.specs.declared.messages.Event.{Event}
 use Rattle.hall_channels.specs.declared.messages.Event.TheVariants.{Call, Finish, Gone}
 use Rattle.hall_channels.specs.declared.messages.Message.{Message}
 use Rattle.hall.proofs.Giving.{given_still, led_more, may_give}

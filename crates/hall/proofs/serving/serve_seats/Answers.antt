@@ -1,8 +1,5 @@
-use Rattle.std.proofs.Common.{◌≡◌, ◌∙◌, ◌++◌, ◌∷◌, [], sym, refl}
-use Rattle.crossbeam_channel.specs.Claims.{view}
-use Rattle.hall_channels.specs.Inward.{taken_of, happened}
-use Rattle.hall_channels.specs.declared.messages.Inward.TheVariants.{Put}
-use Rattle.hall.proofs.Giving.{given_from, given_led, given_none, has_taken}
+use Rattle.std.proofs.Common.{◌∙◌, sym, refl}
+use Rattle.hall.proofs.Giving.{given_from, given_none, has_taken}
 use Rattle.hall.proofs.serving.serve_seats.Goals as goal
 
 pub loop-init : goal.loop-init

@@ -137,7 +137,7 @@ impl<R: Clock + Drop> Seat for TurnSeat<R> {
 
     ghost gone = { λ s app. IsTrue (is_gone s.gone.items app) };
 
-    ghost ready = { λ s. Unit {0} };
+    ghost ready = { λ s app. Unit {0} };
 
     ghost asked = { λ s. None };
 
