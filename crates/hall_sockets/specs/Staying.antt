@@ -1,8 +1,11 @@
 -- What a seat does.
 use Rattle.std.specs.Prelude.{◌≡◌, ◌%◌, ◌∷◌, [], ◌++◌, ℕ, List, Option, Some, None}
+use Rattle.hall.specs.SeatEvents.{seat_app}
 use Rattle.hall.specs.declared.seats.SeatEvent.{SeatEvent}
 use Rattle.hall.specs.declared.seats.SeatEvent.TheVariants.{Call, Gone}
 use Rattle.line_places.specs.Keeping.{HasGone, IsOwed}
+use Rattle.hall_sockets.specs.declared.asked.Asked.{Asked}
+use Rattle.hall_sockets.specs.declared.asked.Asked.TheVariants as asked
 use Rattle.hall_sockets.specs.declared.seat.SocketSeat.{SocketSeat}
 
 -- nothing was given and nothing taken yet
@@ -34,10 +37,6 @@ abbrev pub IsNoted : {L C : Type 0} → SocketSeat L C → SeatEvent → Type 0
 IsNoted seat (Call c) = IsOwed seat.clients.places.items seat.answering c.app
 IsNoted seat (Gone app) = HasGone seat.clients.past.items app
 
-abbrev pub app_in : SeatEvent → ℕ
-app_in (Call c) = c.app
-app_in (Gone app) = app
-
 -- an event is given, which the seat keeps, or nothing
 abbrev pub Gives : {L C : Type 0} → SocketSeat L C → SocketSeat L C → Option SeatEvent → Type 0
 Gives old new None = Stays old new
@@ -46,9 +45,15 @@ Gives old new (Some event) =
     × (new.clients.seed ≡ old.clients.seed)
     × (new.clients.told.items ≡ old.clients.told.items)
     × (new.asked.items ≡ old.asked.items ++ event ∷ [])
-    × IsThere old (app_in event)
+    × IsThere old (seat_app event)
     × IsNoted new event
     × ((app : ℕ) → HasGone old.clients.past.items app → HasGone new.clients.past.items app)
+
+-- by what comes of a connection that is asked
+abbrev pub Asks : {L C : Type 0} → SocketSeat L C → SocketSeat L C → Asked → Type 0
+Asks old new (asked.Call event) = Gives old new (Some event)
+Asks old new asked.Nothing = Stays old new
+Asks old new (asked.Ended ending) = Stays old new
 
 -- the four seats of a daemon, seat 0 first, with one seed
 abbrev pub AreNew : {L C : Type 0} → List ℕ → SocketSeat L C × SocketSeat L C × SocketSeat L C × SocketSeat L C → Type 0

@@ -13,8 +13,8 @@ use std::os::unix::net::UnixStream;
 use std::sync::atomic::Ordering;
 use std::time::{Clock, Duration};
 
-/// How long a seat waits at most while somebody waits to be accepted by another one.
-const SHORT_WAIT: Duration = Duration::from_millis(1);
+/// How many milliseconds a seat waits at most while somebody waits to be accepted by another one.
+const SHORT_WAIT: u64 = 1;
 
 /// EMFILE, ENFILE, ENOBUFS and ENOMEM: no more descriptors or memory at the moment.
 const SHORTAGES: [i32; 4] = [24, 23, 105, 12];
@@ -47,13 +47,13 @@ impl<L: Log, C: Clock> SocketSeat<L, C> {
     pub(crate) fn look_round(&mut self)
         ensures { Stays self.old self.new }
     {
-        let mut longest = PATIENCE;
+        let mut longest = Duration::from_secs(PATIENCE);
         if self.may_accept {
             if let Some(place) = self.free_place() {
                 if self.loads.is_least(self.clients.number) {
                     self.accept_at(place);
                 } else {
-                    longest = SHORT_WAIT;
+                    longest = Duration::from_millis(SHORT_WAIT);
                 }
             }
         }
@@ -82,7 +82,9 @@ impl<L: Log, C: Clock> SocketSeat<L, C> {
         stream.set_nonblocking(true)?;
         let writer = stream.try_clone()?;
         let fd = stream.as_raw_fd();
-        self.poll.registry().register(&mut SourceFd(&fd), Token(place), Interest::READABLE)?;
+        self.poll
+            .registry()
+            .register(&mut SourceFd(&fd), Token(place), Interest::READABLE)?;
         if let Some(known) = self.descriptors.get_mut(place) {
             *known = fd;
         }
@@ -93,7 +95,10 @@ impl<L: Log, C: Clock> SocketSeat<L, C> {
         ensures { Stays self.old self.new }
     {
         self.clients.open(self.alloc, place, reader, writer);
-        if let (Some(stuck), Some(used)) = (self.is_stuck.get_mut(place), self.used.get_mut(place)) {
+        if let (Some(stuck), Some(used)) = (
+            self.is_stuck.get_mut(place),
+            self.used.get_mut(place),
+        ) {
             *stuck = false;
             *used = self.time;
         }
@@ -105,7 +110,11 @@ impl<L: Log, C: Clock> SocketSeat<L, C> {
 
     /// Tells the other seats how many connections there are.
     pub(crate) fn tell_load(&self) {
-        let count = if self.left == 0 { usize::MAX } else { self.count };
+        let count = if self.left == 0 {
+            usize::MAX
+        } else {
+            self.count
+        };
         self.loads.set(self.clients.number, count);
     }
 
@@ -117,7 +126,9 @@ impl<L: Log, C: Clock> SocketSeat<L, C> {
             ErrorKind::ConnectionAborted | ErrorKind::Interrupted => {}
             ErrorKind::WouldBlock => self.may_accept = false,
             _ => {
-                let is_short = error.raw_os_error().is_some_and(|code| SHORTAGES.contains(&code));
+                let is_short = error
+                    .raw_os_error()
+                    .is_some_and(|code| SHORTAGES.contains(&code));
                 if is_short {
                     // Who waits is accepted once somebody else connects, or a connection ends.
                     self.may_accept = false;

@@ -3,8 +3,9 @@
 ghost use Rattle.std.specs.Prelude.{◌≡◌, ◌%◌, ◌∷◌, [], ◌++◌, ℕ, IfSome, IfNone};
 ghost use Rattle.hall.specs.SeatEvents.{seat_app};
 ghost use Rattle.line_places.specs.Keeping.{HasGone};
-ghost use Rattle.hall_sockets.specs.Staying.{Gives, Stays};
+ghost use Rattle.hall_sockets.specs.Staying.{Asks, Gives};
 
+use crate::asked::Asked;
 use crate::seat::SocketSeat;
 use hall::SeatEvent;
 use line::Ending;
@@ -17,25 +18,36 @@ impl<L: Log, C: Clock> SocketSeat<L, C> {
     pub(crate) fn event_at(&mut self, place: usize) -> Option<SeatEvent>
         ensures { Gives self.old self.new result }
     {
-        self.asked_since = self.asked_since.saturating_add(1);
-        match self.clients.next_call(self.alloc, place, &mut self.piece) {
-            Came::Call(call) => {
-                // More may have come with it.
-                self.note(place);
-                self.answering = place;
-                let event = SeatEvent::Call(call);
-                self.asked.push(&event);
-                Some(event)
-            }
-            Came::Nothing => {
+        match self.ask(place) {
+            Asked::Call(event) => Some(event),
+            Asked::Nothing => {
                 let is_stuck = self.is_pending(place);
                 self.watch(place, is_stuck);
                 None
             }
-            Came::Ended(ending) => {
+            Asked::Ended(ending) => {
                 self.report(place, &ending);
                 self.end(place)
             }
+        }
+    }
+
+    /// Asks the connection at a place for its next call.
+    fn ask(&mut self, place: usize) -> Asked
+        ensures { Asks self.old self.new result }
+    {
+        self.asked_since = self.asked_since.saturating_add(1);
+        match self.clients.next_call(self.alloc, place, &mut self.piece) {
+            Came::Call(call) => {
+                let event = SeatEvent::Call(call);
+                self.asked.push(&event);
+                self.answering = place;
+                // More may have come with it.
+                self.note(place);
+                Asked::Call(event)
+            }
+            Came::Nothing => Asked::Nothing,
+            Came::Ended(ending) => Asked::Ended(ending),
         }
     }
 
@@ -53,19 +65,21 @@ impl<L: Log, C: Clock> SocketSeat<L, C> {
         ensures { Gives self.old self.new result }
     {
         let app = self.clients.close(place)?;
+        let event = SeatEvent::Gone { app };
+        self.asked.push(&event);
         self.count = self.count.saturating_sub(1);
         self.may_accept = true;
         self.tell_load();
-        let event = SeatEvent::Gone { app };
-        self.asked.push(&event);
         Some(event)
     }
 
-    /// One of the connections ends, if there is one.
+    /// No more is accepted. One of the connections ends, if there is one.
     #[inline(never)]
     pub(crate) fn leave(&mut self) -> Option<SeatEvent>
         ensures { Gives self.old self.new result }
     {
+        self.left = 0;
+        self.tell_load();
         'places: for place in 0..self.clients.len() {
             let event = self.end(place);
             if event.is_some() {
@@ -103,7 +117,8 @@ impl<L: Log, C: Clock> SocketSeat<L, C> {
             Ending::TooLong | Ending::Cut => {
                 warn!(self.log; "connection {app} is refused: {ending}");
             }
-            Ending::Memory | Ending::Reply => error!(self.log; "connection {app} is ended: {ending}"),
+            Ending::Memory | Ending::Reply =>
+                error!(self.log; "connection {app} is ended: {ending}"),
             Ending::Read(_) | Ending::Write(_) => {
                 info!(self.log; "connection {app} is ended: {ending}");
             }

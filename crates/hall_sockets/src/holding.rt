@@ -8,8 +8,10 @@ ghost use Rattle.hall_sockets.specs.Served.{WereServed};
 ghost use Rattle.hall_sockets.specs.Staying.{AreNew};
 
 use crate::seat::SocketSeat;
+use hall::laws::own_seat;
 use hall::{Gate, HallFault, Held, hold};
 use keep::Keep;
+use line::accounts;
 use log::Log;
 use std::alloc::Global;
 use std::sync::{Arc, Wait};
@@ -48,15 +50,17 @@ pub fn hold_sockets<
     seats: Seats<L, C>,
     gate: &Arc<G, Global>,
 ) -> Result<Held<Token<K>, SocketSeat<L, C>>, (HallFault, Token<K>)>
-    requires { AreNew seats }
+    requires { AreNew seats.0.clients.seed seats }
     // Each connection was served by one history, which is a run of the token's.
     ensures served { IfOk result (λ h. WereServed (λ t. K.terms.doubt t.store.keep) (λ t. K.terms.failures t.store.keep)
-        (Shows K.terms) (MayLeave K.terms) (view h.passes.inward) h.seats token h.token) }
+        (Shows K.terms) (MayLeave K.terms) seats.0.clients.seed (view h.passes.inward) h.seats token h.token) }
     // Where an allocation failed, the token is as it was.
     ensures memory { IfErr result (λ e. e.0 ≡ HallFault.Memory → e.1 ≡ token) }
     // At any fault some history leads to the token that is returned.
     ensures led { IfErr result (λ e. IsLed (λ t. K.terms.doubt t.store.keep) (λ t. K.terms.failures t.store.keep)
         (Shows K.terms) (MayLeave K.terms) token e.1) }
 {
+    accounts();
+    own_seat();
     hold(rt, alloc, token, seats, gate)
 }

@@ -2,7 +2,7 @@
 
 use crate::seat::SocketSeat;
 use crate::waiting::PATIENCE;
-use std::time::Clock;
+use std::time::{Clock, Duration};
 
 impl<L, C: Clock> SocketSeat<L, C> {
     /// The place of a connection of which nothing came for too long. They are looked for once a second.
@@ -20,6 +20,7 @@ impl<L, C: Clock> SocketSeat<L, C> {
 
     /// Whether a second has passed since idle connections were looked for.
     pub(crate) fn must_look(&self) -> bool {
-        self.idle.is_some() && self.time.saturating_sub(self.looked) >= PATIENCE
+        self.idle.is_some()
+            && self.time.saturating_sub(self.looked) >= Duration::from_secs(PATIENCE)
     }
 }

@@ -18,6 +18,7 @@
 #![tactic(auto)]
 
 mod accepting;
+mod asked;
 mod asking;
 mod holding;
 mod idling;
@@ -25,6 +26,7 @@ mod loads;
 mod opening;
 mod seat;
 mod serving;
+mod turns;
 mod waiting;
 
 pub use holding::{Seats, hold_sockets};

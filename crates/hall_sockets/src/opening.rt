@@ -30,7 +30,7 @@ pub struct Shared {
     pub listener: UnixListener,
 }
 
-impl<L: Log, C: Clock> SocketSeat<L, C> {
+impl<L: Log + Drop, C: Clock + Drop> SocketSeat<L, C> {
     /// The seat with a number from 0 to 3, with no connection.
     ///
     /// # Errors
@@ -52,9 +52,14 @@ impl<L: Log, C: Clock> SocketSeat<L, C> {
         shared.listener.set_nonblocking(true)?;
         let poll = Poll::new(net)?;
         let fd = shared.listener.as_raw_fd();
-        poll.registry().register(&mut SourceFd(&fd), Token(LISTENER), Interest::READABLE)?;
+        poll.registry()
+            .register(&mut SourceFd(&fd), Token(LISTENER), Interest::READABLE)?;
         let time = clock.monotonic()?;
-        let Shared { is_stopping, loads, listener } = shared;
+        let Shared {
+            is_stopping,
+            loads,
+            listener,
+        } = shared;
         Ok(SocketSeat {
             alloc,
             clock,

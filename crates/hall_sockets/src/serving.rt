@@ -1,16 +1,18 @@
 //! A seat on a socket before the token.
 
-ghost use Rattle.std.specs.Prelude.{◌≡◌, Some, true};
+ghost use Rattle.std.specs.Prelude.{◌≡◌, ◌∷◌, Some, true};
 ghost use Rattle.line_places.specs.Keeping.{HasGone, IsOwed};
 
 use crate::seat::SocketSeat;
 use ck_calls::Reply;
 use hall::{Seat, SeatEvent};
 use log::Log;
-use std::time::{Clock, Duration};
+use std::time::Clock;
 
 impl<L: Log, C: Clock + Drop> Seat for SocketSeat<L, C> {
     ghost number = { λ s. s.clients.number };
+
+    ghost fixed = { λ s. s.clients.number ∷ s.clients.seed };
 
     ghost over = { λ s. s.has_ended ≡ true };
 
@@ -23,40 +25,7 @@ impl<L: Log, C: Clock + Drop> Seat for SocketSeat<L, C> {
     ghost heard = { λ s. Some s.clients.told.items };
 
     fn next(&mut self) -> Option<SeatEvent> {
-        'turns: for _ in 0..u64::MAX {
-            if self.has_failed || self.is_stopping() {
-                break;
-            }
-            if self.asked_since >= self.clients.len() {
-                self.wait(Duration::ZERO);
-            }
-            match self.due.pop_front() {
-                Some(place) => {
-                    if let Some(due) = self.is_due.get_mut(place) {
-                        *due = false;
-                    }
-                    let event = self.event_at(place);
-                    if event.is_some() {
-                        return event;
-                    }
-                }
-                None => {
-                    if self.is_over() {
-                        break;
-                    }
-                    if self.must_look() {
-                        let event = self.end_idle();
-                        if event.is_some() {
-                            return event;
-                        }
-                    }
-                    self.look_round();
-                }
-            }
-        }
-        self.left = 0;
-        self.tell_load();
-        let event = self.leave();
+        let event = self.next_event();
         if event.is_none() {
             self.has_ended = true;
         }

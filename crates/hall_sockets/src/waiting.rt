@@ -1,5 +1,6 @@
 //! A seat's wait for its connections and its listener.
 
+ghost use Rattle.std.specs.Prelude.{◌≡◌};
 ghost use Rattle.hall_sockets.specs.Staying.{Stays};
 
 use crate::seat::{MAX_CLIENTS, SocketSeat};
@@ -12,13 +13,15 @@ use std::time::{Clock, Duration};
 /// The token of the listener; that of a connection is its place.
 pub(crate) const LISTENER: usize = MAX_CLIENTS;
 
-/// How long a wait lasts at most, before a seat looks whether the daemon is to end.
-pub(crate) const PATIENCE: Duration = Duration::from_secs(1);
+/// How many seconds a wait lasts at most, before a seat looks whether the daemon is to end.
+pub(crate) const PATIENCE: u64 = 1;
 
 impl<L, C: Clock> SocketSeat<L, C> {
     /// A place is to be asked.
     pub(crate) fn note(&mut self, place: usize)
-        ensures { Stays self.old self.new }
+        ensures stays { Stays self.old self.new }
+        ensures clients { self.new.clients ≡ self.old.clients }
+        ensures answering { self.new.answering ≡ self.old.answering }
     {
         if !note_place(place, &mut self.due, &mut self.is_due) {
             self.has_failed = true;
@@ -73,7 +76,8 @@ impl<L, C: Clock> SocketSeat<L, C> {
     pub(crate) fn watch(&mut self, place: usize, is_stuck: bool)
         ensures { Stays self.old self.new }
     {
-        let (Some(was), Some(fd)) = (self.is_stuck.get_mut(place), self.descriptors.get(place)) else {
+        let (Some(was), Some(fd)) = (self.is_stuck.get_mut(place), self.descriptors.get(place))
+        else {
             return;
         };
         if *was == is_stuck {
@@ -85,7 +89,10 @@ impl<L, C: Clock> SocketSeat<L, C> {
         } else {
             Interest::READABLE
         };
-        let registered = self.poll.registry().reregister(&mut SourceFd(fd), Token(place), interest);
+        let registered = self
+            .poll
+            .registry()
+            .reregister(&mut SourceFd(fd), Token(place), interest);
         if registered.is_err() {
             self.has_failed = true;
         }
