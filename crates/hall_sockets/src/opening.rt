@@ -89,7 +89,9 @@ impl<L: Log + Drop, C: Clock + Drop> SocketSeat<L, C> {
             asked: GhostList::new(),
         })
     }
+}
 
+impl<L, C> SocketSeat<L, C> {
     /// Whether the seat ended because no connection could be accepted any more, or none be waited for.
     pub fn has_failed(&self) -> bool
         ensures { result ≡ self.now.has_failed }

@@ -328,7 +328,8 @@ fn seat_on<L: Log + Drop>(
     requires { number < 4 }
     ensures { IfOk result (λ seat. IsNew seat served.now.settings.seed number) }
 {
-    let (Ok(is_stopping), Ok(loads)) = (Arc::try_clone(&served.is_stopping), Arc::try_clone(loads)) else {
+    let (Ok(is_stopping), Ok(loads)) = (Arc::try_clone(&served.is_stopping), Arc::try_clone(loads))
+    else {
         return Err(Failure::Memory.into());
     };
     let shared = Shared {
