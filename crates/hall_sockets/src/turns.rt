@@ -2,7 +2,7 @@
 
 ghost use Rattle.hall_sockets.specs.Staying.{Gives, Stays};
 
-use crate::seat::SocketSeat;
+use crate::seat::{MAX_CLIENTS, SocketSeat};
 use hall::SeatEvent;
 use log::Log;
 use std::time::{Clock, Duration};
@@ -44,11 +44,11 @@ impl<L: Log, C: Clock> SocketSeat<L, C> {
         }
     }
 
-    /// The next place that is to be asked. Once as many were asked as there are places, it is looked first who else is.
+    /// The next place that is to be asked. Once as many were asked as a seat has places at most, it is looked first who else is.
     fn next_due(&mut self) -> Option<usize>
         ensures { Stays self.old self.new }
     {
-        if self.asked_since >= self.clients.len() {
+        if self.asked_since >= MAX_CLIENTS {
             self.wait(Duration::ZERO);
         }
         let place = self.due.pop_front()?;
