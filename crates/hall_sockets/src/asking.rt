@@ -3,7 +3,7 @@
 ghost use Rattle.std.specs.Prelude.{◌≡◌, ◌%◌, ◌∷◌, [], ◌++◌, ℕ, IfSome, IfNone};
 ghost use Rattle.hall.specs.SeatEvents.{seat_app};
 ghost use Rattle.line_places.specs.Keeping.{HasGone};
-ghost use Rattle.hall_sockets.specs.Staying.{Asks, Gives};
+ghost use Rattle.hall_sockets.specs.Staying.{Asks, Gives, Stays};
 
 use crate::asked::Asked;
 use crate::seat::SocketSeat;
@@ -42,12 +42,26 @@ impl<L: Log, C: Clock> SocketSeat<L, C> {
                 let event = SeatEvent::Call(call);
                 self.asked.push(&event);
                 self.answering = place;
-                // More may have come with it.
-                self.note(place);
+                self.note_more(place);
                 Asked::Call(event)
             }
             Came::Nothing => Asked::Nothing,
             Came::Ended(ending) => Asked::Ended(ending),
+        }
+    }
+
+    /// A place is to be asked again, where more may have come than was consumed.
+    fn note_more(&mut self, place: usize)
+        ensures stays { Stays self.old self.new }
+        ensures clients { self.new.clients ≡ self.old.clients }
+        ensures answering { self.new.answering ≡ self.old.answering }
+    {
+        let may_have_more = match self.clients.client(place) {
+            Some(client) => client.may_have_more(),
+            None => false,
+        };
+        if may_have_more {
+            self.note(place);
         }
     }
 

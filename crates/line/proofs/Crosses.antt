@@ -26,7 +26,7 @@ words_send : IsSend Words.the_row
 words_send = search (sendable, crosses) depth 30 fits 20000
 
 watched_inside : (R : RattleType) → IsSend R → IsSend (WatchedInside.the_row R)
-watched_inside R r = declared_send (WatchedInside.the_type R) (as_row_send (row_field R) r, (search sendable depth 8, (search sendable depth 8, (bytes_send, tt))))
+watched_inside R r = declared_send (WatchedInside.the_type R) (as_row_send (row_field R) r, (search sendable depth 8, (search sendable depth 8, (bytes_send, (search sendable depth 8, tt)))))
 
 pub watched_send : (R : RattleType) → IsSend R → IsSend (Watched.the_row R)
 watched_send R r = search (watched_inside R r, sendable) depth 10
