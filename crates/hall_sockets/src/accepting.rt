@@ -3,7 +3,7 @@
 ghost use Rattle.hall_sockets.specs.Staying.{Stays};
 
 use crate::seat::SocketSeat;
-use crate::waiting::PATIENCE;
+use crate::waiting::{LISTENER, PATIENCE};
 use log::{Log, error, warn};
 use mio::unix::SourceFd;
 use mio::{Interest, Token};
@@ -13,7 +13,7 @@ use std::os::unix::net::UnixStream;
 use std::sync::atomic::Ordering;
 use std::time::{Clock, Duration};
 
-/// How many milliseconds a seat waits at most while somebody waits to be accepted by another one.
+/// For how many milliseconds a seat leaves who waits to be accepted to another one.
 const SHORT_WAIT: u64 = 1;
 
 /// EMFILE, ENFILE, ENOBUFS and ENOMEM: no more descriptors or memory at the moment.
@@ -42,23 +42,37 @@ impl<L: Log, C: Clock> SocketSeat<L, C> {
         None
     }
 
-    /// Accepts who waits, if it is this seat's turn, and else waits until something comes.
+    /// Accepts who waits, if it is this seat's turn, and waits until something comes where no connection is to be asked.
     #[inline(never)]
     pub(crate) fn look_round(&mut self)
         ensures { Stays self.old self.new }
     {
-        let mut longest = Duration::from_secs(PATIENCE);
-        if self.may_accept {
-            if let Some(place) = self.free_place() {
-                if self.loads.is_least(self.clients.number) {
-                    self.accept_at(place);
-                } else {
-                    longest = Duration::from_millis(SHORT_WAIT);
-                }
-            }
+        let place = if self.may_accept {
+            self.free_place()
+        } else {
+            None
+        };
+        match place {
+            Some(place) if self.loads.is_least(self.clients.number) => self.accept_at(place),
+            Some(_) => self.leave_to_others(),
+            None => {}
         }
         if self.due.is_empty() {
-            self.wait(longest);
+            self.wait(Duration::from_secs(PATIENCE));
+        }
+    }
+
+    /// Leaves who waits to a seat with fewer connections for a moment. If somebody waits still, the next wait returns at once.
+    fn leave_to_others(&mut self)
+        ensures { Stays self.old self.new }
+    {
+        self.may_accept = false;
+        self.wait(Duration::from_millis(SHORT_WAIT));
+        let fd = self.listener.as_raw_fd();
+        let registry = self.poll.registry();
+        let renewed = registry.reregister(&mut SourceFd(&fd), Token(LISTENER), Interest::READABLE);
+        if renewed.is_err() {
+            self.has_failed = true;
         }
     }
 
