@@ -42,7 +42,7 @@ impl<L: Log, C: Clock> SocketSeat<L, C> {
         None
     }
 
-    /// Accepts who waits, if it is this seat's turn, and waits until something comes where no connection is to be asked.
+    /// Accepts who waits, if it is this seat's turn, or waits until something comes.
     #[inline(never)]
     pub(crate) fn look_round(&mut self)
         ensures { Stays self.old self.new }
@@ -55,10 +55,7 @@ impl<L: Log, C: Clock> SocketSeat<L, C> {
         match place {
             Some(place) if self.loads.is_least(self.clients.number) => self.accept_at(place),
             Some(_) => self.leave_to_others(),
-            None => {}
-        }
-        if self.due.is_empty() {
-            self.wait(Duration::from_secs(PATIENCE));
+            None => self.wait(Duration::from_secs(PATIENCE)),
         }
     }
 
