@@ -27,7 +27,7 @@
 //!
 //! Termination and fairness are not proved: a seat that never returns that there is no more is held for ever, and so is one
 //! before a `Gate` that is never passed. That a fault comes only where an allocation or a thread's start failed, that no seat
-//! was called then, and that the token is as it was, stands in no clause either: tests show it.
+//! was called then, and that the token is as it was where a thread was not started, stands in no clause: tests show it.
 #![tactic(auto)]
 
 mod closing;

@@ -31,8 +31,8 @@ pub type Seats<L, C> = (
 ///
 /// What it promises of the bytes: there is one history of all calls, which is a run of the token's. For each application, what was
 /// read of its connection are the frames of its calls in that history, in order. What was written are the frames of the answers
-/// that the history has to them, in that order, with the answers to what is no call at their places. Where the connection ended by a
-/// failed write, for want of memory or with the daemon, that is a beginning of it.
+/// that the history has to them, in that order, with the answers to what is no call at their places. Where the connection ended
+/// otherwise than by its reader or by a frame that is too long, that is a beginning of it.
 ///
 /// # Errors
 ///

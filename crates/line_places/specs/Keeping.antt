@@ -53,8 +53,9 @@ module _ {R W : Type 0} where
     pub later : t < place.turn
     pub app : c.app ≡ app_at s (length places) j t
 
-  -- No two clients are of the same application. The words of each are those of its application under the one seed. Of all calls and
-  -- replies, those of its application are its own. An application without a client has none.
+  -- A client that is there is of another application than all others, and one that was there had an earlier turn. The words of each are
+  -- those of its application under the one seed. Of all calls and replies, those of its application are its own. An application
+  -- without a client has none.
   pub record Kept (seed : List ℕ) (s : ℕ) (places : List (Place R W)) (past : List (Client R W)) (asked : List AppCall) (told : List (ℕ × Reply)) : Type 0 where
     pub now : (j : ℕ) (p : Place R W) (c : Client R W) → slice_get places j ≡ Some p → p.client ≡ Some c → (c.app ≡ app_at s (length places) j p.turn) × (p.turn < 2 ^ 55)
     pub before : (c : Client R W) → IsAmong c past → WasAt s places c

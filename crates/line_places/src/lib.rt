@@ -8,7 +8,7 @@
 //!   `specs/Keeping.antt`).
 //!
 //! So for each application that ever connected, the bytes that its writer took are the frames of the replies that it took, with
-//! the answers to what is no call at their places, or a beginning of that where writing failed (`Places::lives`).
+//! the answers to what is no call at their places, or a beginning of that (`Stands`, `specs/Standing.antt`).
 #![tactic(auto)]
 
 mod client;
