@@ -36,7 +36,7 @@ impl<M: Machine> Licence for Serving<M> {
 fn give<M: Machine, R: Wait>(
     rt: &R,
     serving: &Serving<M>,
-    inbox: &Inbox,
+    _inbox: &Inbox,
     outboxes: &mut [Outbox],
     seat: usize,
     message: Box<Message>,
@@ -44,12 +44,11 @@ fn give<M: Machine, R: Wait>(
 ) -> bool
     requires within { seat < length outboxes.old }
     requires may { MayGive M.doubt M.failures M.shows M.leaves serving.now.began.value serving.now.machine
-        (taken_of (view inbox.now.inward_pass)) outboxes.old seat out }
+        (taken_of (view _inbox.now.inward_pass)) outboxes.old seat out }
     ensures same { SameOutboxes outboxes.old outboxes.new }
     ensures given { IsTrue result → HasGiven M.doubt M.failures M.shows M.leaves serving.now.began.value serving.now.machine
-        (taken_of (view inbox.now.inward_pass)) outboxes.new }
+        (taken_of (view _inbox.now.inward_pass)) outboxes.new }
 {
-    let _ = inbox;
     outboxes[seat].answer(rt, serving, message, out)
 }
 

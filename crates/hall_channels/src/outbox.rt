@@ -85,16 +85,15 @@ impl Outbox {
     pub fn answer<L: Licence, R: Wait>(
         &mut self,
         rt: &R,
-        licence: &L,
+        _licence: &L,
         mut message: Box<Message>,
         out: Out,
     ) -> bool
-        requires allowed { L.allows licence.now out }
+        requires allowed { L.allows _licence.now out }
         ensures same { sends_on self.new.outward ≡ sends_on self.old.outward }
         ensures given { IsTrue result → given_of (view self.new.outward_pass) ≡ given_of (view self.old.outward_pass) ++ out ∷ [] }
         ensures refused { IsFalse result → view self.new.outward_pass ≡ view self.old.outward_pass }
     {
-        let _ = licence;
         message.set_answer(out);
         self.give(rt, Outward::Answer(Answered { message }))
     }

@@ -14,7 +14,7 @@ use Rattle.line.specs.Words.{taken}
 use Rattle.line.specs.Turns.{Ask, Message, messages, asks, words_after, words_past, answers_with, reply_frame, refusal_of, refusal_in}
 use Rattle.line.specs.State.{Connected, output}
 use Rattle.line.specs.Asking.{IsCall}
-use Rattle.line.specs.Connecting.{IsNoCall, refusal_frame, Advances, Gives, Halts, Why, Answers, Omits, SendsBy, Tells, Moves}
+use Rattle.line.specs.Connecting.{IsNoCall, refusal_frame, Advances, Gives, Halts, Why, Answers, Omits, SendsBy, Tells}
 use Rattle.line.specs.Whole.{Account, Owes, Lived, IsWhole, ask_of}
 use Rattle.line.proofs.Lines.{all-append}
 
@@ -134,17 +134,6 @@ module _ (first : ChaCha) where
 
   pub account-turn : (b c : Connected) (reply : Reply) (asked : List Ask) (told : List Reply) → Owes first b asked told → Tells b c reply → c.ended ≡ None → Account first c asked (told ++ reply ∷ [])
   account-turn b c reply asked told o s is = owes-answered b c reply asked told o s (subst (λ (e : _). SendsBy e b c reply) is s.sends)
-
-  pub account-flush : (a b : Connected) (asked : List Ask) (told : List Reply) → Account first a asked told → Moves a b → Account first b asked told
-  account-flush a b asked told p q = record {
-    payloads = p.payloads;
-    each = p.each;
-    read = ap (λ (x : Connected). x.read) q.same ∙ p.read ∙ ap (λ (t : List ℕ). flat_map frame p.payloads ++ t) (sym (ap (λ (x : Connected). x.held) q.same));
-    asked_are = p.asked_are;
-    words = ap (λ (x : Connected). x.words) q.same ∙ p.words;
-    one_each = p.one_each;
-    written = q.out ∙ p.written;
-  }
 
   pub account-begin : (c : Connected) → c.words ≡ first → c.read ≡ [] → output c ≡ [] → c.held ≡ [] → Account first c [] []
   account-begin c is read written held = record { payloads = []; each = tt; read = read ∙ sym held; asked_are = refl; words = is; one_each = refl; written = written }

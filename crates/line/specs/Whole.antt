@@ -9,7 +9,7 @@ use Rattle.line.specs.declared.ending.Ending.TheVariants as endings
 use Rattle.line.specs.declared.next.Given.{Given}
 use Rattle.line.specs.Turns.{Ask, messages, asks, words_after, answers_with, reply_frame}
 use Rattle.line.specs.State.{Connected, output}
-use Rattle.line.specs.Connecting.{Advances, Gives, Halts, Tells, Moves}
+use Rattle.line.specs.Connecting.{Advances, Gives, Halts, Tells}
 
 -- What was read is the frames of payloads and what is held. The calls that were given are those of these payloads in order, with
 -- the words from the first on, and each was told one reply. What was written and what is to be are the frames of the answers to
@@ -73,10 +73,6 @@ TurnLaw = (first : ChaCha) (b c : Connected) (reply : Reply) (asked : List Ask) 
 -- where nothing came, none is more
 abbrev pub NothingLaw : Type 0
 NothingLaw = (first : ChaCha) (a b : Connected) (asked : List Ask) (told : List Reply) → Account first a asked told → Advances a b → Account first b asked told
-
--- nor where some was written of what was to be
-abbrev pub FlushLaw : Type 0
-FlushLaw = (first : ChaCha) (a b : Connected) (asked : List Ask) (told : List Reply) → Account first a asked told → Moves a b → Account first b asked told
 
 -- so did a connection live that ended while it read
 abbrev pub EndLaw : Type 0

@@ -162,17 +162,6 @@ impl Connection {
         }
     }
 
-    /// Writes what is pending, as much as the writer takes, and flushes the writer once all is written. The connection ends where
-    /// a write or a flush failed (`Write`).
-    pub fn flush<W: Write>(&mut self, alloc: Global, writer: &mut Watched<W>)
-        ensures over { (why : TheEnding) → self.old.ended ≡ Some why → (self.new ≡ self.old) × (writer.new ≡ writer.old) }
-        ensures flushes { self.old.ended ≡ None → Flushes W.contents writer.old writer.new self.old self.new }
-    {
-        if self.ended.is_none() {
-            self.write_out(alloc, writer);
-        }
-    }
-
     /// The next call of a connection that has not ended.
     fn come<R: Read, W: Write>(
         &mut self,

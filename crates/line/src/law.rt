@@ -1,6 +1,6 @@
 //! Laws of whole connections.
 
-ghost use Rattle.line.specs.Whole.{BeginLaw, CallLaw, CutLaw, EndLaw, FlushLaw, LeaveLaw, NothingLaw, StopLaw, TurnLaw};
+ghost use Rattle.line.specs.Whole.{BeginLaw, CallLaw, CutLaw, EndLaw, LeaveLaw, NothingLaw, StopLaw, TurnLaw};
 
 /// The calls that were given are those of the bytes that were read, in order, with the words from the first on. What was written
 /// and is to be are the frames of the answers in order (`Account`).
@@ -15,7 +15,6 @@ pub fn accounts()
     ensures call { CallLaw }
     ensures turn { TurnLaw }
     ensures nothing { NothingLaw }
-    ensures flush { FlushLaw }
     ensures ended { EndLaw }
     ensures cut { CutLaw }
     ensures stopped { StopLaw }

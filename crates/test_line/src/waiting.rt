@@ -82,7 +82,7 @@ fn talk(alloc: Global, input: &[u8], turns: u64) -> (Connection, Vec<u8>) {
     for _ in 0..turns {
         match connection.next_call(alloc, &mut reader, &mut writer, &mut piece) {
             Next::Call(_) => connection.reply(alloc, &mut writer, &Reply::Session(9)),
-            Next::Nothing => connection.flush(alloc, &mut writer),
+            Next::Nothing => {}
             Next::Ended(_) => break,
         }
     }

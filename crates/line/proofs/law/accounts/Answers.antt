@@ -1,5 +1,5 @@
 use Rattle.std.proofs.Common.{refl}
-use Rattle.line.proofs.Turning.{account-begin, account-call, account-turn, account-nothing, account-flush, lived-end, lived-cut, lived-stop, lived-leave}
+use Rattle.line.proofs.Turning.{account-begin, account-call, account-turn, account-nothing, lived-end, lived-cut, lived-stop, lived-leave}
 use Rattle.line.proofs.law.accounts.Goals as goal
 
 pub returns-clause-begins : goal.returns-clause-begins
@@ -13,9 +13,6 @@ returns-clause-turn g = account-turn
 
 pub returns-clause-nothing : goal.returns-clause-nothing
 returns-clause-nothing g = account-nothing
-
-pub returns-clause-flush : goal.returns-clause-flush
-returns-clause-flush g = account-flush
 
 pub returns-clause-ended : goal.returns-clause-ended
 returns-clause-ended g = lived-end
