@@ -1,7 +1,6 @@
 -- What becomes of a connection by one step, and by more.
 use Rattle.std.proofs.Common.{◌≡◌, ℕ, ◌+◌, ◌≤◌, List, [], ◌∷◌, ◌++◌, length, Option, Some, None, refl, sym, ap, subst, ◌∙◌, append_assoc, arith, inl, inr}
 use Rattle.std.specs.List.{flat_map}
-use Rattle.std.specs.Io.KnownBytes.{Appends, Consumes, IsAtEnd}
 use Rattle.std.proofs.lemmas.List.{append-nil, append_cancel_left, length-append}
 use Rattle.std.proofs.lemmas.List.Concat.{flat_map-cons, flat_map-append}
 use Rattle.rand_chacha.specs.ChaCha.{ChaCha}
@@ -24,8 +23,6 @@ use Rattle.line.specs.State.{Connected, output}
 use Rattle.line.specs.Connecting.{refusal_frame, IsNoCall, Advances, Gives, Tail, Waits, Why, Halts, Does, AtEnd, ReadsTo, WritesTo, Comes, IsHeard, Hears, standing, Answers, Omits, SendsBy, Tells, SendsTo, Sends, FlushesBy, Moves, Flushes}
 use Rattle.line.proofs.Lines.{gave-none, gave-then, took-none, took-then, all-append}
 use Rattle.line.proofs.Noting.{unfailing-none, unfailing-then, failed-after, settles-none, settles-then, settles-unfailing}
-
--- ---- steps in turn
 
 abbrev pub advances-none : (a : Connected) → Advances a a
 advances-none a = record {
@@ -113,8 +110,6 @@ refusal-framed faults.Malformed = (omega arith, omega arith)
 refusal-framed faults.TooLong = (omega arith, omega arith)
 refusal-framed faults.Memory = (omega arith, omega arith)
 
--- ---- one step
-
 abbrev pub at : List ℕ → ChaCha → List ℕ → List ℕ → List ℕ → ℕ → Option Ending → Connected
 at h k n m p c e = record { held = h; words = k; read = n; written = m; pending = p; answered = c; ended = e }
 
@@ -184,8 +179,6 @@ module _ {R W : Type 0} (remaining : R → Option (List ℕ)) (contents : W → 
     reads = plain-reads r ending p plain;
     writes = plain-writes w ending p plain;
   }))
-
-  -- ---- what was written meanwhile
 
   -- after a reply, or after more was written
   abbrev Spoke : Option Ending → Type 0
@@ -273,8 +266,6 @@ module _ {R W : Type 0} (remaining : R → Option (List ℕ)) (contents : W → 
   pub comes-flush : (w' : Noting W) (old new : Connected) (n : Option Next) → Flushes contents w w' old new → n ≡ standing new.ended new.pending → Comes remaining contents r r w w' old new n
   comes-flush w' old new n p is =
       comes-spoke w' old new n is (spoke-flush new.ended p.moves.by) (does-standing old new new.ended new.pending (advances-moves old new p.moves) refl refl p.moves.by (tail-moves old new p.moves)) (ap (λ (s : Connected). s.read) p.moves.same) p.took p.writes
-
-  -- ---- a payload that is no call
 
   module _ (h h' : List ℕ) (k k' : ChaCha) (n m p : List ℕ) (c : ℕ) (e : Option Ending) (reply : Reply) (new : Connected) (lets : Lets (λ x. IsRefused x k k' reply) h h') (tells : Tells (at h' k' n m p c e) new reply) where
     abbrev before : Connected

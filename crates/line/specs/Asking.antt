@@ -16,7 +16,6 @@ use Rattle.line.specs.declared.asked.Piece.{Piece}
 use Rattle.line.specs.declared.asked.Piece.TheVariants as piece
 use Rattle.line.specs.declared.asked.Wrote.{Wrote}
 use Rattle.line.specs.declared.asked.Wrote.TheVariants as wrote
-use Rattle.line.specs.declared.ending.Ending.{Ending}
 use Rattle.line.specs.declared.ending.Ending.TheVariants as endings
 use Rattle.line.specs.Words.{taken}
 use Rattle.line.specs.Noting.{Noting, Unfailing, Settles, HasFailed}
