@@ -1,6 +1,8 @@
 ghost use Rattle.std.specs.Prelude.{None};
 
+mod clients;
 mod daemon;
+mod many;
 mod operating;
 mod peers;
 
