@@ -6,6 +6,7 @@ mod many;
 mod neighbours;
 mod operating;
 mod peers;
+mod unread;
 
 use programs::{ask, refuse_args, tokend_with};
 use std::alloc::{AllocError, Global};
