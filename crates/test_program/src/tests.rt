@@ -2,6 +2,7 @@ ghost use Rattle.std.specs.Prelude.{None};
 
 mod clients;
 mod daemon;
+mod full;
 mod many;
 mod neighbours;
 mod operating;
