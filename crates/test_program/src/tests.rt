@@ -3,6 +3,7 @@ ghost use Rattle.std.specs.Prelude.{None};
 mod clients;
 mod daemon;
 mod full;
+mod idle;
 mod many;
 mod neighbours;
 mod operating;
