@@ -7,6 +7,7 @@ mod idle;
 mod many;
 mod neighbours;
 mod operating;
+mod options;
 mod peers;
 mod unread;
 
