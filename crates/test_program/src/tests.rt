@@ -9,6 +9,7 @@ mod neighbours;
 mod operating;
 mod options;
 mod peers;
+mod randomness;
 mod unread;
 
 use programs::{ask, refuse_args, tokend_with};
