@@ -4,6 +4,7 @@ mod clients;
 mod daemon;
 mod full;
 mod idle;
+mod lost;
 mod many;
 mod neighbours;
 mod operating;
