@@ -1,0 +1,66 @@
+//! A peer that calls and reads nothing, until it reads all.
+
+use super::clients::{Found, ask, ask_all, encrypt_all, hear, join, join_all, look, start_with};
+use super::daemon::{clear, expect_end};
+use super::{OPEN_SESSION, SESSION_ONE};
+use std::io::{Read, Write};
+use std::os::unix::net::UnixStream;
+use std::test::*;
+use test_scripts::{FIRST_REPLIES, FIRST_RUN};
+
+const UNREAD: &[&str] = &["late.seed", "late.sock"];
+
+/// How many calls it makes, and how many random bytes the first of them asks for. Each asks for one fewer than the one before, so
+/// that no two replies have one length. They have 8 MiB together, more than the system holds for a socket.
+const CALLS: u32 = 256;
+
+const LONGEST: u32 = 32_768;
+
+/// The calls of C_GenerateRandom.
+fn random_calls(rt: &HostRuntime) -> Result<Vec<u8>, Fail> {
+    let mut frames = Vec::new(rt.alloc());
+    for place in 0..CALLS {
+        let count = u64::from(LONGEST.saturating_sub(place));
+        frames.extend_from_slice(b"\x00\x00\x00\x12\x00\x29\x00\x00\x00\x00\x00\x00\x00\x01")?;
+        frames.extend_from_slice(&count.to_be_bytes())?;
+    }
+    Ok(frames)
+}
+
+/// Sees that the next reply has so many random bytes.
+fn hear_random(rt: &HostRuntime, peer: &mut UnixStream, count: u32) -> Result<(), Fail> {
+    let mut wanted = Vec::new(rt.alloc());
+    wanted.extend_from_slice(&count.saturating_add(12).to_be_bytes())?;
+    wanted.extend_from_slice(&[0; 8])?;
+    wanted.extend_from_slice(&count.to_be_bytes())?;
+    hear(rt, peer, &wanted)?;
+    let mut bytes = vec![in rt.alloc(); 0u8; count as usize]?;
+    peer.read_exact(&mut bytes)?;
+    Ok(())
+}
+
+/// All places of its seat and of the others are taken by connections that are answered meanwhile.
+#[test]
+fn a_peer_that_reads_late_holds_up_nobody_and_gets_all(rt: HostRuntime) -> Result<(), Fail> {
+    clear(&rt, UNREAD);
+    let options = &["--clients", "4", "--connections", "4"];
+    let daemon = start_with(&rt, rt, "late.sock", "late.seed", options)?;
+    let mut late = join(&rt, "late.sock")?;
+    ask(&rt, &mut late, OPEN_SESSION, SESSION_ONE)?;
+    late.write_all(&random_calls(&rt)?)?;
+    let mut others = join_all(&rt, "late.sock", 15)?;
+    ask_all(&rt, &mut others, FIRST_RUN, FIRST_REPLIES)?;
+    for _ in 0..8 {
+        encrypt_all(&rt, &mut others)?;
+    }
+    for place in 0..CALLS {
+        hear_random(&rt, &mut late, LONGEST.saturating_sub(place))?;
+    }
+    assert!(rt; look(&mut late, 100)? == Found::Nothing);
+    encrypt_all(&rt, &mut others)?;
+    drop(late);
+    drop(others);
+    expect_end(rt, daemon)?;
+    clear(&rt, UNREAD);
+    Ok(())
+}
