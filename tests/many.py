@@ -131,6 +131,21 @@ def a_connection_that_is_idle_is_ended_with_a_line(folder):
         see(daemon.errors(b"nothing came").count(b"is ended: nothing came of it for too long\n") == len(idle), daemon.said)
 
 
+@check
+def a_connection_that_reads_nothing_is_idle_too(folder):
+    with Daemon(folder, "--idle", "2", "--log", "info", store=":memory:") as daemon:
+        client = daemon.client()
+        client.expect(OPEN_SESSION)
+        client.stream.sendall(b"".join(data(call(41, SESSION, number(32768))) for _ in range(256)))
+        said = daemon.errors(b"nothing came", SECONDS)
+        see(b"is ended: nothing came of it for too long\n" in said, said)
+        # (what it had not read yet is there, and no more)
+        got = 0
+        while more := client.stream.recv(65536):
+            got += len(more)
+        see(got < 256 * 32768, "it was answered", got, "bytes")
+
+
 def login(pin):
     """C_Login of the user in session 1."""
     return call(11, SESSION, number(1), data(pin))

@@ -9,8 +9,8 @@ use std::io::Write;
 use std::os::unix::net::UnixStream;
 use std::test::*;
 
-/// How many connections are at once, the options of the daemon, by which each seat ends after one more than it has places, and the
-/// files.
+/// How many connections are at once, the options of the daemon, its socket, and the file of its seed. Each seat ends after one
+/// connection more than it has places.
 type Case = (usize, &'static [&'static str], &'static str, &'static str);
 
 const CASES: &[Case] = &[

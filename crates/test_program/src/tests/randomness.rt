@@ -105,7 +105,7 @@ fn random_bytes_are_those_of_the_seed_and_the_application(rt: HostRuntime) -> Re
     Ok(())
 }
 
-/// Where a seat has two places, the first connection at place j of seat s is application s + 4 j, and the second one there
+/// Where a seat has two places, the first connection at place j of seat s is application s + 4 j. The second one there is
 /// s + 4 (j + 2).
 #[test]
 fn random_bytes_differ_by_place_and_turn(rt: HostRuntime) -> Result<(), Fail> {

@@ -1,4 +1,4 @@
-//! A peer that calls and reads nothing, until it reads all.
+//! Peers that call and read nothing, until one reads all and others leave.
 
 use super::clients::{Found, ask, ask_all, encrypt_all, hear, join, join_all, look, start_with};
 use super::daemon::{clear, expect_end};
@@ -8,7 +8,9 @@ use std::os::unix::net::UnixStream;
 use std::test::*;
 use test_scripts::{FIRST_REPLIES, FIRST_RUN};
 
-const UNREAD: &[&str] = &["late.seed", "late.sock"];
+const LATE: &[&str] = &["late.seed", "late.sock"];
+
+const LEFT: &[&str] = &["left.seed", "left.sock"];
 
 /// How many calls it makes, and how many random bytes the first of them asks for. Each asks for one fewer than the one before, so
 /// that no two replies have one length. They have 8 MiB together, more than the system holds for a socket.
@@ -42,7 +44,7 @@ fn hear_random(rt: &HostRuntime, peer: &mut UnixStream, count: u32) -> Result<()
 /// All places of its seat and of the others are taken by connections that are answered meanwhile.
 #[test]
 fn a_peer_that_reads_late_holds_up_nobody_and_gets_all(rt: HostRuntime) -> Result<(), Fail> {
-    clear(&rt, UNREAD);
+    clear(&rt, LATE);
     let options = &["--clients", "4", "--connections", "4"];
     let daemon = start_with(&rt, rt, "late.sock", "late.seed", options)?;
     let mut late = join(&rt, "late.sock")?;
@@ -61,6 +63,27 @@ fn a_peer_that_reads_late_holds_up_nobody_and_gets_all(rt: HostRuntime) -> Resul
     drop(late);
     drop(others);
     expect_end(rt, daemon)?;
-    clear(&rt, UNREAD);
+    clear(&rt, LATE);
+    Ok(())
+}
+
+/// Each of four peers leaves with its replies unread. So does its application: its place is free again, and the daemon ends.
+#[test]
+fn a_peer_that_leaves_its_replies_unread_is_gone(rt: HostRuntime) -> Result<(), Fail> {
+    clear(&rt, LEFT);
+    let options = &["--connections", "2"];
+    let daemon = start_with(&rt, rt, "left.sock", "left.seed", options)?;
+    let mut leaving = join_all(&rt, "left.sock", 4)?;
+    ask_all(&rt, &mut leaving, OPEN_SESSION, SESSION_ONE)?;
+    let calls = random_calls(&rt)?;
+    for peer in leaving.iter_mut() {
+        peer.write_all(&calls)?;
+    }
+    drop(leaving);
+    let mut next = join_all(&rt, "left.sock", 4)?;
+    ask_all(&rt, &mut next, FIRST_RUN, FIRST_REPLIES)?;
+    drop(next);
+    expect_end(rt, daemon)?;
+    clear(&rt, LEFT);
     Ok(())
 }

@@ -1,12 +1,13 @@
 //! A seat that plays its rows of a script, each in its turn.
 
-ghost use Rattle.std.specs.Prelude.{◌≡◌, ◌%◌, None, true, IfNone, IfSome, IfOk, IsTrue};
+ghost use Rattle.std.specs.Prelude.{◌≡◌, ◌<◌, ◌%◌, ◌∷◌, [], Some, true, vec_len, vec_capacity, IfNone, IfSome, IfOk, IsTrue};
 ghost use Rattle.hall.specs.SeatEvents.{seat_app, Notes};
 ghost use Rattle.test_hall.specs.Gone.{is_gone};
 
 use super::turns::{Turns, is_finish};
 use ck_calls::Reply;
 use hall::{AppCall, Seat, SeatEvent};
+use lists::GhostList;
 use std::alloc::Global;
 use std::collections::LinkedList;
 use std::sync::Arc;
@@ -24,8 +25,11 @@ pub(crate) struct TurnSeat<R: Clock + Drop> {
     /// The application that disconnects by the row that was begun last.
     going: Option<u64>,
     gone: Vec<u64>,
+    /// What its applications got, in order.
     told: Vec<(u64, Reply)>,
     has_ended: bool,
+    /// The events that it put, for contracts alone.
+    asked: GhostList<SeatEvent>,
 }
 
 impl<R: Clock + Drop> TurnSeat<R> {
@@ -37,7 +41,8 @@ impl<R: Clock + Drop> TurnSeat<R> {
         rows: &[Row],
         number: u64,
     ) -> Result<TurnSeat<R>, Fail>
-        ensures { IfOk result (λ seat. seat.number ≡ number) }
+        ensures number { IfOk result (λ seat. seat.number ≡ number) }
+        ensures none { IfOk result (λ seat. (seat.asked.items ≡ []) × (seat.told.items ≡ [])) }
     {
         let events = events_of(alloc, rows, number)?;
         Ok(TurnSeat {
@@ -49,6 +54,7 @@ impl<R: Clock + Drop> TurnSeat<R> {
             gone: Vec::new(alloc),
             told: Vec::new(alloc),
             has_ended: false,
+            asked: GhostList::new(),
         })
     }
 
@@ -61,6 +67,8 @@ impl<R: Clock + Drop> TurnSeat<R> {
     fn next_event(&mut self) -> Option<SeatEvent>
         ensures number { self.new.number ≡ self.old.number }
         ensures gone { self.new.gone ≡ self.old.gone }
+        ensures asked { self.new.asked ≡ self.old.asked }
+        ensures told { self.new.told ≡ self.old.told }
     {
         if let Some(app) = self.going.take() {
             self.turns.go_on(app);
@@ -74,10 +82,23 @@ impl<R: Clock + Drop> TurnSeat<R> {
         }
     }
 
+    /// Whether there is room for one more reply.
+    fn has_room(&mut self) -> bool
+        ensures number { self.new.number ≡ self.old.number }
+        ensures gone { self.new.gone ≡ self.old.gone }
+        ensures asked { self.new.asked ≡ self.old.asked }
+        ensures told { self.new.told.items ≡ self.old.told.items }
+        ensures room { IsTrue result → vec_len self.new.told < vec_capacity self.new.told }
+    {
+        self.told.reserve(1).is_ok()
+    }
+
     /// Whether the event is one of its applications, and none that has disconnected before. A disconnect is recorded; false where an
     /// allocation failed.
     fn may_put(&mut self, event: &SeatEvent) -> bool
         ensures number { self.new.number ≡ self.old.number }
+        ensures asked { self.new.asked ≡ self.old.asked }
+        ensures told { self.new.told ≡ self.old.told }
         ensures own { IsTrue result → seat_app event.now % 4 ≡ self.old.number }
         ensures there { IsTrue result → ¬ IsTrue (is_gone self.old.gone.items (seat_app event.now)) }
         ensures goes { IsTrue result → Notes (λ gone. IsTrue (is_gone self.new.gone.items gone)) event.now }
@@ -135,17 +156,20 @@ impl<R: Clock + Drop> Seat for TurnSeat<R> {
 
     ghost over = { λ s. s.has_ended ≡ true };
 
+    ghost fixed = { λ s. s.number ∷ [] };
+
     ghost gone = { λ s app. IsTrue (is_gone s.gone.items app) };
 
-    ghost ready = { λ s app. Unit {0} };
+    ghost ready = { λ s app. vec_len s.told < vec_capacity s.told };
 
-    ghost asked = { λ s. None };
+    ghost asked = { λ s. Some s.asked.items };
 
-    ghost heard = { λ s. None };
+    ghost heard = { λ s. Some s.told.items };
 
     fn next(&mut self) -> Option<SeatEvent> {
         if let Some(event) = self.next_event() {
-            if self.may_put(&event) {
+            if self.has_room() && self.may_put(&event) {
+                self.asked.push(&event);
                 return Some(event);
             }
             drop(event);
@@ -155,7 +179,7 @@ impl<R: Clock + Drop> Seat for TurnSeat<R> {
     }
 
     fn take(&mut self, app: u64, reply: Reply) {
-        let _ = self.told.push((app, reply));
+        self.told.push_reserved((app, reply));
         self.turns.go_on(app);
     }
 }
