@@ -1,13 +1,12 @@
 //! A seat that plays its rows of a script, each in its turn.
 
-ghost use Rattle.std.specs.Prelude.{◌≡◌, ◌<◌, ◌%◌, ◌∷◌, [], Some, true, vec_len, vec_capacity, IfNone, IfSome, IfOk, IsTrue};
+ghost use Rattle.std.specs.Prelude.{◌≡◌, ◌<◌, ◌%◌, ◌∷◌, [], None, Some, true, vec_len, vec_capacity, IfNone, IfSome, IfOk, IsTrue};
 ghost use Rattle.hall.specs.SeatEvents.{seat_app, Notes};
 ghost use Rattle.test_hall.specs.Gone.{is_gone};
 
 use super::turns::{Turns, is_finish};
 use ck_calls::Reply;
 use hall::{AppCall, Seat, SeatEvent};
-use lists::GhostList;
 use std::alloc::Global;
 use std::collections::LinkedList;
 use std::sync::Arc;
@@ -28,8 +27,6 @@ pub(crate) struct TurnSeat<R: Clock + Drop> {
     /// What its applications got, in order.
     told: Vec<(u64, Reply)>,
     has_ended: bool,
-    /// The events that it put, for contracts alone.
-    asked: GhostList<SeatEvent>,
 }
 
 impl<R: Clock + Drop> TurnSeat<R> {
@@ -42,7 +39,7 @@ impl<R: Clock + Drop> TurnSeat<R> {
         number: u64,
     ) -> Result<TurnSeat<R>, Fail>
         ensures number { IfOk result (λ seat. seat.number ≡ number) }
-        ensures none { IfOk result (λ seat. (seat.asked.items ≡ []) × (seat.told.items ≡ [])) }
+        ensures none { IfOk result (λ seat. seat.told.items ≡ []) }
     {
         let events = events_of(alloc, rows, number)?;
         Ok(TurnSeat {
@@ -54,7 +51,6 @@ impl<R: Clock + Drop> TurnSeat<R> {
             gone: Vec::new(alloc),
             told: Vec::new(alloc),
             has_ended: false,
-            asked: GhostList::new(),
         })
     }
 
@@ -67,7 +63,6 @@ impl<R: Clock + Drop> TurnSeat<R> {
     fn next_event(&mut self) -> Option<SeatEvent>
         ensures number { self.new.number ≡ self.old.number }
         ensures gone { self.new.gone ≡ self.old.gone }
-        ensures asked { self.new.asked ≡ self.old.asked }
         ensures told { self.new.told ≡ self.old.told }
     {
         if let Some(app) = self.going.take() {
@@ -86,7 +81,6 @@ impl<R: Clock + Drop> TurnSeat<R> {
     fn has_room(&mut self) -> bool
         ensures number { self.new.number ≡ self.old.number }
         ensures gone { self.new.gone ≡ self.old.gone }
-        ensures asked { self.new.asked ≡ self.old.asked }
         ensures told { self.new.told.items ≡ self.old.told.items }
         ensures room { IsTrue result → vec_len self.new.told < vec_capacity self.new.told }
     {
@@ -97,7 +91,6 @@ impl<R: Clock + Drop> TurnSeat<R> {
     /// allocation failed.
     fn may_put(&mut self, event: &SeatEvent) -> bool
         ensures number { self.new.number ≡ self.old.number }
-        ensures asked { self.new.asked ≡ self.old.asked }
         ensures told { self.new.told ≡ self.old.told }
         ensures own { IsTrue result → seat_app event.now % 4 ≡ self.old.number }
         ensures there { IsTrue result → ¬ IsTrue (is_gone self.old.gone.items (seat_app event.now)) }
@@ -162,14 +155,13 @@ impl<R: Clock + Drop> Seat for TurnSeat<R> {
 
     ghost ready = { λ s app. vec_len s.told < vec_capacity s.told };
 
-    ghost asked = { λ s. Some s.asked.items };
+    ghost asked = { λ s. None };
 
     ghost heard = { λ s. Some s.told.items };
 
     fn next(&mut self) -> Option<SeatEvent> {
         if let Some(event) = self.next_event() {
             if self.has_room() && self.may_put(&event) {
-                self.asked.push(&event);
                 return Some(event);
             }
             drop(event);
