@@ -57,6 +57,7 @@ struct Served<'a> {
     level: LevelFilter,
     /// The daemon is to end: its store is shut.
     is_stopping: Arc<AtomicBool, Global>,
+    ghost few: { settings.clients ≤ 64 },
 }
 
 /// Serves as the command line asks, until each seat has had its connections. `threads` is a handle on which the seats' threads
