@@ -67,7 +67,7 @@ pub(crate) fn seed_of<R: Read>(reader: &mut R, comes_again: bool) -> Result<Seed
 
 /// The seed that 64 hexadecimal digits spell, or zeros, for trial, where none are given.
 pub(crate) fn trial_seed(digits: Option<&str>) -> Result<[u8; SEED_LEN], Fault>
-    ensures { IfOk result (λ seed. MatchOption digits (seed ≡ replicate 32 0) (λ text. decode_of text.now ≡ Ok seed)) }
+    ensures { IfOk result (λ seed. MatchOption digits.entry (seed ≡ replicate 32 0) (λ text. decode_of text.now ≡ Ok seed)) }
 {
     match digits {
         None => Ok([0; SEED_LEN]),
