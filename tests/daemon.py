@@ -101,7 +101,14 @@ class Client:
 
     def ask(self, payload):
         """The code of the reply, and its fields."""
+        self.send(payload)
+        return self.hear()
+
+    def send(self, payload):
         self.stream.sendall(data(payload))
+
+    def hear(self):
+        """The code of the next reply, and its fields."""
         reply = self.take(struct.unpack(">I", self.take(4))[0])
         return struct.unpack(">Q", reply[:8])[0], reply[8:]
 

@@ -1,12 +1,12 @@
 -- From what each thread knows, when all have ended, to one history.
-use Rattle.std.proofs.Common.{◌≡◌, ◌≢◌, ℕ, zero, suc, ◌+◌, ◌<◌, ◌≤◌, ◌⊎◌, nat_eq, cond, Bool, true, false, List, [], ◌∷◌, ◌++◌, length, map, sym, refl, ap, ◌∙◌, subst, append_assoc, append-nil, arith, inl, inr, Option, Some, None}
+use Rattle.std.proofs.Common.{◌≡◌, ℕ, zero, suc, ◌≤◌, ◌⊎◌, nat_eq, cond, true, false, List, [], ◌∷◌, ◌++◌, length, sym, refl, ap, ◌∙◌, subst, append-nil, arith, inl, inr, Option, Some, None}
 use Rattle.std.specs.List.{slice_get}
 use Rattle.ck_calls.specs.declared.reply.Reply.{Reply as ReplyType}
 use Rattle.crossbeam_channel.specs.Claims.{view}
 use Rattle.serve_base.specs.declared.out.Out.{Out}
 use Rattle.hall_channels.specs.Lists.{of, last}
 use Rattle.hall_channels.specs.Inward.{seats_of, taken_of, ended_of, IsTaking, SentInAll}
-use Rattle.hall_channels.specs.Outward.{given_of, got_of}
+use Rattle.hall_channels.specs.Outward.{given_of}
 use Rattle.hall_channels.specs.declared.inward.InwardView.{InwardView}
 use Rattle.hall_channels.specs.declared.inward.InwardView.TheVariants.{Taking, Sending, Spent}
 use Rattle.hall_channels.specs.declared.outward.OutwardView.{OutwardView}
@@ -15,9 +15,11 @@ use Rattle.hall_channels.specs.declared.messages.Event.TheVariants.{Call, Finish
 use Rattle.hall_channels.specs.declared.inbox.Inbox.{Inbox}
 use Rattle.hall_channels.specs.declared.outbox.Outbox.{Outbox}
 use Rattle.hall.specs.declared.seats.SeatEvent.{SeatEvent}
+use Rattle.hall.specs.declared.seat_thread.Joined.{Joined}
+use Rattle.hall.specs.declared.worker.Worker.{Worker}
 use Rattle.hall.specs.Exchanges.{Exchange, events, answers, listed, pending, Suits, AllSuit, Answered, Unanswered, IsProper}
 use Rattle.hall.specs.SeatEvents.{asked_in, heard_in}
-use Rattle.hall.specs.Histories.{History, taken_in, HistorySuits, AllProper}
+use Rattle.hall.specs.Histories.{History, taken_in, HistorySuits}
 use Rattle.hall.specs.Held.{HasEnded, IsKnown, IsPartOf, Interleaves}
 use Rattle.hall.specs.Outboxes.{OutboxesGave}
 use Rattle.hall.specs.Tells.{Grows}
@@ -77,9 +79,9 @@ learned (Taking made taken known) is t = learned_taker made taken known t
 learned (Sending s sent) is t = absurd (let h : Sending s sent ≡ Taking 0 [] [] = is in cc)
 learned Spent is t = absurd (let h : Spent ≡ Taking 0 [] [] = is in cc)
 
-pub surely : (taken : List (ℕ × Event)) (s : ℕ) (old new : Inbox) (outbox : Outbox) (pass : OutwardView) (a b : Option (List SeatEvent)) (h k : Option (List (ℕ × ReplyType))) → length (ended_of (view old.inward_pass)) ≡ s
-    → (f : HasEnded old outbox new pass a b h k) → of s taken ≡ events f.exchanges → IsKnown taken s (given_of (view outbox.outward_pass)) pass a b h k
-surely taken s old new outbox pass a b h k len f sent = record {
+pub surely : {S : Type 0} (asked : S → Option (List SeatEvent)) (heard : S → Option (List (ℕ × ReplyType))) (taken : List (ℕ × Event)) (s : ℕ) (old new : Inbox) (worker : Worker S) (joined : Joined S)
+    → length (ended_of (view old.inward_pass)) ≡ s → (f : HasEnded asked heard old worker new joined) → of s taken ≡ events f.exchanges → IsKnown asked heard taken s worker (view joined.outward_pass) joined.seat
+surely asked heard taken s old new worker joined len f sent = record {
   exchanges = f.exchanges;
   proper = subst (λ (n : ℕ). IsProper n f.exchanges) len f.proper;
   suited = f.suited;
@@ -88,12 +90,13 @@ surely taken s old new outbox pass a b h k len f sent = record {
   rest = f.rest;
   given_is = f.given;
   got = f.got;
-  asked = f.asked;
-  heard = f.heard;
+  asked_is = f.asked_is;
+  heard_is = f.heard_is;
 }
 
 -- the exchanges of a seat are what the history has of it
-module _ (history : History) (s : ℕ) (given : List Out) (pass : OutwardView) (a b : Option (List SeatEvent)) (h k : Option (List (ℕ × ReplyType))) (suited : HistorySuits history) (is : given ≡ answers (of s history)) (f : IsKnown (taken_in history) s given pass a b h k) where
+module _ {S : Type 0} (asked : S → Option (List SeatEvent)) (heard : S → Option (List (ℕ × ReplyType))) (history : History) (s : ℕ) (worker : Worker S) (pass : OutwardView) (seat : S)
+    (suited : HistorySuits history) (is : given_of (view worker.outbox.outward_pass) ≡ answers (of s history)) (f : IsKnown asked heard (taken_in history) s worker pass seat) where
   known_exchanges : of s history ≡ f.exchanges
   known_exchanges = same_exchanges (of s history) f.exchanges f.rest (sym (of-taken_in s history) ∙ f.sent) (sym is ∙ f.given_is) (of-suited s history suited) f.suited
 
@@ -103,11 +106,11 @@ module _ (history : History) (s : ℕ) (given : List Out) (pass : OutwardView) (
   pub known_settled : pending (last (of s history)) ≡ None
   known_settled = subst (λ (l : List Exchange). pending (last l) ≡ None) (sym known_exchanges) f.settled
 
-  pub known_part : IsPartOf history s pass a b h k
+  pub known_part : IsPartOf history s pass (asked worker.thread.promise.seat.value) (asked seat) (heard worker.thread.promise.seat.value) (heard seat)
   known_part = record {
     got = f.got ∙ ap answers (sym known_exchanges);
-    asked = subst (λ (l : List Exchange). Grows a (asked_in l) b) (sym known_exchanges) f.asked;
-    heard = subst (λ (l : List Exchange). Grows h (heard_in l) k) (sym known_exchanges) f.heard;
+    asked = subst (λ (l : List Exchange). Grows (asked worker.thread.promise.seat.value) (asked_in l) (asked seat)) (sym known_exchanges) f.asked_is;
+    heard = subst (λ (l : List Exchange). Grows (heard worker.thread.promise.seat.value) (heard_in l) (heard seat)) (sym known_exchanges) f.heard_is;
   }
 
 none_of : (history : History) (s : ℕ) → of s (taken_in history) ≡ [] → of s history ≡ []
@@ -150,34 +153,49 @@ four_sent v0 v1 v2 v3 v4 a b c d four none c1 c2 c3 c4 is t =
       none = λ s le. ap (of s) (sym same) ∙ l.1 s (omega (arith, seats));
     }
 
+-- what the history has of one seat
+record Part {S : Type 0} (asked : S → Option (List SeatEvent)) (heard : S → Option (List (ℕ × ReplyType))) (history : History) (s : ℕ) (worker : Worker S) (pass : OutwardView) (seat : S) : Type 0 where
+  proper : IsProper s (of s history)
+  settled : pending (last (of s history)) ≡ None
+  is_part : IsPartOf history s pass (asked worker.thread.promise.seat.value) (asked seat) (heard worker.thread.promise.seat.value) (heard seat)
+
+part_of : {S : Type 0} (asked : S → Option (List SeatEvent)) (heard : S → Option (List (ℕ × ReplyType))) (taken : List (ℕ × Event)) (history : History) (s : ℕ) (worker : Worker S) (pass : OutwardView) (seat : S)
+    → taken ≡ taken_in history → HistorySuits history → given_of (view worker.outbox.outward_pass) ≡ answers (of s history) → IsKnown asked heard taken s worker pass seat → Part asked heard history s worker pass seat
+part_of asked heard taken history s worker pass seat is suited given known =
+    let k = subst (λ t. IsKnown asked heard t s worker pass seat) is known in
+    record {
+      proper = known_proper asked heard history s worker pass seat suited given k;
+      settled = known_settled asked heard history s worker pass seat suited given k;
+      is_part = known_part asked heard history s worker pass seat suited given k;
+    }
+
 -- one history of four seats
-pub assembled : (taken : List (ℕ × Event)) (history : History) (inward : InwardView) (outboxes : List Outbox) (l0 l1 l2 l3 : Outbox) (p0 p1 p2 p3 : OutwardView)
-    (a0 b0 a1 b1 a2 b2 a3 b3 : Option (List SeatEvent)) (h0 k0 h1 k1 h2 k2 h3 k3 : Option (List (ℕ × ReplyType)))
-    → taken ≡ taken_in history → taken_of inward ≡ taken → OutboxesGave outboxes history → HistorySuits history → outboxes ≡ l0 ∷ l1 ∷ l2 ∷ l3 ∷ []
-    → IsKnown taken 0 (given_of (view l0.outward_pass)) p0 a0 b0 h0 k0 → IsKnown taken 1 (given_of (view l1.outward_pass)) p1 a1 b1 h1 k1
-    → IsKnown taken 2 (given_of (view l2.outward_pass)) p2 a2 b2 h2 k2 → IsKnown taken 3 (given_of (view l3.outward_pass)) p3 a3 b3 h3 k3
+pub assembled : {S : Type 0} (asked : S → Option (List SeatEvent)) (heard : S → Option (List (ℕ × ReplyType))) (taken : List (ℕ × Event)) (history : History) (inward : InwardView) (outboxes : List Outbox)
+    (w0 w1 w2 w3 : Worker S) (p0 p1 p2 p3 : OutwardView) (s0 s1 s2 s3 : S)
+    → taken ≡ taken_in history → taken_of inward ≡ taken → OutboxesGave outboxes history → HistorySuits history → outboxes ≡ w0.outbox ∷ w1.outbox ∷ w2.outbox ∷ w3.outbox ∷ []
+    → IsKnown asked heard taken 0 w0 p0 s0 → IsKnown asked heard taken 1 w1 p1 s1 → IsKnown asked heard taken 2 w2 p2 s2 → IsKnown asked heard taken 3 w3 p3 s3
     → ((s : ℕ) → 4 ≤ s → of s taken ≡ [])
-    → Interleaves history inward × IsPartOf history 0 p0 a0 b0 h0 k0 × IsPartOf history 1 p1 a1 b1 h1 k1 × IsPartOf history 2 p2 a2 b2 h2 k2 × IsPartOf history 3 p3 a3 b3 h3 k3
-assembled taken history inward outboxes l0 l1 l2 l3 p0 p1 p2 p3 a0 b0 a1 b1 a2 b2 a3 b3 h0 k0 h1 k1 h2 k2 h3 k3 is same gives suited four s0 s1 s2 s3 none =
-    let g0 : given_of (view l0.outward_pass) ≡ answers (of 0 history) = gives 0 l0 (ap (λ l. slice_get l 0) four) in
-    let g1 : given_of (view l1.outward_pass) ≡ answers (of 1 history) = gives 1 l1 (ap (λ l. slice_get l 1) four) in
-    let g2 : given_of (view l2.outward_pass) ≡ answers (of 2 history) = gives 2 l2 (ap (λ l. slice_get l 2) four) in
-    let g3 : given_of (view l3.outward_pass) ≡ answers (of 3 history) = gives 3 l3 (ap (λ l. slice_get l 3) four) in
-    let t0 = subst (λ t. IsKnown t 0 (given_of (view l0.outward_pass)) p0 a0 b0 h0 k0) is s0 in
-    let t1 = subst (λ t. IsKnown t 1 (given_of (view l1.outward_pass)) p1 a1 b1 h1 k1) is s1 in
-    let t2 = subst (λ t. IsKnown t 2 (given_of (view l2.outward_pass)) p2 a2 b2 h2 k2) is s2 in
-    let t3 = subst (λ t. IsKnown t 3 (given_of (view l3.outward_pass)) p3 a3 b3 h3 k3) is s3 in
+    → Interleaves history inward
+    × IsPartOf history 0 p0 (asked w0.thread.promise.seat.value) (asked s0) (heard w0.thread.promise.seat.value) (heard s0)
+    × IsPartOf history 1 p1 (asked w1.thread.promise.seat.value) (asked s1) (heard w1.thread.promise.seat.value) (heard s1)
+    × IsPartOf history 2 p2 (asked w2.thread.promise.seat.value) (asked s2) (heard w2.thread.promise.seat.value) (heard s2)
+    × IsPartOf history 3 p3 (asked w3.thread.promise.seat.value) (asked s3) (heard w3.thread.promise.seat.value) (heard s3)
+assembled asked heard taken history inward outboxes w0 w1 w2 w3 p0 p1 p2 p3 s0 s1 s2 s3 is same gives suited four k0 k1 k2 k3 none =
+    let t0 = part_of asked heard taken history 0 w0 p0 s0 is suited (gives 0 w0.outbox (ap (λ l. slice_get l 0) four)) k0 in
+    let t1 = part_of asked heard taken history 1 w1 p1 s1 is suited (gives 1 w1.outbox (ap (λ l. slice_get l 1) four)) k1 in
+    let t2 = part_of asked heard taken history 2 w2 p2 s2 is suited (gives 2 w2.outbox (ap (λ l. slice_get l 2) four)) k2 in
+    let t3 = part_of asked heard taken history 3 w3 p3 s3 is suited (gives 3 w3.outbox (ap (λ l. slice_get l 3) four)) k3 in
     let only : (s : ℕ) → 4 ≤ s → of s history ≡ [] = λ s le. none_of history s (ap (of s) (sym is) ∙ none s le) in (
       record {
         taken = same ∙ is;
         only = only;
-        proper = four_seats (λ s. IsProper s (of s history)) (known_proper history 0 _ p0 a0 b0 h0 k0 suited g0 t0) (known_proper history 1 _ p1 a1 b1 h1 k1 suited g1 t1)
-            (known_proper history 2 _ p2 a2 b2 h2 k2 suited g2 t2) (known_proper history 3 _ p3 a3 b3 h3 k3 suited g3 t3) (λ s le. subst (λ (l : List Exchange). IsProper s l) (sym (only s le)) (proper_none s));
-        settled = four_seats (λ s. pending (last (of s history)) ≡ None) (known_settled history 0 _ p0 a0 b0 h0 k0 suited g0 t0) (known_settled history 1 _ p1 a1 b1 h1 k1 suited g1 t1)
-            (known_settled history 2 _ p2 a2 b2 h2 k2 suited g2 t2) (known_settled history 3 _ p3 a3 b3 h3 k3 suited g3 t3) (λ s le. ap (λ l. pending (last l)) (only s le));
+        proper = four_seats (λ s. IsProper s (of s history)) t0.proper t1.proper t2.proper t3.proper
+            (λ s le. subst (λ (l : List Exchange). IsProper s l) (sym (only s le)) (proper_none s));
+        settled = four_seats (λ s. pending (last (of s history)) ≡ None) t0.settled t1.settled t2.settled t3.settled
+            (λ s le. ap (λ l. pending (last l)) (only s le));
       },
-      known_part history 0 _ p0 a0 b0 h0 k0 suited g0 t0,
-      known_part history 1 _ p1 a1 b1 h1 k1 suited g1 t1,
-      known_part history 2 _ p2 a2 b2 h2 k2 suited g2 t2,
-      known_part history 3 _ p3 a3 b3 h3 k3 suited g3 t3,
+      t0.is_part,
+      t1.is_part,
+      t2.is_part,
+      t3.is_part,
     )

@@ -1,3 +1,5 @@
+pub mod Giving
+pub mod HistoryLaws
 pub mod Joins
 pub mod MoreHistory
 pub mod PendingJobs

@@ -1,5 +1,5 @@
 -- One event more in a history.
-use Rattle.std.proofs.Common.{◌≡◌, ◌≢◌, ℕ, ◌%◌, zero, suc, ◌+◌, ◌<◌, ◌≤◌, ◌⊎◌, List, [], ◌∷◌, ◌++◌, length, map, sym, refl, ap, ◌∙◌, subst, inl, inr, ⊎_elim, append_assoc, append-nil, arith, Option, Some, None, set}
+use Rattle.std.proofs.Common.{◌≡◌, ◌≢◌, ℕ, ◌%◌, zero, suc, ◌⊎◌, List, [], ◌∷◌, ◌++◌, map, sym, refl, ap, ◌∙◌, subst, inl, inr, ⊎_elim, append_assoc, append-nil, arith, Option, Some, None, set}
 use Rattle.std.specs.List.{slice_get}
 use Rattle.std.proofs.lemmas.List.{map-append}
 use Rattle.std.proofs.lemmas.Bool.{cases_eq}
@@ -8,19 +8,19 @@ use Rattle.crossbeam_channel.specs.Claims.{view}
 use Rattle.crossbeam_channel.specs.Ends.{sends_on}
 use Rattle.lists.proofs.ListLemmas.{map-push}
 use Rattle.mech.specs.declared.job.Job.{Job}
-use Rattle.model_worlds.specs.Worlds.{World, Move, Goes, Refuses, event_of, happens, after, replies}
+use Rattle.model_worlds.specs.Worlds.{World, event_of, happens, after, replies}
 use Rattle.model_worlds.proofs.Told.{is_told}
 use Rattle.model_worlds.proofs.Tries.{sound-run}
 use Rattle.model_worlds.specs.Traces.{NoResourceError}
 use Rattle.serve_base.specs.declared.out.Out.{Out}
-use Rattle.token.specs.States.{HasJobs, asked_by, jobs_of, AccountsFor, IsRun, Lasting, LeftAfter, LeftBy}
+use Rattle.token.specs.States.{HasJobs, asked_by, jobs_of, AccountsFor, Lasting, LeftAfter}
 use Rattle.token.proofs.States.{accounts-more, accounts-none, after-append, left-append, left-more}
 use Rattle.hall_channels.specs.Lists.{of, last}
 use Rattle.hall_channels.specs.Outward.{given_of}
 use Rattle.hall_channels.specs.declared.messages.Event.{Event}
 use Rattle.hall_channels.specs.declared.outbox.Outbox.{Outbox}
 use Rattle.hall_channels.proofs.Rows.{of-append, of-one, of-other}
-use Rattle.hall.specs.Exchanges.{Exchange, app_of, answers, asks, listed, pending, Suits, Follows, IsProper}
+use Rattle.hall.specs.Exchanges.{Exchange, app_of, answers, listed, pending, Suits, Follows, IsProper}
 use Rattle.hall.specs.Histories.{Allowed, AllProper, Counts, HasServed, History, HistorySuits, IsHistory, RunSoFar, Takes, Tells, Unfolds, as_event, model_events, move_in, moved_by, moves_in, own_job, replies_in, taken_in, told_by, told_in, waiting}
 use Rattle.hall.specs.Outboxes.{OutboxesGave, SameOutboxes}
 use Rattle.hall.proofs.PendingJobs.{allowed_after, event_moved_by, jobs_after, other_after, out_after, own_after, tells_is}
@@ -104,7 +104,7 @@ took_is : (ts : History) → map event_of (moves_in ts) ++ [] ≡ model_events t
 took_is [] = refl
 took_is (x ∷ xs) = let a = event_moved_by (as_event x.1.0) x.1.1 in let b = took_is xs in λ i. a i ∷ b i
 
-replied_is : (w : World) (ts : History) → Unfolds w ts → told_in ts ≡ replies w (moves_in ts)
+pub replied_is : (w : World) (ts : History) → Unfolds w ts → told_in ts ≡ replies w (moves_in ts)
 replied_is w [] u = refl
 replied_is w (x ∷ xs) u = let a = sym (tells_is w x.1.0 x.1.1 u.0) in let b = replied_is (happens w (move_in x.1)) xs u.1 in λ i. a i ++ b i
 

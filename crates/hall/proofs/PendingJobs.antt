@@ -1,5 +1,5 @@
 -- The pending jobs over one event: they are those that seats have.
-use Rattle.std.proofs.Common.{◌≡◌, ◌≢◌, ℕ, ◌%◌, List, [], ◌∷◌, ◌++◌, map, refl, sym, ap, ◌∙◌, subst, inl, inr, ⊎_elim, append-nil, Option, Some, None}
+use Rattle.std.proofs.Common.{◌≡◌, ◌≢◌, ℕ, List, [], ◌∷◌, ◌++◌, refl, sym, ap, ◌∙◌, subst, inl, inr, append-nil, Option, Some, None}
 use Rattle.std.specs.Prelude.{◌==◌, filter, not}
 use Rattle.std.specs.Global.{Vec}
 use Rattle.std.proofs.lemmas.Bool.{cases_eq, eq-eqb, ne_eqb}
@@ -8,21 +8,20 @@ use Rattle.ck_calls.specs.declared.reply.Reply.{Reply as ReplyType}
 use Rattle.mech.specs.declared.job.Job.{Job}
 use Rattle.mech.specs.declared.done.Done.{Done}
 use Rattle.model_views.specs.declared.fault.Fault.{Fault}
-use Rattle.model_views.specs.Answering.{Replies, Asks}
+use Rattle.model_views.specs.Answering.{Replies}
 use Rattle.model_views.specs.Refusals.{resource_error, resource_error_in}
 use Rattle.model_worlds.specs.declared.event.Event.{Event as ModelEvent}
 use Rattle.model_worlds.specs.declared.event.Event.TheVariants.{Call as ModelCall, Finish as ModelFinish, Gone as ModelGone}
-use Rattle.model_worlds.specs.Worlds.{World, Move, Goes, Refuses, event_of, called, says_called, answer_at, goes, told, happens, reply_to}
+use Rattle.model_worlds.specs.Worlds.{World, Move, Goes, event_of, called, says_called, told, happens, reply_to}
 use Rattle.serve_base.specs.declared.out.Out.{Out}
 use Rattle.serve_base.specs.declared.out.Out.TheVariants.{Reply, Ask}
-use Rattle.serve_base.specs.Shown.{question_of, said_of}
-use Rattle.token.specs.States.{HasJobs, IsOpen, TakesJob, jobs_of, moved, IsStep, Lasting, LeavesBy, LeftBy, call_change}
+use Rattle.serve_base.specs.Shown.{said_of}
+use Rattle.token.specs.States.{HasJobs, TakesJob, jobs_of, moved, IsStep, Lasting, LeavesBy, LeftBy, call_change}
 use Rattle.token.proofs.States.{open_is, step_reply, step_ask, step_finish, step_gone}
-use Rattle.hall_channels.specs.declared.messages.AppCall.{AppCall}
 use Rattle.hall_channels.specs.declared.messages.Event.{Event}
 use Rattle.hall_channels.specs.declared.messages.Event.TheVariants.{Call, Finish, Gone}
 use Rattle.hall.specs.Exchanges.{Exchange, app_of, asks, pending, Follows}
-use Rattle.hall.specs.Histories.{Allowed, Tells, TellsResult, Takes, as_event, moved_by, own_job, told_by, waiting}
+use Rattle.hall.specs.Histories.{Allowed, Tells, TellsResult, as_event, moved_by, own_job, told_by, waiting}
 
 -- ---- moves
 

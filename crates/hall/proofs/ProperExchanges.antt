@@ -1,5 +1,5 @@
 -- A seat's turns keep its exchanges proper.
-use Rattle.std.proofs.Common.{◌≡◌, ◌≢◌, ℕ, ◌%◌, zero, suc, ◌+◌, ◌⊎◌, List, [], ◌∷◌, ◌++◌, sym, refl, ap, ◌∙◌, subst, inl, inr, ⊎_elim, append_assoc, append-nil, Option, Some, None}
+use Rattle.std.proofs.Common.{◌≡◌, ◌≢◌, ℕ, ◌%◌, ◌⊎◌, List, [], ◌∷◌, ◌++◌, sym, refl, ap, ◌∙◌, subst, inl, inr, ⊎_elim, append_assoc, append-nil, Option, Some, None}
 use Rattle.std.specs.Prelude.{IfSome}
 use Rattle.ck_calls.specs.declared.reply.Reply.{Reply as ReplyType}
 use Rattle.crossbeam_channel.specs.Claims.{view}
@@ -16,7 +16,7 @@ use Rattle.hall_channels.specs.declared.messages.Event.TheVariants.{Call, Finish
 use Rattle.hall_channels.specs.declared.port.Port.{Port}
 use Rattle.hall.specs.declared.seats.SeatEvent.{SeatEvent}
 use Rattle.hall.specs.declared.seats.SeatEvent.TheVariants.{Call as SeatCall, Gone as SeatGone}
-use Rattle.hall.specs.Exchanges.{Exchange, app_of, events, answers, listed, pending, Suits, AllSuit, Follows, gone_by, IsThere, IsProper}
+use Rattle.hall.specs.Exchanges.{Exchange, app_of, events, answers, listed, pending, AllSuit, Follows, IsThere, IsProper}
 use Rattle.hall.specs.SeatEvents.{seat_app, Notes, asked_by, asked_in, heard_by, heard_in, IsTurn}
 use Rattle.hall.specs.SeatDoings.{Did, PortDid, AllNoted}
 use Rattle.hall.specs.Tells.{Adds, Grows}

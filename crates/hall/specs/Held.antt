@@ -1,68 +1,54 @@
 -- What is known when all seats have ended.
-use Rattle.std.specs.Prelude.{◌≡◌, ℕ, ◌<◌, ◌≤◌, List, [], ◌∷◌, ◌++◌, length, Option, None}
+use Rattle.std.specs.Prelude.{◌≡◌, ℕ, ◌≤◌, List, [], ◌∷◌, ◌++◌, length, Option, None}
 use Rattle.ck_calls.specs.declared.reply.Reply.{Reply}
 use Rattle.model_worlds.specs.Worlds.{World}
 use Rattle.token.specs.States.{HasJobs, Lasting}
 use Rattle.crossbeam_channel.specs.Claims.{view}
-use Rattle.crossbeam_channel.specs.Ends.{sends_on, receives_on}
 use Rattle.serve_base.specs.declared.out.Out.{Out}
 use Rattle.hall_channels.specs.Lists.{of, last}
-use Rattle.hall_channels.specs.Inward.{sent_of, taken_of, ended_of}
+use Rattle.hall_channels.specs.Inward.{taken_of, ended_of}
 use Rattle.hall_channels.specs.Outward.{got_of, given_of}
 use Rattle.hall_channels.specs.declared.messages.Event.{Event}
 use Rattle.hall_channels.specs.declared.inward.InwardView.{InwardView}
 use Rattle.hall_channels.specs.declared.outward.OutwardView.{OutwardView}
 use Rattle.hall_channels.specs.declared.inbox.Inbox.{Inbox}
-use Rattle.hall_channels.specs.declared.outbox.Outbox.{Outbox}
-use Rattle.hall_channels.specs.declared.port.Port.{Port}
 use Rattle.hall.specs.SeatEvents.{asked_in, heard_in}
 use Rattle.hall.specs.Exchanges.{Exchange, IsProper, AllSuit, events, answers, pending}
 use Rattle.hall.specs.Histories.{History, AllProper, Counts, IsHistory, replies_in, taken_in, told_in}
 use Rattle.hall.specs.Tells.{Grows}
 use Rattle.hall.specs.declared.seats.SeatEvent.{SeatEvent}
-
--- ---- starting
-
--- the ends of seat s beside the token's: what its thread sends on and receives on is the token's, and nothing was used
-abbrev pub Ready : {C D : Type 0} → ℕ → ℕ → C → C → D → D → InwardView → OutwardView → Type 0
-Ready s seat inward inbox outward outbox inward_view outward_view = (seat ≡ s) × (inward ≡ inbox) × (outward ≡ outbox) × (sent_of inward_view ≡ []) × (got_of outward_view ≡ [])
-
--- the same of a port
-abbrev pub IsPortOf : Inbox → Outbox → ℕ → Port → Type 0
-IsPortOf inbox outbox s port = Ready s port.seat (sends_on port.inward) (sends_on inbox.sender) (receives_on port.outward) (sends_on outbox.outward) (view port.inward_pass) (view port.outward_pass)
-
--- the ends with which a thread was started are those of a port: number, channels and views
-abbrev pub StartedWith : {C D : Type 0} → ℕ → ℕ → C → C → D → D → InwardView → InwardView → OutwardView → OutwardView → Type 0
-StartedWith seat seat' inward inward' outward outward' inward_view inward_view' outward_view outward_view' = (seat' ≡ seat) × (inward' ≡ inward) × (outward' ≡ outward) × (inward_view' ≡ inward_view) × (outward_view' ≡ outward_view)
+use Rattle.hall.specs.declared.seat_thread.Joined.{Joined}
+use Rattle.hall.specs.declared.worker.Worker.{Worker}
 
 -- ---- ending
 
 -- A seat has ended, and the token's ends know what it did: it was given the answers that it got, and more perhaps. The
 -- pass of its outward channel knows what it got.
-pub record HasEnded (old : Inbox) (outbox : Outbox) (new : Inbox) (pass : OutwardView) (asked0 asked1 : Option (List SeatEvent)) (heard0 heard1 : Option (List (ℕ × Reply))) : Type 0 where
+pub record HasEnded {S : Type 0} (asked : S → Option (List SeatEvent)) (heard : S → Option (List (ℕ × Reply))) (old : Inbox) (worker : Worker S) (new : Inbox) (joined : Joined S) : Type 0 where
   pub exchanges : List Exchange
   pub proper : IsProper (length (ended_of (view old.inward_pass))) exchanges
   pub suited : AllSuit exchanges
   pub settled : pending (last exchanges) ≡ None
   pub known : ended_of (view new.inward_pass) ≡ ended_of (view old.inward_pass) ++ events exchanges ∷ []
   pub rest : List Out
-  pub given : given_of (view outbox.outward_pass) ≡ answers exchanges ++ rest
-  pub got : got_of pass ≡ answers exchanges
-  pub asked : Grows asked0 (asked_in exchanges) asked1
-  pub heard : Grows heard0 (heard_in exchanges) heard1
+  pub given : given_of (view worker.outbox.outward_pass) ≡ answers exchanges ++ rest
+  pub got : got_of (view joined.outward_pass) ≡ answers exchanges
+  pub asked_is : Grows (asked worker.thread.promise.seat.value) (asked_in exchanges) (asked joined.seat)
+  pub heard_is : Grows (heard worker.thread.promise.seat.value) (heard_in exchanges) (heard joined.seat)
 
--- what seat s did is what was taken of it, and it got the first of the answers that it was given
-pub record IsKnown (taken : List (ℕ × Event)) (s : ℕ) (given : List Out) (pass : OutwardView) (asked0 asked1 : Option (List SeatEvent)) (heard0 heard1 : Option (List (ℕ × Reply))) : Type 0 where
+-- What seat s did is what was taken of it, and it got the first of the answers that it was given. `seat` is what became of
+-- it, and `pass` is that of its outward channel.
+pub record IsKnown {S : Type 0} (asked : S → Option (List SeatEvent)) (heard : S → Option (List (ℕ × Reply))) (taken : List (ℕ × Event)) (s : ℕ) (worker : Worker S) (pass : OutwardView) (seat : S) : Type 0 where
   pub exchanges : List Exchange
   pub proper : IsProper s exchanges
   pub suited : AllSuit exchanges
   pub settled : pending (last exchanges) ≡ None
   pub sent : of s taken ≡ events exchanges
   pub rest : List Out
-  pub given_is : given ≡ answers exchanges ++ rest
+  pub given_is : given_of (view worker.outbox.outward_pass) ≡ answers exchanges ++ rest
   pub got : got_of pass ≡ answers exchanges
-  pub asked : Grows asked0 (asked_in exchanges) asked1
-  pub heard : Grows heard0 (heard_in exchanges) heard1
+  pub asked_is : Grows (asked worker.thread.promise.seat.value) (asked_in exchanges) (asked seat)
+  pub heard_is : Grows (heard worker.thread.promise.seat.value) (heard_in exchanges) (heard seat)
 
 -- ---- one history
 

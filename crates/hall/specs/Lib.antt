@@ -1,7 +1,9 @@
 pub mod Exchanges
+pub mod Given
 pub mod Held
 pub mod Histories
 pub mod Outboxes
+pub mod Ready
 pub mod SeatDoings
 pub mod SeatEvents
 pub mod Tells

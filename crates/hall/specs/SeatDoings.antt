@@ -1,12 +1,17 @@
 -- What a seat's thread did.
 use Rattle.std.specs.Prelude.{◌≡◌, ℕ, List, ◌++◌, Option, None}
 use Rattle.ck_calls.specs.declared.reply.Reply.{Reply}
-use Rattle.crossbeam_channel.specs.Claims.{view}
+use Rattle.crossbeam_channel.specs.Claims.{Pass, view}
+use Rattle.crossbeam_channel.specs.declared.flavors.array.ruled.Sending.{Sending}
+use Rattle.crossbeam_channel.specs.declared.flavors.array.ruled.Receiving.{Receiving}
 use Rattle.hall_channels.specs.Lists.{last}
 use Rattle.hall_channels.specs.Inward.{sent_of}
 use Rattle.hall_channels.specs.Outward.{got_of}
 use Rattle.hall_channels.specs.declared.inward.InwardView.{InwardView}
 use Rattle.hall_channels.specs.declared.outward.OutwardView.{OutwardView}
+use Rattle.hall_channels.specs.declared.messages.Inward.{Inward}
+use Rattle.hall_channels.specs.declared.messages.Outward.{Outward}
+use Rattle.hall_channels.specs.declared.port.Ends.{Ends}
 use Rattle.hall_channels.specs.declared.port.Port.{Port}
 use Rattle.hall.specs.declared.seats.SeatEvent.{SeatEvent}
 use Rattle.hall.specs.SeatEvents.{asked_in, heard_in}
@@ -36,3 +41,8 @@ PortDid p q asked0 asked1 heard0 heard1 = PassesDid p.seat (view p.inward_pass) 
 abbrev pub AllNoted : (ℕ → Type 0) → List Exchange → Type 0
 AllNoted gone [] = Unit {0}
 AllNoted gone (x ∷ xs) = ((app : ℕ) → gone_by x.0 ≡ Some app → gone app) × AllNoted gone xs
+
+-- and of the ends with which a thread began and those that it returned
+abbrev pub EndsDid : {C D A : Type 0} → Ends (Sending C A) (Pass Inward InwardView) (Receiving D A) (Pass Outward OutwardView) → Ends (Sending C A) (Pass Inward InwardView) (Receiving D A) (Pass Outward OutwardView)
+    → Option (List SeatEvent) → Option (List SeatEvent) → Option (List (ℕ × Reply)) → Option (List (ℕ × Reply)) → Type 0
+EndsDid p q asked0 asked1 heard0 heard1 = PassesDid p.seat (view p.inward_pass) (view p.outward_pass) (view q.inward_pass) (view q.outward_pass) asked0 asked1 heard0 heard1

@@ -21,9 +21,9 @@ abbrev pub Notes : (ℕ → Type 0) → SeatEvent → Type 0
 Notes gone (SeatCall c) = Unit {0}
 Notes gone (SeatGone app) = gone app
 
--- after a call the seat may take the reply
-abbrev pub IsReady : Type 0 → SeatEvent → Type 0
-IsReady takes (SeatCall c) = takes
+-- after a call the seat may take the reply to the application that the call is of
+abbrev pub IsReady : (ℕ → Type 0) → SeatEvent → Type 0
+IsReady takes (SeatCall c) = takes c.app
 IsReady takes (SeatGone app) = Unit {0}
 
 -- what a seat put, among its events

@@ -1,5 +1,5 @@
 -- Lists that are known, or not.
-use Rattle.std.specs.Prelude.{◌≡◌, List, [], ◌∷◌, ◌++◌, Option, Some, None}
+use Rattle.std.specs.Prelude.{◌≡◌, List, [], ◌∷◌, ◌++◌, Option, Some}
 
 -- the known list grew by one
 abbrev pub Adds : {A : Type 0} → Option (List A) → A → Option (List A) → Type 0

@@ -8,7 +8,7 @@ pub enum HallFault {
     /// An allocation failed.
     #[error("out of memory")]
     Memory = 1,
-    /// A thread was not started.
+    /// A thread was not started, or a channel ended early.
     #[error("cannot start a thread")]
     Thread = 2,
 }

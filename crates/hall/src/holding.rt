@@ -2,24 +2,27 @@
 
 ghost use Rattle.std.specs.Prelude.{◌≡◌, ◌∷◌, [], IfOk, IfErr};
 ghost use Rattle.crossbeam_channel.specs.Claims.{view};
-ghost use Rattle.crossbeam_channel.specs.Ends.{sends_on, receives_on};
+ghost use Rattle.crossbeam_channel.specs.Ends.{sends_on};
 ghost use Rattle.token.specs.States.{Shows, MayLeave};
 ghost use Rattle.hall_channels.specs.Inward.{seats_of, taken_of, ended_of};
 ghost use Rattle.hall_channels.specs.Outward.{given_of};
-ghost use Rattle.hall.specs.Held.{Ready, WereHeld};
+ghost use Rattle.hall.specs.Given.{IsLed};
+ghost use Rattle.hall.specs.Held.{WereHeld};
+ghost use Rattle.hall.specs.Ready.{Ready};
 
-use crate::closing::{Closed, Passes, close_all, wait_for_ever};
+use crate::closing::{Closed, Passes, close_all};
 use crate::fault::HallFault;
 use crate::machine::Machine;
 use crate::opening::open;
 use crate::seat_thread::SeatThread;
 use crate::seats::{Gate, Seat};
-use crate::serving::serve_seats;
+use crate::serving::{Serving, serve_seats};
 use crate::starting::start_all;
-use hall_channels::inbox::Inbox;
+use crate::worker::{Started, Worker};
 use hall_channels::outbox::Outbox;
 use keep::Keep;
 use std::alloc::Global;
+use std::snapshot::Snapshot;
 use std::sync::{Arc, Wait};
 use std::thread::Threads;
 use token::Token;
@@ -39,52 +42,97 @@ fn apart(outboxes: [Outbox; 4]) -> (Outbox, Outbox, Outbox, Outbox)
     (first, second, third, fourth)
 }
 
-/// Permits the four threads to begin, serves them, and joins them.
-fn serve_all<M: Machine, S: Seat + Drop + Send + 'static, R: Threads + Wait>(
+/// Permits a worker's thread to begin, and parts the worker.
+fn permit<S: Seat + Drop + Send + 'static, R: Wait>(
+    rt: &R,
+    worker: Worker<S>,
+) -> (Outbox, SeatThread<S>)
+    ensures same { sends_on result.0.outward ≡ sends_on worker.outbox.outward }
+    ensures none { given_of (view result.0.outward_pass) ≡ given_of (view worker.outbox.outward_pass) }
+    ensures thread { result.1 ≡ worker.thread }
+{
+    let Worker { mut outbox, thread } = worker;
+    outbox.begin(rt);
+    (outbox, thread)
+}
+
+/// A worker of its parts.
+fn worker<S: Seat + Drop + Send + 'static>(outbox: Outbox, thread: SeatThread<S>) -> Worker<S>
+    ensures { (result.outbox ≡ outbox) × (result.thread ≡ thread) }
+{
+    Worker { outbox, thread }
+}
+
+/// Permits the four threads to begin, serves them, and joins them. Where a channel has ended early, the threads are left to
+/// themselves: without the token's ends they end once their seats return.
+fn serve_all<M: Machine + Drop, S: Seat + Drop + Send + 'static, R: Threads + Wait>(
     rt: &R,
     alloc: Global,
-    mut machine: M,
-    mut inbox: Inbox,
-    mut outbox0: Outbox,
-    mut outbox1: Outbox,
-    mut outbox2: Outbox,
-    mut outbox3: Outbox,
-    thread0: SeatThread<S>,
-    thread1: SeatThread<S>,
-    thread2: SeatThread<S>,
-    thread3: SeatThread<S>,
-) -> Held<M, S>
-    requires seats { seats_of (view inbox.inward_pass) ≡ 4 }
-    requires ended { ended_of (view inbox.inward_pass) ≡ [] }
-    requires taken { taken_of (view inbox.inward_pass) ≡ [] }
-    requires given { (given_of (view outbox0.outward_pass) ≡ []) × (given_of (view outbox1.outward_pass) ≡ []) × (given_of (view outbox2.outward_pass) ≡ []) × (given_of (view outbox3.outward_pass) ≡ []) }
-    requires ready0 { Ready 0 thread0.promise.ends.value.seat (sends_on thread0.promise.ends.value.inward) (sends_on inbox.sender) (receives_on thread0.promise.ends.value.outward) (sends_on outbox0.outward) (view thread0.promise.ends.value.inward_pass) (view thread0.promise.ends.value.outward_pass) }
-    requires ready1 { Ready 1 thread1.promise.ends.value.seat (sends_on thread1.promise.ends.value.inward) (sends_on inbox.sender) (receives_on thread1.promise.ends.value.outward) (sends_on outbox1.outward) (view thread1.promise.ends.value.inward_pass) (view thread1.promise.ends.value.outward_pass) }
-    requires ready2 { Ready 2 thread2.promise.ends.value.seat (sends_on thread2.promise.ends.value.inward) (sends_on inbox.sender) (receives_on thread2.promise.ends.value.outward) (sends_on outbox2.outward) (view thread2.promise.ends.value.inward_pass) (view thread2.promise.ends.value.outward_pass) }
-    requires ready3 { Ready 3 thread3.promise.ends.value.seat (sends_on thread3.promise.ends.value.inward) (sends_on inbox.sender) (receives_on thread3.promise.ends.value.outward) (sends_on outbox3.outward) (view thread3.promise.ends.value.inward_pass) (view thread3.promise.ends.value.outward_pass) }
-    ensures over { S.over result.seats.0 × S.over result.seats.1 × S.over result.seats.2 × S.over result.seats.3 }
-    ensures held { WereHeld S.asked S.heard M.doubt M.failures M.shows M.leaves (view result.passes.inward) (view result.passes.outward0) (view result.passes.outward1) (view result.passes.outward2) (view result.passes.outward3)
-        (thread0.promise.seat.value, thread1.promise.seat.value, thread2.promise.seat.value, thread3.promise.seat.value) result.seats machine result.token }
+    machine: M,
+    started: Started<S>,
+) -> Result<Held<M, S>, (HallFault, M)>
+    requires seats { seats_of (view started.inbox.inward_pass) ≡ 4 }
+    requires ended { ended_of (view started.inbox.inward_pass) ≡ [] }
+    requires taken { taken_of (view started.inbox.inward_pass) ≡ [] }
+    requires given { (given_of (view started.worker0.outbox.outward_pass) ≡ [])
+        × (given_of (view started.worker1.outbox.outward_pass) ≡ [])
+        × (given_of (view started.worker2.outbox.outward_pass) ≡ [])
+        × (given_of (view started.worker3.outbox.outward_pass) ≡ []) }
+    requires ready0 { Ready 0 started.worker0 started.inbox }
+    requires ready1 { Ready 1 started.worker1 started.inbox }
+    requires ready2 { Ready 2 started.worker2 started.inbox }
+    requires ready3 { Ready 3 started.worker3 started.inbox }
+    ensures over { IfOk result (λ h. S.over h.seats.0 × S.over h.seats.1 × S.over h.seats.2 × S.over h.seats.3) }
+    ensures fixed { IfOk result (λ h. (S.fixed h.seats.0 ≡ S.fixed started.worker0.thread.promise.seat.value)
+        × (S.fixed h.seats.1 ≡ S.fixed started.worker1.thread.promise.seat.value)
+        × (S.fixed h.seats.2 ≡ S.fixed started.worker2.thread.promise.seat.value)
+        × (S.fixed h.seats.3 ≡ S.fixed started.worker3.thread.promise.seat.value)) }
+    ensures held { IfOk result (λ h. WereHeld S.asked S.heard M.doubt M.failures M.shows M.leaves (view h.passes.inward)
+        (view h.passes.outward0) (view h.passes.outward1) (view h.passes.outward2) (view h.passes.outward3) (
+          started.worker0.thread.promise.seat.value,
+          started.worker1.thread.promise.seat.value,
+          started.worker2.thread.promise.seat.value,
+          started.worker3.thread.promise.seat.value,
+        ) h.seats machine h.token) }
+    ensures thread { IfErr result (λ e. e.0 ≡ HallFault.Thread) }
+    ensures led { IfErr result (λ e. IsLed M.doubt M.failures M.shows M.leaves machine e.1) }
 {
-    outbox0.begin(rt);
-    outbox1.begin(rt);
-    outbox2.begin(rt);
-    outbox3.begin(rt);
+    let Started {
+        mut inbox,
+        worker0,
+        worker1,
+        worker2,
+        worker3,
+    } = started;
+    let (outbox0, thread0) = permit(rt, worker0);
+    let (outbox1, thread1) = permit(rt, worker1);
+    let (outbox2, thread2) = permit(rt, worker2);
+    let (outbox3, thread3) = permit(rt, worker3);
+    let began = Snapshot::of(&machine);
+    let mut serving = Serving { machine, began };
     let mut outboxes = [outbox0, outbox1, outbox2, outbox3];
-    if serve_seats(rt, alloc, &mut machine, &mut inbox, &mut outboxes) {
-        let (outbox0, outbox1, outbox2, outbox3) = apart(outboxes);
-        let closed = close_all(
-            rt, inbox, outbox0, outbox1, outbox2, outbox3, thread0, thread1, thread2, thread3,
-        );
-        let Closed { seats, passes } = closed;
-        return Held {
-            token: machine,
-            seats,
-            passes,
-        };
+    if !serve_seats(rt, alloc, &mut serving, &mut inbox, &mut outboxes) {
+        return Err((HallFault::Thread, serving.machine));
     }
-    wait_for_ever(rt);
-    unreachable!()
+    let (outbox0, outbox1, outbox2, outbox3) = apart(outboxes);
+    let started = Started {
+        inbox,
+        worker0: worker(outbox0, thread0),
+        worker1: worker(outbox1, thread1),
+        worker2: worker(outbox2, thread2),
+        worker3: worker(outbox3, thread3),
+    };
+    match close_all(rt, started) {
+        Some(closed) => {
+            let Closed { seats, passes } = closed;
+            Ok(Held {
+                token: serving.machine,
+                seats,
+                passes,
+            })
+        }
+        None => Err((HallFault::Thread, serving.machine)),
+    }
 }
 
 /// Holds four seats before a machine, with stacks of these sizes, or of the usual size at 0. One that is too large is refused.
@@ -103,27 +151,19 @@ pub(crate) fn hold_machine<
 ) -> Result<Held<M, S>, (HallFault, M)>
     requires numbers { (S.number seats.0 ≡ 0) × (S.number seats.1 ≡ 1) × (S.number seats.2 ≡ 2) × (S.number seats.3 ≡ 3) }
     ensures over { IfOk result (λ h. S.over h.seats.0 × S.over h.seats.1 × S.over h.seats.2 × S.over h.seats.3) }
-    ensures held { IfOk result (λ h. WereHeld S.asked S.heard M.doubt M.failures M.shows M.leaves (view h.passes.inward) (view h.passes.outward0) (view h.passes.outward1) (view h.passes.outward2) (view h.passes.outward3) seats h.seats machine h.token) }
-    ensures fault { IfErr result (λ e. e.1 ≡ machine) }
+    ensures fixed { IfOk result (λ h. (S.fixed h.seats.0 ≡ S.fixed seats.0) × (S.fixed h.seats.1 ≡ S.fixed seats.1)
+        × (S.fixed h.seats.2 ≡ S.fixed seats.2) × (S.fixed h.seats.3 ≡ S.fixed seats.3)) }
+    ensures held { IfOk result (λ h. WereHeld S.asked S.heard M.doubt M.failures M.shows M.leaves (view h.passes.inward)
+        (view h.passes.outward0) (view h.passes.outward1) (view h.passes.outward2) (view h.passes.outward3)
+        seats h.seats machine h.token) }
+    ensures memory { IfErr result (λ e. e.0 ≡ HallFault.Memory → e.1 ≡ machine) }
+    ensures led { IfErr result (λ e. IsLed M.doubt M.failures M.shows M.leaves machine e.1) }
 {
     let Ok(opened) = open(alloc) else {
         return Err((HallFault::Memory, machine));
     };
     match start_all(rt, alloc, stacks, gate, seats, opened) {
-        Ok(started) => Ok(serve_all(
-            &rt,
-            alloc,
-            machine,
-            started.inbox,
-            started.outbox0,
-            started.outbox1,
-            started.outbox2,
-            started.outbox3,
-            started.thread0,
-            started.thread1,
-            started.thread2,
-            started.thread3,
-        )),
+        Ok(started) => serve_all(&rt, alloc, machine, started),
         Err(fault) => Err((fault, machine)),
     }
 }
@@ -133,7 +173,8 @@ pub(crate) fn hold_machine<
 /// specified where no call is pending, as of a new token or of one that was held.
 ///
 /// It may wait, as long as a seat or the `Gate` does. It allocates the channels and the threads. An allocation failure is
-/// `HallFault::Memory`, and a thread that is not started `HallFault::Thread`; the seats are dropped then.
+/// `HallFault::Memory`, and a thread that is not started, or a channel that ended early, `HallFault::Thread`; the seats are
+/// dropped then.
 pub fn hold<
     K: Keep,
     S: Seat + Drop + Send + 'static,
@@ -149,10 +190,19 @@ pub fn hold<
     requires numbers { (S.number seats.0 ≡ 0) × (S.number seats.1 ≡ 1) × (S.number seats.2 ≡ 2) × (S.number seats.3 ≡ 3) }
     // Each seat has returned that there is no more.
     ensures over { IfOk result (λ h. S.over h.seats.0 × S.over h.seats.1 × S.over h.seats.2 × S.over h.seats.3) }
+    // What never changes of a seat is as it was.
+    ensures fixed { IfOk result (λ h. (S.fixed h.seats.0 ≡ S.fixed seats.0) × (S.fixed h.seats.1 ≡ S.fixed seats.1)
+        × (S.fixed h.seats.2 ≡ S.fixed seats.2) × (S.fixed h.seats.3 ≡ S.fixed seats.3)) }
     // What the four seats put is one history, which is a run of the token's: each seat got what the model gives it there.
-    ensures held { IfOk result (λ h. WereHeld S.asked S.heard (λ t. K.terms.doubt t.store.keep) (λ t. K.terms.failures t.store.keep) (Shows K.terms) (MayLeave K.terms) (view h.passes.inward) (view h.passes.outward0) (view h.passes.outward1) (view h.passes.outward2) (view h.passes.outward3) seats h.seats token h.token) }
-    // Where the seats were not held, the token is as it was.
-    ensures fault { IfErr result (λ e. e.1 ≡ token) }
+    ensures held { IfOk result (λ h. WereHeld S.asked S.heard (λ t. K.terms.doubt t.store.keep)
+        (λ t. K.terms.failures t.store.keep) (Shows K.terms) (MayLeave K.terms) (view h.passes.inward)
+        (view h.passes.outward0) (view h.passes.outward1) (view h.passes.outward2) (view h.passes.outward3)
+        seats h.seats token h.token) }
+    // Where an allocation failed, the token is as it was.
+    ensures memory { IfErr result (λ e. e.0 ≡ HallFault.Memory → e.1 ≡ token) }
+    // At any fault some history leads to the token that is returned.
+    ensures led { IfErr result (λ e. IsLed (λ t. K.terms.doubt t.store.keep) (λ t. K.terms.failures t.store.keep)
+        (Shows K.terms) (MayLeave K.terms) token e.1) }
 {
     hold_machine(rt, alloc, token, seats, gate, (0, 0, 0, 0))
 }
@@ -175,10 +225,19 @@ pub fn hold_with<
     requires numbers { (S.number seats.0 ≡ 0) × (S.number seats.1 ≡ 1) × (S.number seats.2 ≡ 2) × (S.number seats.3 ≡ 3) }
     // Each seat has returned that there is no more.
     ensures over { IfOk result (λ h. S.over h.seats.0 × S.over h.seats.1 × S.over h.seats.2 × S.over h.seats.3) }
+    // What never changes of a seat is as it was.
+    ensures fixed { IfOk result (λ h. (S.fixed h.seats.0 ≡ S.fixed seats.0) × (S.fixed h.seats.1 ≡ S.fixed seats.1)
+        × (S.fixed h.seats.2 ≡ S.fixed seats.2) × (S.fixed h.seats.3 ≡ S.fixed seats.3)) }
     // What the four seats put is one history, which is a run of the token's: each seat got what the model gives it there.
-    ensures held { IfOk result (λ h. WereHeld S.asked S.heard (λ t. K.terms.doubt t.store.keep) (λ t. K.terms.failures t.store.keep) (Shows K.terms) (MayLeave K.terms) (view h.passes.inward) (view h.passes.outward0) (view h.passes.outward1) (view h.passes.outward2) (view h.passes.outward3) seats h.seats token h.token) }
-    // Where the seats were not held, the token is as it was.
-    ensures fault { IfErr result (λ e. e.1 ≡ token) }
+    ensures held { IfOk result (λ h. WereHeld S.asked S.heard (λ t. K.terms.doubt t.store.keep)
+        (λ t. K.terms.failures t.store.keep) (Shows K.terms) (MayLeave K.terms) (view h.passes.inward)
+        (view h.passes.outward0) (view h.passes.outward1) (view h.passes.outward2) (view h.passes.outward3)
+        seats h.seats token h.token) }
+    // Where an allocation failed, the token is as it was.
+    ensures memory { IfErr result (λ e. e.0 ≡ HallFault.Memory → e.1 ≡ token) }
+    // At any fault some history leads to the token that is returned.
+    ensures led { IfErr result (λ e. IsLed (λ t. K.terms.doubt t.store.keep) (λ t. K.terms.failures t.store.keep)
+        (Shows K.terms) (MayLeave K.terms) token e.1) }
 {
     hold_machine(rt, alloc, token, seats, gate, stacks)
 }

@@ -15,17 +15,26 @@
 //!
 //! The token that is returned is where the history ends. It refines the world that the history made; a crash leaves no more of
 //! it than the changes that were acknowledged and perhaps one tried since; and the whole is a run of the token's (`IsRun`,
-//! crate `token`). Failures of the keeper are counted, and account for each `CKR_DEVICE_ERROR`. Where seats were not held, the
-//! token is as it was.
+//! crate `token`). Failures of the keeper are counted, and account for each `CKR_DEVICE_ERROR`.
+//!
+//! Before the end, too, no seat is given anything else: each answer is given under a clause that says so (`MayGive`,
+//! `specs/Given.antt`). With it the answers given to all seats are those of a history that the token has served, of just the
+//! events that were taken. So what a daemon gave before it was killed is a beginning of a history. `laws` says in a reader's
+//! words what follows of histories and of their beginnings.
+//!
+//! Where an allocation failed, the token is as it was. At the other fault, by which a channel may have ended early, some history
+//! leads to it (`IsLed`).
 //!
 //! Termination and fairness are not proved: a seat that never returns that there is no more is held for ever, and so is one
-//! before a `Gate` that is never passed. That a fault comes only where an allocation or a thread's start failed, and that no
-//! seat was called then, stands in no clause either: tests show it.
+//! before a `Gate` that is never passed. That a fault comes only where an allocation or a thread's start failed, that no seat
+//! was called then, and that the token is as it was where a thread was not started, stands in no clause: tests show it.
 #![tactic(auto)]
 
 mod closing;
 mod fault;
 mod holding;
+pub mod laws;
+mod link;
 mod machine;
 mod opening;
 mod seat_loop;
@@ -34,6 +43,7 @@ mod seats;
 mod serving;
 mod starting;
 mod token_machine;
+mod worker;
 
 pub use closing::Passes;
 pub use fault::HallFault;

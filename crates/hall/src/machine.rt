@@ -28,16 +28,20 @@ pub trait Machine {
 
     /// A call of an application: a reply, or a job.
     fn call(&mut self, alloc: Global, call: AppCall) -> Out
-        ensures takes { doubt self.new ≡ 0 → (w : World) → shows self.old w → Takes (shows self.new) (leaves self.old) (leaves self.new) w (CallEvent call) (Some result) }
+        ensures takes { doubt self.new ≡ 0 → (w : World) → shows self.old w
+            → Takes (shows self.new) (leaves self.old) (leaves self.new) w (CallEvent call) (Some result) }
         ensures counts { Counts (doubt self.old) (doubt self.new) (failures self.old) (failures self.new) (replies_in (told_out call.app result)) };
 
     /// The result of the job of an application's pending call: the reply to that call.
     fn finish(&mut self, alloc: Global, app: u64, done: Done) -> Reply
-        ensures takes { doubt self.new ≡ 0 → (w : World) → shows self.old w → IsOpen w app done.job.value → Takes (shows self.new) (leaves self.old) (leaves self.new) w (FinishEvent app done) (Some (OutReply result)) }
-        ensures counts { Counts (doubt self.old) (doubt self.new) (failures self.old) (failures self.new) (replies_in (told_out app (OutReply result))) };
+        ensures takes { doubt self.new ≡ 0 → (w : World) → shows self.old w → IsOpen w app done.job.value
+            → Takes (shows self.new) (leaves self.old) (leaves self.new) w (FinishEvent app done) (Some (OutReply result)) }
+        ensures counts { Counts (doubt self.old) (doubt self.new) (failures self.old) (failures self.new)
+            (replies_in (told_out app (OutReply result))) };
 
     /// A disconnect of an application.
     fn gone(&mut self, app: u64)
-        ensures takes { doubt self.new ≡ 0 → (w : World) → shows self.old w → Takes (shows self.new) (leaves self.old) (leaves self.new) w (GoneEvent app) None }
+        ensures takes { doubt self.new ≡ 0 → (w : World) → shows self.old w
+            → Takes (shows self.new) (leaves self.old) (leaves self.new) w (GoneEvent app) None }
         ensures counts { Counts (doubt self.old) (doubt self.new) (failures self.old) (failures self.new) (replies_in []) };
 }

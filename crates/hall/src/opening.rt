@@ -4,71 +4,56 @@ ghost use Rattle.std.specs.Prelude.{◌≡◌, ◌+◌, [], IfOk};
 ghost use Rattle.crossbeam_channel.specs.Claims.{view};
 ghost use Rattle.crossbeam_channel.specs.Ends.{sends_on};
 ghost use Rattle.hall_channels.specs.Inward.{seats_of, taken_of, ended_of};
-ghost use Rattle.hall_channels.specs.Outward.{given_of};
-ghost use Rattle.hall.specs.Held.{IsPortOf};
+ghost use Rattle.hall.specs.Ready.{IsLinked};
 
+use crate::link::{Link, Opened};
 use hall_channels::inbox::Inbox;
 use hall_channels::outbox::Outbox;
-use hall_channels::port::Port;
+use hall_channels::port::Ends;
 use std::alloc::{AllocError, Global};
 
-/// All ends of the channels.
-#[derive(Drop)]
-pub(crate) struct Opened {
-    pub inbox: Inbox,
-    pub outbox0: Outbox,
-    pub outbox1: Outbox,
-    pub outbox2: Outbox,
-    pub outbox3: Outbox,
-    pub port0: Port,
-    pub port1: Port,
-    pub port2: Port,
-    pub port3: Port,
-}
-
 /// Makes the ends of the next seat.
-fn open_seat(alloc: Global, inbox: &mut Inbox, seat: u64) -> Result<(Outbox, Port), AllocError>
+fn open_seat(alloc: Global, inbox: &mut Inbox, seat: u64) -> Result<Link, AllocError>
     requires seats { seats_of (view inbox.old.inward_pass) ≡ seat }
     requires ended { ended_of (view inbox.old.inward_pass) ≡ [] }
-    ensures port { IfOk result (λ r. IsPortOf inbox.new r.0 seat r.1 × (given_of (view r.0.outward_pass) ≡ [])) }
+    ensures link { IfOk result (λ r. IsLinked seat r inbox.new) }
     ensures seats { IfOk result (λ r. seats_of (view inbox.new.inward_pass) ≡ seat + 1) }
-    ensures kept { (sends_on inbox.new.sender ≡ sends_on inbox.old.sender) × (taken_of (view inbox.new.inward_pass) ≡ taken_of (view inbox.old.inward_pass)) × (ended_of (view inbox.new.inward_pass) ≡ []) }
+    ensures same { sends_on inbox.new.sender ≡ sends_on inbox.old.sender }
+    ensures taken { taken_of (view inbox.new.inward_pass) ≡ taken_of (view inbox.old.inward_pass) }
+    ensures ended { ended_of (view inbox.new.inward_pass) ≡ [] }
 {
     let (outbox, outward, outward_pass) = Outbox::open(alloc)?;
     let (inward, inward_pass) = inbox.add_seat()?;
-    let port = Port {
+    let ends = Ends {
         seat,
-        message: None,
         inward,
         inward_pass,
         outward,
         outward_pass,
     };
-    Ok((outbox, port))
+    Ok(Link { outbox, ends })
 }
 
 /// Makes all ends.
 pub(crate) fn open(alloc: Global) -> Result<Opened, AllocError>
-    ensures inbox { IfOk result (λ r. (seats_of (view r.inbox.inward_pass) ≡ 4) × (ended_of (view r.inbox.inward_pass) ≡ []) × (taken_of (view r.inbox.inward_pass) ≡ [])) }
-    ensures port0 { IfOk result (λ r. IsPortOf r.inbox r.outbox0 0 r.port0 × (given_of (view r.outbox0.outward_pass) ≡ [])) }
-    ensures port1 { IfOk result (λ r. IsPortOf r.inbox r.outbox1 1 r.port1 × (given_of (view r.outbox1.outward_pass) ≡ [])) }
-    ensures port2 { IfOk result (λ r. IsPortOf r.inbox r.outbox2 2 r.port2 × (given_of (view r.outbox2.outward_pass) ≡ [])) }
-    ensures port3 { IfOk result (λ r. IsPortOf r.inbox r.outbox3 3 r.port3 × (given_of (view r.outbox3.outward_pass) ≡ [])) }
+    ensures seats { IfOk result (λ r. seats_of (view r.inbox.inward_pass) ≡ 4) }
+    ensures ended { IfOk result (λ r. ended_of (view r.inbox.inward_pass) ≡ []) }
+    ensures taken { IfOk result (λ r. taken_of (view r.inbox.inward_pass) ≡ []) }
+    ensures link0 { IfOk result (λ r. IsLinked 0 r.link0 r.inbox) }
+    ensures link1 { IfOk result (λ r. IsLinked 1 r.link1 r.inbox) }
+    ensures link2 { IfOk result (λ r. IsLinked 2 r.link2 r.inbox) }
+    ensures link3 { IfOk result (λ r. IsLinked 3 r.link3 r.inbox) }
 {
     let mut inbox = Inbox::open(alloc)?;
-    let (outbox0, port0) = open_seat(alloc, &mut inbox, 0)?;
-    let (outbox1, port1) = open_seat(alloc, &mut inbox, 1)?;
-    let (outbox2, port2) = open_seat(alloc, &mut inbox, 2)?;
-    let (outbox3, port3) = open_seat(alloc, &mut inbox, 3)?;
+    let link0 = open_seat(alloc, &mut inbox, 0)?;
+    let link1 = open_seat(alloc, &mut inbox, 1)?;
+    let link2 = open_seat(alloc, &mut inbox, 2)?;
+    let link3 = open_seat(alloc, &mut inbox, 3)?;
     Ok(Opened {
         inbox,
-        outbox0,
-        outbox1,
-        outbox2,
-        outbox3,
-        port0,
-        port1,
-        port2,
-        port3,
+        link0,
+        link1,
+        link2,
+        link3,
     })
 }

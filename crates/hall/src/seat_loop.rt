@@ -1,6 +1,6 @@
 //! One seat, in a thread of its own. What a call seldom comes to isn't inlined, so that the loop's own locals are few and lie together.
 
-ghost use Rattle.std.specs.Prelude.{◌≡◌, ◌∷◌, [], ◌++◌, ℕ, List, IsTrue, IfSome, Some};
+ghost use Rattle.std.specs.Prelude.{◌≡◌, ◌∷◌, [], ◌++◌, ℕ, List, IsTrue, IsSome, IfSome, Some};
 ghost use Rattle.crossbeam_channel.specs.Claims.{view};
 ghost use Rattle.mech.specs.declared.done.Done.{Done as DoneType};
 ghost use Rattle.serve_base.specs.declared.out.Out.TheVariants.{Reply as OutReply};
@@ -16,7 +16,7 @@ ghost use Rattle.hall.specs.declared.seats.SeatEvent.TheVariants.{Call as SeatCa
 
 use crate::seats::{Gate, Seat, SeatEvent};
 use ck_calls::Reply;
-use hall_channels::messages::{AppCall, Event, Message};
+use hall_channels::messages::{AppCall, Event};
 use hall_channels::port::Port;
 use std::alloc::Global;
 use std::sync::Wait;
@@ -25,27 +25,13 @@ use token::{Job, Out};
 /// Puts a disconnect of an application, which isn't answered. False where a channel has ended.
 #[inline(never)]
 fn tell_gone<R: Wait>(rt: &R, port: &mut Port, app: u64) -> bool
+    requires message { IsSome port.old.message }
+    ensures message { IsTrue result → IsSome port.new.message }
     ensures same { SamePort port.old port.new }
     ensures sent { IsTrue result → sent_of (view port.new.inward_pass) ≡ sent_of (view port.old.inward_pass) ++ Gone app ∷ [] }
     ensures got { IsTrue result → got_of (view port.new.outward_pass) ≡ got_of (view port.old.outward_pass) }
 {
-    port.put(rt, Event::Gone { app }) && port.get_empty(rt)
-}
-
-/// An answer of the token. None where the message has none, or the channel has ended.
-fn answer<R: Wait>(rt: &R, port: &mut Port) -> Option<Out>
-    ensures same { SamePort port.old port.new }
-    ensures sent { sent_of (view port.new.inward_pass) ≡ sent_of (view port.old.inward_pass) }
-    ensures got { IfSome result (λ o. got_of (view port.new.outward_pass) ≡ got_of (view port.old.outward_pass) ++ o ∷ []) }
-{
-    match port.get(rt)? {
-        Message::Answer(out) => Some(out),
-        Message::Event(event) => {
-            drop(event);
-            None
-        }
-        Message::Empty => None,
-    }
+    port.put(rt, Event::Gone { app }) && port.get_back(rt)
 }
 
 /// Runs the job of a call, puts its result, and gets the reply.
@@ -58,6 +44,8 @@ fn work<G: Gate, R: Wait>(
     app: u64,
     job: Job,
 ) -> Option<Reply>
+    requires message { IsSome port.old.message }
+    ensures message { IfSome result (λ _. IsSome port.new.message) }
     ensures same { SamePort port.old port.new }
     ensures exchanges { IfSome result (λ r. (d : DoneType) × (d.job.value ≡ job) × Did port.old ((Finish app d, Some (OutReply r)) ∷ []) port.new) }
 {
@@ -66,7 +54,7 @@ fn work<G: Gate, R: Wait>(
     if !port.put(rt, Event::Finish { app, done }) {
         return None;
     }
-    match answer(rt, port)? {
+    match port.get(rt)? {
         Out::Reply(reply) => Some(reply),
         Out::Ask(job) => {
             drop(job);
@@ -83,14 +71,17 @@ fn ask<G: Gate, R: Wait>(
     gate: &G,
     call: AppCall,
 ) -> Option<Reply>
+    requires message { IsSome port.old.message }
+    ensures message { IfSome result (λ _. IsSome port.new.message) }
     ensures same { SamePort port.old port.new }
-    ensures exchanges { IfSome result (λ r. (more : List Exchange) × IsTurn (SeatCall call) more × Did port.old more port.new × (heard_in more ≡ (call.app, r) ∷ [])) }
+    ensures exchanges { IfSome result (λ r. (more : List Exchange) × IsTurn (SeatCall call) more × Did port.old more port.new
+        × (heard_in more ≡ (call.app, r) ∷ [])) }
 {
     let app = call.app;
     if !port.put(rt, Event::Call(call)) {
         return None;
     }
-    match answer(rt, port)? {
+    match port.get(rt)? {
         Out::Reply(reply) => Some(reply),
         Out::Ask(job) => work(rt, alloc, port, gate, app, job),
     }
@@ -105,11 +96,15 @@ fn turn<S: Seat, G: Gate, R: Wait>(
     gate: &G,
     event: SeatEvent,
 ) -> bool
-    requires { IsReady (S.ready seat.old) event }
+    requires ready { IsReady (S.ready seat.old) event }
+    requires message { IsSome port.old.message }
+    ensures message { IsTrue result → IsSome port.new.message }
     ensures same { SamePort port.old port.new }
     ensures number { S.number seat.new ≡ S.number seat.old }
+    ensures fixed { S.fixed seat.new ≡ S.fixed seat.old }
     ensures gone { (app : ℕ) → S.gone seat.old app → S.gone seat.new app }
-    ensures exchanges { IsTrue result → (more : List Exchange) × IsTurn event more × Did port.old more port.new × (S.asked seat.new ≡ S.asked seat.old) × Grows (S.heard seat.old) (heard_in more) (S.heard seat.new) }
+    ensures exchanges { IsTrue result → (more : List Exchange) × IsTurn event more × Did port.old more port.new
+        × (S.asked seat.new ≡ S.asked seat.old) × Grows (S.heard seat.old) (heard_in more) (S.heard seat.new) }
 {
     match event {
         SeatEvent::Gone { app } => tell_gone(rt, port, app),
@@ -124,9 +119,37 @@ fn turn<S: Seat, G: Gate, R: Wait>(
     }
 }
 
-/// Does the seat's events, one after the other, until it has no more. False where a channel has ended.
+/// Does the seat's events, one after the other, until it has no more. False where a channel has ended. It is required that the
+/// seat has its message, which is the permission to begin.
 #[inline(never)]
-pub(crate) fn run_seat<S: Seat, G: Gate, R: Wait>(
+fn run_seat<S: Seat, G: Gate, R: Wait>(
+    rt: &R,
+    alloc: Global,
+    seat: &mut S,
+    port: &mut Port,
+    gate: &G,
+) -> bool
+    requires number { S.number seat.old ≡ port.old.seat }
+    requires message { IsSome port.old.message }
+    ensures same { SamePort port.old port.new }
+    ensures exchanges { IsTrue result → PortDid port.old port.new (S.asked seat.old) (S.asked seat.new) (S.heard seat.old) (S.heard seat.new) }
+    ensures over { IsTrue result → S.over seat.new }
+    ensures fixed { IsTrue result → S.fixed seat.new ≡ S.fixed seat.old }
+{
+    for _ in rt.forever() {
+        let Some(event) = seat.next() else {
+            return port.end(rt, true);
+        };
+        if !turn(rt, alloc, seat, port, gate, event) {
+            return false;
+        }
+    }
+    unreachable!()
+}
+
+/// Waits for the permission to begin, and runs the seat. False where it is to stop, and then the seat was not called, or where a
+/// channel has ended; the token then knows.
+pub(crate) fn run_permitted<S: Seat, G: Gate, R: Wait>(
     rt: &R,
     alloc: Global,
     seat: &mut S,
@@ -137,14 +160,11 @@ pub(crate) fn run_seat<S: Seat, G: Gate, R: Wait>(
     ensures same { SamePort port.old port.new }
     ensures exchanges { IsTrue result → PortDid port.old port.new (S.asked seat.old) (S.asked seat.new) (S.heard seat.old) (S.heard seat.new) }
     ensures over { IsTrue result → S.over seat.new }
+    ensures fixed { IsTrue result → S.fixed seat.new ≡ S.fixed seat.old }
 {
-    for _ in rt.forever() {
-        let Some(event) = seat.next() else {
-            return port.end(rt);
-        };
-        if !turn(rt, alloc, seat, port, gate, event) {
-            return false;
-        }
+    if port.get_back(rt) && run_seat(rt, alloc, seat, port, gate) {
+        return true;
     }
-    unreachable!()
+    port.end(rt, false);
+    false
 }

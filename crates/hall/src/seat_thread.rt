@@ -1,22 +1,21 @@
 //! A seat's thread, from its start to its end.
 
 ghost use Rattle.std.specs.Prelude.{◌≡◌, ◌<◌, [], true, length, Bool, IfOk, IfSome};
-ghost use Rattle.crossbeam_channel.specs.Claims.{view, IsSeatAt};
-ghost use Rattle.crossbeam_channel.specs.Ends.{sends_on, receives_on};
-ghost use Rattle.hall_channels.specs.Inward.{seats_of, sent_of, taken_of, ended_of};
-ghost use Rattle.hall_channels.specs.Outward.{got_of};
-ghost use Rattle.hall_channels.specs.declared.inward.InwardView.TheVariants.{Sending};
-ghost use Rattle.hall_channels.specs.declared.outward.OutwardView.TheVariants.{Getting};
-ghost use Rattle.hall.specs.SeatDoings.{PassesDid};
-ghost use Rattle.hall.specs.Held.{HasEnded, Ready, StartedWith};
+ghost use Rattle.crossbeam_channel.specs.Claims.{view};
+ghost use Rattle.crossbeam_channel.specs.Ends.{sends_on};
+ghost use Rattle.hall_channels.specs.Inward.{seats_of, taken_of, ended_of};
+ghost use Rattle.hall_channels.specs.Sound.{AreSound, SameEnds};
+ghost use Rattle.hall.specs.SeatDoings.{EndsDid};
+ghost use Rattle.hall.specs.Held.{HasEnded};
+ghost use Rattle.hall.specs.Ready.{Ready};
 
 use crate::fault::HallFault;
-use crate::seat_loop::run_seat;
+use crate::seat_loop::run_permitted;
 use crate::seats::{Gate, Seat};
+use crate::worker::Worker;
 use crossbeam_channel::Pass;
 use hall_channels::inbox::Inbox;
 use hall_channels::messages::Outward;
-use hall_channels::outbox::Outbox;
 use hall_channels::outward::OutwardView;
 use hall_channels::port::{Ends, Port, SeatEnds};
 use std::alloc::Global;
@@ -48,13 +47,10 @@ pub(crate) trait Runs<S> {
 }
 
 impl<S: Seat> Runs<S> for SeatEnds {
-    ghost ready = { λ ends seat. (S.number seat ≡ ends.seat) × IsSeatAt (sends_on ends.inward) ends.inward_pass × IsSeatAt (receives_on ends.outward) ends.outward_pass
-        × (view ends.inward_pass ≡ Sending ends.seat (sent_of (view ends.inward_pass))) × (view ends.outward_pass ≡ Getting (got_of (view ends.outward_pass))) };
+    ghost ready = { λ ends seat. (S.number seat ≡ ends.seat) × AreSound ends };
 
-    ghost ran = { λ old seat ends seat' whole. (ends.seat ≡ old.seat) × (sends_on ends.inward ≡ sends_on old.inward) × (receives_on ends.outward ≡ receives_on old.outward)
-        × IsSeatAt (sends_on ends.inward) ends.inward_pass × IsSeatAt (receives_on ends.outward) ends.outward_pass
-        × (view ends.inward_pass ≡ Sending ends.seat (sent_of (view ends.inward_pass))) × (view ends.outward_pass ≡ Getting (got_of (view ends.outward_pass)))
-        × (whole ≡ true → PassesDid old.seat (view old.inward_pass) (view old.outward_pass) (view ends.inward_pass) (view ends.outward_pass) (S.asked seat) (S.asked seat') (S.heard seat) (S.heard seat') × S.over seat') };
+    ghost ran = { λ old seat ends seat' whole. SameEnds old ends × AreSound ends
+        × (whole ≡ true → EndsDid old ends (S.asked seat) (S.asked seat') (S.heard seat) (S.heard seat') × S.over seat' × (S.fixed seat' ≡ S.fixed seat)) };
 
     fn run<G: Gate, R: Wait>(self, rt: &R, alloc: Global, gate: &G, seat: S) -> Ended<S, SeatEnds> {
         begin(rt, alloc, gate, seat, self)
@@ -85,20 +81,15 @@ fn begin<S: Seat, G: Gate, R: Wait>(
     ends: SeatEnds,
 ) -> Ended<S, SeatEnds>
     requires number { S.number seat ≡ ends.seat }
-    requires inward_pass { IsSeatAt (sends_on ends.inward) ends.inward_pass }
-    requires outward_pass { IsSeatAt (receives_on ends.outward) ends.outward_pass }
-    requires tells { view ends.inward_pass ≡ Sending ends.seat (sent_of (view ends.inward_pass)) }
-    requires gets { view ends.outward_pass ≡ Getting (got_of (view ends.outward_pass)) }
-    ensures same { (result.ends.seat ≡ ends.seat) × (sends_on result.ends.inward ≡ sends_on ends.inward) × (receives_on result.ends.outward ≡ receives_on ends.outward) }
-    ensures inward_pass { IsSeatAt (sends_on result.ends.inward) result.ends.inward_pass }
-    ensures outward_pass { IsSeatAt (receives_on result.ends.outward) result.ends.outward_pass }
-    ensures tells { view result.ends.inward_pass ≡ Sending result.ends.seat (sent_of (view result.ends.inward_pass)) }
-    ensures gets { view result.ends.outward_pass ≡ Getting (got_of (view result.ends.outward_pass)) }
-    ensures did { result.whole ≡ true → PassesDid ends.seat (view ends.inward_pass) (view ends.outward_pass) (view result.ends.inward_pass) (view result.ends.outward_pass) (S.asked seat) (S.asked result.seat) (S.heard seat) (S.heard result.seat) }
+    requires sound { AreSound ends }
+    ensures same { SameEnds ends result.ends }
+    ensures sound { AreSound result.ends }
+    ensures did { result.whole ≡ true → EndsDid ends result.ends (S.asked seat) (S.asked result.seat) (S.heard seat) (S.heard result.seat) }
     ensures over { result.whole ≡ true → S.over result.seat }
+    ensures fixed { result.whole ≡ true → S.fixed result.seat ≡ S.fixed seat }
 {
     let mut port = Port::enter(ends);
-    let whole = port.get_empty(rt) && run_seat(rt, alloc, &mut seat, &mut port, gate);
+    let whole = run_permitted(rt, alloc, &mut seat, &mut port, gate);
     Ended {
         seat,
         ends: port.leave(),
@@ -117,15 +108,15 @@ pub(crate) fn start<
     stack: usize,
     gate: &Arc<G, Global>,
     seat: S,
-    port: Port,
+    ends: SeatEnds,
 ) -> Result<SeatThread<S>, HallFault>
-    requires { S.number seat ≡ port.seat }
-    ensures { IfOk result (λ h. StartedWith port.seat h.promise.ends.value.seat (sends_on port.inward) (sends_on h.promise.ends.value.inward) (receives_on port.outward) (receives_on h.promise.ends.value.outward) (view port.inward_pass) (view h.promise.ends.value.inward_pass) (view port.outward_pass) (view h.promise.ends.value.outward_pass) × (h.promise.seat.value ≡ seat)) }
+    requires number { S.number seat ≡ ends.seat }
+    requires sound { AreSound ends }
+    ensures { IfOk result (λ h. (h.promise.ends.value ≡ ends) × (h.promise.seat.value ≡ seat)) }
 {
     let Ok(gate) = Arc::try_clone(gate) else {
         return Err(HallFault::Memory);
     };
-    let ends = port.leave();
     match spawn_seat(rt, alloc, stack, gate, seat, ends) {
         Some(thread) => Ok(thread),
         None => Err(HallFault::Thread),
@@ -175,18 +166,22 @@ pub(crate) struct Joined<S> {
     pub outward_pass: Pass<Outward, OutwardView>,
 }
 
-/// Joins a seat's thread, and records what it did. None where it could not go on.
+/// Joins a worker's thread, and records what its seat did. None where it could not go on.
 pub(crate) fn join_seat<S: Seat + Drop + Send + 'static, R: Threads>(
     rt: &R,
     inbox: &mut Inbox,
-    outbox: Outbox,
-    thread: SeatThread<S>,
+    worker: Worker<S>,
 ) -> Option<Joined<S>>
-    requires ready { Ready (length (ended_of (view inbox.old.inward_pass))) thread.promise.ends.value.seat (sends_on thread.promise.ends.value.inward) (sends_on inbox.old.sender) (receives_on thread.promise.ends.value.outward) (sends_on outbox.outward) (view thread.promise.ends.value.inward_pass) (view thread.promise.ends.value.outward_pass) }
+    requires ready { Ready (length (ended_of (view inbox.old.inward_pass))) worker inbox.old }
     requires seats { length (ended_of (view inbox.old.inward_pass)) < seats_of (view inbox.old.inward_pass) }
-    ensures inbox { (sends_on inbox.new.sender ≡ sends_on inbox.old.sender) × (seats_of (view inbox.new.inward_pass) ≡ seats_of (view inbox.old.inward_pass)) × (taken_of (view inbox.new.inward_pass) ≡ taken_of (view inbox.old.inward_pass)) }
-    ensures seat { IfSome result (λ j. S.over j.seat × HasEnded inbox.old outbox inbox.new (view j.outward_pass) (S.asked thread.promise.seat.value) (S.asked j.seat) (S.heard thread.promise.seat.value) (S.heard j.seat)) }
+    ensures same { sends_on inbox.new.sender ≡ sends_on inbox.old.sender }
+    ensures seats { seats_of (view inbox.new.inward_pass) ≡ seats_of (view inbox.old.inward_pass) }
+    ensures taken { taken_of (view inbox.new.inward_pass) ≡ taken_of (view inbox.old.inward_pass) }
+    ensures over { IfSome result (λ j. S.over j.seat) }
+    ensures fixed { IfSome result (λ j. S.fixed j.seat ≡ S.fixed worker.thread.promise.seat.value) }
+    ensures ended { IfSome result (λ j. HasEnded S.asked S.heard inbox.old worker inbox.new j) }
 {
+    let Worker { outbox, thread } = worker;
     let Ended { seat, ends, whole } = thread.join(rt);
     if !whole {
         drop(seat);

@@ -28,11 +28,14 @@ pub trait Seat {
     /// It has returned that there is no more.
     ghost over: { Self → Type 0 };
 
+    /// What never changes of it, as the seed of its applications' random bytes.
+    ghost fixed: { Self → List ℕ };
+
     /// The applications that have disconnected.
     ghost gone: { Self → ℕ → Type 0 };
 
-    /// It can take a reply.
-    ghost ready: { Self → Type 0 };
+    /// It can take a reply to this application.
+    ghost ready: { Self → ℕ → Type 0 };
 
     /// The events that it has given, where it reports them.
     ghost asked: { Self → Option (List SeatEvent) };
@@ -44,6 +47,7 @@ pub trait Seat {
     /// no other seat.
     fn next(&mut self) -> Option<SeatEvent>
         ensures number { number self.new ≡ number self.old }
+        ensures fixed { fixed self.new ≡ fixed self.old }
         ensures over { IfNone result (over self.new) }
         ensures own { IfSome result (λ e. seat_app e % 4 ≡ number self.old) }
         ensures there { IfSome result (λ e. ¬ gone self.old (seat_app e)) }
@@ -55,8 +59,9 @@ pub trait Seat {
 
     /// Takes the reply to its last call, which was of this application. It can't fail, so `next` allocates for it before.
     fn take(&mut self, app: u64, reply: Reply)
-        requires { ready self.old }
+        requires { ready self.old app }
         ensures number { number self.new ≡ number self.old }
+        ensures fixed { fixed self.new ≡ fixed self.old }
         ensures gone { (app : ℕ) → gone self.old app → gone self.new app }
         ensures asked { asked self.new ≡ asked self.old }
         ensures heard { Adds (heard self.old) (app, reply) (heard self.new) };

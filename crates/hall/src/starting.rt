@@ -1,43 +1,47 @@
 //! The start of all threads.
 
 ghost use Rattle.std.specs.Prelude.{◌≡◌, IfOk};
-ghost use Rattle.crossbeam_channel.specs.Claims.{view};
-ghost use Rattle.crossbeam_channel.specs.Ends.{sends_on, receives_on};
-ghost use Rattle.hall.specs.Held.{StartedWith};
+ghost use Rattle.hall_channels.specs.Sound.{AreSound};
+ghost use Rattle.hall.specs.Ready.{StartedWith};
 
 use crate::fault::HallFault;
-use crate::opening::Opened;
-use crate::seat_thread::{SeatThread, start};
+use crate::link::{Link, Opened};
+use crate::seat_thread::start;
 use crate::seats::{Gate, Seat};
-use hall_channels::inbox::Inbox;
-use hall_channels::messages::Outward;
-use hall_channels::outbox::Outbox;
+use crate::worker::{Started, Worker};
 use std::alloc::Global;
 use std::sync::{Arc, Wait};
 use std::thread::Threads;
 
-/// The token's ends, and the threads, which wait for the permission to begin.
-#[derive(Drop)]
-pub(crate) struct Started<S: Seat + Drop> {
-    pub inbox: Inbox,
-    pub outbox0: Outbox,
-    pub outbox1: Outbox,
-    pub outbox2: Outbox,
-    pub outbox3: Outbox,
-    pub thread0: SeatThread<S>,
-    pub thread1: SeatThread<S>,
-    pub thread2: SeatThread<S>,
-    pub thread3: SeatThread<S>,
+/// Stops a thread that waits to begin, and joins it. Its seat was not called.
+fn stop<S: Seat + Drop + Send + 'static, R: Threads + Wait>(rt: &R, worker: Worker<S>) {
+    let Worker { mut outbox, thread } = worker;
+    outbox.stop(rt);
+    drop(thread.join(rt));
 }
 
-/// Stops a thread that waits to begin, and joins it. Its seat was not called.
-fn stop<S: Seat + Drop + Send + 'static, R: Threads + Wait>(
-    rt: &R,
-    outbox: &mut Outbox,
-    thread: SeatThread<S>,
-) {
-    outbox.give(rt, Outward::Stop);
-    drop(thread.join(rt));
+/// Starts the thread of one seat, which waits for the permission to begin. A stack has this size, or the usual one at 0.
+fn start_worker<
+    S: Seat + Drop + Send + 'static,
+    G: Gate + Send + Sync + Drop + 'static,
+    R: Threads + Wait + Copy + Send + Drop + 'static,
+>(
+    rt: R,
+    alloc: Global,
+    stack: usize,
+    gate: &Arc<G, Global>,
+    seat: S,
+    link: Link,
+) -> Result<Worker<S>, HallFault>
+    requires number { S.number seat ≡ link.ends.seat }
+    requires sound { AreSound link.ends }
+    ensures { IfOk result (λ w. StartedWith link seat w) }
+{
+    let Link { outbox, ends } = link;
+    match start(rt, alloc, stack, gate, seat, ends) {
+        Ok(thread) => Ok(Worker { outbox, thread }),
+        Err(fault) => Err(fault),
+    }
 }
 
 /// Starts all threads, or none that calls its seat. A stack has this size, or the usual one at 0.
@@ -53,62 +57,53 @@ pub(crate) fn start_all<
     seats: (S, S, S, S),
     opened: Opened,
 ) -> Result<Started<S>, HallFault>
-    requires numbers { (S.number seats.0 ≡ opened.port0.seat) × (S.number seats.1 ≡ opened.port1.seat) × (S.number seats.2 ≡ opened.port2.seat) × (S.number seats.3 ≡ opened.port3.seat) }
-    ensures ends { IfOk result (λ r. (r.inbox ≡ opened.inbox) × (r.outbox0 ≡ opened.outbox0) × (r.outbox1 ≡ opened.outbox1) × (r.outbox2 ≡ opened.outbox2) × (r.outbox3 ≡ opened.outbox3)) }
-    ensures thread0 { IfOk result (λ r. StartedWith opened.port0.seat r.thread0.promise.ends.value.seat (sends_on opened.port0.inward) (sends_on r.thread0.promise.ends.value.inward) (receives_on opened.port0.outward) (receives_on r.thread0.promise.ends.value.outward) (view opened.port0.inward_pass) (view r.thread0.promise.ends.value.inward_pass) (view opened.port0.outward_pass) (view r.thread0.promise.ends.value.outward_pass) × (r.thread0.promise.seat.value ≡ seats.0)) }
-    ensures thread1 { IfOk result (λ r. StartedWith opened.port1.seat r.thread1.promise.ends.value.seat (sends_on opened.port1.inward) (sends_on r.thread1.promise.ends.value.inward) (receives_on opened.port1.outward) (receives_on r.thread1.promise.ends.value.outward) (view opened.port1.inward_pass) (view r.thread1.promise.ends.value.inward_pass) (view opened.port1.outward_pass) (view r.thread1.promise.ends.value.outward_pass) × (r.thread1.promise.seat.value ≡ seats.1)) }
-    ensures thread2 { IfOk result (λ r. StartedWith opened.port2.seat r.thread2.promise.ends.value.seat (sends_on opened.port2.inward) (sends_on r.thread2.promise.ends.value.inward) (receives_on opened.port2.outward) (receives_on r.thread2.promise.ends.value.outward) (view opened.port2.inward_pass) (view r.thread2.promise.ends.value.inward_pass) (view opened.port2.outward_pass) (view r.thread2.promise.ends.value.outward_pass) × (r.thread2.promise.seat.value ≡ seats.2)) }
-    ensures thread3 { IfOk result (λ r. StartedWith opened.port3.seat r.thread3.promise.ends.value.seat (sends_on opened.port3.inward) (sends_on r.thread3.promise.ends.value.inward) (receives_on opened.port3.outward) (receives_on r.thread3.promise.ends.value.outward) (view opened.port3.inward_pass) (view r.thread3.promise.ends.value.inward_pass) (view opened.port3.outward_pass) (view r.thread3.promise.ends.value.outward_pass) × (r.thread3.promise.seat.value ≡ seats.3)) }
+    requires first { (S.number seats.0 ≡ opened.link0.ends.seat) × AreSound opened.link0.ends }
+    requires second { (S.number seats.1 ≡ opened.link1.ends.seat) × AreSound opened.link1.ends }
+    requires third { (S.number seats.2 ≡ opened.link2.ends.seat) × AreSound opened.link2.ends }
+    requires fourth { (S.number seats.3 ≡ opened.link3.ends.seat) × AreSound opened.link3.ends }
+    ensures inbox { IfOk result (λ r. r.inbox ≡ opened.inbox) }
+    ensures worker0 { IfOk result (λ r. StartedWith opened.link0 seats.0 r.worker0) }
+    ensures worker1 { IfOk result (λ r. StartedWith opened.link1 seats.1 r.worker1) }
+    ensures worker2 { IfOk result (λ r. StartedWith opened.link2 seats.2 r.worker2) }
+    ensures worker3 { IfOk result (λ r. StartedWith opened.link3 seats.3 r.worker3) }
 {
-    let (seat0, seat1, seat2, seat3) = seats;
     let Opened {
         inbox,
-        mut outbox0,
-        mut outbox1,
-        mut outbox2,
-        outbox3,
-        port0,
-        port1,
-        port2,
-        port3,
+        link0,
+        link1,
+        link2,
+        link3,
     } = opened;
-    let thread0 = match start(rt, alloc, stacks.0, gate, seat0, port0) {
-        Ok(thread) => thread,
-        Err(fault) => return Err(fault),
-    };
-    let thread1 = match start(rt, alloc, stacks.1, gate, seat1, port1) {
-        Ok(thread) => thread,
+    let worker0 = start_worker(rt, alloc, stacks.0, gate, seats.0, link0)?;
+    let worker1 = match start_worker(rt, alloc, stacks.1, gate, seats.1, link1) {
+        Ok(worker) => worker,
         Err(fault) => {
-            stop(&rt, &mut outbox0, thread0);
+            stop(&rt, worker0);
             return Err(fault);
         }
     };
-    let thread2 = match start(rt, alloc, stacks.2, gate, seat2, port2) {
-        Ok(thread) => thread,
+    let worker2 = match start_worker(rt, alloc, stacks.2, gate, seats.2, link2) {
+        Ok(worker) => worker,
         Err(fault) => {
-            stop(&rt, &mut outbox0, thread0);
-            stop(&rt, &mut outbox1, thread1);
+            stop(&rt, worker0);
+            stop(&rt, worker1);
             return Err(fault);
         }
     };
-    let thread3 = match start(rt, alloc, stacks.3, gate, seat3, port3) {
-        Ok(thread) => thread,
+    let worker3 = match start_worker(rt, alloc, stacks.3, gate, seats.3, link3) {
+        Ok(worker) => worker,
         Err(fault) => {
-            stop(&rt, &mut outbox0, thread0);
-            stop(&rt, &mut outbox1, thread1);
-            stop(&rt, &mut outbox2, thread2);
+            stop(&rt, worker0);
+            stop(&rt, worker1);
+            stop(&rt, worker2);
             return Err(fault);
         }
     };
     Ok(Started {
         inbox,
-        outbox0,
-        outbox1,
-        outbox2,
-        outbox3,
-        thread0,
-        thread1,
-        thread2,
-        thread3,
+        worker0,
+        worker1,
+        worker2,
+        worker3,
     })
 }

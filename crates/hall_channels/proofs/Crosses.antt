@@ -40,6 +40,7 @@ use Rattle.ck_calls.specs.contracts.reply.Reply as Reply
 use Rattle.serve_base.specs.contracts.out.Out as Out
 use Rattle.hall_channels.specs.contracts.messages.Event as Event
 use Rattle.hall_channels.specs.contracts.messages.Message as Message
+use Rattle.hall_channels.specs.contracts.messages.Answered as Answered
 use Rattle.hall_channels.specs.contracts.messages.Inward as Inward
 use Rattle.hall_channels.specs.contracts.messages.Outward as Outward
 use Rattle.lists.specs.contracts.ghost_bytes.GhostBytes as GhostBytes
@@ -279,10 +280,13 @@ event_send : IsSend Event.the_row
 event_send = variants_send Event.enum ((appcall_send, tt), ((search sendable depth 20, (done_send, tt)), ((search sendable depth 20, tt), tt)))
 
 message_send : IsSend Message.the_row
-message_send = variants_send Message.enum ((event_send, tt), ((out_send, tt), (tt, tt)))
+message_send = declared_send Message.the_type (event_send, (out_send, tt))
+
+answered_send : IsSend Answered.the_row
+answered_send = declared_send Answered.the_type (Box-send Message.the_row message_send, tt)
 
 pub inward_send : IsSend Inward.the_row
-inward_send = variants_send Inward.enum ((search sendable depth 20, (Box-send Message.the_row message_send, tt)), ((search sendable depth 20, tt), tt))
+inward_send = variants_send Inward.enum ((search sendable depth 20, (Box-send Message.the_row message_send, tt)), ((search sendable depth 20, (search sendable depth 20, tt)), tt))
 
 pub outward_send : IsSend Outward.the_row
-outward_send = variants_send Outward.enum ((Box-send Message.the_row message_send, tt), (tt, tt))
+outward_send = variants_send Outward.enum ((Box-send Message.the_row message_send, tt), ((answered_send, tt), (tt, tt)))

@@ -3,7 +3,6 @@ use Rattle.std.specs.Prelude.{◌≡◌, ℕ, ◌+◌, ◌≤◌, List, [], ◌�
 use mathlib.Core.Option.{some}
 use lib.ListN.{get_elem?}
 use Rattle.hall_channels.specs.Lists.{of}
-use Rattle.hall_channels.specs.MessageContents.{event_of}
 use Rattle.hall_channels.specs.declared.messages.Event.{Event}
 use Rattle.hall_channels.specs.declared.messages.Inward.{Inward}
 use Rattle.hall_channels.specs.declared.messages.Inward.TheVariants.{Put, End}
@@ -12,13 +11,13 @@ use Rattle.hall_channels.specs.declared.inward.InwardView.TheVariants.{Taking, S
 
 -- the seat that a message is from
 abbrev pub from : Inward → ℕ
-from (Put s l) = s
-from (End s) = s
+from (Put s message) = s
+from (End s whole) = s
 
 -- the event of a message, if it has one
 abbrev pub said : Inward → List Event
-said (Put s l) = event_of l.value
-said (End s) = []
+said (Put s message) = message.value.event ∷ []
+said (End s whole) = []
 
 -- events of one seat, each with its number
 abbrev pub each_of : ℕ → List Event → List (ℕ × Event)

@@ -1,5 +1,6 @@
 pub mod Inward
-pub mod MessageContents
 pub mod Lists
 pub mod Outward
 pub mod Same
+pub mod Sound
+pub mod Takings

@@ -3,15 +3,15 @@ use Rattle.std.specs.Prelude.{◌≡◌, ℕ, List, [], ◌∷◌, ◌++◌}
 use mathlib.Core.Option.{some}
 use lib.ListN.{get_elem?}
 use Rattle.serve_base.specs.declared.out.Out.{Out}
-use Rattle.hall_channels.specs.MessageContents.{answer_of}
 use Rattle.hall_channels.specs.declared.messages.Outward.{Outward}
-use Rattle.hall_channels.specs.declared.messages.Outward.TheVariants.{Message, Stop}
+use Rattle.hall_channels.specs.declared.messages.Outward.TheVariants.{Back, Answer, Stop}
 use Rattle.hall_channels.specs.declared.outward.OutwardView.{OutwardView}
 use Rattle.hall_channels.specs.declared.outward.OutwardView.TheVariants.{Both, Giving, Getting, Spent}
 
 -- the answer of a message, if it has one
 abbrev pub answer_in : Outward → List Out
-answer_in (Message l) = answer_of l.value
+answer_in (Back message) = []
+answer_in (Answer answered) = answered.message.value.answer ∷ []
 answer_in Stop = []
 
 abbrev pub answers_in : List Outward → List Out

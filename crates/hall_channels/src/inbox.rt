@@ -4,6 +4,7 @@ ghost use Rattle.std.specs.Prelude.{◌≡◌, ◌<◌, ◌≤◌, ◌+◌, ◌+
 ghost use Rattle.crossbeam_channel.specs.Claims.{view, IsSeatAt};
 ghost use Rattle.crossbeam_channel.specs.Ends.{sends_on, receives_on};
 ghost use Rattle.hall_channels.specs.Inward.{happened, sent_of, seats_of, taken_of, ended_of, IsTaking, SentInAll};
+ghost use Rattle.hall_channels.specs.Takings.{Took};
 ghost use Rattle.hall_channels.specs.declared.inward.InwardView.TheVariants.{Sending};
 ghost use Rattle.hall_channels.specs.declared.messages.Inward.{Inward};
 
@@ -33,7 +34,9 @@ pub struct Inbox {
 impl Inbox {
     /// A new channel of capacity 4, with no seats, of which nothing was taken. It allocates.
     pub fn open(alloc: Global) -> Result<Inbox, AllocError>
-        ensures { IfOk result (λ d. (seats_of (view d.inward_pass) ≡ 0) × (taken_of (view d.inward_pass) ≡ []) × (ended_of (view d.inward_pass) ≡ [])) }
+        ensures seats { IfOk result (λ d. seats_of (view d.inward_pass) ≡ 0) }
+        ensures taken { IfOk result (λ d. taken_of (view d.inward_pass) ≡ []) }
+        ensures ended { IfOk result (λ d. ended_of (view d.inward_pass) ≡ []) }
     {
         let (sender, receiver, inward_pass) = bounded_with::<
             Inward,
@@ -60,11 +63,13 @@ impl Inbox {
         AllocError,
     >
         requires { length (ended_of (view self.old.inward_pass)) ≤ seats_of (view self.old.inward_pass) }
-        ensures ends { IfOk result (λ r. (sends_on r.0 ≡ sends_on self.new.sender) × IsSeatAt (sends_on r.0) r.1 × (view r.1 ≡ Sending (seats_of (view self.old.inward_pass)) [])) }
+        ensures ends { IfOk result (λ r. (sends_on r.0 ≡ sends_on self.new.sender) × IsSeatAt (sends_on r.0) r.1) }
+        ensures next { IfOk result (λ r. view r.1 ≡ Sending (seats_of (view self.old.inward_pass)) []) }
         ensures same { sends_on self.new.sender ≡ sends_on self.old.sender }
         ensures fault { IfErr result (λ _. view self.new.inward_pass ≡ view self.old.inward_pass) }
         ensures seats { IfOk result (λ r. seats_of (view self.new.inward_pass) ≡ seats_of (view self.old.inward_pass) + 1) }
-        ensures kept { (taken_of (view self.new.inward_pass) ≡ taken_of (view self.old.inward_pass)) × (ended_of (view self.new.inward_pass) ≡ ended_of (view self.old.inward_pass)) }
+        ensures taken { taken_of (view self.new.inward_pass) ≡ taken_of (view self.old.inward_pass) }
+        ensures ended { ended_of (view self.new.inward_pass) ≡ ended_of (view self.old.inward_pass) }
     {
         let sender = self.sender.try_clone()?;
         let pass = self.sender.another::<AddsSeat>(&mut self.inward_pass);
@@ -75,9 +80,7 @@ impl Inbox {
     /// nothing was taken.
     pub fn take<R: Wait>(&mut self, rt: &R) -> Option<Inward>
         ensures same { sends_on self.new.sender ≡ sends_on self.old.sender }
-        ensures taken { IfSome result (λ x. taken_of (view self.new.inward_pass) ≡ taken_of (view self.old.inward_pass) ++ happened x) }
-        ensures none { IfNone result (view self.new.inward_pass ≡ view self.old.inward_pass) }
-        ensures kept { (seats_of (view self.new.inward_pass) ≡ seats_of (view self.old.inward_pass)) × (ended_of (view self.new.inward_pass) ≡ ended_of (view self.old.inward_pass)) }
+        ensures took { Took (view self.old.inward_pass) result (view self.new.inward_pass) }
     {
         match self.take_patiently(rt) {
             Some(x) => Some(x),
@@ -89,9 +92,7 @@ impl Inbox {
     #[inline(never)]
     fn wait<R: Wait>(&mut self, rt: &R) -> Option<Inward>
         ensures same { sends_on self.new.sender ≡ sends_on self.old.sender }
-        ensures taken { IfSome result (λ x. taken_of (view self.new.inward_pass) ≡ taken_of (view self.old.inward_pass) ++ happened x) }
-        ensures none { IfNone result (view self.new.inward_pass ≡ view self.old.inward_pass) }
-        ensures kept { (seats_of (view self.new.inward_pass) ≡ seats_of (view self.old.inward_pass)) × (ended_of (view self.new.inward_pass) ≡ ended_of (view self.old.inward_pass)) }
+        ensures took { Took (view self.old.inward_pass) result (view self.new.inward_pass) }
     {
         self.receiver
             .recv_as::<Takes, R>(rt, &mut self.inward_pass)
@@ -101,9 +102,7 @@ impl Inbox {
     /// Takes the next message, where it comes while this thread yields `TURNS` times.
     fn take_patiently<R: Wait>(&mut self, rt: &R) -> Option<Inward>
         ensures same { sends_on self.new.sender ≡ sends_on self.old.sender }
-        ensures taken { IfSome result (λ x. taken_of (view self.new.inward_pass) ≡ taken_of (view self.old.inward_pass) ++ happened x) }
-        ensures none { IfNone result (view self.new.inward_pass ≡ view self.old.inward_pass) }
-        ensures kept { (seats_of (view self.new.inward_pass) ≡ seats_of (view self.old.inward_pass)) × (ended_of (view self.new.inward_pass) ≡ ended_of (view self.old.inward_pass)) }
+        ensures took { Took (view self.old.inward_pass) result (view self.new.inward_pass) }
     {
         'turns: for _ in 0..TURNS {
             if let Some(x) = self.try_take(rt) {
@@ -117,9 +116,7 @@ impl Inbox {
     /// Takes the next message, if there is one.
     fn try_take<R: Wait>(&mut self, rt: &R) -> Option<Inward>
         ensures same { sends_on self.new.sender ≡ sends_on self.old.sender }
-        ensures taken { IfSome result (λ x. taken_of (view self.new.inward_pass) ≡ taken_of (view self.old.inward_pass) ++ happened x) }
-        ensures none { IfNone result (view self.new.inward_pass ≡ view self.old.inward_pass) }
-        ensures kept { (seats_of (view self.new.inward_pass) ≡ seats_of (view self.old.inward_pass)) × (ended_of (view self.new.inward_pass) ≡ ended_of (view self.old.inward_pass)) }
+        ensures took { Took (view self.old.inward_pass) result (view self.new.inward_pass) }
     {
         self.receiver
             .try_recv_as::<Takes, R>(rt, &mut self.inward_pass)
@@ -131,10 +128,11 @@ impl Inbox {
     pub fn end_seat(&mut self, pass: Pass<Inward, InwardView>)
         requires pass { IsSeatAt (sends_on self.old.sender) pass }
         requires next { view pass ≡ Sending (length (ended_of (view self.old.inward_pass))) (sent_of (view pass)) }
-        requires seats { length (ended_of (view self.old.inward_pass)) < seats_of (view self.old.inward_pass) }
+        requires room { length (ended_of (view self.old.inward_pass)) < seats_of (view self.old.inward_pass) }
         ensures same { sends_on self.new.sender ≡ sends_on self.old.sender }
         ensures ended { ended_of (view self.new.inward_pass) ≡ ended_of (view self.old.inward_pass) ++ sent_of (view pass) ∷ [] }
-        ensures kept { (seats_of (view self.new.inward_pass) ≡ seats_of (view self.old.inward_pass)) × (taken_of (view self.new.inward_pass) ≡ taken_of (view self.old.inward_pass)) }
+        ensures seats { seats_of (view self.new.inward_pass) ≡ seats_of (view self.old.inward_pass) }
+        ensures taken { taken_of (view self.new.inward_pass) ≡ taken_of (view self.old.inward_pass) }
     {
         self.sender.absorb::<Ends>(&mut self.inward_pass, pass);
     }
@@ -145,7 +143,8 @@ impl Inbox {
         ensures empty { IsTrue result → (view self.new.inward_pass ≡ view self.old.inward_pass) × SentInAll (view self.old.inward_pass) [] }
         ensures lost { IsFalse result → (x : Inward) × (taken_of (view self.new.inward_pass) ≡ taken_of (view self.old.inward_pass) ++ happened x) }
         ensures same { sends_on self.new.sender ≡ sends_on self.old.sender }
-        ensures kept { (seats_of (view self.new.inward_pass) ≡ seats_of (view self.old.inward_pass)) × (ended_of (view self.new.inward_pass) ≡ ended_of (view self.old.inward_pass)) }
+        ensures seats { seats_of (view self.new.inward_pass) ≡ seats_of (view self.old.inward_pass) }
+        ensures ended { ended_of (view self.new.inward_pass) ≡ ended_of (view self.old.inward_pass) }
     {
         self.receiver
             .try_recv_as::<Takes, R>(rt, &mut self.inward_pass)

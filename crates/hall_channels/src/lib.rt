@@ -9,7 +9,8 @@
 //! channels, nor of what an event does.
 //!
 //! - `messages` are what passes; `inward` and `outward` are the two rules. An event and its answer go in a `Message`, which is
-//!   allocated once for each seat.
+//!   allocated once for each seat. Inward passes a message for its event, outward for its answer.
+//! - `Licence` is what an answer needs before it is given: `Outbox::answer` alone gives one, and requires it.
 //! - `Inbox` is the token's end of the inward channel, `Outbox` its end of one outward channel, and `Port` a seat's two ends.
 //!
 //! Where a call returns that a channel has ended, nothing was put or taken. No clause says that a message comes, or that a call
@@ -18,6 +19,7 @@
 
 pub mod inbox;
 pub mod inward;
+pub mod licence;
 pub mod messages;
 pub mod outbox;
 pub mod outward;

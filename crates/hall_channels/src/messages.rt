@@ -3,7 +3,7 @@
 ghost use Rattle.std.specs.Prelude.{◌≡◌, length};
 ghost use Rattle.ck_calls.specs.Need.{random_bytes};
 
-use ck_calls::Call;
+use ck_calls::{Call, Reply};
 use mech::Done;
 use serve_base::Out;
 use std::alloc::{AllocError, Global};
@@ -29,22 +29,22 @@ pub enum Event {
     Gone { app: u64 },
 }
 
-/// An event or its answer. Each seat has one message, which goes to the token with the event and comes back with the answer. So
-/// a channel passes a pointer, and a call allocates nothing for it.
+/// Where an event lies on its way to the token, and its answer on the way back. Each seat has one, which is allocated once.
+/// So a channel passes a pointer, and a call allocates nothing for it. In which field to look says the type of what passes.
 #[derive(Drop)]
-pub enum Message {
-    /// An event of a seat.
-    Event(Event),
-    /// What the token answers to it.
-    Answer(Out),
-    /// Nothing.
-    Empty,
+pub struct Message {
+    pub(crate) event: Event,
+    pub(crate) answer: Out,
 }
 
 impl Message {
-    /// A message with nothing in it. It allocates.
+    /// A message for a seat's events. It allocates.
     pub(crate) fn new(alloc: Global) -> Result<Box<Message>, AllocError> {
-        match Box::new(alloc, Message::Empty) {
+        let message = Message {
+            event: Event::Gone { app: 0 },
+            answer: Out::Reply(Reply::Object(0)),
+        };
+        match Box::new(alloc, message) {
             Ok(message) => Ok(message),
             Err(refused) => {
                 drop(refused);
@@ -53,11 +53,32 @@ impl Message {
         }
     }
 
-    /// Replaces the content, which is dropped.
-    pub(crate) fn fill(&mut self, content: Message)
-        ensures { self.new ≡ content }
+    /// Writes an event over the last one.
+    pub(crate) fn set_event(&mut self, event: Event)
+        ensures { self.new.event ≡ event }
     {
-        drop(mem::replace(self, content));
+        drop(mem::replace(&mut self.event, event));
+    }
+
+    /// Takes the event out.
+    pub fn take_event(&mut self) -> Event
+        ensures { result ≡ self.old.event }
+    {
+        mem::replace(&mut self.event, Event::Gone { app: 0 })
+    }
+
+    /// Writes an answer over the last one.
+    pub(crate) fn set_answer(&mut self, out: Out)
+        ensures { self.new.answer ≡ out }
+    {
+        drop(mem::replace(&mut self.answer, out));
+    }
+
+    /// Takes the answer out.
+    pub(crate) fn take_answer(&mut self) -> Out
+        ensures { result ≡ self.old.answer }
+    {
+        mem::replace(&mut self.answer, Out::Reply(Reply::Object(0)))
     }
 }
 
@@ -66,16 +87,23 @@ impl Message {
 pub enum Inward {
     /// The message of a seat, with an event.
     Put { seat: u64, message: Box<Message> },
-    /// The mark that the seat puts no more.
-    End { seat: u64 },
+    /// The mark that the seat puts no more, and whether it had no more. If not, it could not go on.
+    End { seat: u64, whole: bool },
+}
+
+/// A message with the answer to a seat's last event. Only `Outbox::answer` makes one.
+#[derive(Drop)]
+pub struct Answered {
+    pub(crate) message: Box<Message>,
 }
 
 /// What goes to a seat.
 #[derive(Drop)]
 pub enum Outward {
-    /// Its message: with the token's answer to its last event; or empty, where it may begin, and after an event that isn't
-    /// answered.
-    Message(Box<Message>),
+    /// Its message with nothing for it: it may begin, or its disconnect was taken.
+    Back(Box<Message>),
+    /// Its message with the token's answer to its last event.
+    Answer(Answered),
     /// It is to stop before it begins.
     Stop,
 }

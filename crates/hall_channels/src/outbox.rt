@@ -7,7 +7,8 @@ ghost use Rattle.hall_channels.specs.Outward.{answer_in, answers_in, given_of, g
 ghost use Rattle.hall_channels.specs.declared.messages.Outward.{Outward};
 ghost use Rattle.hall_channels.specs.declared.outward.OutwardView.TheVariants.{Giving, Getting};
 
-use crate::messages::{Message, Outward};
+use crate::licence::Licence;
+use crate::messages::{Answered, Message, Outward};
 use crate::outward::{Gives, OutwardRule, OutwardView, Sides, Total};
 use crossbeam_channel::{Pass, RuledReceiver, RuledSender, bounded_with};
 use serve_base::Out;
@@ -60,7 +61,7 @@ impl Outbox {
         ))
     }
 
-    /// Permits the seat to begin, by its message with nothing in it. False where that was done before, or the channel has ended.
+    /// Permits the seat to begin, by its message. False where that was done before, or the channel has ended.
     pub fn begin<R: Wait>(&mut self, rt: &R) -> bool
         ensures same { sends_on self.new.outward ≡ sends_on self.old.outward }
         ensures none { given_of (view self.new.outward_pass) ≡ given_of (view self.old.outward_pass) }
@@ -71,29 +72,43 @@ impl Outbox {
         }
     }
 
-    /// Gives the seat its message with an answer in it, and waits while the channel is full. False where the channel has ended, and
-    /// then nothing was given.
-    pub fn answer<R: Wait>(&mut self, rt: &R, mut message: Box<Message>, out: Out) -> bool
+    /// Bids the seat stop before it begins. False where the channel has ended.
+    pub fn stop<R: Wait>(&mut self, rt: &R) -> bool
+        ensures same { sends_on self.new.outward ≡ sends_on self.old.outward }
+        ensures none { given_of (view self.new.outward_pass) ≡ given_of (view self.old.outward_pass) }
+    {
+        self.give(rt, Outward::Stop)
+    }
+
+    /// Gives the seat its message with an answer that the licence allows, and waits while the channel is full. False where the
+    /// channel has ended, and then nothing was given.
+    pub fn answer<L: Licence, R: Wait>(
+        &mut self,
+        rt: &R,
+        _licence: &L,
+        mut message: Box<Message>,
+        out: Out,
+    ) -> bool
+        requires allowed { L.allows _licence.now out }
         ensures same { sends_on self.new.outward ≡ sends_on self.old.outward }
         ensures given { IsTrue result → given_of (view self.new.outward_pass) ≡ given_of (view self.old.outward_pass) ++ out ∷ [] }
         ensures refused { IsFalse result → view self.new.outward_pass ≡ view self.old.outward_pass }
     {
-        message.fill(Message::Answer(out));
-        self.give(rt, Outward::Message(message))
+        message.set_answer(out);
+        self.give(rt, Outward::Answer(Answered { message }))
     }
 
-    /// Gives the seat its message with nothing in it, and waits while the channel is full. False where the channel has ended.
-    pub fn give_back<R: Wait>(&mut self, rt: &R, mut message: Box<Message>) -> bool
+    /// Gives the seat its message with nothing for it, and waits while the channel is full. False where the channel has ended.
+    pub fn give_back<R: Wait>(&mut self, rt: &R, message: Box<Message>) -> bool
         ensures same { sends_on self.new.outward ≡ sends_on self.old.outward }
         ensures none { given_of (view self.new.outward_pass) ≡ given_of (view self.old.outward_pass) }
     {
-        message.fill(Message::Empty);
-        self.give(rt, Outward::Message(message))
+        self.give(rt, Outward::Back(message))
     }
 
     /// Gives a message to the seat, and waits while the channel is full. False where the channel has ended, and then nothing was
     /// given.
-    pub fn give<R: Wait>(&mut self, rt: &R, message: Outward) -> bool
+    fn give<R: Wait>(&mut self, rt: &R, message: Outward) -> bool
         ensures same { sends_on self.new.outward ≡ sends_on self.old.outward }
         ensures given { IsTrue result → given_of (view self.new.outward_pass) ≡ given_of (view self.old.outward_pass) ++ answer_in message }
         ensures refused { IsFalse result → view self.new.outward_pass ≡ view self.old.outward_pass }

@@ -1,34 +1,30 @@
 //! What a seat does at its ends.
 
-ghost use Rattle.std.specs.Prelude.{◌≡◌, ◌++◌, [], ◌∷◌, IsTrue, IsFalse, IfNone, IfSome};
-ghost use Rattle.crossbeam_channel.specs.Claims.{view, IsSeatAt};
-ghost use Rattle.crossbeam_channel.specs.Ends.{sends_on, receives_on};
-ghost use Rattle.hall_channels.specs.MessageContents.{answer_of};
+ghost use Rattle.std.specs.Prelude.{◌≡◌, ◌++◌, [], ◌∷◌, IsTrue, IsFalse, IsSome, IfNone, IfSome};
+ghost use Rattle.crossbeam_channel.specs.Claims.{view};
 ghost use Rattle.hall_channels.specs.Inward.{from, said, sent_of};
-ghost use Rattle.hall_channels.specs.Outward.{answer_in, got_of};
-ghost use Rattle.hall_channels.specs.declared.inward.InwardView.TheVariants.{Sending};
-ghost use Rattle.hall_channels.specs.declared.outward.OutwardView.TheVariants.{Getting};
+ghost use Rattle.hall_channels.specs.Outward.{got_of};
 ghost use Rattle.hall_channels.specs.Same.{SamePort};
+ghost use Rattle.hall_channels.specs.Sound.{AreSound};
+ghost use Rattle.hall_channels.specs.Takings.{Got};
 
 use crate::inward::Puts;
-use crate::messages::{Event, Inward, Message, Outward};
+use crate::messages::{Answered, Event, Inward, Outward};
 use crate::outward::Gets;
 use crate::port::{Ends, Port, SeatEnds};
+use serve_base::Out;
 use std::sync::Wait;
-use std::{mem, thread};
+use std::thread;
 
 /// How often a seat yields to the other threads before it sleeps: the token answers meanwhile, or works for others.
 const TURNS: u32 = 40;
 
 impl Port {
-    /// A seat's ends, as they came to its thread, without its message. Both passes are of the channels of their ends, and the inward
-    /// one is of the seat's number.
+    /// A seat's ends, as they came to its thread, without its message.
     pub fn enter(ends: SeatEnds) -> Port
-        requires inward_pass { IsSeatAt (sends_on ends.inward) ends.inward_pass }
-        requires outward_pass { IsSeatAt (receives_on ends.outward) ends.outward_pass }
-        requires tells { view ends.inward_pass ≡ Sending ends.seat (sent_of (view ends.inward_pass)) }
-        requires gets { view ends.outward_pass ≡ Getting (got_of (view ends.outward_pass)) }
-        ensures { (result.seat ≡ ends.seat) × (result.inward ≡ ends.inward) × (result.inward_pass ≡ ends.inward_pass) × (result.outward ≡ ends.outward) × (result.outward_pass ≡ ends.outward_pass) }
+        requires { AreSound ends }
+        ensures same { (result.seat ≡ ends.seat) × (result.inward ≡ ends.inward) × (result.outward ≡ ends.outward) }
+        ensures passes { (result.inward_pass ≡ ends.inward_pass) × (result.outward_pass ≡ ends.outward_pass) }
     {
         let Ends {
             seat,
@@ -49,11 +45,9 @@ impl Port {
 
     /// The ends, to leave the thread with.
     pub fn leave(self) -> SeatEnds
-        ensures same { (result.seat ≡ self.seat) × (result.inward ≡ self.inward) × (result.inward_pass ≡ self.inward_pass) × (result.outward ≡ self.outward) × (result.outward_pass ≡ self.outward_pass) }
-        ensures inward_pass { IsSeatAt (sends_on result.inward) result.inward_pass }
-        ensures outward_pass { IsSeatAt (receives_on result.outward) result.outward_pass }
-        ensures tells { view result.inward_pass ≡ Sending result.seat (sent_of (view result.inward_pass)) }
-        ensures gets { view result.outward_pass ≡ Getting (got_of (view result.outward_pass)) }
+        ensures same { (result.seat ≡ self.seat) × (result.inward ≡ self.inward) × (result.outward ≡ self.outward) }
+        ensures passes { (result.inward_pass ≡ self.inward_pass) × (result.outward_pass ≡ self.outward_pass) }
+        ensures sound { AreSound result }
     {
         let Port {
             seat,
@@ -73,31 +67,30 @@ impl Port {
         }
     }
 
-    /// Puts an event of this seat in its message, and waits while the channel is full. False where the message isn't here, or the
-    /// channel has ended, and then nothing was put.
+    /// Puts an event of this seat in its message, and waits while the channel is full. False where the channel has ended, and then
+    /// nothing was put.
     pub fn put<R: Wait>(&mut self, rt: &R, event: Event) -> bool
+        requires message { IsSome self.old.message }
         ensures same { SamePort self.old self.new }
         ensures sent { IsTrue result → sent_of (view self.new.inward_pass) ≡ sent_of (view self.old.inward_pass) ++ event ∷ [] }
         ensures refused { IsFalse result → view self.new.inward_pass ≡ view self.old.inward_pass }
         ensures got { got_of (view self.new.outward_pass) ≡ got_of (view self.old.outward_pass) }
     {
-        let Some(mut message) = self.message.take() else {
-            drop(event);
-            return false;
-        };
-        message.fill(Message::Event(event));
+        let mut message = self.message.take().unwrap();
+        message.set_event(event);
         let seat = self.seat;
         self.send(rt, Inward::Put { seat, message })
     }
 
-    /// Puts the mark that this seat puts no more, and waits while the channel is full. False where the channel has ended.
-    pub fn end<R: Wait>(&mut self, rt: &R) -> bool
+    /// Puts the mark that this seat puts no more, and whether it had no more. It waits while the channel is full. False where the
+    /// channel has ended.
+    pub fn end<R: Wait>(&mut self, rt: &R, whole: bool) -> bool
         ensures same { SamePort self.old self.new }
         ensures sent { sent_of (view self.new.inward_pass) ≡ sent_of (view self.old.inward_pass) }
         ensures got { got_of (view self.new.outward_pass) ≡ got_of (view self.old.outward_pass) }
     {
         let seat = self.seat;
-        self.send(rt, Inward::End { seat })
+        self.send(rt, Inward::End { seat, whole })
     }
 
     /// Puts a message of this seat, and waits while the channel is full. False where the channel has ended, and then nothing was
@@ -115,43 +108,47 @@ impl Port {
             .is_some()
     }
 
-    /// Gets the message back, and takes out what it has. It waits: first it yields, and then it sleeps. None where the seat is to
-    /// stop, or the channel has ended, and then no answer was got.
-    pub fn get<R: Wait>(&mut self, rt: &R) -> Option<Message>
+    /// Gets the message back with an answer, which is taken out. It waits: first it yields, and then it sleeps. None where the
+    /// message has no answer, the seat is to stop, or the channel has ended.
+    pub fn get<R: Wait>(&mut self, rt: &R) -> Option<Out>
         ensures same { SamePort self.old self.new }
         ensures sent { sent_of (view self.new.inward_pass) ≡ sent_of (view self.old.inward_pass) }
-        ensures none { IfNone result (got_of (view self.new.outward_pass) ≡ got_of (view self.old.outward_pass)) }
-        ensures got { IfSome result (λ l. got_of (view self.new.outward_pass) ≡ got_of (view self.old.outward_pass) ++ answer_of l) }
+        ensures got { IfSome result (λ o. got_of (view self.new.outward_pass) ≡ got_of (view self.old.outward_pass) ++ o ∷ []) }
+        ensures message { IfSome result (λ _. IsSome self.new.message) }
     {
         match self.receive(rt) {
-            None | Some(Outward::Stop) => None,
-            Some(Outward::Message(mut message)) => {
-                let held = mem::replace(&mut *message, Message::Empty);
+            Some(Outward::Answer(answered)) => {
+                let Answered { mut message } = answered;
+                let out = message.take_answer();
                 self.message = Some(message);
-                Some(held)
+                Some(out)
             }
+            Some(other) => {
+                drop(other);
+                None
+            }
+            None => None,
         }
     }
 
-    /// Gets the message back with nothing in it. False where it has an answer, the seat is to stop, or the channel has ended.
-    pub fn get_empty<R: Wait>(&mut self, rt: &R) -> bool
+    /// Gets the message with nothing for this seat: it may begin, or its disconnect was taken. False where the message has an
+    /// answer, the seat is to stop, or the channel has ended.
+    pub fn get_back<R: Wait>(&mut self, rt: &R) -> bool
         ensures same { SamePort self.old self.new }
         ensures sent { sent_of (view self.new.inward_pass) ≡ sent_of (view self.old.inward_pass) }
         ensures got { IsTrue result → got_of (view self.new.outward_pass) ≡ got_of (view self.old.outward_pass) }
+        ensures message { IsTrue result → IsSome self.new.message }
     {
-        let Some(held) = self.get(rt) else {
-            return false;
-        };
-        match held {
-            Message::Empty => true,
-            Message::Event(event) => {
-                drop(event);
+        match self.receive(rt) {
+            Some(Outward::Back(message)) => {
+                self.message = Some(message);
+                true
+            }
+            Some(other) => {
+                drop(other);
                 false
             }
-            Message::Answer(out) => {
-                drop(out);
-                false
-            }
+            None => false,
         }
     }
 
@@ -160,8 +157,7 @@ impl Port {
     fn receive<R: Wait>(&mut self, rt: &R) -> Option<Outward>
         ensures same { SamePort self.old self.new }
         ensures sent { sent_of (view self.new.inward_pass) ≡ sent_of (view self.old.inward_pass) }
-        ensures none { IfNone result (view self.new.outward_pass ≡ view self.old.outward_pass) }
-        ensures got { IfSome result (λ x. got_of (view self.new.outward_pass) ≡ got_of (view self.old.outward_pass) ++ answer_in x) }
+        ensures got { Got (view self.old.outward_pass) result (view self.new.outward_pass) }
     {
         match self.get_patiently(rt) {
             Some(x) => Some(x),
@@ -174,8 +170,7 @@ impl Port {
     fn wait<R: Wait>(&mut self, rt: &R) -> Option<Outward>
         ensures same { SamePort self.old self.new }
         ensures sent { sent_of (view self.new.inward_pass) ≡ sent_of (view self.old.inward_pass) }
-        ensures none { IfNone result (view self.new.outward_pass ≡ view self.old.outward_pass) }
-        ensures got { IfSome result (λ x. got_of (view self.new.outward_pass) ≡ got_of (view self.old.outward_pass) ++ answer_in x) }
+        ensures got { Got (view self.old.outward_pass) result (view self.new.outward_pass) }
     {
         self.outward
             .recv_as::<Gets, R>(rt, &mut self.outward_pass)
@@ -186,8 +181,7 @@ impl Port {
     fn get_patiently<R: Wait>(&mut self, rt: &R) -> Option<Outward>
         ensures same { SamePort self.old self.new }
         ensures sent { sent_of (view self.new.inward_pass) ≡ sent_of (view self.old.inward_pass) }
-        ensures none { IfNone result (view self.new.outward_pass ≡ view self.old.outward_pass) }
-        ensures got { IfSome result (λ x. got_of (view self.new.outward_pass) ≡ got_of (view self.old.outward_pass) ++ answer_in x) }
+        ensures got { Got (view self.old.outward_pass) result (view self.new.outward_pass) }
     {
         'turns: for _ in 0..TURNS {
             if let Some(x) = self.try_get(rt) {
@@ -202,8 +196,7 @@ impl Port {
     fn try_get<R: Wait>(&mut self, rt: &R) -> Option<Outward>
         ensures same { SamePort self.old self.new }
         ensures sent { sent_of (view self.new.inward_pass) ≡ sent_of (view self.old.inward_pass) }
-        ensures none { IfNone result (view self.new.outward_pass ≡ view self.old.outward_pass) }
-        ensures got { IfSome result (λ x. got_of (view self.new.outward_pass) ≡ got_of (view self.old.outward_pass) ++ answer_in x) }
+        ensures got { Got (view self.old.outward_pass) result (view self.new.outward_pass) }
     {
         self.outward
             .try_recv_as::<Gets, R>(rt, &mut self.outward_pass)

@@ -14,7 +14,7 @@ use crate::outward::{OutwardRule, OutwardView};
 use crossbeam_channel::{Pass, RuledReceiver, RuledSender};
 
 /// The ends of one seat: it puts events before the token, and gets answers. Its passes know what it put and what it got. It has
-/// its message once it may begin, except while that is with the token.
+/// its message once it may begin, except while that is with the token: so who has it may begin.
 #[derive(Drop)]
 pub struct Port {
     pub seat: u64,

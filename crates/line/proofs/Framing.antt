@@ -18,14 +18,10 @@ use Rattle.ck_calls.specs.declared.reply.Reply.{Reply}
 use Rattle.ck_calls.specs.declared.reply.Reply.TheVariants as replies
 use Rattle.ck_calls.specs.Functions.{function_number}
 use Rattle.ck_calls.specs.Fields.{token_info_counts, HasLength, encode_value, attribute_value}
-use Rattle.wire.specs.declared.fault.WireFault.{WireFault}
-use Rattle.wire.specs.declared.fault.WireFault.TheVariants as faults
-use Rattle.wire.specs.Messages.{most, HasFrame, Writes}
+use Rattle.wire.specs.Messages.{most, HasFrame}
 use Rattle.wire.specs.Requests.{data_fields}
 use Rattle.wire.specs.Replies.{reply_payload, Fits-reply, IsWithinLimits, HasReplyFrame}
 use Rattle.serve_base.specs.Short.{IsCodeOfValues, IsShortValue, IsShort, IsShortData, IsShortCall}
-use Rattle.line.specs.declared.fault.LineFault.{LineFault}
-use Rattle.line.specs.Lines.{refusal_of}
 
 -- ---- calls
 
@@ -99,21 +95,3 @@ payload-length (replies.Random bytes) short fits = omega (arith, short)
 
 pub short-framed : (reply : Reply) → (IsWithinLimits reply → Fits-reply reply) → IsShort reply → HasReplyFrame reply
 short-framed reply fits short = let each = fits (within reply short) in (each, payload-length reply short each)
-
--- a writer of replies that have a frame ends by allocation failure alone
-pub no-other-fault : (reply : Reply) (fault : WireFault) → Writes (reply_payload reply) (Fits-reply reply) (Err fault) → HasReplyFrame reply → fault ≡ faults.Memory
-no-other-fault reply faults.TooLong writes has = absurd (omega (arith, writes, has.1))
-no-other-fault reply faults.Malformed writes has = absurd (writes.0 has.0)
-no-other-fault reply faults.UnknownFunction writes has = absurd writes
-no-other-fault reply faults.Memory writes has = refl
-
--- the code that what is no call is answered
-short-refusal : (fault : WireFault) → IsShort (refusal_of fault)
-short-refusal faults.UnknownFunction = tt
-short-refusal faults.Malformed = tt
-short-refusal faults.TooLong = tt
-short-refusal faults.Memory = tt
-
-pub short-refused : (fault : WireFault) (r : Result Reply LineFault) → IfOk r (λ reply. reply ≡ refusal_of fault) → IfOk r IsShort
-short-refused fault (Ok reply) is = subst IsShort (sym is) (short-refusal fault)
-short-refused fault (Err why) is = tt

@@ -8,7 +8,8 @@ use Rattle.model_worlds.specs.declared.event.Event.TheVariants.{Gone}
 use Rattle.model_worlds.specs.Worlds.{World, goes, after}
 use Rattle.token.specs.States.{HasJobs, TokenState, Shows, Lasting, MayLeave, AccountsFor}
 use Rattle.serve_base.specs.Stores.{StoreState}
-use Rattle.line.specs.Lines.{Message, Leads, LeadsAway}
+use Rattle.line.specs.Turns.{Message}
+use Rattle.line.specs.Lines.{Leads, LeadsAway}
 use Rattle.line.proofs.Moving.{Idle, idle, no_jobs}
 
 -- a disconnect leaves no pending call

@@ -1,5 +1,6 @@
 -- What a token becomes by one message, and by more.
-use Rattle.std.proofs.Common.{◌≡◌, ◌≢◌, ℕ, ◌+◌, ◌≤◌, List, [], ◌∷◌, ◌++◌, length, None, Result, Ok, Err, IfOk, OnOk, refl, sym, ◌∙◌, ap, subst, append_assoc, arith}
+use Rattle.std.proofs.Common.{◌≡◌, ℕ, ◌+◌, ◌≤◌, List, [], ◌∷◌, ◌++◌, map, length, None, Ok, Err, refl, sym, ◌∙◌, ap, subst, append_assoc, arith}
+use Rattle.std.specs.List.{AllByRecursion}
 use Rattle.std.proofs.lemmas.List.{length-append}
 use Rattle.rand_chacha.specs.ChaCha.{ChaCha}
 use Rattle.ck_calls.specs.declared.call.Call.{Call as CallType}
@@ -8,14 +9,15 @@ use Rattle.ck_calls.specs.Need.{random_bytes}
 use Rattle.keep.specs.Keeping.{Terms}
 use Rattle.wire.specs.declared.fault.WireFault.{WireFault}
 use Rattle.wire.specs.declared.fault.WireFault.TheVariants as faults
-use Rattle.wire.specs.Messages.{Reads}
+use Rattle.wire.specs.Messages.{call_in}
 use Rattle.model_views.specs.Refusals.{resource_error}
 use Rattle.model_worlds.specs.Worlds.{World, after}
 use Rattle.token.specs.States.{HasJobs, TokenState, Shows, MayLeave, AccountsFor}
 use Rattle.token.proofs.States.{accounts-none, accounts-more, accounts-plain}
-use Rattle.line.specs.declared.fault.LineFault.{LineFault}
 use Rattle.line.specs.Words.{taken}
-use Rattle.line.specs.Lines.{Message, Calls, Finishes, acts_of, words_past, acts, words_after, refusal_of, calls_in, answers, Moved, Leads}
+use Rattle.line.specs.Turns.{Message, messages, words_past, words_after, refusal_of, refusal_in}
+use Rattle.line.specs.Connecting.{IsNoCall}
+use Rattle.line.specs.Lines.{Calls, Finishes, acts_of, acts, calls_in, answers, Moved, Leads}
 use Rattle.line.proofs.Moving.{moved-none, moved-then}
 
 -- ---- messages after messages
@@ -110,10 +112,9 @@ module _ {K : Type 0} (terms : Terms K) (app : ℕ) where
         };
   }
 
--- what is known of a payload that is no call is known of the reply to it
-pub if-refusal : {X : Type 0} (P : Reply → Type 0) (fault : WireFault) (read : Result X WireFault) (r : Result Reply LineFault) → Reads (Err fault) read → IfOk r (λ reply. reply ≡ refusal_of fault) → OnOk r (fault ≢ faults.Memory) → (read ≡ Err fault → P (refusal_of fault)) → IfOk r P
-if-refusal P fault read (Err why) exact is told p = tt
-if-refusal P faults.Memory read (Ok reply) exact is told p = absurd (told refl)
-if-refusal P faults.UnknownFunction read (Ok reply) exact is told p = subst P (sym is) (p exact)
-if-refusal P faults.Malformed read (Ok reply) exact is told p = subst P (sym is) (p exact)
-if-refusal P faults.TooLong read (Ok reply) exact is told p = subst P (sym is) (p exact)
+  -- payloads that are no calls
+  pub leads-refusals : (t : TokenState K) (words : ChaCha) (ps : List (List ℕ)) → AllByRecursion IsNoCall ps → Leads terms app t t words words (messages ps) (map (λ p. refusal_in (call_in p)) ps)
+  leads-refusals t words [] each = leads-none t words
+  leads-refusals t words (p ∷ ps) each = leads-then t t t words words words (call_in p ∷ []) (messages ps) (refusal_in (call_in p) ∷ []) (map (λ q. refusal_in (call_in q)) ps)
+      (subst (λ (reply : Reply). Leads terms app t t words words (call_in p ∷ []) (reply ∷ [])) (sym (ap refusal_in each.0.1.1)) (leads-refusal t words (call_in p) each.0.1.0 each.0.1.1))
+      (leads-refusals t words ps each.1)

@@ -9,15 +9,30 @@ use Rattle.ck_calls.specs.declared.reply.Reply.{Reply}
 use Rattle.model_views.specs.declared.fault.Fault.{Fault}
 use Rattle.model_worlds.specs.declared.event.Event.TheVariants.{Call, Finish}
 use Rattle.serve_base.specs.declared.out.Out.TheVariants.{Reply as OutReply}
-use Rattle.model_views.specs.Views.{Question}
-use Rattle.model_views.specs.Answering.{Said, Replies, Asks}
+use Rattle.model_views.specs.Views.{View, Question}
+use Rattle.model_views.specs.Answering.{Said, Replies, Asks, Reveal}
 use Rattle.model_views.specs.Refusals.{resource_error}
 use Rattle.model_worlds.specs.Worlds.{World, value_of, Move, Goes, Refuses, event_of, reveal_to_call, reveal_to_task, answer_at, result_at, change_for, called, says_called, told, refused, finish_refused, finished, happens, reply_to, after, replies}
 use Rattle.token.specs.States.{move_of, moved, HasJobs, Lasting, LeavesBy, LeftBy, LeftAfter, call_change}
 use Rattle.line.specs.Lines.{Act, Calls, Finishes, act_of, Moved}
-use Rattle.model_answers.proofs.Proper.{over-result}
+use Rattle.model_views.proofs.Blind.{Leaves}
+use Rattle.model_answers.specs.Answers.{answer}
+use Rattle.model_answers.proofs.Proper.{over-result, leaves-answer as token_leaves}
 use Rattle.model_worlds.proofs.Tries.{seen-question}
-use Rattle.line.proofs.Questions.{left_by, leaves-answer}
+
+-- ---- the pending call of an application, over every answer
+
+-- a reply leaves the pending call as it was, and a call that returns a job is pending
+abbrev left_by : Said → Option Question → Option Question
+left_by (Replies reply) old = old
+left_by (Asks question) old = Some question
+
+left : (s : Said) (old new : Option Question) → Leaves old s new → new ≡ left_by s old
+left (Replies reply) old new is = is
+left (Asks question) old new is = is
+
+leaves-answer : (v : View) (c : CallType) (random : List ℕ) (r : Reveal) → (answer v c random r).view.question ≡ left_by (answer v c random r).says v.question
+leaves-answer v c random r = left (answer v c random r).says v.question (answer v c random r).view.question (token_leaves v c random r)
 
 -- ---- no call is pending
 

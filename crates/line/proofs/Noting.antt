@@ -2,10 +2,7 @@
 use Rattle.std.proofs.Common.{◌≡◌, ℕ, ◌+◌, Bool, true, IsTrue, Err, refl, ◌∙◌, subst, arith, inl, inr}
 use Rattle.std.specs.declared.io.Error.{Error}
 use Rattle.keep.specs.Keeping.{Rises}
-use Rattle.line.specs.declared.fault.LineFault.{LineFault}
-use Rattle.line.specs.declared.fault.LineFault.TheVariants as faults
-use Rattle.line.specs.Noting.{Noting, IsInterruption, Passes, Slips, Unfailing, HasFailed}
-use Rattle.line.specs.Serve.{WritesBy}
+use Rattle.line.specs.Noting.{Noting, IsInterruption, Passes, Slips, Unfailing, Settles, HasFailed}
 
 -- so many calls, none of which failed
 pub record Made {T : Type 0} (turns : ℕ) (old new : Noting T) : Type 0 where
@@ -33,11 +30,11 @@ failed-after a b c p (inr many) = inr (omega (arith, p.calls, many))
 pub passed : {T : Type 0} (a b : Noting T) (error : Error) (told : Bool) → (IsTrue told → IsInterruption error) × (IsInterruption error → IsTrue told) → told ≡ true → (IsInterruption error → Passes a b) × ((¬ IsInterruption error) → Slips a b) → Passes a b
 passed a b error told says is n = n.0 (says.0 is)
 
--- ---- the end of a line
+pub settles-none : {T : Type 0} (a : Noting T) → Settles a a
+settles-none a = record { calls = omega arith; failures = refl; flushed = λ none. none }
 
-pub writes-after : (U V : Type 0) {T : Type 0} (a b c : Noting T) (e : LineFault) → Unfailing a b → WritesBy {U = U} b c (Err e) → WritesBy {U = V} a c (Err e)
-writes-after U V a b c faults.Read p q = unfailing-then a b c p q
-writes-after U V a b c faults.Write p q = failed-after a b c p q
-writes-after U V a b c faults.TooLong p q = unfailing-then a b c p q
-writes-after U V a b c faults.Cut p q = unfailing-then a b c p q
-writes-after U V a b c faults.Memory p q = unfailing-then a b c p q
+pub settles-then : {T : Type 0} (a b c : Noting T) → Settles a b → Settles b c → Settles a c
+settles-then a b c p q = record { calls = omega (arith, p.calls, q.calls); failures = q.failures ∙ p.failures; flushed = λ none. q.flushed (p.flushed none) }
+
+pub settles-unfailing : {T : Type 0} (a b : Noting T) → Settles a b → Unfailing a b
+settles-unfailing a b p = record { calls = p.calls; failures = p.failures }

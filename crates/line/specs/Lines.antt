@@ -1,29 +1,16 @@
--- What a line does with the messages that it reads, and what it answers. The frames and their payloads are this project's. A
--- call is one of the functions of PKCS #11 v3.1, 5. A message that is no call is answered by a code of 5.1:
--- CKR_FUNCTION_NOT_SUPPORTED for a function that isn't known, and CKR_ARGUMENTS_BAD for any other.
-use Rattle.std.specs.Prelude.{◌≡◌, ℕ, ◌+◌, ◌≤◌, List, [], ◌∷◌, ◌++◌, map, length, Option, Result, Ok, Err}
+-- What a line does with the messages that it reads, and what it answers.
+use Rattle.std.specs.Prelude.{◌≡◌, ℕ, ◌+◌, ◌≤◌, List, [], ◌∷◌, ◌++◌, map, length, Option, Ok, Err}
 use Rattle.rand_chacha.specs.ChaCha.{ChaCha}
-use Rattle.ck_types.specs.declared.rv.Rv.TheVariants.{ArgumentsBad, FunctionNotSupported}
 use Rattle.ck_calls.specs.declared.call.Call.{Call as CallType}
 use Rattle.ck_calls.specs.declared.reply.Reply.{Reply}
-use Rattle.ck_calls.specs.declared.reply.Reply.TheVariants.{Code}
 use Rattle.ck_calls.specs.Need.{random_bytes}
 use Rattle.keep.specs.Keeping.{Terms}
-use Rattle.wire.specs.declared.fault.WireFault.{WireFault}
-use Rattle.wire.specs.declared.fault.WireFault.TheVariants as faults
-use Rattle.wire.specs.Messages.{call_in}
 use Rattle.model_worlds.specs.declared.event.Event.{Event}
 use Rattle.model_worlds.specs.declared.event.Event.TheVariants.{Call, Finish, Gone}
 use Rattle.model_worlds.specs.Worlds.{World, Move, event_of, goes, after, replies}
 use Rattle.token.specs.States.{HasJobs, TokenState, Shows, Lasting, MayLeave, LeftAfter, AccountsFor}
 use Rattle.line.specs.Words.{taken}
-
--- a message is what a payload says: a call, or why it is none
-abbrev pub Message : Type 0
-Message = Result CallType WireFault
-
-abbrev pub messages : List (List ℕ) → List Message
-messages payloads = map call_in payloads
+use Rattle.line.specs.Turns.{Message, words_past, words_after, refusal_of}
 
 -- ---- what is done
 
@@ -44,26 +31,12 @@ abbrev pub acts_of : ℕ → ChaCha → Message → List (ℕ × Act)
 acts_of app words (Ok call) = (app, Calls call (taken (random_bytes call) words).0) ∷ (app, Finishes) ∷ []
 acts_of app words (Err fault) = []
 
-abbrev pub words_past : ChaCha → Message → ChaCha
-words_past words (Ok call) = (taken (random_bytes call) words).1
-words_past words (Err fault) = words
-
 -- and messages in turn
 abbrev pub acts : ℕ → ChaCha → List Message → List (ℕ × Act)
 acts app words [] = []
 acts app words (m ∷ ms) = acts_of app words m ++ acts app (words_past words m) ms
 
-abbrev pub words_after : ChaCha → List Message → ChaCha
-words_after words [] = words
-words_after words (m ∷ ms) = words_after (words_past words m) ms
-
 -- ---- what is answered
-
-abbrev pub refusal_of : WireFault → Reply
-refusal_of faults.UnknownFunction = Code FunctionNotSupported
-refusal_of faults.Malformed = Code ArgumentsBad
-refusal_of faults.TooLong = Code ArgumentsBad
-refusal_of faults.Memory = Code ArgumentsBad
 
 abbrev pub calls_in : List Message → ℕ
 calls_in [] = 0

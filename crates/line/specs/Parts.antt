@@ -1,49 +1,50 @@
 -- The parts of a line.
-use Rattle.std.specs.Prelude.{◌≡◌, ℕ, ◌≤◌, List, ◌++◌, length, false, Option, Result, Ok, Err}
-use Rattle.std.specs.List.{flat_map, AllByRecursion}
-use Rattle.std.specs.Io.KnownBytes.{Appends}
-use Rattle.ck_calls.specs.declared.reply.Reply.{Reply}
-use Rattle.wire.specs.Messages.{frame, most}
-use Rattle.wire.specs.Stream.{Held, IsPartial, IsTooLong}
+use Rattle.std.specs.Prelude.{◌≡◌, ℕ, List, [], ◌∷◌, Option, Some, None, Result, Ok, Err}
+use Rattle.rand_chacha.specs.ChaCha.{ChaCha}
+use Rattle.keep.specs.Keeping.{Terms}
+use Rattle.token.specs.States.{TokenState}
+use Rattle.line.specs.declared.ending.Ending.{Ending}
+use Rattle.line.specs.declared.ending.Ending.TheVariants as endings
 use Rattle.line.specs.declared.fault.LineFault.{LineFault}
 use Rattle.line.specs.declared.fault.LineFault.TheVariants as faults
-use Rattle.line.specs.Lines.{Message, messages}
-use Rattle.line.specs.Serve.{reply_frame, IsWritten, counted}
+use Rattle.line.specs.Noting.{Noting}
+use Rattle.line.specs.State.{Connected}
+use Rattle.line.specs.Lines.{Leads}
+use Rattle.line.specs.Serve.{Serves, ReadsBy, WritesBy}
 
--- a writer took the first of the bytes, and no others
-pub record TakesPart (old new : Option (List ℕ)) (bytes : List ℕ) : Type 0 where
-  pub part : List ℕ
-  pub lacking : List ℕ
-  pub all : bytes ≡ part ++ lacking
-  pub wrote : Appends old new part
+-- a connection of which nothing was read yet
+pub record IsFresh (c : Connected) : Type 0 where
+  pub held : c.held ≡ []
+  pub read : c.read ≡ []
+  pub written : c.written ≡ []
+  pub pending : c.pending ≡ []
+  pub answered : c.answered ≡ 0
+  pub going : c.ended ≡ None
 
--- a writer was given a reply to write
-abbrev pub Sends : {U : Type 0} → Option (List ℕ) → Option (List ℕ) → Reply → Result U LineFault → Type 0
-Sends old new reply (Ok done) = Appends old new (reply_frame reply)
-Sends old new reply (Err faults.Write) = TakesPart old new (reply_frame reply)
-Sends old new reply (Err faults.Read) = ⊥
-Sends old new reply (Err faults.TooLong) = ⊥
-Sends old new reply (Err faults.Cut) = ⊥
-Sends old new reply (Err faults.Memory) = new ≡ old
+-- how a line ends whose connection ends so
+abbrev pub outcome_of : Ending → ℕ → Result ℕ LineFault
+outcome_of endings.Closed count = Ok count
+outcome_of endings.Cut count = Err faults.Cut
+outcome_of endings.TooLong count = Err faults.TooLong
+outcome_of (endings.Read error) count = Err faults.Read
+outcome_of (endings.Write error) count = Err faults.Write
+outcome_of endings.Memory count = Err faults.Memory
+outcome_of endings.Reply count = Err faults.Memory
 
--- why the answering ended, by what is left of the stream
-abbrev pub RestsBy : {U : Type 0} → Result U LineFault → ℕ → ℕ → List (List ℕ) → List ℕ → Held → Type 0
-RestsBy (Ok done) count_old count_new payloads rest held = (rest ≡ held.bytes) × (held.failed ≡ false) × IsPartial held.bytes × (count_new ≡ counted count_old (length payloads))
-RestsBy (Err faults.Write) count_old count_new payloads rest held = Unit {0}
-RestsBy (Err faults.Memory) count_old count_new payloads rest held = Unit {0}
-RestsBy (Err faults.TooLong) count_old count_new payloads rest held = IsTooLong rest
-RestsBy (Err faults.Read) count_old count_new payloads rest held = ⊥
-RestsBy (Err faults.Cut) count_old count_new payloads rest held = ⊥
+-- why it ends at a connection that took a reply, if it does
+abbrev pub fault_at : Option Ending → List ℕ → Option LineFault
+fault_at (Some (endings.Write error)) pending = Some faults.Write
+fault_at (Some _) pending = Some faults.Memory
+fault_at None [] = None
+fault_at None (byte ∷ pending) = Some faults.Write
 
--- the payloads at the front of what is held were answered in order
-pub record Answers {U : Type 0} (leads : List Message → List Reply → Type 0) (held_old held_new : Held) (count_old count_new : ℕ) (write_old write_new : Option (List ℕ)) (r : Result U LineFault) : Type 0 where
-  pub payloads : List (List ℕ)
-  pub rest : List ℕ
-  pub said : List Reply
-  pub written : List ℕ
-  pub each : AllByRecursion (λ p. length p ≤ most) payloads
-  pub read : held_old.bytes ≡ flat_map frame payloads ++ rest
-  pub wrote : Appends write_old write_new written
-  pub front : IsWritten r written said
-  pub led : leads (messages payloads) said
-  pub ends : RestsBy r count_old count_new payloads rest held_new
+-- and where nothing came
+abbrev pub block_at : List ℕ → LineFault
+block_at [] = faults.Read
+block_at (byte ∷ pending) = faults.Write
+
+-- a line that ended
+pub record Ends {R W K : Type 0} (terms : Terms K) (app : ℕ) (t t' : TokenState K) (k k' : ChaCha) (remaining : R → Option (List ℕ)) (contents : W → Option (List ℕ)) (r r' : Noting R) (w w' : Noting W) (result : Result ℕ LineFault) : Type 0 where
+  pub serves : Serves (Leads terms app t t' k k') (remaining r.inner) (remaining r'.inner) (contents w.inner) (contents w'.inner) result
+  pub reads : ReadsBy r r' result
+  pub writes : WritesBy w w' result

@@ -4,17 +4,14 @@ use Rattle.std.specs.List.{flat_map, AllByRecursion}
 use Rattle.std.specs.Io.KnownBytes.{Appends, Consumes, IsAtEnd}
 use Rattle.ck_calls.specs.declared.reply.Reply.{Reply}
 use Rattle.wire.specs.Messages.{frame, most}
-use Rattle.wire.specs.Replies.{reply_payload, HasReplyFrame}
+use Rattle.wire.specs.Replies.{HasReplyFrame}
 use Rattle.wire.specs.Stream.{IsPartial, IsTooLong}
 use Rattle.line.specs.declared.fault.LineFault.{LineFault}
 use Rattle.line.specs.declared.fault.LineFault.TheVariants as faults
-use Rattle.line.specs.Lines.{Message, messages}
-use Rattle.line.specs.Noting.{Noting, Unfailing, HasFailed}
+use Rattle.line.specs.Turns.{Message, messages, reply_frame}
+use Rattle.line.specs.Noting.{Noting, Unfailing, Settles, HasFailed}
 
 -- ---- what is written
-
-abbrev pub reply_frame : Reply → List ℕ
-reply_frame reply = frame (reply_payload reply)
 
 -- the frames of the replies, in order
 pub record AreFrames (written : List ℕ) (said : List Reply) : Type 0 where
@@ -76,14 +73,15 @@ ReadsBy old new (Err faults.TooLong) = Unfailing old new
 ReadsBy old new (Err faults.Cut) = Unfailing old new
 ReadsBy old new (Err faults.Memory) = Unfailing old new
 
--- by what the writer counted: `Write` comes where it failed, and no failure is passed over
+-- By what the writer counted: `Write` comes where it failed, and no failure is passed over. Else all that was written was flushed,
+-- where all was before.
 abbrev pub WritesBy : {T U : Type 0} → Noting T → Noting T → Result U LineFault → Type 0
-WritesBy old new (Ok done) = Unfailing old new
-WritesBy old new (Err faults.Read) = Unfailing old new
+WritesBy old new (Ok done) = Settles old new
+WritesBy old new (Err faults.Read) = Settles old new
 WritesBy old new (Err faults.Write) = HasFailed old new
-WritesBy old new (Err faults.TooLong) = Unfailing old new
-WritesBy old new (Err faults.Cut) = Unfailing old new
-WritesBy old new (Err faults.Memory) = Unfailing old new
+WritesBy old new (Err faults.TooLong) = Settles old new
+WritesBy old new (Err faults.Cut) = Settles old new
+WritesBy old new (Err faults.Memory) = Settles old new
 
 -- What was read is the frames of payloads and a rest. What was written is the frames of the replies to these payloads, in order,
 -- as far as it came; `leads` says that these are the replies.

@@ -3,7 +3,7 @@
 ghost use Rattle.std.specs.Prelude.{◌≡◌, ◌≢◌, IfErr, IfOk, OnOk};
 ghost use Rattle.wire.specs.declared.fault.WireFault.TheVariants as wire_faults;
 ghost use Rattle.line.specs.declared.fault.LineFault.TheVariants.{Memory};
-ghost use Rattle.line.specs.Lines.{refusal_of};
+ghost use Rattle.line.specs.Turns.{refusal_of};
 
 use crate::fault::LineFault;
 use ck_calls::Reply;

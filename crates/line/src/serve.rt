@@ -1,102 +1,29 @@
 //! Answers the frames of a reader to a writer.
 
-ghost use Rattle.std.specs.Prelude.{◌≡◌, ◌==◌, ◌≤◌, ◌∷◌, [], ℕ, IfErr, IfOk, OnOk, false, length};
-ghost use Rattle.std.specs.Io.KnownBytes.{Appends, Keeps};
+ghost use Rattle.std.specs.Prelude.{◌≡◌, ◌≤◌, ◌∷◌, [], length};
 ghost use Rattle.ck_calls.specs.Need.{random_bytes};
 ghost use Rattle.model_worlds.specs.Worlds.{World};
 ghost use Rattle.token.specs.States.{HasJobs, Shows, AccountsFor, MayLeave};
 ghost use Rattle.serve_base.specs.Short.{IsShort, IsShortCall};
-ghost use Rattle.wire.specs.Messages.{call_in};
-ghost use Rattle.wire.specs.Replies.{HasReplyFrame};
-ghost use Rattle.line.specs.declared.fault.LineFault.TheVariants.{Memory};
-ghost use Rattle.line.specs.Lines.{Calls, Finishes, Leads, LeadsAway, Moved};
-ghost use Rattle.line.specs.Noting.{HasFailed, Unfailing};
-ghost use Rattle.line.specs.Parts.{Answers, Sends, TakesPart};
+ghost use Rattle.line.specs.Lines.{Calls, Finishes, LeadsAway, Moved};
 ghost use Rattle.line.specs.Serve.{ReadsBy, Serves, WritesBy};
+ghost use Rattle.line.specs.Parts.{Ends, IsFresh, block_at, fault_at, outcome_of};
 
+use crate::connection::Connection;
+use crate::ending::Ending;
 use crate::fault::LineFault;
-use crate::refusal::reply_to_fault;
-use crate::watched::{Watched, is_interrupted};
+use crate::next::Next;
+use crate::watched::Watched;
 use crate::words::Words;
-use ck_calls::{Call, Reply, need};
+use ck_calls::{Call, Reply};
 use keep::Keep;
 use std::alloc::Global;
 use std::io::{Read, Write};
+use std::mem;
 use token::{Out, Token};
-use wire::{FrameReader, WireFault, read_call, write_reply};
 
 /// How many bytes are read at once.
 const PIECE_LEN: usize = 4096;
-
-/// Writes all of the bytes, by up to 2^64 - 1 writes; one that was interrupted counts. On a fault the
-/// first of the bytes were written, and no others.
-fn write_out<W: Write>(writer: &mut Watched<W>, bytes: &[u8]) -> Result<(), LineFault>
-    ensures ok { OnOk result (Appends (W.contents writer.old.inner) (W.contents writer.new.inner) bytes.now × Unfailing writer.old writer.new) }
-    ensures err { IfErr result (λ fault. (fault ≡ LineFault.Write) × TakesPart (W.contents writer.old.inner) (W.contents writer.new.inner) bytes.now × HasFailed writer.old writer.new) }
-{
-    let mut rest = bytes;
-    'rest: for _turn in 0..u64::MAX {
-        if rest.is_empty() {
-            return Ok(());
-        }
-        match writer.write(rest) {
-            Ok(0) => return Err(LineFault::Write),
-            Ok(count) => {
-                let (_, after) = rest.split_at(count);
-                rest = after;
-            }
-            Err(error) => {
-                if !is_interrupted(&error) {
-                    return Err(LineFault::Write);
-                }
-            }
-        }
-    }
-    Err(LineFault::Write)
-}
-
-/// Flushes what was written, by up to 2^64 - 1 flushes; one that was interrupted counts.
-fn flush_out<W: Write>(writer: &mut Watched<W>) -> Result<(), LineFault>
-    ensures bytes { Keeps (W.contents writer.old.inner) (W.contents writer.new.inner) }
-    ensures ok { OnOk result (Unfailing writer.old writer.new) }
-    ensures err { IfErr result (λ fault. (fault ≡ LineFault.Write) × HasFailed writer.old writer.new) }
-{
-    'flushes: for _turn in 0..u64::MAX {
-        match writer.flush() {
-            Ok(()) => return Ok(()),
-            Err(error) => {
-                if !is_interrupted(&error) {
-                    return Err(LineFault::Write);
-                }
-            }
-        }
-    }
-    Err(LineFault::Write)
-}
-
-/// Writes the frame of a reply, and flushes it. A short reply has a frame.
-fn send<W: Write>(alloc: Global, writer: &mut Watched<W>, reply: &Reply) -> Result<(), LineFault>
-    requires { IsShort reply.now }
-    ensures framed { HasReplyFrame reply.now }
-    ensures sends { Sends (W.contents writer.old.inner) (W.contents writer.new.inner) reply.now result }
-    ensures writes { WritesBy writer.old writer.new result }
-{
-    let frame = match write_reply(alloc, reply) {
-        Ok(frame) => frame,
-        Err(fault) => match fault {
-            WireFault::Memory => return Err(LineFault::Memory),
-            _ => unreachable!(),
-        },
-    };
-    match write_out(writer, &frame) {
-        Ok(()) => {}
-        Err(_) => return Err(LineFault::Write),
-    }
-    match flush_out(writer) {
-        Ok(()) => Ok(()),
-        Err(_) => Err(LineFault::Write),
-    }
-}
 
 /// The reply to a call; the job that it returns is run at once.
 fn answer_call<K: Keep>(
@@ -120,64 +47,78 @@ fn answer_call<K: Keep>(
     }
 }
 
-/// The reply to a payload.
-fn answer<K: Keep>(
-    alloc: Global,
-    token: &mut Token<K>,
-    app: u64,
-    words: &mut Words,
-    payload: &[u8],
-) -> Result<Reply, LineFault>
-    ensures ok { IfOk result (λ reply. Leads K.terms app token.old token.new words.old words.new (call_in payload.now ∷ []) (reply ∷ [])) }
-    ensures short { IfOk result IsShort }
-    ensures err { IfErr result (λ fault. (fault ≡ Memory) × (token.new ≡ token.old) × (words.new ≡ words.old)) }
+/// How a line ends whose connection ends so, after so many replies.
+fn outcome(ending: Ending, count: u64) -> Result<u64, LineFault>
+    ensures { result ≡ outcome_of ending count }
 {
-    match read_call(alloc, payload) {
-        Ok(call) => {
-            let random = words.take(alloc, need(&call))?;
-            Ok(answer_call(alloc, token, app, call, random))
-        }
-        Err(fault) => reply_to_fault(fault),
+    match ending {
+        Ending::Closed => Ok(count),
+        Ending::Cut => Err(LineFault::Cut),
+        Ending::TooLong => Err(LineFault::TooLong),
+        Ending::Read(_) => Err(LineFault::Read),
+        Ending::Write(_) => Err(LineFault::Write),
+        Ending::Memory | Ending::Reply => Err(LineFault::Memory),
     }
 }
 
-/// Answers each payload that is whole.
-fn answer_all<W: Write, K: Keep>(
+/// Why a line ends at a connection that took a reply, if it does: it ended, or a write would block.
+fn fault_now(connection: &Connection) -> Option<LineFault>
+    ensures { result ≡ fault_at connection.now.ended connection.now.pending }
+{
+    match connection.ended() {
+        Some(Ending::Write(_)) => Some(LineFault::Write),
+        Some(_) => Some(LineFault::Memory),
+        None => {
+            if connection.is_pending() {
+                Some(LineFault::Write)
+            } else {
+                None
+            }
+        }
+    }
+}
+
+/// Why a line ends where nothing came: a write would block, or a read.
+fn block_of(connection: &Connection) -> LineFault
+    ensures { result ≡ block_at connection.now.pending }
+{
+    if connection.is_pending() {
+        LineFault::Write
+    } else {
+        LineFault::Read
+    }
+}
+
+/// Answers the calls of a connection of which nothing was read yet, as `serve_one` does, for an application that stays.
+fn serve_calls<R: Read, W: Write, K: Keep>(
     alloc: Global,
-    frames: &mut FrameReader,
+    reader: &mut Watched<R>,
     writer: &mut Watched<W>,
     token: &mut Token<K>,
     app: u64,
-    words: &mut Words,
-    count: &mut u64,
-) -> Result<(), LineFault>
-    requires { frames.old.failed ≡ false }
-    ensures answers { Answers (Leads K.terms app token.old token.new words.old words.new) frames.old frames.new count.old count.new (W.contents writer.old.inner) (W.contents writer.new.inner) result }
-    ensures writes { WritesBy writer.old writer.new result }
+    connection: &mut Connection,
+) -> Result<u64, LineFault>
+    requires { IsFresh connection.old }
+    ensures { Ends K.terms app token.old token.new connection.old.words connection.new.words R.remaining W.contents reader.old reader.new writer.old writer.new result }
 {
-    let _counted = *count;
-    loop {
-        match frames.next(alloc) {
-            Ok(None) => return Ok(()),
-            Ok(Some(payload)) => {
-                let reply = answer(alloc, token, app, words, &payload)?;
-                send(alloc, writer, &reply)?;
-                *count = count.saturating_add(1);
+    let mut piece = [0u8; PIECE_LEN];
+    'calls: for _turn in 0..u64::MAX {
+        match connection.next_call(alloc, reader, writer, &mut piece) {
+            Next::Call(given) => {
+                let reply = answer_call(alloc, token, app, given.call, given.random);
+                connection.reply(alloc, writer, &reply);
+                if let Some(fault) = fault_now(connection) {
+                    return Err(fault);
+                }
             }
-            Err(WireFault::TooLong) => return Err(LineFault::TooLong),
-            Err(_) => return Err(LineFault::Memory),
+            Next::Nothing => return Err(block_of(connection)),
+            Next::Ended(ending) => return outcome(ending, connection.answered()),
         }
     }
+    Err(LineFault::Memory)
 }
 
-/// Whether all that was read are whole frames.
-fn is_whole(frames: &FrameReader) -> bool
-    ensures { result ≡ (length frames.now.bytes == 0) }
-{
-    frames.is_empty()
-}
-
-/// Answers the frames of a reader, as `serve_one` does, for an application that stays.
+/// Answers the frames of a reader, as `serve_one` does, for an application that stays. Its words are lent to a connection.
 fn serve_frames<R: Read, W: Write, K: Keep>(
     alloc: Global,
     reader: &mut Watched<R>,
@@ -186,37 +127,13 @@ fn serve_frames<R: Read, W: Write, K: Keep>(
     app: u64,
     words: &mut Words,
 ) -> Result<u64, LineFault>
-    ensures serves { Serves (Leads K.terms app token.old token.new words.old words.new) (R.remaining reader.old.inner) (R.remaining reader.new.inner) (W.contents writer.old.inner) (W.contents writer.new.inner) result }
-    ensures reads { ReadsBy reader.old reader.new result }
-    ensures writes { WritesBy writer.old writer.new result }
+    ensures { Ends K.terms app token.old token.new words.old words.new R.remaining W.contents reader.old reader.new writer.old writer.new result }
 {
-    let mut frames = FrameReader::new(alloc);
-    let mut piece = [0u8; PIECE_LEN];
-    let mut count = 0;
-    'pieces: for _turn in 0..u64::MAX {
-        match reader.read(&mut piece) {
-            Ok(0) => {
-                if is_whole(&frames) {
-                    return Ok(count);
-                }
-                return Err(LineFault::Cut);
-            }
-            Ok(len) => {
-                let (read, _) = piece.split_at(len);
-                match frames.feed(read) {
-                    Ok(()) => {}
-                    Err(_) => return Err(LineFault::Memory),
-                }
-                answer_all(alloc, &mut frames, writer, token, app, words, &mut count)?;
-            }
-            Err(error) => {
-                if !is_interrupted(&error) {
-                    return Err(LineFault::Read);
-                }
-            }
-        }
-    }
-    Err(LineFault::Read)
+    let own = mem::replace(words, Words::for_app([0; 32], app));
+    let mut connection = Connection::new(alloc, own);
+    let ended = serve_calls(alloc, reader, writer, token, app, &mut connection);
+    *words = connection.into_words();
+    ended
 }
 
 /// Answers the frames of a reader, for the application of `words`, until the reader ends. Each is answered as soon as it is
@@ -230,14 +147,15 @@ fn serve_frames<R: Read, W: Write, K: Keep>(
 ///
 /// # Errors
 ///
-/// - `Read` only where the reader counts a failure, and after 2^64 - 1 reads. A read that was interrupted is made again, and
-///   counts.
-/// - `Write` only where the writer counts a failure, and after 2^64 - 1 writes of one frame, or as many flushes. One that was
-///   interrupted is made again, and counts. The replies before the last were written, and perhaps a part of the last.
+/// - `Read` only where the reader counts a failure; one that would block is one. A read that was interrupted is made again.
+/// - `Write` only where the writer counts a failure, and after 2^64 - 1 writes of one frame, or as many flushes. A write that
+///   would block is a failure. One that was interrupted is made again, and counts. The replies before the last were written, and
+///   perhaps a part of the last.
 /// - `TooLong` for a frame above the limit.
 /// - `Cut` where the reader ends within a frame.
 /// - `Memory` where an allocation failed, but for a call's own work, which then returns `CKR_HOST_MEMORY`. Perhaps the last
-///   reply was not written, and a payload that was read is perhaps not answered.
+///   reply was not written, and a payload that was read is perhaps not answered. It comes too after 2^64 - 1 calls, and after as
+///   many payloads and reads without a call.
 ///
 /// No failure of the reader or the writer is passed over. At `Read`, `TooLong` and `Cut` the replies to
 /// all whole frames before were written.
@@ -253,9 +171,10 @@ pub fn serve_one<R: Read, W: Write, K: Keep>(
     // The bytes written are the frames of the replies to the messages of the bytes read. While the store is faithful, these are a
     // run of the token from each world that it refined. It refines the world after that, without the application.
     ensures serves { Serves (LeadsAway K.terms words.old.stream token.old token.new words.old words.new) (R.remaining reader.old.inner) (R.remaining reader.new.inner) (W.contents writer.old.inner) (W.contents writer.new.inner) result }
-    // `Read` comes only where a read failed, or after 2^64 - 1 reads, and no failure is passed over.
+    // `Read` comes only where a read failed, and no failure is passed over.
     ensures reads { ReadsBy reader.old reader.new result }
-    // `Write` comes only where a write or a flush failed, or after as many, and no failure is passed over.
+    // `Write` comes only where a write or a flush failed, or after 2^64 - 1, and no failure is passed over. Else all that was written
+    // was flushed.
     ensures writes { WritesBy writer.old writer.new result }
     // No call is pending.
     ensures idle { K.terms.doubt token.new.store.keep ≡ 0 → (v : World) → Shows K.terms token.old v → (w : World) → Shows K.terms token.new w → HasJobs w [] }

@@ -1,23 +1,27 @@
 //! A reader or a writer that counts its failures.
 
-ghost use Rattle.std.specs.Prelude.{◌≡◌, ◌↔◌, IsTrue};
+ghost use Rattle.std.specs.Prelude.{◌≡◌, ◌==◌, ◌↔◌, [], false, length, IfOk, IsTrue};
 ghost use Rattle.std.specs.Io.{ReadsAtMost, WritesAtMost};
 ghost use Rattle.std.specs.Io.KnownBytes.{Keeps, ReadConsumes, WriteAppends};
 ghost use Rattle.keep.specs.Keeping.{Rises};
-ghost use Rattle.line.specs.Noting.{IsInterruption, Notes, NotesWrite};
+ghost use Rattle.line.specs.Noting.{HoldsBack, IsInterruption, LetsOut, Notes, NotesWrite};
 
 use keep::WriteCount as CallCount;
+use lists::GhostBytes;
 use std::io::{self, Error, ErrorKind, Read, Write};
 use std::marker::Model;
 
 /// A reader or a writer that counts how many of its calls failed. A call that was interrupted did not
-/// fail; a write that took nothing of bytes that were there did. For clauses alone, without bytes, it
-/// counts all calls.
+/// fail; one that would block did, and a write that took nothing of bytes that were there. For clauses alone, without bytes, it
+/// counts all calls, and has the bytes that a writer took and were not flushed yet.
 #[derive(Drop)]
 pub struct Watched<T> {
     inner: T,
     failures: u64,
     calls: CallCount,
+    unflushed: GhostBytes,
+    /// The last read filled its buffer.
+    is_full: bool,
 }
 
 impl<T> Model for Watched<T> {
@@ -25,7 +29,7 @@ impl<T> Model for Watched<T> {
 
     ghost Value = { Noting T };
 
-    ghost view = { λ n. record { inner = n.inner; failures = n.failures; calls = n.calls } };
+    ghost view = { λ n. record { inner = n.inner; failures = n.failures; calls = n.calls; unflushed = n.unflushed.bytes; full = n.is_full } };
 }
 
 /// Whether a read, a write or a flush may be tried again.
@@ -55,12 +59,14 @@ fn note(failures: &mut u64, error: &Error)
 impl<T> Watched<T> {
     /// A reader or a writer of which no call was made yet.
     pub fn new(inner: T) -> Watched<T>
-        ensures { result ≡ record { inner = inner; failures = 0; calls = 0 } }
+        ensures { result ≡ record { inner = inner; failures = 0; calls = 0; unflushed = []; full = false } }
     {
         Watched {
             inner,
             failures: 0,
             calls: CallCount::new(),
+            unflushed: GhostBytes::new(),
+            is_full: false,
         }
     }
 
@@ -69,6 +75,13 @@ impl<T> Watched<T> {
         ensures { result ≡ self.now.failures }
     {
         self.failures
+    }
+
+    /// Whether the last read filled its buffer, so that more may be there.
+    pub fn is_full(&self) -> bool
+        ensures { result ≡ self.now.full }
+    {
+        self.is_full
     }
 
     /// The reader or the writer itself.
@@ -86,10 +99,14 @@ impl<R: Read> Read for Watched<R> {
         ensures bound { ReadsAtMost result buf.new }
         ensures bytes { ReadConsumes (R.remaining self.old.inner) (R.remaining self.new.inner) result buf.new }
         ensures noted { Notes self.old self.new result }
+        ensures full { IfOk result (λ n. self.new.full ≡ (n == length buf.old)) }
     {
         self.calls.add();
         match self.inner.read(buf) {
-            Ok(count) => Ok(count),
+            Ok(count) => {
+                self.is_full = count == buf.len();
+                Ok(count)
+            }
             Err(error) => {
                 note(&mut self.failures, &error);
                 Err(error)
@@ -105,6 +122,7 @@ impl<W: Write> Write for Watched<W> {
         ensures bound { WritesAtMost result buf.now }
         ensures bytes { WriteAppends (W.contents self.old.inner) (W.contents self.new.inner) result buf.now }
         ensures noted { NotesWrite self.old self.new buf.now result }
+        ensures unflushed { HoldsBack self.old self.new buf.now result }
     {
         self.calls.add();
         match self.inner.write(buf) {
@@ -112,6 +130,8 @@ impl<W: Write> Write for Watched<W> {
                 if count == 0 && !buf.is_empty() {
                     count_failure(&mut self.failures);
                 }
+                let (taken, _) = buf.split_at(count);
+                self.unflushed.push(taken);
                 Ok(count)
             }
             Err(error) => {
@@ -124,10 +144,14 @@ impl<W: Write> Write for Watched<W> {
     fn flush(&mut self) -> io::Result<()>
         ensures bytes { Keeps (W.contents self.old.inner) (W.contents self.new.inner) }
         ensures noted { Notes self.old self.new result }
+        ensures flushed { LetsOut self.old self.new result }
     {
         self.calls.add();
         match self.inner.flush() {
-            Ok(()) => Ok(()),
+            Ok(()) => {
+                self.unflushed = GhostBytes::new();
+                Ok(())
+            }
             Err(error) => {
                 note(&mut self.failures, &error);
                 Err(error)

@@ -1,5 +1,5 @@
-//! Lists: definitions and lemmas that several crates cite, the limit of numbers that rise, and `GhostBytes`, bytes
-//! that contracts alone speak of.
+//! Lists: definitions and lemmas that several crates cite, the limit of numbers that rise, and `GhostBytes` and `GhostList`,
+//! bytes and values that contracts alone speak of.
 //!
 //! `specs/InOrder.antt` is the list of the entries of a slab by the rising numbers that they carry, whatever slot each
 //! stands in. So a contract speaks of a list and no slot. `specs/Indexes.antt` counts indexes in a list and
@@ -8,8 +8,10 @@
 #![tactic(auto)]
 
 mod ghost_bytes;
+mod ghost_list;
 
 pub use ghost_bytes::GhostBytes;
+pub use ghost_list::GhostList;
 
 /// The least number that is never given: sessions, handles and pending calls have numbers below it.
 pub const NUMBER_LIMIT: u64 = 1 << 63;

@@ -1,4 +1,3 @@
-pub mod Asking
 pub mod Modes
 pub mod Priorities
 pub mod Reported

@@ -52,6 +52,8 @@ pub(crate) enum Cause {
     HandedOver(u64),
     #[error("what LISTEN_FDS hands over is no Unix socket: {0}")]
     HandedOverSocket(io::Error),
+    #[error("connections cannot be waited for: {0}")]
+    Waiting(io::Error),
     #[error("no connection can be accepted any more")]
     Accept,
     #[error("a thread cannot be started")]

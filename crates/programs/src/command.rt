@@ -2,6 +2,7 @@
 
 use clap::builder::ValueParser;
 use clap::{Arg, ArgAction, Command, Error};
+use hall_sockets::MAX_CLIENTS;
 use std::alloc::Global;
 
 pub(crate) const VERSION: &str = "0.1.0";
@@ -9,9 +10,11 @@ pub(crate) const VERSION: &str = "0.1.0";
 /// The texts of a level, the least detailed first.
 static LEVELS: [&str; 4] = ["off", "error", "warn", "info"];
 
-/// How many connections each seat of the daemon accepts at most, and where no number is given. Those of seat s are the
-/// applications 4c + s for c from 0, which stay below 2^63.
+/// How many connections each seat of the daemon accepts at most, and where no number is given.
 pub(crate) const MAX_CONNECTIONS: u64 = (1 << 61) - 1;
+
+/// How many seconds a connection may be idle at most, some 30 years.
+const MAX_IDLE: u64 = 1_000_000_000;
 
 /// The command line of `tokend`.
 pub(crate) fn command<'a>(alloc: Global) -> Result<Command<'a>, Error> {
@@ -110,6 +113,8 @@ fn serve<'a>(alloc: Global) -> Result<Command<'a>, Error> {
                 "The permission bits of the socket, in octal digits; 600 if left out",
             ))?
             .arg(level(alloc))?
+            .arg(clients(alloc))?
+            .arg(idle(alloc))?
             .arg(connections(alloc))?,
     )
 }
@@ -122,6 +127,26 @@ fn level<'a>(alloc: Global) -> Arg<'a> {
         "The least important of what is said on standard error; warn if left out",
     )
     .value_parser(ValueParser::Names(&LEVELS))
+}
+
+/// The option of how many connections there are at once.
+fn clients<'a>(alloc: Global) -> Arg<'a> {
+    chosen(
+        alloc,
+        "clients",
+        "How many connections each of the four seats has at once, 1 to 64; 1 if left out",
+    )
+    .value_parser(ValueParser::unsigned(1, MAX_CLIENTS as u64))
+}
+
+/// The option of how long a connection may be idle.
+fn idle<'a>(alloc: Global) -> Arg<'a> {
+    chosen(
+        alloc,
+        "idle",
+        "After how many seconds a connection of which nothing came is ended; never if left out",
+    )
+    .value_parser(ValueParser::unsigned(1, MAX_IDLE))
 }
 
 /// The option of how many connections there are.

@@ -12,21 +12,16 @@
 //! A failure is a line on the output for errors, and its cause the next one. `refuse_args` returns the status where the process's
 //! own arguments can't be read.
 //!
-//! `SocketSeat` is a seat (a connection worker) on a Unix socket, whose connections are applications. It accepts one connection
-//! after the other from a listener. The c-th connection of seat s, both from 0, is application 4c + s. The seat reads frames and
-//! gives their calls, and writes the frames of replies. A payload that is no call is answered at once.
+//! The daemon is four seats (`hall_sockets::SocketSeat`) before one token. `Journal` is a log on standard error, as a journal reads
+//! it. `Reported` is a keeper that logs what becomes of its store.
 //!
-//! A connection ends at a frame that is too long or is cut off, at a failed read or write, and at an allocation failure.
-//! That is logged, and its application disconnects. Once the daemon is to end, a seat accepts and reads no more. `Journal` is a
-//! log on standard error, as a journal reads it.
-//!
-//! This crate is safe and tested. It states no theorem, but that it keeps the rules of `hall`.
+//! This crate is safe and tested. What it states is that it holds the seats as `hall_sockets::hold_sockets` asks, with the seed
+//! of the command line or of the file, and which exit status a failure has.
 #![tactic(auto)]
 
 mod args;
 mod cause;
 mod command;
-mod connection;
 mod copying;
 mod examining;
 mod failure;
@@ -37,7 +32,6 @@ mod options;
 mod p11call;
 mod reported;
 mod run;
-mod seat;
 mod seed;
 mod serve;
 mod store;
@@ -48,4 +42,3 @@ pub use journal::Journal;
 pub use p11call::ask;
 pub use reported::{Explains, Reported};
 pub use run::tokend_with;
-pub use seat::SocketSeat;

@@ -1,9 +1,7 @@
 //! The daemon's socket.
 
 use crate::cause::Cause;
-use crate::connection::PATIENCE;
 use crate::failure::{Failure, Fault};
-use libc::net::{SO_RCVTIMEO, SOL_SOCKET, setsockopt};
 use os::FromRawFd;
 use std::fs::{Files, Permissions};
 use std::io::ErrorKind;
@@ -25,13 +23,9 @@ pub(crate) fn daemon_socket(
     path: &str,
     mode: u32,
 ) -> Result<UnixListener, Fault> {
-    let listener = match handed_over(rt)? {
-        Some(listener) => listener,
-        None => listen(rt, path, mode)?,
-    };
-    match limit_accept(&listener) {
-        Ok(()) => Ok(listener),
-        Err(error) => Err(refused(error)),
+    match handed_over(rt)? {
+        Some(listener) => Ok(listener),
+        None => listen(rt, path, mode),
     }
 }
 
@@ -103,18 +97,6 @@ fn bind(rt: &HostRuntime, path: &str, mode: u32) -> io::Result<UnixListener> {
         return Err(last_error());
     }
     Ok(UnixListener::from(fd))
-}
-
-/// Has an accept wait no longer than `PATIENCE`: it returns `WouldBlock` then.
-fn limit_accept(listener: &UnixListener) -> io::Result<()> {
-    // A timeval: seconds, and microseconds.
-    let mut value = [0u8; 16];
-    value[..8].copy_from_slice(&PATIENCE.to_ne_bytes());
-    let set = unsafe { setsockopt(listener.as_raw_fd(), SOL_SOCKET, SO_RCVTIMEO, &value, 16) };
-    if set != 0 {
-        return Err(last_error());
-    }
-    Ok(())
 }
 
 /// Whether a socket stands there on which nobody listens.

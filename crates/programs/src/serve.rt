@@ -1,6 +1,7 @@
 //! `tokend serve`: a daemon on a Unix socket.
 
-ghost use Rattle.std.specs.Prelude.{◌≡◌, ◌<◌, IfOk};
+ghost use Rattle.std.specs.Prelude.{◌≡◌, ◌<◌, ◌≤◌, IfOk};
+ghost use Rattle.hall_sockets.specs.Staying.{AreNew, IsNew};
 
 use crate::cause::Cause;
 use crate::command::{MAX_CONNECTIONS, VERSION};
@@ -10,12 +11,12 @@ use crate::listening::daemon_socket;
 use crate::notify::notify;
 use crate::options::{level_in, mode_in};
 use crate::reported::{Explains, Reported};
-use crate::seat::SocketSeat;
 use crate::seed::daemon_seed;
 use crate::store::{FileKeep, keep_private, open_store};
 use cache::Cached;
 use clap::ArgMatches;
-use hall::{Gate, Seat, hold};
+use hall::Gate;
+use hall_sockets::{Loads, MAX_CLIENTS, Seats, Settings, Shared, SocketSeat, hold_sockets};
 use keep::{Keep, ListKeep};
 use log::{Level, LevelFilter, Log};
 use pin_record::Record;
@@ -26,6 +27,7 @@ use std::os::unix::net::UnixListener;
 use std::sync::atomic::{AtomicBool, Ordering};
 use std::sync::{Arc, Wait};
 use std::thread::Threads;
+use std::time::{Clock, Duration};
 use token::Token;
 
 /// How many objects the cache holds.
@@ -45,21 +47,18 @@ impl Gate for OpenGate {
     fn pass(&self, _seat: usize, _app: u64) {}
 }
 
-/// Where the daemon listens, how often each of its seats accepts a connection, the seed of the random bytes, and what is logged.
+/// Where the daemon listens, what its seats have in common, and what is logged.
 #[derive(Drop)]
 struct Served<'a> {
     store: &'a str,
     socket: &'a str,
     socket_mode: u32,
-    connections: u64,
-    seed: [u8; 32],
+    settings: Settings,
     level: LevelFilter,
     /// The daemon is to end: its store is shut.
     is_stopping: Arc<AtomicBool, Global>,
+    ghost few: { settings.clients ≤ 64 },
 }
-
-/// The four seats.
-type Seats<L> = (SocketSeat<L>, SocketSeat<L>, SocketSeat<L>, SocketSeat<L>);
 
 /// Serves as the command line asks, until each seat has had its connections. `threads` is a handle on which the seats' threads
 /// are started.
@@ -141,11 +140,25 @@ fn read_options<'a, E: Write>(
         store,
         socket,
         socket_mode,
-        connections: matches.get_one("connections").unwrap_or(MAX_CONNECTIONS),
-        seed,
+        settings: settings_of(matches, seed),
         level,
         is_stopping,
     })
+}
+
+/// What the seats have in common, by the command line.
+fn settings_of(matches: &ArgMatches<'_>, seed: [u8; 32]) -> Settings
+    ensures seed { result.seed ≡ seed }
+    ensures clients { result.clients ≤ 64 }
+{
+    let clients: u64 = matches.get_one("clients").unwrap_or(1);
+    let idle: Option<u64> = matches.get_one("idle");
+    Settings {
+        seed,
+        clients: (clients as usize).min(MAX_CLIENTS),
+        connections: matches.get_one("connections").unwrap_or(MAX_CONNECTIONS),
+        idle: idle.map(Duration::from_secs),
+    }
 }
 
 /// The seed. One that comes again at the next start is logged.
@@ -208,7 +221,7 @@ fn serve_over<K: Keep, R: Threads + Wait + Copy + Send + Drop + 'static, O: Writ
     };
     let seats = ready_seats(rt, served, output)?;
     say_ready(rt, served, objects, errors);
-    match hold(threads, alloc, token, seats, &gate) {
+    match hold_sockets(threads, alloc, token, seats, &gate) {
         Ok(held) => {
             seats_ended(&held.seats, served)?;
             Ok(held.token.into_keep())
@@ -253,12 +266,12 @@ fn ready_seats<O: Write>(
     rt: &HostRuntime,
     served: &Served<'_>,
     output: &mut O,
-) -> Result<Seats<Journal<Stderr>>, Fault>
-    ensures { IfOk result (λ seats. (⟦<SocketSeat<Journal<Stderr>> as Seat>⟧.number seats.0 ≡ 0) × (⟦<SocketSeat<Journal<Stderr>> as Seat>⟧.number seats.1 ≡ 1) × (⟦<SocketSeat<Journal<Stderr>> as Seat>⟧.number seats.2 ≡ 2) × (⟦<SocketSeat<Journal<Stderr>> as Seat>⟧.number seats.3 ≡ 3)) }
+) -> Result<Seats<Journal<Stderr>, HostRuntime>, Fault>
+    ensures { IfOk result (λ seats. AreNew served.now.settings.seed seats) }
 {
     let listener = daemon_socket(rt, served.socket, served.socket_mode)?;
     let log = Journal::new(rt.stderr(), served.level);
-    let seats = seats_on(rt.alloc(), log, listener, served)?;
+    let seats = seats_on(rt, log, listener, served)?;
     match writeln!(output, "ready").and_then(|()| output.flush()) {
         Ok(()) => Ok(seats),
         Err(error) => Err(Failure::Line.because(Cause::Output(error))),
@@ -266,7 +279,7 @@ fn ready_seats<O: Write>(
 }
 
 /// Whether the seats ended as asked, and not because the store is shut, or because no connection could be accepted.
-fn seats_ended<L: Log>(seats: &Seats<L>, served: &Served<'_>) -> Result<(), Fault> {
+fn seats_ended<L: Log, C: Clock>(seats: &Seats<L, C>, served: &Served<'_>) -> Result<(), Fault> {
     if served.is_stopping.load(Ordering::SeqCst) {
         return Err(Failure::Store.because(Cause::StoreShut));
     }
@@ -283,48 +296,52 @@ fn seats_ended<L: Log>(seats: &Seats<L>, served: &Served<'_>) -> Result<(), Faul
 
 /// The four seats, all on one socket.
 fn seats_on<L: Log + Copy + Drop>(
-    alloc: Global,
+    rt: &HostRuntime,
     log: L,
     listener: UnixListener,
     served: &Served<'_>,
-) -> Result<Seats<L>, Fault>
-    ensures { IfOk result (λ seats. (⟦<SocketSeat<L> as Seat>⟧.number seats.0 ≡ 0) × (⟦<SocketSeat<L> as Seat>⟧.number seats.1 ≡ 1) × (⟦<SocketSeat<L> as Seat>⟧.number seats.2 ≡ 2) × (⟦<SocketSeat<L> as Seat>⟧.number seats.3 ≡ 3)) }
+) -> Result<Seats<L, HostRuntime>, Fault>
+    ensures { IfOk result (λ seats. AreNew served.now.settings.seed seats) }
 {
+    let Ok(loads) = Arc::new(rt.alloc(), Loads::new()) else {
+        return Err(Failure::Memory.into());
+    };
     let second = again(&listener)?;
     let third = again(&listener)?;
     let fourth = again(&listener)?;
     Ok((
-        seat_on(alloc, log, listener, 0, served)?,
-        seat_on(alloc, log, second, 1, served)?,
-        seat_on(alloc, log, third, 2, served)?,
-        seat_on(alloc, log, fourth, 3, served)?,
+        seat_on(rt, log, listener, &loads, 0, served)?,
+        seat_on(rt, log, second, &loads, 1, served)?,
+        seat_on(rt, log, third, &loads, 2, served)?,
+        seat_on(rt, log, fourth, &loads, 3, served)?,
     ))
 }
 
 /// The seat with a number.
 fn seat_on<L: Log + Drop>(
-    alloc: Global,
+    rt: &HostRuntime,
     log: L,
     listener: UnixListener,
+    loads: &Arc<Loads, Global>,
     number: u64,
     served: &Served<'_>,
-) -> Result<SocketSeat<L>, Fault>
+) -> Result<SocketSeat<L, HostRuntime>, Fault>
     requires { number < 4 }
-    ensures { IfOk result (λ seat. ⟦<SocketSeat<L> as Seat>⟧.number seat ≡ number) }
+    ensures { IfOk result (λ seat. IsNew seat served.now.settings.seed number) }
 {
-    let Ok(is_stopping) = Arc::try_clone(&served.is_stopping) else {
+    let (Ok(is_stopping), Ok(loads)) = (Arc::try_clone(&served.is_stopping), Arc::try_clone(loads))
+    else {
         return Err(Failure::Memory.into());
     };
-    let connections = served.connections.min(MAX_CONNECTIONS);
-    Ok(SocketSeat::new(
-        alloc,
-        log,
+    let shared = Shared {
         is_stopping,
+        loads,
         listener,
-        served.seed,
-        number,
-        connections,
-    ))
+    };
+    match SocketSeat::new(rt, rt.alloc(), *rt, log, shared, &served.settings, number) {
+        Ok(seat) => Ok(seat),
+        Err(error) => Err(Failure::Socket.because(Cause::Waiting(error))),
+    }
 }
 
 /// The same socket once more.

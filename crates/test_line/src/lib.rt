@@ -18,3 +18,5 @@ mod keys;
 mod long_texts;
 #[cfg(test)]
 mod tests;
+#[cfg(test)]
+mod waiting;

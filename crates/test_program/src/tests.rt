@@ -1,8 +1,17 @@
 ghost use Rattle.std.specs.Prelude.{None};
 
+mod clients;
 mod daemon;
+mod full;
+mod idle;
+mod lost;
+mod many;
+mod neighbours;
 mod operating;
+mod options;
 mod peers;
+mod randomness;
+mod unread;
 
 use programs::{ask, refuse_args, tokend_with};
 use std::alloc::{AllocError, Global};

@@ -1,6 +1,6 @@
 //! A thread that is not started.
 
-ghost use Rattle.std.specs.Prelude.{◌≡◌, None, true, IfOk};
+ghost use Rattle.std.specs.Prelude.{◌≡◌, ◌∷◌, [], None, true, IfOk};
 
 use ck_calls::{Call, Reply};
 use hall::{Gate, HallFault, Held, Seat, SeatEvent, hold_with};
@@ -39,9 +39,11 @@ impl Seat for Silent {
 
     ghost over = { λ s. s.has_ended ≡ true };
 
+    ghost fixed = { λ s. s.number ∷ [] };
+
     ghost gone = { λ s app. Unit {0} };
 
-    ghost ready = { λ s. Unit {0} };
+    ghost ready = { λ s app. Unit {0} };
 
     ghost asked = { λ s. None };
 
@@ -81,15 +83,16 @@ fn has_session<K: Keep>(alloc: Global, token: &mut Token<K>) -> Result<bool, Fai
     Ok(told_code(alloc, token, 1, ask)?.is_none())
 }
 
-/// Sees whether all seats were called, where no stack is too large; or that none was, that this is returned, and that the token
-/// comes back as it was.
-fn expect_asked<K: Keep, R: Threads + Wait + Copy + Send + Drop + 'static>(
+/// Why seats were not held, if they were not, whether one was asked, and whether the token is as it was.
+type Came = (Option<HallFault>, bool, bool);
+
+/// What comes of four silent seats before a token, with stacks of these sizes.
+fn held_silent<K: Keep, R: Threads + Wait + Copy + Send + Drop + 'static>(
     rt: R,
     alloc: Global,
     keep: K,
     stacks: (usize, usize, usize, usize),
-    is_started: bool,
-) -> Result<(), Fail> {
+) -> Result<Came, Fail> {
     let is_asked = Arc::new(alloc, AtomicBool::new(false))?;
     let seats = (
         Silent::new(0, &is_asked)?,
@@ -99,7 +102,7 @@ fn expect_asked<K: Keep, R: Threads + Wait + Copy + Send + Drop + 'static>(
     );
     let gate = Arc::new(alloc, Open)?;
     let token = token_with_session(alloc, keep)?;
-    let (was_started, mut token) = match hold_with(rt, alloc, token, seats, &gate, stacks) {
+    let (fault, mut token) = match hold_with(rt, alloc, token, seats, &gate, stacks) {
         Ok(
             Held {
                 token,
@@ -109,16 +112,29 @@ fn expect_asked<K: Keep, R: Threads + Wait + Copy + Send + Drop + 'static>(
         ) => {
             drop(seats);
             drop(passes);
-            (true, token)
+            (None, token)
         }
-        Err((fault, token)) => (fault != HallFault::Thread, token),
+        Err((fault, token)) => (Some(fault), token),
     };
     let has_session = has_session(alloc, &mut token);
     drop(token);
-    if !has_session? {
+    Ok((fault, is_asked.load(Ordering::SeqCst), has_session?))
+}
+
+/// Sees whether all seats were called, where no stack is too large; or that none was, that this is returned, and that the token
+/// comes back as it was.
+fn expect_asked<K: Keep, R: Threads + Wait + Copy + Send + Drop + 'static>(
+    rt: R,
+    alloc: Global,
+    keep: K,
+    stacks: (usize, usize, usize, usize),
+    wanted: Option<HallFault>,
+) -> Result<(), Fail> {
+    let (fault, is_asked, has_session) = held_silent(rt, alloc, keep, stacks)?;
+    if !has_session {
         return Err("the token is another one".into());
     }
-    if was_started == is_started && is_asked.load(Ordering::SeqCst) == is_started {
+    if fault == wanted && is_asked == wanted.is_none() {
         Ok(())
     } else {
         Err("seats were asked, or none".into())
@@ -140,8 +156,20 @@ fn no_seat_is_asked_where_a_thread_is_not_started(rt: HostRuntime) -> Result<(),
     let alloc = rt.alloc();
     for stacks in STACKS {
         let keep = ListKeep::new(alloc, Record::new());
-        expect_asked(rt, alloc, keep, *stacks, false)?;
+        expect_asked(rt, alloc, keep, *stacks, Some(HallFault::Thread))?;
     }
     let keep = ListKeep::new(alloc, Record::new());
-    expect_asked(rt, alloc, keep, (0, 0, 0, 0), true)
+    expect_asked(rt, alloc, keep, (0, 0, 0, 0), None)
+}
+
+/// `rt try --test --fail-alloc N` refuses an allocation. Where it is one of `hold`'s, that is returned, no seat was asked, and the token
+/// is as it was. Where it is one before, the test fails by it.
+#[test]
+fn no_seat_is_asked_where_memory_is_refused(rt: HostRuntime) -> Result<(), Fail> {
+    let alloc = rt.alloc();
+    let keep = ListKeep::new(alloc, Record::new());
+    let (fault, is_asked, has_session) = held_silent(rt, alloc, keep, (0, 0, 0, 0))?;
+    assert_eq!(rt; is_asked, fault.is_none());
+    assert!(rt; has_session || fault.is_none());
+    Ok(())
 }

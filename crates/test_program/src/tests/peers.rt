@@ -2,9 +2,11 @@
 
 use super::daemon::{clear, connect, expect, expect_end, start_for};
 use super::{OPEN_SESSION, SESSION_ONE};
+use ck_calls::Reply;
 use hall::{Seat, SeatEvent};
+use hall_sockets::{Loads, Settings, Shared, SocketSeat};
 use log::sink::Discard;
-use programs::SocketSeat;
+use std::alloc::Global;
 use std::io::{Read, Write};
 use std::net::Shutdown;
 use std::os::unix::net::{UnixListener, UnixStream};
@@ -108,19 +110,50 @@ fn send_twice(rt: &HostRuntime, socket: &str) -> Result<UnixStream, Fail> {
     Ok(peer)
 }
 
-/// Gives a seat a reply.
-fn give(rt: &HostRuntime, seat: &mut SocketSeat<Discard>) -> Result<(), Fail> {
-    let reply = read_reply(rt.alloc(), 7, SESSION_ONE.get(4..).unwrap_or(&[]))?;
-    seat.take(3, reply);
-    Ok(())
+/// A seat of one place on a socket, with number 3, which has so many connections.
+fn seat_on(
+    rt: &HostRuntime,
+    path: &str,
+    connections: u64,
+    is_stopping: Arc<AtomicBool, Global>,
+) -> Result<SocketSeat<Discard, HostRuntime>, Fail> {
+    let alloc = rt.alloc();
+    let shared = Shared {
+        is_stopping,
+        loads: Arc::new(alloc, Loads::new())?,
+        listener: UnixListener::bind(rt, path)?,
+    };
+    let settings = Settings {
+        seed: [0; 32],
+        clients: 1,
+        connections,
+        idle: None,
+    };
+    Ok(SocketSeat::new(rt, alloc, *rt, Discard, shared, &settings, 3)?)
+}
+
+/// The reply to a call.
+fn a_reply(rt: &HostRuntime) -> Result<Reply, Fail> {
+    Ok(read_reply(rt.alloc(), 7, SESSION_ONE.get(4..).unwrap_or(&[]))?)
 }
 
 /// What a seat puts whose peer disconnects before its reply: before that, and after.
-fn asked_of(rt: &HostRuntime, seat: &mut SocketSeat<Discard>) -> Result<(Asks, Asks, Asks), Fail> {
+fn asked_of(
+    rt: &HostRuntime,
+    seat: &mut SocketSeat<Discard, HostRuntime>,
+) -> Result<(Asks, Asks, Asks), Fail> {
     let peer = send_twice(rt, "unread.sock")?;
-    let first = what_is_asked(seat.next());
-    drop(peer);
-    give(rt, seat)?;
+    let reply = a_reply(rt)?;
+    let first = match seat.next() {
+        Some(SeatEvent::Call(call)) => {
+            let app = call.app;
+            drop(call);
+            drop(peer);
+            seat.take(app, reply);
+            Asks::Call(app)
+        }
+        other => what_is_asked(other),
+    };
     let then = what_is_asked(seat.next());
     Ok((first, then, what_is_asked(seat.next())))
 }
@@ -128,9 +161,8 @@ fn asked_of(rt: &HostRuntime, seat: &mut SocketSeat<Discard>) -> Result<(Asks, A
 #[test]
 fn a_reply_that_cannot_be_written_is_followed_by_gone(rt: HostRuntime) -> Result<(), Fail> {
     clear(&rt, UNREAD);
-    let listener = UnixListener::bind(&rt, "unread.sock")?;
     let is_stopping = Arc::new(rt.alloc(), AtomicBool::new(false))?;
-    let mut seat = SocketSeat::new(rt.alloc(), Discard, is_stopping, listener, [0; 32], 3, 1);
+    let mut seat = seat_on(&rt, "unread.sock", 1, is_stopping)?;
     let asked = asked_of(&rt, &mut seat);
     let has_failed = seat.has_failed();
     drop(seat);
@@ -142,14 +174,21 @@ fn a_reply_that_cannot_be_written_is_followed_by_gone(rt: HostRuntime) -> Result
 
 /// What a seat does that is stopped while a connection waits, and how it ended.
 fn stopped(rt: &HostRuntime) -> Result<(Asks, Asks, Asks, bool), Fail> {
-    let listener = UnixListener::bind(rt, "stopped.sock")?;
     let is_stopping = Arc::new(rt.alloc(), AtomicBool::new(false))?;
     let told = Arc::try_clone(&is_stopping)?;
-    let mut seat = SocketSeat::new(rt.alloc(), Discard, is_stopping, listener, [0; 32], 3, 5);
+    let mut seat = seat_on(rt, "stopped.sock", 5, is_stopping)?;
     let peer = send_twice(rt, "stopped.sock")?;
-    let first = what_is_asked(seat.next());
-    told.store(true, Ordering::SeqCst);
-    give(rt, &mut seat)?;
+    let reply = a_reply(rt)?;
+    let first = match seat.next() {
+        Some(SeatEvent::Call(call)) => {
+            let app = call.app;
+            drop(call);
+            told.store(true, Ordering::SeqCst);
+            seat.take(app, reply);
+            Asks::Call(app)
+        }
+        other => what_is_asked(other),
+    };
     let then = what_is_asked(seat.next());
     drop(peer);
     Ok((first, then, what_is_asked(seat.next()), seat.has_failed()))

@@ -17,7 +17,7 @@ returns-in-Reply-clause-exchanges g c = (
 pub returns-in-Ask-clause-exchanges : goal.returns-in-Ask-clause-exchanges
 returns-in-Ask-clause-exchanges g c =
     let s = c.in_ok-reply.ensures.sent ∙ c.put.ensures.sent c.if-not-put.false in
-    let got : got_of (view c.answer.new.port.outward_pass) ≡ got_of (view c.args.port.now.outward_pass) ++ Ask c.in-Ask.job ∷ [] = let h = c.in_ok-reply.ensures.got in let t = c.put.ensures.got in cc in
+    let got : got_of (view c.get.new.self.outward_pass) ≡ got_of (view c.args.port.now.outward_pass) ++ Ask c.in-Ask.job ∷ [] = let h = c.in_ok-reply.ensures.got in let t = c.put.ensures.got in cc in
     if_some c.work.result _ _
     (λ r h. (
       (Call c.args.call, Some (Ask c.in-Ask.job)) ∷ (Finish c.args.call.app h.0, Some (Reply r)) ∷ [],

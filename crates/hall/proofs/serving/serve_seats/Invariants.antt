@@ -2,8 +2,8 @@ use Rattle.std.proofs.Common.{◌≡◌}
 use Rattle.crossbeam_channel.specs.Claims.{view}
 use Rattle.crossbeam_channel.specs.Ends.{sends_on}
 use Rattle.hall_channels.specs.Inward.{seats_of, taken_of, ended_of}
-use Rattle.hall.specs.Histories.{HasServed, History, taken_in}
-use Rattle.hall.specs.Outboxes.{OutboxesGave, SameOutboxes}
+use Rattle.hall.specs.Given.{HasGiven}
+use Rattle.hall.specs.Outboxes.{SameOutboxes}
 use Rattle.hall.proofs.serving.serve_seats.Given as goal
 
 abbrev pub invariant-loop : goal.invariant-loop
@@ -13,5 +13,5 @@ invariant-loop g l =
     × (seats_of (view l.inbox.inward_pass) ≡ seats_of (view l.fn.inbox.inward_pass))
     × (ended_of (view l.inbox.inward_pass) ≡ ended_of (view l.fn.inbox.inward_pass))
     × SameOutboxes l.fn.outboxes l.outboxes
-    × ((history : History) × (taken_of (view l.inbox.inward_pass) ≡ taken_in history) × OutboxesGave l.outboxes history
-    × HasServed g.M.Machine.doubt g.M.Machine.failures g.M.Machine.shows g.M.Machine.leaves l.fn.machine l.machine history)
+    × (l.serving.began.value ≡ l.fn.serving.began.value)
+    × HasGiven g.M.Machine.doubt g.M.Machine.failures g.M.Machine.shows g.M.Machine.leaves l.serving.began.value l.serving.machine (taken_of (view l.inbox.inward_pass)) l.outboxes

@@ -1,6 +1,6 @@
 use Rattle.std.proofs.Common.{◌≤◌, ℕ, ap, sym, subst}
 use Rattle.serve_base.specs.Stores.{StoreState}
-use Rattle.line.specs.Lines.{messages}
+use Rattle.line.specs.Turns.{messages}
 use Rattle.line.proofs.Serving.{serves-as}
 use Rattle.line.proofs.Going.{leads-away, idle-after}
 use Rattle.line.proofs.serve.serve_one.Goals as goal

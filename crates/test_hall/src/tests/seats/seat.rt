@@ -1,6 +1,6 @@
 //! A seat that plays its rows of a script, each in its turn.
 
-ghost use Rattle.std.specs.Prelude.{◌≡◌, ◌%◌, None, true, IfNone, IfSome, IfOk, IsTrue};
+ghost use Rattle.std.specs.Prelude.{◌≡◌, ◌<◌, ◌%◌, ◌∷◌, [], None, Some, true, vec_len, vec_capacity, IfNone, IfSome, IfOk, IsTrue};
 ghost use Rattle.hall.specs.SeatEvents.{seat_app, Notes};
 ghost use Rattle.test_hall.specs.Gone.{is_gone};
 
@@ -24,6 +24,7 @@ pub(crate) struct TurnSeat<R: Clock + Drop> {
     /// The application that disconnects by the row that was begun last.
     going: Option<u64>,
     gone: Vec<u64>,
+    /// What its applications got, in order.
     told: Vec<(u64, Reply)>,
     has_ended: bool,
 }
@@ -37,7 +38,8 @@ impl<R: Clock + Drop> TurnSeat<R> {
         rows: &[Row],
         number: u64,
     ) -> Result<TurnSeat<R>, Fail>
-        ensures { IfOk result (λ seat. seat.number ≡ number) }
+        ensures number { IfOk result (λ seat. seat.number ≡ number) }
+        ensures none { IfOk result (λ seat. seat.told.items ≡ []) }
     {
         let events = events_of(alloc, rows, number)?;
         Ok(TurnSeat {
@@ -61,6 +63,7 @@ impl<R: Clock + Drop> TurnSeat<R> {
     fn next_event(&mut self) -> Option<SeatEvent>
         ensures number { self.new.number ≡ self.old.number }
         ensures gone { self.new.gone ≡ self.old.gone }
+        ensures told { self.new.told ≡ self.old.told }
     {
         if let Some(app) = self.going.take() {
             self.turns.go_on(app);
@@ -74,10 +77,21 @@ impl<R: Clock + Drop> TurnSeat<R> {
         }
     }
 
+    /// Whether one more reply fits.
+    fn has_room(&mut self) -> bool
+        ensures number { self.new.number ≡ self.old.number }
+        ensures gone { self.new.gone ≡ self.old.gone }
+        ensures told { self.new.told.items ≡ self.old.told.items }
+        ensures room { IsTrue result → vec_len self.new.told < vec_capacity self.new.told }
+    {
+        self.told.reserve(1).is_ok()
+    }
+
     /// Whether the event is one of its applications, and none that has disconnected before. A disconnect is recorded; false where an
     /// allocation failed.
     fn may_put(&mut self, event: &SeatEvent) -> bool
         ensures number { self.new.number ≡ self.old.number }
+        ensures told { self.new.told ≡ self.old.told }
         ensures own { IsTrue result → seat_app event.now % 4 ≡ self.old.number }
         ensures there { IsTrue result → ¬ IsTrue (is_gone self.old.gone.items (seat_app event.now)) }
         ensures goes { IsTrue result → Notes (λ gone. IsTrue (is_gone self.new.gone.items gone)) event.now }
@@ -135,17 +149,19 @@ impl<R: Clock + Drop> Seat for TurnSeat<R> {
 
     ghost over = { λ s. s.has_ended ≡ true };
 
+    ghost fixed = { λ s. s.number ∷ [] };
+
     ghost gone = { λ s app. IsTrue (is_gone s.gone.items app) };
 
-    ghost ready = { λ s. Unit {0} };
+    ghost ready = { λ s app. vec_len s.told < vec_capacity s.told };
 
     ghost asked = { λ s. None };
 
-    ghost heard = { λ s. None };
+    ghost heard = { λ s. Some s.told.items };
 
     fn next(&mut self) -> Option<SeatEvent> {
         if let Some(event) = self.next_event() {
-            if self.may_put(&event) {
+            if self.has_room() && self.may_put(&event) {
                 return Some(event);
             }
             drop(event);
@@ -155,7 +171,7 @@ impl<R: Clock + Drop> Seat for TurnSeat<R> {
     }
 
     fn take(&mut self, app: u64, reply: Reply) {
-        let _ = self.told.push((app, reply));
+        self.told.push_reserved((app, reply));
         self.turns.go_on(app);
     }
 }

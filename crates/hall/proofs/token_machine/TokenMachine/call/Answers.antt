@@ -1,4 +1,4 @@
-use Rattle.std.proofs.Common.{◌≡◌, subst}
+use Rattle.std.proofs.Common.{subst}
 use Rattle.model_worlds.specs.Worlds.{World}
 use Rattle.serve_base.specs.Shown.{said_of}
 use Rattle.model_views.specs.Refusals.{resource_error_in}

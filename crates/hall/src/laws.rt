@@ -1,0 +1,53 @@
+//! Laws of histories: what `hold` promises, in a reader's words. They speak of the definitions alone.
+
+ghost use Rattle.std.specs.Prelude.{◌≡◌, ℕ, ◌%◌, List, [], ◌∷◌, ◌++◌};
+ghost use Rattle.model_views.specs.Views.{mask};
+ghost use Rattle.model_worlds.specs.Worlds.{World, after, replies};
+ghost use Rattle.model_worlds.specs.Traces.{NoResourceError, replies_to, replies_told, trace};
+ghost use Rattle.token.specs.States.{HasJobs};
+ghost use Rattle.hall_channels.specs.declared.messages.Event.{Event};
+ghost use Rattle.hall_channels.specs.declared.outbox.Outbox.{Outbox};
+ghost use Rattle.hall.specs.Exchanges.{Exchange, app_of};
+ghost use Rattle.hall.specs.Given.{HasGiven};
+ghost use Rattle.hall.specs.Histories.{AllProper, History, IsHistory, Tells, Unfolds, moves_in, told_in};
+
+use crate::machine::Machine;
+
+/// In a history that unfolds from a world, each event was answered as the token's model says at its place: in the world that the
+/// events before it made.
+pub fn answered_in_place()
+    ensures { (w : World) (before : History) (x : ℕ × Exchange) (rest : History) → Unfolds w (before ++ x ∷ rest)
+        → Tells (after w (moves_in before)) x.1.0 x.1.1 }
+{}
+
+/// A beginning of a history that unfolds unfolds too. So what a daemon gave before it was killed is covered as well.
+pub fn beginnings()
+    ensures { (w : World) (before rest : History) → Unfolds w (before ++ rest) → Unfolds w before }
+{}
+
+/// An application that met no resource error got the replies that its own trace determines, whatever the other seats did.
+pub fn told_by_trace()
+    ensures { (w : World) (history : History) (app : ℕ) → Unfolds w history → NoResourceError app (told_in history)
+        → replies_to app (told_in history) ≡ replies_told (mask (w.views app)) (trace app w (moves_in history)) }
+{}
+
+/// Each event of a history of proper seats is of an application of its own seat, and so is its answer.
+pub fn own_seat()
+    ensures { (before : History) (x : ℕ × Exchange) (rest : History) → AllProper (before ++ x ∷ rest) → app_of x.1.0 % 4 ≡ x.0 }
+{}
+
+/// What `hold` returns of a whole history: it unfolds, and its replies are those of the token's run.
+pub fn whole_history<M: Machine>()
+    ensures unfolds { (m n : M) (w : World) (history : History) → IsHistory (M.shows n) (M.leaves m) (M.leaves n) w history
+        → Unfolds w history }
+    ensures told { (m n : M) (w : World) (history : History) → IsHistory (M.shows n) (M.leaves m) (M.leaves n) w history
+        → told_in history ≡ replies w (moves_in history) }
+{}
+
+/// What was given to all seats at any moment are the answers of a history that unfolds, where the store was faithful and each
+/// seat kept to its order.
+pub fn given_so_far<M: Machine>()
+    ensures { (m n : M) (taken : List (ℕ × Event)) (outboxes : List Outbox) (w : World)
+        (so : HasGiven M.doubt M.failures M.shows M.leaves m n taken outboxes)
+        → M.doubt n ≡ 0 → M.shows m w → HasJobs w [] → AllProper so.history → Unfolds w so.history }
+{}

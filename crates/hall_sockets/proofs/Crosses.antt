@@ -1,0 +1,108 @@
+-- A seat may cross to another thread: it owns all that it has, and what it shares may be shared.
+use Rattle.std.proofs.Crossing.{crosses, Arc-send, Arc-sync}
+use denote.RattleType.{RattleType}
+use denote.Param.Send.{IsSend, IsSync, sendable}
+use denote.Struct.Field.{row_field}
+use denote.Param.SendFields.{declared_send, as_row_send}
+use Rattle.std.specs.contracts.net.unix.UnixStream as UnixStream
+use Rattle.std.specs.contracts.net.unix.UnixListener as UnixListener
+use Rattle.mio.specs.contracts.Poll as Poll
+use Rattle.mio.specs.contracts.Events as Events
+use Rattle.lists.specs.contracts.ghost_list.GhostList as GhostList
+use Rattle.line_places.specs.contracts.places.Places as Places
+use Rattle.line_places.proofs.Crosses.{places_send}
+use Rattle.hall_sockets.specs.contracts.loads.Loads as Loads
+use Rattle.hall_sockets.specs.contracts.seat.SocketSeat as SocketSeat
+
+stream_send : IsSend UnixStream.the_row
+stream_send = search sendable depth 16
+
+listener_send : IsSend UnixListener.the_row
+listener_send = search sendable depth 16
+
+clients_send : IsSend (Places.the_row UnixStream.the_row UnixStream.the_row)
+clients_send = places_send UnixStream.the_row UnixStream.the_row stream_send stream_send
+
+loads_send : IsSend Loads.the_row
+loads_send = search (sendable, crosses) depth 30
+
+loads_sync : IsSync Loads.the_row
+loads_sync = search (sendable, crosses) depth 30
+
+pub seat_send : (L C : RattleType) → IsSend L → IsSend C → IsSend (SocketSeat.the_row L C)
+seat_send L C l c = declared_send (SocketSeat.the_type L C) (
+  search sendable depth 8,
+  (
+    as_row_send (row_field C) c,
+    (
+      as_row_send (row_field L) l,
+      (
+        search (sendable, crosses) depth 30,
+        (
+          search (loads_send, loads_sync, sendable, crosses) depth 30,
+          (
+            listener_send,
+            (
+              search (sendable, crosses) depth 30 fits 20000,
+              (
+                search (sendable, crosses) depth 30 fits 20000,
+                (
+                  clients_send,
+                  (
+                    search sendable depth 8,
+                    (
+                      search sendable depth 8,
+                      (
+                        search sendable depth 20,
+                        (
+                          search sendable depth 20,
+                          (
+                            search sendable depth 20,
+                            (
+                              search (sendable, crosses) depth 30,
+                              (
+                                search sendable depth 20,
+                                (
+                                  search sendable depth 8,
+                                  (
+                                    search sendable depth 8,
+                                    (
+                                      search sendable depth 8,
+                                      (
+                                        search (sendable, crosses) depth 30,
+                                        (
+                                          search sendable depth 20,
+                                          (
+                                            search sendable depth 20,
+                                            (
+                                              search sendable depth 20,
+                                              (
+                                                search sendable depth 8,
+                                                (
+                                                  search sendable depth 8,
+                                                  (search sendable depth 8, tt),
+                                                ),
+                                              ),
+                                            ),
+                                          ),
+                                        ),
+                                      ),
+                                    ),
+                                  ),
+                                ),
+                              ),
+                            ),
+                          ),
+                        ),
+                      ),
+                    ),
+                  ),
+                ),
+              ),
+            ),
+          ),
+        ),
+      ),
+    ),
+  ),
+)

@@ -1,0 +1,3 @@
+pub mod ByHistory
+pub mod Crosses
+pub mod Staying

@@ -1,0 +1,85 @@
+-- What a seat does, one thing after the other.
+use Rattle.std.specs.Option.{IfSome}
+use Rattle.std.proofs.Common.{◌≡◌, ℕ, ◌%◌, List, [], ◌∷◌, ◌++◌, map, sym, refl, ap, ◌∙◌, subst, Option, Some, None}
+use Rattle.std.proofs.lemmas.List.{map-append}
+use Rattle.hall_channels.specs.declared.messages.AppCall.{AppCall}
+use Rattle.hall.specs.SeatEvents.{seat_app}
+use Rattle.hall.specs.declared.seats.SeatEvent.{SeatEvent}
+use Rattle.hall.specs.declared.seats.SeatEvent.TheVariants.{Call, Gone}
+use Rattle.line_places.specs.declared.client.Client.{Client}
+use Rattle.line_places.specs.declared.place.Place.{Place}
+use Rattle.line_places.specs.Keeping.{HasGone, IsAmong, IsOwed}
+use Rattle.line_places.proofs.Keeping.{among-last, among-more}
+use Rattle.hall_sockets.specs.declared.seat.SocketSeat.{SocketSeat}
+use Rattle.hall_sockets.specs.Staying.{Stays, IsThere, IsNoted, Gives}
+use Rattle.hall_sockets.specs.Telling.{calls_in, gone_in, apps_of}
+
+-- ---- lists
+
+pub calls-call : (es : List SeatEvent) (c : AppCall) → calls_in (es ++ Call c ∷ []) ≡ calls_in es ++ c ∷ []
+calls-call [] c = refl
+calls-call (Call d ∷ es) c = ap (λ (l : List AppCall). d ∷ l) (calls-call es c)
+calls-call (Gone app ∷ es) c = calls-call es c
+
+pub calls-gone : (es : List SeatEvent) (app : ℕ) → calls_in (es ++ Gone app ∷ []) ≡ calls_in es
+calls-gone [] app = refl
+calls-gone (Call d ∷ es) app = ap (λ (l : List AppCall). d ∷ l) (calls-gone es app)
+calls-gone (Gone a ∷ es) app = calls-gone es app
+
+pub gone-call : (es : List SeatEvent) (c : AppCall) → gone_in (es ++ Call c ∷ []) ≡ gone_in es
+gone-call [] c = refl
+gone-call (Call d ∷ es) c = gone-call es c
+gone-call (Gone a ∷ es) c = ap (λ (l : List ℕ). a ∷ l) (gone-call es c)
+
+pub gone-gone : (es : List SeatEvent) (app : ℕ) → gone_in (es ++ Gone app ∷ []) ≡ gone_in es ++ app ∷ []
+gone-gone [] app = refl
+gone-gone (Call d ∷ es) app = gone-gone es app
+gone-gone (Gone a ∷ es) app = ap (λ (l : List ℕ). a ∷ l) (gone-gone es app)
+
+pub apps-more : {R W : Type 0} (past : List (Client R W)) (c : Client R W) (app : ℕ) → c.app ≡ app → apps_of (past ++ c ∷ []) ≡ apps_of past ++ app ∷ []
+apps-more past c app is = map-append (λ c. c.app) past (c ∷ []) ∙ ap (λ a. apps_of past ++ a ∷ []) is
+
+-- ---- who is there no more
+
+module _ {R W : Type 0} where
+  pub gone-same : (past past' : List (Client R W)) → past' ≡ past → (app : ℕ) → HasGone past app → HasGone past' app
+  gone-same past past' is app h = subst (λ l. HasGone l app) (sym is) h
+
+  pub gone-more : (past past' : List (Client R W)) (c : Client R W) → past' ≡ past ++ c ∷ [] → (app : ℕ) → HasGone past app → HasGone past' app
+  gone-more past past' c is app h = subst (λ l. HasGone l app) (sym is) (h.0, among-more h.0 c past h.1, h.2)
+
+  pub gone-last : (past past' : List (Client R W)) (c : Client R W) (app : ℕ) → past' ≡ past ++ c ∷ [] → c.app ≡ app → HasGone past' app
+  gone-last past past' c app is named = subst (λ l. HasGone l app) (sym is) (c, among-last c past, named)
+
+-- a reply is owed, by other names of the places
+pub owed-as : {R W : Type 0} (places places' : List (Place R W)) (j j' app : ℕ) → places ≡ places' → j ≡ j' → IsOwed places' j' app → IsOwed places j app
+owed-as {R} {W} places places' j j' app same here h = subst (λ (z : List (Place R W) × ℕ). IsOwed z.0 z.1 app) (λ i. (sym same i, sym here i)) h
+
+-- ---- one thing after the other
+
+module _ {L C : Type 0} (a b c : SocketSeat L C) where
+  pub stays-stays : Stays a b → Stays b c → Stays a c
+  stays-stays x y = (y.0 ∙ x.0, y.1 ∙ x.1, y.2 ∙ x.2, y.3 ∙ x.3, y.4 ∙ x.4, y.5 ∙ x.5)
+
+  pub stays-gives : (e : Option SeatEvent) → Stays a b → Gives b c e → Gives a c e
+  stays-gives None x y = stays-stays x y
+  stays-gives (Some e) x y = (
+    y.0 ∙ x.0,
+    y.1 ∙ x.1,
+    y.2 ∙ x.4,
+    y.3 ∙ ap (λ l. l ++ e ∷ []) x.5,
+    (y.4.0 ∙ x.0, λ h. y.4.1 (gone-same a.clients.past.items b.clients.past.items x.2 (seat_app e) h)),
+    y.5,
+    λ app h. y.6 app (gone-same a.clients.past.items b.clients.past.items x.2 app h),
+  )
+
+-- ---- by what `next` is to say
+
+module _ {L C : Type 0} (a b : SocketSeat L C) where
+  pub gives-there : (e : Option SeatEvent) → Gives a b e → IfSome e (λ x. ¬ HasGone a.clients.past.items (seat_app x))
+  gives-there None x = tt
+  gives-there (Some e) x = x.4.1
+
+  pub gives-gone : (e : Option SeatEvent) → Gives a b e → (app : ℕ) → HasGone a.clients.past.items app → HasGone b.clients.past.items app
+  gives-gone None x app h = gone-same a.clients.past.items b.clients.past.items x.2 app h
+  gives-gone (Some e) x app h = x.6 app h

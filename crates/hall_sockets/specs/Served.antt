@@ -1,0 +1,61 @@
+-- What the connections of four seats read and wrote, by the history of their calls.
+use Rattle.std.specs.Prelude.{◌≡◌, ◌≢◌, ℕ, ◌%◌, List, [], ◌∷◌, ◌++◌, Option}
+use Rattle.std.specs.declared.net.unix.UnixStream.{UnixStream}
+use Rattle.model_worlds.specs.Worlds.{World}
+use Rattle.token.specs.States.{HasJobs, Lasting}
+use Rattle.hall_channels.specs.Lists.{of}
+use Rattle.hall_channels.specs.declared.messages.Event.{Event}
+use Rattle.hall_channels.specs.declared.messages.Event.TheVariants.{Call, Finish, Gone}
+use Rattle.hall_channels.specs.declared.inward.InwardView.{InwardView}
+use Rattle.hall.specs.Histories.{History, Counts, IsHistory, replies_in, told_in}
+use Rattle.hall.specs.Held.{Interleaves}
+use Rattle.hall.specs.SeatEvents.{asked_in}
+use Rattle.line.specs.Turns.{Ask}
+use Rattle.line.specs.Whole.{Lived}
+use Rattle.line.specs.Words.{words_for}
+use Rattle.line_places.specs.declared.client.Client.{Client}
+use Rattle.line_places.specs.Keeping.{IsLife}
+use Rattle.line_places.specs.Standing.{ask_in}
+use Rattle.hall_sockets.specs.declared.seat.SocketSeat.{SocketSeat}
+use Rattle.hall_sockets.specs.Telling.{apps_of, gone_in}
+
+-- the calls of a history with their random bytes, each with its application
+abbrev pub called : Event → List (ℕ × Ask)
+called (Call c) = (c.app, ask_in c) ∷ []
+called (Finish app done) = []
+called (Gone app) = []
+
+abbrev pub called_in : History → List (ℕ × Ask)
+called_in [] = []
+called_in (x ∷ xs) = called x.1.0 ++ called_in xs
+
+-- a connection with its application, and what was read and written of it
+abbrev pub Connection : Type 0
+Connection = Client UnixStream UnixStream
+
+-- a connection that this seat has or had
+abbrev pub Has : {L C : Type 0} → SocketSeat L C → Connection → Type 0
+Has seat it = IsLife seat.clients.places.items seat.clients.past.items it
+
+-- The connections of seat s by a history. The calls that were read of a connection, in order, are those of its application there,
+-- with the words of its application under the seed from the first on. What its writer took is the frames of the replies to them in
+-- that history, in order, with the answers to what is no call at their places, or a beginning of that (`Lived`). An application of
+-- this seat without a connection is none of the history's. The connections that are there no more are those whose applications
+-- disconnected there, in that order.
+pub record WasServed {L C : Type 0} (seed : List ℕ) (seat : SocketSeat L C) (s : ℕ) (history : History) : Type 0 where
+  pub each : (it : Connection) → Has seat it → ∥ Lived (words_for seed it.app) it.connection (of it.app (called_in history)) (of it.app (told_in history)) ∥₁
+  pub others : (app : ℕ) → app % 4 ≡ s → ((it : Connection) → Has seat it → it.app ≢ app) → (of app (called_in history) ≡ []) × (of app (told_in history) ≡ [])
+  pub left : apps_of seat.clients.past.items ≡ gone_in (asked_in (of s history))
+
+-- Four seats on a socket were held before a machine: what they put is one history, which the machine took, and each connection was
+-- served by it. Where the machine's store is faithful and no call was pending, it is a run from the world that the machine refined.
+pub record WereServed {L C T : Type 0} (doubt failures : T → ℕ) (shows : T → World → Type 0) (leaves : T → Option Lasting → Type 0) (seed : List ℕ)
+    (inward : InwardView) (seats : SocketSeat L C × SocketSeat L C × SocketSeat L C × SocketSeat L C) (before after : T) : Type 0 where
+  pub history : History
+  pub interleaves : Interleaves history inward
+  pub seat0 : ∥ WasServed seed seats.0 0 history ∥₁
+  pub seat1 : ∥ WasServed seed seats.1 1 history ∥₁
+  pub seat2 : ∥ WasServed seed seats.2 2 history ∥₁
+  pub seat3 : ∥ WasServed seed seats.3 3 history ∥₁
+  pub counts : Counts (doubt before) (doubt after) (failures before) (failures after) (replies_in (told_in history))
+  pub runs : doubt after ≡ 0 → (w : World) → shows before w → HasJobs w [] → IsHistory (shows after) (leaves before) (leaves after) w history

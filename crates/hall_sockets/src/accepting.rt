@@ -1,0 +1,169 @@
+//! How a seat comes to its connections.
+
+ghost use Rattle.hall_sockets.specs.Staying.{Stays};
+
+use crate::seat::SocketSeat;
+use crate::waiting::{LISTENER, PATIENCE};
+use log::{Log, error, warn};
+use mio::unix::SourceFd;
+use mio::{Interest, Token};
+use std::io::{self, ErrorKind};
+use std::os::fd::AsRawFd;
+use std::os::unix::net::UnixStream;
+use std::sync::atomic::Ordering;
+use std::time::{Clock, Duration};
+
+/// For how many milliseconds a seat leaves who waits to be accepted to another one.
+const SHORT_WAIT: u64 = 1;
+
+/// EMFILE, ENFILE, ENOBUFS and ENOMEM: no more descriptors or memory at the moment.
+const SHORTAGES: [i32; 4] = [24, 23, 105, 12];
+
+impl<L: Log, C: Clock> SocketSeat<L, C> {
+    pub(crate) fn is_stopping(&self) -> bool {
+        self.is_stopping.load(Ordering::SeqCst)
+    }
+
+    /// Whether no connection is there, and none comes any more.
+    pub(crate) fn is_over(&self) -> bool {
+        self.left == 0 && self.count == 0
+    }
+
+    /// A place where a connection may come to.
+    fn free_place(&self) -> Option<usize> {
+        if self.left == 0 {
+            return None;
+        }
+        'places: for place in 0..self.clients.len() {
+            if self.clients.is_free(place) {
+                return Some(place);
+            }
+        }
+        None
+    }
+
+    /// Accepts who waits, if it is this seat's turn, or waits until something comes.
+    #[inline(never)]
+    pub(crate) fn look_round(&mut self)
+        ensures { Stays self.old self.new }
+    {
+        let place = if self.may_accept {
+            self.free_place()
+        } else {
+            None
+        };
+        match place {
+            Some(place) if self.loads.is_least(self.clients.number) => self.accept_at(place),
+            Some(_) => self.leave_to_others(),
+            None => self.wait(Duration::from_secs(PATIENCE)),
+        }
+    }
+
+    /// Leaves who waits to a seat with fewer connections for a moment. If somebody waits still, the next wait returns at once.
+    fn leave_to_others(&mut self)
+        ensures { Stays self.old self.new }
+    {
+        self.may_accept = false;
+        self.wait(Duration::from_millis(SHORT_WAIT));
+        let fd = self.listener.as_raw_fd();
+        let registry = self.poll.registry();
+        let renewed = registry.reregister(&mut SourceFd(&fd), Token(LISTENER), Interest::READABLE);
+        if renewed.is_err() {
+            self.has_failed = true;
+        }
+    }
+
+    /// Accepts one, to stand at a place.
+    fn accept_at(&mut self, place: usize)
+        ensures { Stays self.old self.new }
+    {
+        match self.listener.accept() {
+            Ok((stream, _)) => match self.halves(place, stream) {
+                Ok((reader, writer)) => self.seat_at(place, reader, writer),
+                Err(error) => warn!(self.log; "a connection is not accepted: {error}"),
+            },
+            Err(error) => self.not_accepted(error),
+        }
+    }
+
+    /// Whether the seat has one place, and no limit of time for its connection. Then a read of it may wait, since it holds up nobody.
+    pub(crate) fn is_single(&self) -> bool {
+        self.clients.len() == 1 && self.idle.is_none()
+    }
+
+    /// Lets a read and a write of a new connection wait for a second, where there is no other. Otherwise they never wait.
+    fn let_wait(&self, stream: &UnixStream) -> io::Result<()> {
+        if self.is_single() {
+            let longest = Some(Duration::from_secs(PATIENCE));
+            stream.set_read_timeout(longest)?;
+            stream.set_write_timeout(longest)
+        } else {
+            stream.set_nonblocking(true)
+        }
+    }
+
+    /// Both halves of a new connection, which is waited for from now on.
+    fn halves(&mut self, place: usize, stream: UnixStream) -> io::Result<(UnixStream, UnixStream)>
+        ensures { Stays self.old self.new }
+    {
+        self.let_wait(&stream)?;
+        let writer = stream.try_clone()?;
+        let fd = stream.as_raw_fd();
+        self.poll
+            .registry()
+            .register(&mut SourceFd(&fd), Token(place), Interest::READABLE)?;
+        if let Some(known) = self.descriptors.get_mut(place) {
+            *known = fd;
+        }
+        Ok((stream, writer))
+    }
+
+    fn seat_at(&mut self, place: usize, reader: UnixStream, writer: UnixStream)
+        ensures { Stays self.old self.new }
+    {
+        self.clients.open(self.alloc, place, reader, writer);
+        if let (Some(stuck), Some(used)) = (
+            self.is_stuck.get_mut(place),
+            self.used.get_mut(place),
+        ) {
+            *stuck = false;
+            *used = self.time;
+        }
+        self.left = self.left.saturating_sub(1);
+        self.count = self.count.saturating_add(1);
+        self.tell_load();
+        self.note(place);
+    }
+
+    /// Shows the other seats how many connections there are.
+    pub(crate) fn tell_load(&self) {
+        let count = if self.left == 0 {
+            usize::MAX
+        } else {
+            self.count
+        };
+        self.loads.set(self.clients.number, count);
+    }
+
+    /// Nobody was accepted: none waits any more, or a peer disconnected before, or the listener failed.
+    fn not_accepted(&mut self, error: io::Error)
+        ensures { Stays self.old self.new }
+    {
+        match error.kind() {
+            ErrorKind::ConnectionAborted | ErrorKind::Interrupted => {}
+            ErrorKind::WouldBlock => self.may_accept = false,
+            _ => {
+                let is_short = error
+                    .raw_os_error()
+                    .is_some_and(|code| SHORTAGES.contains(&code));
+                if is_short {
+                    // Who waits is accepted once somebody else connects, or a connection ends.
+                    self.may_accept = false;
+                    error!(self.log; "a connection is not accepted: {error}");
+                } else {
+                    self.has_failed = true;
+                }
+            }
+        }
+    }
+}

@@ -1,0 +1,127 @@
+//! A seat's events.
+
+ghost use Rattle.std.specs.Prelude.{◌≡◌, ◌%◌, ◌∷◌, [], ◌++◌, ℕ, IfSome, IfNone};
+ghost use Rattle.hall.specs.SeatEvents.{seat_app};
+ghost use Rattle.line_places.specs.Keeping.{HasGone};
+ghost use Rattle.hall_sockets.specs.Staying.{Asks, Gives, Stays};
+
+use crate::asked::Asked;
+use crate::seat::SocketSeat;
+use hall::SeatEvent;
+use line::Ending;
+use line_places::Came;
+use log::{Log, error, info, warn};
+use std::time::Clock;
+
+impl<L: Log, C: Clock> SocketSeat<L, C> {
+    /// The next event of the connection at a place, if it has one.
+    pub(crate) fn event_at(&mut self, place: usize) -> Option<SeatEvent>
+        ensures { Gives self.old self.new result }
+    {
+        match self.ask(place) {
+            Asked::Call(event) => Some(event),
+            Asked::Nothing => {
+                let is_stuck = self.is_pending(place);
+                self.watch(place, is_stuck);
+                None
+            }
+            Asked::Ended(ending) => {
+                self.report(place, &ending);
+                self.end(place)
+            }
+        }
+    }
+
+    /// Asks the connection at a place for its next call.
+    fn ask(&mut self, place: usize) -> Asked
+        ensures { Asks self.old self.new result }
+    {
+        self.asked_since = self.asked_since.saturating_add(1);
+        match self.clients.next_call(self.alloc, place, &mut self.piece) {
+            Came::Call(call) => {
+                let event = SeatEvent::Call(call);
+                self.asked.push(&event);
+                self.answering = place;
+                // Asked again until a read would block: its event may have been of what is still to come, as the end.
+                self.note(place);
+                Asked::Call(event)
+            }
+            Came::Nothing => Asked::Nothing,
+            Came::Ended(ending) => Asked::Ended(ending),
+        }
+    }
+
+    /// Whether bytes of replies are to be written yet at a place.
+    pub(crate) fn is_pending(&self, place: usize) -> bool {
+        match self.clients.client(place) {
+            Some(client) => client.is_pending(),
+            None => false,
+        }
+    }
+
+    /// The connection at a place ends, and its application disconnects.
+    #[inline(never)]
+    pub(crate) fn end(&mut self, place: usize) -> Option<SeatEvent>
+        ensures { Gives self.old self.new result }
+    {
+        let app = self.clients.close(place)?;
+        let event = SeatEvent::Gone { app };
+        self.asked.push(&event);
+        self.count = self.count.saturating_sub(1);
+        self.may_accept = true;
+        self.tell_load();
+        Some(event)
+    }
+
+    /// No more is accepted. One of the connections ends, if there is one.
+    #[inline(never)]
+    pub(crate) fn leave(&mut self) -> Option<SeatEvent>
+        ensures { Gives self.old self.new result }
+    {
+        self.left = 0;
+        self.tell_load();
+        'places: for place in 0..self.clients.len() {
+            let event = self.end(place);
+            if event.is_some() {
+                return event;
+            }
+        }
+        None
+    }
+
+    /// The connection of which nothing came for too long ends, if there is one.
+    #[inline(never)]
+    pub(crate) fn end_idle(&mut self) -> Option<SeatEvent>
+        ensures { Gives self.old self.new result }
+    {
+        let Some(place) = self.idle_place() else {
+            self.looked = self.time;
+            return None;
+        };
+        if let Some(client) = self.clients.client(place) {
+            let app = client.app;
+            info!(self.log; "connection {app} is ended: nothing came of it for too long");
+        }
+        self.end(place)
+    }
+
+    /// Logs why a connection ends.
+    #[inline(never)]
+    fn report(&self, place: usize, ending: &Ending) {
+        let Some(client) = self.clients.client(place) else {
+            return;
+        };
+        let app = client.app;
+        match ending {
+            Ending::Closed => {}
+            Ending::TooLong | Ending::Cut => {
+                warn!(self.log; "connection {app} is refused: {ending}");
+            }
+            Ending::Memory | Ending::Reply =>
+                error!(self.log; "connection {app} is ended: {ending}"),
+            Ending::Read(_) | Ending::Write(_) => {
+                info!(self.log; "connection {app} is ended: {ending}");
+            }
+        }
+    }
+}

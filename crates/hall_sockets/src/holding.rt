@@ -1,0 +1,66 @@
+//! Four seats on a socket before the token.
+
+ghost use Rattle.std.specs.Prelude.{◌≡◌, IfOk, IfErr};
+ghost use Rattle.crossbeam_channel.specs.Claims.{view};
+ghost use Rattle.token.specs.States.{Shows, MayLeave};
+ghost use Rattle.hall.specs.Given.{IsLed};
+ghost use Rattle.hall_sockets.specs.Served.{WereServed};
+ghost use Rattle.hall_sockets.specs.Staying.{AreNew};
+
+use crate::seat::SocketSeat;
+use hall::laws::own_seat;
+use hall::{Gate, HallFault, Held, hold};
+use keep::Keep;
+use line::accounts;
+use log::Log;
+use std::alloc::Global;
+use std::sync::{Arc, Wait};
+use std::thread::Threads;
+use std::time::Clock;
+use token::Token;
+
+/// The four seats, seat 0 first.
+pub type Seats<L, C> = (
+    SocketSeat<L, C>,
+    SocketSeat<L, C>,
+    SocketSeat<L, C>,
+    SocketSeat<L, C>,
+);
+
+/// Holds four new seats on a socket before the token, until each has no more, as `hall::hold` does. They have one seed.
+///
+/// What it promises of the bytes: there is one history of all calls, which is a run of the token's. For each application, what was
+/// read of its connection are the frames of its calls in that history, in order. What was written are the frames of the answers
+/// that the history has to them, in that order, with the answers to what is no call at their places. Where the connection ended
+/// otherwise than by its reader or by a frame that is too long, that is a beginning of it.
+///
+/// # Errors
+///
+/// As `hall::hold`.
+pub fn hold_sockets<
+    K: Keep,
+    L: Log + Drop + Send + 'static,
+    C: Clock + Drop + Send + 'static,
+    G: Gate + Send + Sync + Drop + 'static,
+    R: Threads + Wait + Copy + Send + Drop + 'static,
+>(
+    rt: R,
+    alloc: Global,
+    token: Token<K>,
+    seats: Seats<L, C>,
+    gate: &Arc<G, Global>,
+) -> Result<Held<Token<K>, SocketSeat<L, C>>, (HallFault, Token<K>)>
+    requires { AreNew seats.0.clients.seed seats }
+    // Each connection was served by one history, which is a run of the token's.
+    ensures served { IfOk result (λ h. WereServed (λ t. K.terms.doubt t.store.keep) (λ t. K.terms.failures t.store.keep)
+        (Shows K.terms) (MayLeave K.terms) seats.0.clients.seed (view h.passes.inward) h.seats token h.token) }
+    // Where an allocation failed, the token is as it was.
+    ensures memory { IfErr result (λ e. e.0 ≡ HallFault.Memory → e.1 ≡ token) }
+    // At any fault some history leads to the token that is returned.
+    ensures led { IfErr result (λ e. IsLed (λ t. K.terms.doubt t.store.keep) (λ t. K.terms.failures t.store.keep)
+        (Shows K.terms) (MayLeave K.terms) token e.1) }
+{
+    accounts();
+    own_seat();
+    hold(rt, alloc, token, seats, gate)
+}

@@ -1,0 +1,101 @@
+//! A new seat.
+
+ghost use Rattle.std.specs.Prelude.{◌≡◌, ◌<◌, ◌≤◌, [], IfOk};
+ghost use Rattle.hall_sockets.specs.Staying.{IsNew};
+
+use crate::loads::Loads;
+use crate::seat::{MAX_CLIENTS, READ_LEN, Settings, SocketSeat};
+use crate::waiting::LISTENER;
+use line_places::Places;
+use lists::GhostList;
+use log::Log;
+use mio::unix::SourceFd;
+use mio::{Events, Interest, Poll, Token};
+use std::alloc::Global;
+use std::collections::VecDeque;
+use std::io;
+use std::net::Net;
+use std::os::fd::AsRawFd;
+use std::os::unix::net::UnixListener;
+use std::sync::Arc;
+use std::sync::atomic::AtomicBool;
+use std::time::{Clock, Duration};
+
+/// What a seat shares with others.
+#[derive(Drop)]
+pub struct Shared {
+    /// The daemon is to end: then its seats accept and read no more.
+    pub is_stopping: Arc<AtomicBool, Global>,
+    pub loads: Arc<Loads, Global>,
+    pub listener: UnixListener,
+}
+
+impl<L: Log + Drop, C: Clock + Drop> SocketSeat<L, C> {
+    /// The seat with a number from 0 to 3, with no connection.
+    ///
+    /// # Errors
+    ///
+    /// Those of the system: it gives no descriptor to wait by, or the listener is none. And where there is no memory.
+    pub fn new(
+        net: &impl Net,
+        alloc: Global,
+        clock: C,
+        log: L,
+        shared: Shared,
+        settings: &Settings,
+        number: u64,
+    ) -> io::Result<SocketSeat<L, C>>
+        requires number { number < 4 }
+        requires clients { settings.now.clients ≤ 64 }
+        ensures { IfOk result (λ seat. IsNew seat settings.now.seed number) }
+    {
+        shared.listener.set_nonblocking(true)?;
+        let poll = Poll::new(net)?;
+        let fd = shared.listener.as_raw_fd();
+        poll.registry()
+            .register(&mut SourceFd(&fd), Token(LISTENER), Interest::READABLE)?;
+        let time = clock.monotonic()?;
+        let Shared {
+            is_stopping,
+            loads,
+            listener,
+        } = shared;
+        Ok(SocketSeat {
+            alloc,
+            clock,
+            log,
+            is_stopping,
+            loads,
+            listener,
+            poll,
+            events: Events::with_capacity(alloc, MAX_CLIENTS + 1)?,
+            clients: Places::new(alloc, settings.seed, number, settings.clients)?,
+            count: 0,
+            left: settings.connections,
+            descriptors: [-1; MAX_CLIENTS],
+            is_stuck: [false; MAX_CLIENTS],
+            used: [Duration::ZERO; MAX_CLIENTS],
+            due: VecDeque::with_capacity(alloc, MAX_CLIENTS)?,
+            is_due: [false; MAX_CLIENTS],
+            asked_since: 0,
+            answering: 0,
+            may_accept: true,
+            idle: settings.idle,
+            time,
+            looked: time,
+            piece: [0; READ_LEN],
+            has_ended: false,
+            has_failed: false,
+            asked: GhostList::new(),
+        })
+    }
+}
+
+impl<L, C> SocketSeat<L, C> {
+    /// Whether the seat ended because no connection could be accepted any more, or none be waited for.
+    pub fn has_failed(&self) -> bool
+        ensures { result ≡ self.now.has_failed }
+    {
+        self.has_failed
+    }
+}

@@ -1,0 +1,82 @@
+//! A seat on a socket.
+
+ghost use Rattle.std.specs.Prelude.{◌≡◌, map};
+ghost use Rattle.hall_sockets.specs.Telling.{calls_in, gone_in, apps_of};
+
+use crate::loads::Loads;
+use hall::SeatEvent;
+use line_places::Places;
+use lists::GhostList;
+use mio::{Events, Poll};
+use std::alloc::Global;
+use std::collections::VecDeque;
+use std::os::unix::net::{UnixListener, UnixStream};
+use std::sync::Arc;
+use std::sync::atomic::AtomicBool;
+use std::time::Duration;
+
+/// How many connections a seat has at once, at most.
+pub const MAX_CLIENTS: usize = 64;
+
+/// How many bytes are read at once.
+pub(crate) const READ_LEN: usize = 32_768;
+
+/// What the four seats of a daemon have in common.
+#[derive(Drop)]
+pub struct Settings {
+    /// The seed of all applications' random bytes.
+    pub seed: [u8; 32],
+    /// How many connections each has at once, 1 to 64.
+    pub clients: usize,
+    /// After how many connections each ends.
+    pub connections: u64,
+    /// A connection of which nothing came for so long is ended.
+    pub idle: Option<Duration>,
+}
+
+/// A seat on a socket: many connections, each an application of its own. It ends early once the daemon is to end.
+#[derive(Drop)]
+pub struct SocketSeat<L, C> {
+    pub(crate) alloc: Global,
+    pub(crate) clock: C,
+    pub(crate) log: L,
+    /// The daemon is to end.
+    pub(crate) is_stopping: Arc<AtomicBool, Global>,
+    pub(crate) loads: Arc<Loads, Global>,
+    pub(crate) listener: UnixListener,
+    pub(crate) poll: Poll,
+    pub(crate) events: Events<Global>,
+    pub clients: Places<UnixStream, UnixStream>,
+    /// How many connections there are.
+    pub(crate) count: usize,
+    /// How many may be accepted yet.
+    pub(crate) left: u64,
+    /// The descriptor of each connection, by its place.
+    pub(crate) descriptors: [i32; MAX_CLIENTS],
+    /// Whether its peer is waited for until it takes more.
+    pub(crate) is_stuck: [bool; MAX_CLIENTS],
+    /// When something last came of it.
+    pub(crate) used: [Duration; MAX_CLIENTS],
+    /// The places that are to be asked, in their order, each once.
+    pub(crate) due: VecDeque<usize>,
+    pub(crate) is_due: [bool; MAX_CLIENTS],
+    /// How many were asked since the last wait.
+    pub(crate) asked_since: usize,
+    /// The place of the last call.
+    pub(crate) answering: usize,
+    /// Somebody may wait to be accepted.
+    pub(crate) may_accept: bool,
+    pub(crate) idle: Option<Duration>,
+    pub(crate) time: Duration,
+    /// When idle connections were last looked for.
+    pub(crate) looked: Duration,
+    /// A buffer for what is read at once.
+    pub(crate) piece: [u8; READ_LEN],
+    pub(crate) has_ended: bool,
+    /// The listener or the wait failed.
+    pub(crate) has_failed: bool,
+    /// What it gave, for contracts alone.
+    pub asked: GhostList<SeatEvent>,
+    pub ghost calls: { calls_in asked.items ≡ clients.asked.items },
+    pub ghost gone: { gone_in asked.items ≡ apps_of clients.past.items },
+}

@@ -1,0 +1,111 @@
+//! A seat's wait for its connections and its listener.
+
+ghost use Rattle.std.specs.Prelude.{◌≡◌};
+ghost use Rattle.hall_sockets.specs.Staying.{Stays};
+
+use crate::seat::{MAX_CLIENTS, SocketSeat};
+use mio::unix::SourceFd;
+use mio::{Events, Interest, Token};
+use std::collections::VecDeque;
+use std::io::ErrorKind;
+use std::time::{Clock, Duration};
+
+/// The token of the listener; that of a connection is its place.
+pub(crate) const LISTENER: usize = MAX_CLIENTS;
+
+/// How many seconds a wait lasts at most, before a seat looks whether the daemon is to end.
+pub(crate) const PATIENCE: u64 = 1;
+
+impl<L, C: Clock> SocketSeat<L, C> {
+    /// A place is to be asked.
+    pub(crate) fn note(&mut self, place: usize)
+        ensures stays { Stays self.old self.new }
+        ensures clients { self.new.clients ≡ self.old.clients }
+        ensures answering { self.new.answering ≡ self.old.answering }
+    {
+        if !note_place(place, &mut self.due, &mut self.is_due) {
+            self.has_failed = true;
+        }
+    }
+
+    /// Waits until a connection or the listener has something, or for as long as given.
+    pub(crate) fn wait(&mut self, longest: Duration)
+        ensures { Stays self.old self.new }
+    {
+        self.asked_since = 0;
+        if let Err(error) = self.poll.poll(&mut self.events, Some(longest)) {
+            if error.kind() != ErrorKind::Interrupted {
+                self.has_failed = true;
+            }
+            return;
+        }
+        self.read_clock();
+        self.note_events();
+    }
+
+    fn read_clock(&mut self)
+        ensures { Stays self.old self.new }
+    {
+        if self.idle.is_some() {
+            if let Ok(time) = self.clock.monotonic() {
+                self.time = time;
+            }
+        }
+    }
+
+    /// Notes the places that have something, and whether somebody waits to be accepted.
+    fn note_events(&mut self)
+        ensures { Stays self.old self.new }
+    {
+        'events: for event in self.events.iter() {
+            let Token(place) = event.token();
+            if place == LISTENER {
+                self.may_accept = true;
+            } else {
+                if let Some(used) = self.used.get_mut(place) {
+                    *used = self.time;
+                }
+                if !note_place(place, &mut self.due, &mut self.is_due) {
+                    self.has_failed = true;
+                }
+            }
+        }
+    }
+
+    /// Has the seat wait until the peer at a place takes more, or no longer.
+    pub(crate) fn watch(&mut self, place: usize, is_stuck: bool)
+        ensures { Stays self.old self.new }
+    {
+        let (Some(was), Some(fd)) = (self.is_stuck.get_mut(place), self.descriptors.get(place))
+        else {
+            return;
+        };
+        if *was == is_stuck {
+            return;
+        }
+        *was = is_stuck;
+        let interest = if is_stuck {
+            Interest::READABLE | Interest::WRITABLE
+        } else {
+            Interest::READABLE
+        };
+        let registered = self
+            .poll
+            .registry()
+            .reregister(&mut SourceFd(fd), Token(place), interest);
+        if registered.is_err() {
+            self.has_failed = true;
+        }
+    }
+}
+
+/// Notes a place that is to be asked, once. False where there is no memory for that.
+fn note_place(place: usize, due: &mut VecDeque<usize>, is_due: &mut [bool; MAX_CLIENTS]) -> bool {
+    match is_due.get_mut(place) {
+        Some(noted) if !*noted => {
+            *noted = true;
+            due.push_back(place).is_ok()
+        }
+        _ => true,
+    }
+}

@@ -1,0 +1,5 @@
+pub mod Changing
+pub mod Crosses
+pub mod Doing
+pub mod Keeping
+pub mod Standing

@@ -1,0 +1,25 @@
+use Rattle.std.proofs.Common.{refl, sym}
+use Rattle.std.proofs.Math.Logic.{∥∥₁_map}
+use Rattle.line_places.proofs.Standing.{came-call, came-nothing, came-ended, stands-as}
+use Rattle.line_places.proofs.client.Client.next_call.Goals as goal
+
+pub invariant_of-self : goal.invariant_of-self
+invariant_of-self g c = record {
+  stands = ∥∥₁_map c.args.self.now.stands (λ h.
+      came-call c.args.self.now.first.value c.accounts.ensures.call c.args.self.now.connection c.next_call.new.self c.in-Call.field-0 _ c.args.self.now.asked.items c.push.new.self.items c.args.self.now.told.items
+      (λ why is. (c.in-Call.ensures.over why is).0) (λ is. (c.in-Call.ensures.comes is).does) (stands-as _ _ _ _ _ _ c.if-self.false h) refl c.push.ensures);
+}
+
+pub invariant_of-self-in-Nothing : goal.invariant_of-self-in-Nothing
+invariant_of-self-in-Nothing g c = record {
+  stands = ∥∥₁_map c.args.self.now.stands (λ h.
+      stands-as _ _ _ _ _ _ (λ i. sym c.if-self.false i) (came-nothing c.args.self.now.first.value c.accounts.ensures.nothing c.args.self.now.connection c.next_call.new.self c.args.self.now.asked.items c.args.self.now.told.items
+      (λ why is. (c.in-Nothing.ensures.over why is).0) (λ is. (c.in-Nothing.ensures.comes is).does) (stands-as _ _ _ _ _ _ c.if-self.false h)));
+}
+
+pub invariant_of-self-in-Ended-1 : goal.invariant_of-self-in-Ended-1
+invariant_of-self-in-Ended-1 g c = record {
+  stands = ∥∥₁_map c.args.self.now.stands (λ h.
+      stands-as _ _ _ _ _ _ (λ i. sym c.if-self.false i) (came-ended c.args.self.now.first.value c.accounts.ensures.ended c.args.self.now.connection c.next_call.new.self c.in-Ended.ending c.args.self.now.asked.items c.args.self.now.told.items
+      (λ why is. (c.in-Ended.ensures.over why is).1) (λ is. (c.in-Ended.ensures.comes is).does) (stands-as _ _ _ _ _ _ c.if-self.false h)));
+}

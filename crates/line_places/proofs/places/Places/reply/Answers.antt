@@ -1,0 +1,26 @@
+use Rattle.std.proofs.Common.{ap, sym, ◌∙◌}
+use Rattle.std.proofs.lemmas.Option.{slice_get_within}
+use Rattle.std.proofs.Math.Logic.{∥∥₁_map}
+use Rattle.line_places.proofs.Doing.{at-index, count-set, did-reply, one-client, client-at}
+use Rattle.line_places.proofs.places.Places.reply.Goals as goal
+
+pub invariant_of-self : goal.invariant_of-self
+invariant_of-self g c =
+    let was = c.args.self.now in
+    let r = c.requires in
+    let at = at-index was.places.items c.args.place c.index_mut.result.now (slice_get_within was.places.items c.args.place r.is.place r.is.at) c.index_mut.ensures.value in
+    let one = one-client was.places.items c.args.place r.is.place c.index_mut.result.now r.client c.in-Some.client r.is.at at r.is.client c.in-Some.is in
+    record {
+      worker = was.worker;
+      count = count-set was.places.items c.args.place _ was.count;
+      kept = ∥∥₁_map was.kept
+          (did-reply was.seed was.number was.places.items was.past.items was.asked.items was.told.items c.args.place c.index_mut.result.now c.in-Some.client c.reply.new.self at c.in-Some.is c.reply.ensures.same
+          c.args.app c.args.reply c.push.new.self.items (ap (λ x. x.app) (sym one) ∙ r.app_is) c.reply.ensures.takes c.push.ensures);
+    }
+
+pub invariant_of-self-in_default : goal.invariant_of-self-in_default
+invariant_of-self-in_default g c =
+    let was = c.args.self.now in
+    let r = c.requires in
+    let at = at-index was.places.items c.args.place c.index_mut.result.now (slice_get_within was.places.items c.args.place r.is.place r.is.at) c.index_mut.ensures.value in
+    absurd (c.in_default.not-Some r.client (client-at was.places.items c.args.place r.is.place c.index_mut.result.now r.client r.is.at at r.is.client))

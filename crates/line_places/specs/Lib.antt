@@ -1,0 +1,4 @@
+pub mod Coming
+pub mod Happening
+pub mod Keeping
+pub mod Standing

@@ -1,0 +1,36 @@
+//! A connection with its reader and its writer.
+
+ghost use Rattle.line_places.specs.Standing.{Stands};
+
+use ck_calls::Reply;
+use hall_channels::messages::AppCall;
+use line::{Connection, Ending, Watched, Words};
+use lists::GhostList;
+use std::snapshot::Snapshot;
+
+/// A connection of an application, with its reader and its writer. What it gave and took is for contracts alone.
+#[derive(Drop)]
+pub struct Client<R, W> {
+    pub reader: Watched<R>,
+    pub writer: Watched<W>,
+    pub connection: Connection,
+    pub app: u64,
+    /// The last call that it gave is owed its reply.
+    pub is_owed: bool,
+    /// The words of the application, from the first.
+    pub first: Snapshot<Words>,
+    pub asked: GhostList<AppCall>,
+    pub told: GhostList<Reply>,
+    pub ghost stands: { ∥ Stands first.value connection is_owed asked.items told.items ∥₁ },
+}
+
+/// What comes next of a client.
+#[derive(Drop)]
+pub enum Came {
+    /// A call, which is owed a reply.
+    Call(AppCall),
+    /// A read would block, or a write, or its last call is owed a reply yet.
+    Nothing,
+    /// The connection ended, now or before.
+    Ended(Ending),
+}

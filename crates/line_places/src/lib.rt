@@ -1,0 +1,22 @@
+//! Many connections, each at a place and of an application of its own.
+//!
+//! - `Client` is a connection with its reader and its writer. It keeps which calls it gave and which replies it took, for contracts
+//!   alone, and an account of the bytes by them (`line::accounts`).
+//! - `Places` has the clients of one worker, at most one at each place. The t-th client at place j of worker s, both from 0, is
+//!   application s + 4 (j + n t), where there are n places: so no number comes twice. What all its clients gave and took is kept
+//!   as two lists in the order in which they did; of each application, these are what its own client gave and took (`Kept`,
+//!   `specs/Keeping.antt`).
+//!
+//! So for each application that ever connected, the bytes that its writer took are the frames of the replies that it took, with
+//! the answers to what is no call at their places, or a beginning of that (`Stands`, `specs/Standing.antt`).
+#![tactic(auto)]
+
+mod client;
+mod going;
+mod place;
+mod places;
+mod placing;
+
+pub use client::{Came, Client};
+pub use place::Place;
+pub use places::Places;
