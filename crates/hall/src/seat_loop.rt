@@ -148,7 +148,7 @@ fn run_seat<S: Seat, G: Gate, R: Wait>(
 }
 
 /// Waits for the permission to begin, and runs the seat. False where it is to stop, and then the seat was not called, or where a
-/// channel has ended; the token is told so.
+/// channel has ended; the token then knows.
 pub(crate) fn run_permitted<S: Seat, G: Gate, R: Wait>(
     rt: &R,
     alloc: Global,

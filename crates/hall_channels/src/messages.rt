@@ -29,7 +29,7 @@ pub enum Event {
     Gone { app: u64 },
 }
 
-/// The room for an event on its way to the token, and for its answer on the way back. Each seat has one, which is allocated once.
+/// Where an event lies on its way to the token, and its answer on the way back. Each seat has one, which is allocated once.
 /// So a channel passes a pointer, and a call allocates nothing for it. In which field to look says the type of what passes.
 #[derive(Drop)]
 pub struct Message {

@@ -53,7 +53,7 @@ asks-calls app ((Gone a, o) ∷ xs) = asks-calls app xs
 
 -- ---- of all seats
 
--- what is told of one exchange
+-- what is heard of one exchange
 same_told : (app : ℕ) (o : Option Out) → told_by app o ≡ heard_by app o
 same_told app None = refl
 same_told app (Some (Reply r)) = refl

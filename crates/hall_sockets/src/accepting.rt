@@ -119,7 +119,7 @@ impl<L: Log, C: Clock> SocketSeat<L, C> {
         self.note(place);
     }
 
-    /// Tells the other seats how many connections there are.
+    /// Shows the other seats how many connections there are.
     pub(crate) fn tell_load(&self) {
         let count = if self.left == 0 {
             usize::MAX

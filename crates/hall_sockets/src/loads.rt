@@ -2,7 +2,7 @@
 
 use std::sync::atomic::{AtomicUsize, Ordering};
 
-/// How many connections each of the four seats has, so that a new one goes to a seat with the fewest.
+/// How many connections each of the four seats has, so that a new one comes to a seat with the fewest.
 #[derive(Drop)]
 pub struct Loads {
     counts: [AtomicUsize; 4],
@@ -22,14 +22,14 @@ impl Loads {
     }
 
     /// A seat has so many connections now. One that accepts no more says `usize::MAX`, so that no other waits for it.
-    pub fn set(&self, seat: u64, count: usize) {
+    pub(crate) fn set(&self, seat: u64, count: usize) {
         if let Some(own) = self.counts.get(seat as usize) {
             own.store(count, Ordering::SeqCst);
         }
     }
 
     /// Whether no seat has fewer connections than this one.
-    pub fn is_least(&self, seat: u64) -> bool {
+    pub(crate) fn is_least(&self, seat: u64) -> bool {
         let Some(own) = self.counts.get(seat as usize) else {
             return true;
         };

@@ -168,7 +168,7 @@ module _ {R W : Type 0} (remaining : R → Option (List ℕ)) (contents : W → 
     still : e ≡ None
     still = ap (λ (s : Connected). s.ended) was ∙ going
 
-  -- it can't be told what the payload is
+  -- what the payload is can't be found out
   pub comes-ends : (old new : Connected) (h h' : List ℕ) (k k' : ChaCha) (n m p : List ℕ) (c : ℕ) (e : Option Ending) (ending : Ending) → at h k n m p c e ≡ old → k' ≡ k → new ≡ at h' k' n m p c (Some ending) → Why ending p [] h [] p → Plain ending
       → Comes remaining contents r r w w old new (Some (next.Ended ending))
   comes-ends old new h h' k k' n m p c e ending was same is why plain = subst (λ (s : Connected). Comes remaining contents r r w w s new (Some (next.Ended ending))) was (subst (λ (s : Connected). Comes remaining contents r r w w (at h k n m p c e) s (Some (next.Ended ending))) (sym is) (record {

@@ -95,7 +95,7 @@ module _ (first : ChaCha) where
       ap (λ (t : List Ask). t ++ ask_of given ∷ []) p.asked_are ∙ ap (λ (x : List ℕ). asks first ms ++ (given.call, x) ∷ []) (ap (λ x. x.0) (call-took b given asked told payload w' p call))
       ∙ sym (asks-append first ms (Ok given.call ∷ [])) ∙ ap (asks first) (sym (call-joins p.payloads payload given call.is))
 
-  -- and was told a reply
+  -- and was answered
   account-told : (b : Connected) (given : Given) (reply : Reply) (asked : List Ask) (told : List Reply) (payload rest : List ℕ) (w' : ChaCha) (c : Connected) → Account first b asked told → length payload ≤ most → b.held ≡ frame payload ++ rest
       → IsCall payload b.words w' given → c.read ≡ b.read → c.held ≡ rest → c.words ≡ w' → output c ≡ output b ++ reply_frame reply → Account first c (asked ++ ask_of given ∷ []) (told ++ reply ∷ [])
   account-told b given reply asked told payload rest w' c p short front call read held words written =
@@ -127,7 +127,7 @@ module _ (first : ChaCha) where
   pub account-call : (a b : Connected) (given : Given) (asked : List Ask) (told : List Reply) → Account first a asked told → Gives a b given → Owes first b (asked ++ ask_of given ∷ []) told
   account-call a b given asked told p q = record { before = a; given = given; asked_before = asked; account = p; gives = q; asked_is = refl }
 
-  -- the call that was owed a reply was told it
+  -- the call that was owed a reply was answered
   owes-answered : (b c : Connected) (reply : Reply) (asked : List Ask) (told : List Reply) → Owes first b asked told → Tells b c reply → Answers b c reply → Account first c asked (told ++ reply ∷ [])
   owes-answered b c reply asked told o s answers =
       subst (λ (t : List Ask). Account first c t (told ++ reply ∷ [])) (sym o.asked_is) (account-answered o.before b c o.given reply o.asked_before told o.account o.gives s answers)

@@ -75,7 +75,7 @@ pub record Halts (old new : Connected) (ending : Ending) : Type 0 where
   pub same : new ≡ record { held = new.held; words = mid.words; read = mid.read ++ more; written = mid.written; pending = mid.pending; answered = mid.answered; ended = Some ending }
   pub why : Why ending old.pending refused.payloads mid.held more mid.pending
 
--- what comes next, or nothing that a caller is told
+-- what comes next, or nothing for a caller
 abbrev pub Does : Connected → Connected → Option Next → Type 0
 Does old new (Some (next.Call given)) = Gives old new given
 Does old new (Some next.Nothing) = Waits old new

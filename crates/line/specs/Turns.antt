@@ -58,7 +58,7 @@ abbrev pub refusal_in : Message → Reply
 refusal_in (Ok call) = refusal_of faults.Malformed
 refusal_in (Err fault) = refusal_of fault
 
--- the answers to messages, where the calls among them were told these in turn
+-- the answers to messages, where these are the replies to the calls among them, in turn
 abbrev pub answers_with : List Message → List Reply → List Reply
 answers_with [] told = []
 answers_with (Ok call ∷ ms) [] = []

@@ -12,7 +12,7 @@ use Rattle.line.specs.State.{Connected, output}
 use Rattle.line.specs.Connecting.{Advances, Gives, Halts, Tells}
 
 -- What was read is the frames of payloads and what is held. The calls that were given are those of these payloads in order, with
--- the words from the first on, and each was told one reply. What was written and what is to be are the frames of the answers to
+-- the words from the first on, and each was answered once. What was written and what is to be are the frames of the answers to
 -- the payloads, in order.
 pub record Account (first : ChaCha) (c : Connected) (asked : List Ask) (told : List Reply) : Type 0 where
   pub payloads : List (List ℕ)
@@ -44,8 +44,8 @@ IsWhole (Some (endings.Read error)) = Unit {0}
 IsWhole _ = ⊥
 
 -- What was written is a beginning of the frames of the answers to the payloads that were read, in order. Their calls are those that
--- were given, with the words from the first on, and were told these replies. Where the connection ended by its reader, or by a frame
--- that is too long, all was written, and each call was told one reply.
+-- were given, with the words from the first on, and these are the replies to them. Where the connection ended by its reader, or by a frame
+-- that is too long, all was written, and each call was answered once.
 pub record Lived (first : ChaCha) (c : Connected) (asked : List Ask) (told : List Reply) : Type 0 where
   pub payloads : List (List ℕ)
   pub rest : List ℕ
@@ -65,7 +65,7 @@ abbrev pub CallLaw : Type 0
 CallLaw = (first : ChaCha) (a b : Connected) (given : Given) (asked : List Ask) (told : List Reply)
     → Account first a asked told → Gives a b given → Owes first b (asked ++ ask_of given ∷ []) told
 
--- and then it was told one
+-- and then it was answered
 abbrev pub TurnLaw : Type 0
 TurnLaw = (first : ChaCha) (b c : Connected) (reply : Reply) (asked : List Ask) (told : List Reply)
     → Owes first b asked told → Tells b c reply → c.ended ≡ None → Account first c asked (told ++ reply ∷ [])

@@ -5,7 +5,7 @@ ghost use Rattle.line.specs.Whole.{BeginLaw, CallLaw, CutLaw, EndLaw, LeaveLaw, 
 /// The calls that were given are those of the bytes that were read, in order, with the words from the first on. What was written
 /// and is to be are the frames of the answers in order (`Account`).
 ///
-/// So it is at first, after each call that was told a reply, where nothing came, and where more was written. Between a call and
+/// So it is at first, after each call that was answered, where nothing came, and where more was written. Between a call and
 /// its reply that is so of all before the call (`Owes`).
 ///
 /// Where `next_call` or `reply` ended the connection, or it is given up, a beginning of that was written. It is all where the reader

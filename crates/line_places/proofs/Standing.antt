@@ -51,7 +51,7 @@ module _ (first : ChaCha) where
   pub owes-going : (c : Connected) (asked : List AppCall) (told : List Reply) → Stands first c true asked told → c.ended ≡ None
   owes-going c asked told h = ap (λ (x : Connected). x.ended) h.gives.same
 
-  -- it was told its reply
+  -- it was answered
   pub stands-told : TurnLaw → CutLaw → (b c : Connected) (reply : Reply) (asked : List AppCall) (told : List Reply) → Stands first b true asked told → Tells b c reply → Stands first c false asked (told ++ reply ∷ [])
   stands-told turn cut b c reply asked told h t = by c.ended refl where
     by : (e : Option Ending) → c.ended ≡ e → Stands first c false asked (told ++ reply ∷ [])

@@ -1,12 +1,12 @@
 -- What becomes of a worker's clients.
-use Rattle.std.specs.Prelude.{◌≡◌, ℕ, ◌%◌, List, [], ◌∷◌, ◌++◌, length, Bool, true, false, Option, Some, None, slice_get}
+use Rattle.std.specs.Prelude.{◌≡◌, ℕ, ◌%◌, List, [], ◌∷◌, ◌++◌, length, Bool, true, false, Option, Some, None, slice_get, set}
 use Rattle.ck_calls.specs.declared.reply.Reply.{Reply}
 use Rattle.hall_channels.specs.declared.messages.AppCall.{AppCall}
 use Rattle.line_places.specs.declared.client.Came.{Came}
 use Rattle.line_places.specs.declared.client.Came.TheVariants.{Call, Nothing, Ended}
 use Rattle.line_places.specs.declared.client.Client.{Client}
 use Rattle.line_places.specs.declared.places.Places.{Places}
-use Rattle.line_places.specs.Keeping.{HasGone, IsOwed}
+use Rattle.line_places.specs.Keeping.{app_at, HasGone, IsAt, IsOwed}
 
 module _ {R W : Type 0} where
   -- it is the same worker, with the same seed and as many places
@@ -30,7 +30,15 @@ module _ {R W : Type 0} where
   Gives old new j Nothing = IsQuiet old new
   Gives old new j (Ended ending) = IsQuiet old new
 
-  -- the client at a place is there no more
-  abbrev pub Closes : Places R W → Places R W → Option ℕ → Type 0
-  Closes old new (Some app) = IsThere old app × ((c : Client R W) × (new.past.items ≡ old.past.items ++ c ∷ []) × (c.app ≡ app))
-  Closes old new None = new ≡ old
+  -- a client came to this place, of its next application, and nothing else changed
+  pub record Comes (old new : Places R W) (j : ℕ) : Type 0 where
+    pub place : Place R W
+    pub at : slice_get old.places.items j ≡ Some place
+    pub client : Client R W
+    pub app : client.app ≡ app_at old.number (length old.places.items) j place.turn
+    pub places : new.places.items ≡ set old.places.items j (record { turn = place.turn; client = Some client })
+
+  -- the client at this place is there no more, or nobody was there
+  abbrev pub Closes : Places R W → Places R W → ℕ → Option ℕ → Type 0
+  Closes old new j (Some app) = IsThere old app × ((c : Client R W) × (new.past.items ≡ old.past.items ++ c ∷ []) × (c.app ≡ app) × IsAt old.places.items j c)
+  Closes old new j None = (new ≡ old) × ((c : Client R W) → ¬ IsAt old.places.items j c)

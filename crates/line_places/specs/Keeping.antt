@@ -29,6 +29,13 @@ module _ {R W : Type 0} where
     pub at : slice_get places j ≡ Some place
     pub client : place.client ≡ Some c
 
+  -- nobody is at this place, and one may come
+  pub record IsFree (places : List (Place R W)) (j : ℕ) : Type 0 where
+    pub place : Place R W
+    pub at : slice_get places j ≡ Some place
+    pub none : place.client ≡ None
+    pub turns : place.turn < 2 ^ 55
+
   -- a client that there is or was
   abbrev pub IsLife : List (Place R W) → List (Client R W) → Client R W → Type 0
   IsLife places past c = IsAmong c past ⊎ ((j : ℕ) × IsAt places j c)

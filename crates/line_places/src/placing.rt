@@ -1,8 +1,8 @@
 //! What becomes of the clients of one worker.
 
-ghost use Rattle.std.specs.Prelude.{◌≡◌, ◌<◌, ◌≤◌, ◌∷◌, [], ◌++◌, length, ℕ, IfOk};
-ghost use Rattle.line_places.specs.Happening.{Closes, Gives, IsQuiet, SameWorker};
-ghost use Rattle.line_places.specs.Keeping.{IsOwed};
+ghost use Rattle.std.specs.Prelude.{◌≡◌, ◌<◌, ◌≤◌, ◌∷◌, [], ◌++◌, length, ℕ, IfOk, IfSome, IfNone, IsTrue, IsFalse};
+ghost use Rattle.line_places.specs.Happening.{Closes, Comes, Gives, IsQuiet, SameWorker};
+ghost use Rattle.line_places.specs.Keeping.{IsAt, IsFree, IsOwed};
 
 use crate::client::{Came, Client};
 use crate::place::Place;
@@ -54,28 +54,36 @@ impl<R: Drop, W: Drop> Places<R, W> {
         self.places.len()
     }
 
-    /// Whether a client may come to a place.
-    pub fn is_free(&self, place: usize) -> bool {
+    /// Whether a client may come to a place: nobody is there, and fewer than 2^55 clients were.
+    pub fn is_free(&self, place: usize) -> bool
+        ensures free { IsTrue result → IsFree self.now.places.items place }
+        ensures taken { IsFalse result → ¬ IsFree self.now.places.items place }
+    {
         match self.places.get(place) {
             Some(it) => it.client.is_none() && it.turn < TURNS,
             None => false,
         }
     }
 
-    /// The client at a place.
-    pub fn client(&self, place: usize) -> Option<&Client<R, W>> {
+    /// The client at a place, if there is one.
+    pub fn client(&self, place: usize) -> Option<&Client<R, W>>
+        ensures there { IfSome result (λ c. IsAt self.now.places.items place c.now) }
+        ensures nobody { IfNone result ((c : Client R W) → ¬ IsAt self.now.places.items place c) }
+    {
         match self.places.get(place) {
             Some(it) => it.client.as_ref(),
             None => None,
         }
     }
 
-    /// A client comes to a place that is free. Its reader and its writer are those of its connection. Where the place is not free,
-    /// they are dropped.
+    /// A client comes to a place that is free, of that place's next application. Its reader and its writer are those of its
+    /// connection. Where the place is not free, they are dropped.
     pub fn open(&mut self, alloc: Global, place: usize, reader: R, writer: W)
         ensures same { SameWorker self.old self.new }
         ensures quiet { IsQuiet self.old self.new }
         ensures past { self.new.past.items ≡ self.old.past.items }
+        ensures comes { IsFree self.old.places.items place → Comes self.old self.new place }
+        ensures refused { ¬ IsFree self.old.places.items place → self.new ≡ self.old }
     {
         if place >= self.places.len() {
             return;
@@ -97,11 +105,11 @@ impl<R: Drop, W: Drop> Places<R, W> {
         };
     }
 
-    /// The client at a place is there no more. Its application, if there was one.
+    /// The client at a place is there no more. Its application, if a client was there.
     pub fn close(&mut self, place: usize) -> Option<u64>
         ensures same { SameWorker self.old self.new }
         ensures quiet { IsQuiet self.old self.new }
-        ensures closes { Closes self.old self.new result }
+        ensures closes { Closes self.old self.new place result }
     {
         if place >= self.places.len() {
             return None;

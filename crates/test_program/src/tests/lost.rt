@@ -44,17 +44,17 @@ fn frame_of(alloc: Global, step: Step) -> Result<Vec<u8>, Fail> {
     Ok(frame?)
 }
 
-/// The frame of what is told.
+/// The frame of a reply.
 fn reply_frame(alloc: Global, told: Told) -> Result<Vec<u8>, Fail> {
     let Some(reply) = reply_of(alloc, told)? else {
-        return Err("no reply is told".into());
+        return Err("no reply is given".into());
     };
     let frame = write_reply(alloc, &reply);
     drop(reply);
     Ok(frame?)
 }
 
-/// Sees that steps are told this.
+/// Sees that steps are answered so.
 fn play(rt: &HostRuntime, peer: &mut UnixStream, rows: &[(Step, Told)]) -> Result<(), Fail> {
     for (step, told) in rows {
         let call = frame_of(rt.alloc(), *step)?;

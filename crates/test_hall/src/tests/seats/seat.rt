@@ -77,7 +77,7 @@ impl<R: Clock + Drop> TurnSeat<R> {
         }
     }
 
-    /// Whether there is room for one more reply.
+    /// Whether one more reply fits.
     fn has_room(&mut self) -> bool
         ensures number { self.new.number ≡ self.old.number }
         ensures gone { self.new.gone ≡ self.old.gone }
