@@ -1,9 +1,11 @@
 -- What a client at a place did, for all clients of its worker.
-use Rattle.std.proofs.Common.{◌≡◌, ◌≢◌, inr, ℕ, ◌<◌, ◌≤◌, ◌%◌, ◌^◌, List, [], ◌∷◌, ◌++◌, length, set, get_or, sym, refl, ap, ◌∙◌, subst, arith, true, Option, Some, None}
+use Rattle.std.proofs.Common.{◌≡◌, inr, ℕ, ◌<◌, ◌≤◌, ◌%◌, ◌^◌, List, [], ◌∷◌, ◌++◌, length, set, get_or, sym, refl, ap, ◌∙◌, subst, arith, nat_lt, true, false, Option, Some, None}
 use Rattle.std.specs.List.{slice_get}
+use Rattle.std.specs.Option.{is_some}
 use Rattle.std.proofs.lemmas.List.{length-set}
-use Rattle.std.proofs.lemmas.Option.{slice_get-get_or}
+use Rattle.std.proofs.lemmas.Option.{slice_get-get_or, slice_get_within}
 use Rattle.std.proofs.Math.Logic.{∥∥₁_elim}
+use Rattle.std.proofs.lemmas.Bool.Decides.{nat_tests}
 use mathlib.Core.HLevel.{¬_prop, ×_prop}
 use native.Mathlib.Nat.{ℕ_set}
 use native.Mathlib.Bridge.{le_prop}
@@ -14,8 +16,8 @@ use Rattle.line_places.specs.declared.client.Came.TheVariants.{Call}
 use Rattle.line_places.specs.declared.client.Client.{Client}
 use Rattle.line_places.specs.declared.place.Place.{Place}
 use Rattle.line_places.specs.Coming.{Gave, SameApp, Takes}
-use Rattle.line_places.specs.Keeping.{asked_by, HasGone, IsAt, IsOwed, Kept}
-use Rattle.line_places.proofs.Keeping.{kept-did, asked-own, asked-other, told-own, told-other, get_same, not_gone}
+use Rattle.line_places.specs.Keeping.{asked_by, HasGone, IsAt, IsFree, IsOwed, Kept}
+use Rattle.line_places.proofs.Keeping.{kept-did, asked-own, asked-other, told-own, told-other, get_same, not_gone, same_some}
 use Rattle.line_places.proofs.Changing.{own-app}
 
 -- the place that an index gives
@@ -82,3 +84,41 @@ is-there seed s places past asked told j p c at is app named lt kept =
 pub bound-of : {R W : Type 0} (seed : List ℕ) (s : ℕ) (places : List (Place R W)) (past : List (Client R W)) (asked : List AppCall) (told : List (ℕ × Reply))
     (j : ℕ) (p : Place R W) (c : Client R W) → slice_get places j ≡ Some p → p.client ≡ Some c → ∥ Kept seed s places past asked told ∥₁ → p.turn < 2 ^ 55
 bound-of seed s places past asked told j p c at is kept = ∥∥₁_elim kept le_prop (λ k. (k.now j p c at is).1)
+
+-- ---- places that are free
+
+pub no-some : {A : Type 0} (x : Option A) → is_some x ≡ false → x ≡ None
+no-some None e = refl
+no-some (Some y) e = absurd cc
+
+pub some-none : {A : Type 0} (x : Option A) → x ≡ None → is_some x ≡ true → ⊥
+some-none None e h = absurd cc
+some-none (Some y) e h = absurd cc
+
+pub lt-true : (a b : ℕ) → nat_lt a b ≡ true → a < b
+lt-true a b h = grind (arith, nat_tests)
+
+pub lt-false : (a b : ℕ) → nat_lt a b ≡ false → b ≤ a
+lt-false a b h = grind (arith, nat_tests)
+
+module _ {R W : Type 0} (places : List (Place R W)) (j : ℕ) (p : Place R W) (at : slice_get places j ≡ Some p) where
+  same-place : (f : IsFree places j) → f.place ≡ p
+  same-place f = same_some f.place p (sym f.at ∙ at)
+
+  pub free : p.client ≡ None → p.turn < 2 ^ 55 → IsFree places j
+  free none turns = record { place = p; at = at; none = none; turns = turns }
+
+  pub free-client : IsFree places j → p.client ≡ None
+  free-client f = ap (λ (q : Place R W). q.client) (sym (same-place f)) ∙ f.none
+
+  pub free-turn : IsFree places j → p.turn < 2 ^ 55
+  free-turn f = let e : f.place.turn ≡ p.turn = ap (λ (q : Place R W). q.turn) (same-place f) in omega (arith, f.turns, e)
+
+pub free-within : {R W : Type 0} (places : List (Place R W)) (j : ℕ) → IsFree places j → j < length places
+free-within places j f = slice_get_within places j f.place f.at
+
+pub none-free : {R W : Type 0} (places : List (Place R W)) (j : ℕ) (p : Place R W) (c : Client R W) → slice_get places j ≡ Some p → p.client ≡ Some c → IsFree places j → ⊥
+none-free places j p c at is f = let e : Some c ≡ None = sym is ∙ free-client places j p at f in absurd cc
+
+pub none-at : {R W : Type 0} (places : List (Place R W)) (j : ℕ) (p : Place R W) (c : Client R W) → slice_get places j ≡ Some p → p.client ≡ None → IsAt places j c → ⊥
+none-at places j p c at none it = let e : Some c ≡ None = sym it.client ∙ ap (λ (q : Place _ _). q.client) (same_some it.place p (sym it.at ∙ at)) ∙ none in absurd cc

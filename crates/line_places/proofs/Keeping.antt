@@ -1,5 +1,5 @@
 -- One client of a worker changes, and what is kept of all of them.
-use Rattle.std.proofs.Common.{◌≡◌, ◌≢◌, ℕ, zero, suc, ◌+◌, ◌*◌, ◌^◌, ◌<◌, ◌≤◌, ◌/◌, ◌%◌, ◌⊎◌, inl, inr, ⊎_elim, List, [], ◌∷◌, ◌++◌, length, map, set, sym, refl, ap, ◌∙◌, subst, append-nil, arith, Option, Some, None}
+use Rattle.std.proofs.Common.{◌≡◌, ◌≢◌, ℕ, zero, suc, ◌+◌, ◌*◌, ◌<◌, ◌/◌, ◌%◌, ◌⊎◌, inl, inr, ⊎_elim, List, [], ◌∷◌, ◌++◌, length, map, set, sym, refl, ap, ◌∙◌, subst, append-nil, arith, Some, None}
 use Rattle.std.specs.List.{slice_get}
 use Rattle.std.proofs.lemmas.List.{map-append, length-set}
 use Rattle.std.proofs.lemmas.Option.{slice_get_within}
@@ -12,7 +12,7 @@ use Rattle.hall_channels.proofs.Rows.{of-append, of-one, of-other}
 use Rattle.line.specs.Words.{words_for}
 use Rattle.line_places.specs.declared.client.Client.{Client}
 use Rattle.line_places.specs.declared.place.Place.{Place}
-use Rattle.line_places.specs.Keeping.{app_at, asked_by, IsAmong, IsAt, IsLife, IsOwed, HasGone, WasAt, Kept}
+use Rattle.line_places.specs.Keeping.{app_at, asked_by, IsAmong, IsAt, IsLife, HasGone, WasAt, Kept}
 
 -- ---- applications
 

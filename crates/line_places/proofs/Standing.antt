@@ -1,5 +1,5 @@
 -- How a client stands after what it did.
-use Rattle.std.proofs.Common.{◌≡◌, ℕ, Bool, true, false, List, [], ◌∷◌, ◌++◌, map, sym, refl, ap, ◌∙◌, subst, Option, Some, None}
+use Rattle.std.proofs.Common.{◌≡◌, Bool, true, false, List, [], ◌∷◌, ◌++◌, sym, refl, ap, ◌∙◌, subst, Option, Some, None}
 use Rattle.std.proofs.lemmas.List.{map-append}
 use Rattle.rand_chacha.specs.ChaCha.{ChaCha}
 use Rattle.ck_calls.specs.declared.reply.Reply.{Reply}

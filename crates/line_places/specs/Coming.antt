@@ -1,7 +1,6 @@
 -- What becomes of a client.
-use Rattle.std.specs.Prelude.{◌≡◌, ℕ, List, [], ◌∷◌, ◌++◌, Bool, true, false, Option, Some, None}
+use Rattle.std.specs.Prelude.{◌≡◌, [], ◌∷◌, ◌++◌, true, false, Some}
 use Rattle.ck_calls.specs.declared.reply.Reply.{Reply}
-use Rattle.hall_channels.specs.declared.messages.AppCall.{AppCall}
 use Rattle.line_places.specs.declared.client.Came.{Came}
 use Rattle.line_places.specs.declared.client.Came.TheVariants.{Call, Nothing, Ended}
 use Rattle.line_places.specs.declared.client.Client.{Client}

@@ -1,10 +1,9 @@
 -- What becomes of a worker's clients.
-use Rattle.std.specs.Prelude.{◌≡◌, ℕ, ◌%◌, List, [], ◌∷◌, ◌++◌, length, Bool, true, false, Option, Some, None, slice_get, set}
-use Rattle.ck_calls.specs.declared.reply.Reply.{Reply}
-use Rattle.hall_channels.specs.declared.messages.AppCall.{AppCall}
+use Rattle.std.specs.Prelude.{◌≡◌, ℕ, ◌%◌, [], ◌∷◌, ◌++◌, length, Option, Some, None, slice_get, set}
 use Rattle.line_places.specs.declared.client.Came.{Came}
 use Rattle.line_places.specs.declared.client.Came.TheVariants.{Call, Nothing, Ended}
 use Rattle.line_places.specs.declared.client.Client.{Client}
+use Rattle.line_places.specs.declared.place.Place.{Place}
 use Rattle.line_places.specs.declared.places.Places.{Places}
 use Rattle.line_places.specs.Keeping.{app_at, HasGone, IsAt, IsOwed}
 
@@ -38,7 +37,7 @@ module _ {R W : Type 0} where
     pub app : client.app ≡ app_at old.number (length old.places.items) j place.turn
     pub places : new.places.items ≡ set old.places.items j (record { turn = place.turn; client = Some client })
 
-  -- the client at this place is there no more, or nobody was there
+  -- the client at this place is there no more
   abbrev pub Closes : Places R W → Places R W → ℕ → Option ℕ → Type 0
   Closes old new j (Some app) = IsThere old app × ((c : Client R W) × (new.past.items ≡ old.past.items ++ c ∷ []) × (c.app ≡ app) × IsAt old.places.items j c)
-  Closes old new j None = (new ≡ old) × ((c : Client R W) → ¬ IsAt old.places.items j c)
+  Closes old new j None = new ≡ old

@@ -1,5 +1,5 @@
 -- The clients of one worker, each at its place: which applications they are of, and what each of them gave and took.
-use Rattle.std.specs.Prelude.{◌≡◌, ◌≢◌, ℕ, ◌+◌, ◌*◌, ◌^◌, ◌<◌, ◌≤◌, ◌⊎◌, List, [], ◌∷◌, ◌++◌, length, map, Bool, true, Option, Some, None, slice_get}
+use Rattle.std.specs.Prelude.{◌≡◌, ◌≢◌, ℕ, ◌+◌, ◌*◌, ◌^◌, ◌<◌, ◌⊎◌, List, [], ◌∷◌, length, map, true, Some, None, slice_get}
 use Rattle.ck_calls.specs.declared.reply.Reply.{Reply}
 use Rattle.hall_channels.specs.Lists.{of}
 use Rattle.hall_channels.specs.declared.messages.AppCall.{AppCall}

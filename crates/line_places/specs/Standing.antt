@@ -1,5 +1,5 @@
 -- How a client stands: what its connection read and wrote, by the calls that it gave and the replies that it took.
-use Rattle.std.specs.Prelude.{◌≡◌, ℕ, List, [], ◌∷◌, ◌++◌, map, Bool, true, false, Option, Some, None}
+use Rattle.std.specs.Prelude.{List, map, Bool, true, false, Option, Some, None}
 use Rattle.rand_chacha.specs.ChaCha.{ChaCha}
 use Rattle.ck_calls.specs.declared.reply.Reply.{Reply}
 use Rattle.hall_channels.specs.declared.messages.AppCall.{AppCall}

@@ -110,6 +110,7 @@ impl<R: Drop, W: Drop> Places<R, W> {
         ensures same { SameWorker self.old self.new }
         ensures quiet { IsQuiet self.old self.new }
         ensures closes { Closes self.old self.new place result }
+        ensures nobody { IfNone result ((c : Client R W) → ¬ IsAt self.old.places.items place c) }
     {
         if place >= self.places.len() {
             return None;

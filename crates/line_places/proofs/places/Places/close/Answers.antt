@@ -1,8 +1,8 @@
-use Rattle.std.proofs.Common.{ap, refl, sym, ◌∙◌, ◌≡◌, ◌++◌, ◌∷◌, [], ◌+◌, set, subst, arith}
+use Rattle.std.proofs.Common.{refl, sym, ◌+◌, set, subst, arith}
 use Rattle.std.proofs.Math.Logic.{∥∥₁_map}
 use Rattle.line_places.specs.Keeping.{Kept}
 use Rattle.line_places.proofs.Changing.{kept-close}
-use Rattle.line_places.proofs.Doing.{at-index, bound-of, count-set, is-there}
+use Rattle.line_places.proofs.Doing.{at-index, bound-of, count-set, is-there, none-at}
 use Rattle.line_places.proofs.places.Places.close.Goals as goal
 
 pub overflow_add-it : goal.overflow_add-it
@@ -32,5 +32,12 @@ returns-clause-closes g c =
     let p = c.index_mut-it.result.now in
     let at = at-index was.places.items c.args.place p (omega (arith, c.if-place-len.false, c.len.ensures)) c.index_mut-it.ensures.value in (
       is-there was.seed was.number was.places.items was.past.items was.asked.items was.told.items c.args.place p c.in-Some.client at (sym c.in-Some.ensures.value) c.in-Some.client.app refl was.worker was.kept,
-      (c.in-Some.client, c.push.ensures, refl),
+      (c.in-Some.client, c.push.ensures, refl, record { place = p; at = at; client = sym c.in-Some.ensures.value }),
     )
+
+pub returns-in_default-clause-nobody : goal.returns-in_default-clause-nobody
+returns-in_default-clause-nobody g c d it =
+    let was = c.args.self.now in
+    let p = c.index_mut-it.result.now in
+    let at = at-index was.places.items c.args.place p (omega (arith, c.if-place-len.false, c.len.ensures)) c.index_mut-it.ensures.value in
+    none-at was.places.items c.args.place p d at (sym c.in_default.ensures.value) it

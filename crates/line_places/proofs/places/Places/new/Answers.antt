@@ -1,5 +1,4 @@
-use Rattle.std.proofs.Common.{refl, sym, arith}
-use Rattle.std.proofs.Math.Logic.{∥∥₁_map}
+use Rattle.std.proofs.Common.{refl, arith}
 use Rattle.line_places.proofs.Changing.{kept-new, more-places}
 use Rattle.line_places.proofs.places.Places.new.Goals as goal
 

@@ -1,4 +1,4 @@
-use Rattle.std.proofs.Common.{◌≡◌, ℕ, length, Option, Some, None}
+use Rattle.std.proofs.Common.{◌≡◌, ℕ, length, Some, None}
 use Rattle.std.specs.List.{slice_get}
 use Rattle.line_places.proofs.places.Places.new.Given as goal
 

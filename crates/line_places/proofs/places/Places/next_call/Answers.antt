@@ -1,4 +1,4 @@
-use Rattle.std.proofs.Common.{ap, refl, sym, ◌∙◌, ◌<◌, length, arith}
+use Rattle.std.proofs.Common.{refl, sym, arith}
 use Rattle.std.proofs.Math.Logic.{∥∥₁_map}
 use Rattle.line_places.proofs.Doing.{at-index, count-set, did-call, did-nothing, is-there, owed-there}
 use Rattle.line_places.proofs.places.Places.next_call.Goals as goal
