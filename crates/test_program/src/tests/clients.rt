@@ -19,13 +19,16 @@ const PATIENCE: u64 = 30;
 pub(super) const SESSION_TWO: &[u8] =
     b"\x00\x00\x00\x10\x00\x00\x00\x00\x00\x00\x00\x00\x00\x00\x00\x00\x00\x00\x00\x02";
 
+/// The daemon's `--clients`, `--connections` and `--idle`. The last is left out where it is empty.
+pub(super) type Options = (&'static str, &'static str, &'static str);
+
 /// Runs `tokend serve` over a store in memory in a thread of its own, with these options and a seed of zeros.
 pub(super) fn start_with<R: Threads + Wait + Copy + Send + Drop + 'static>(
     rt: &HostRuntime,
     threads: R,
     socket: &'static str,
     seed: &'static str,
-    options: &'static [&'static str],
+    options: Options,
 ) -> Result<JoinHandle<Result<Ended, AllocError>>, Fail> {
     start_seeded(rt, threads, socket, (seed, 0), options)
 }
@@ -36,23 +39,24 @@ pub(super) fn start_seeded<R: Threads + Wait + Copy + Send + Drop + 'static>(
     threads: R,
     socket: &'static str,
     (seed, byte): (&'static str, u8),
-    options: &'static [&'static str],
+    (clients, connections, idle): Options,
 ) -> Result<JoinHandle<Result<Ended, AllocError>>, Fail> {
     fs::write(rt, seed, &[byte; 32])?;
     let files = *rt;
-    let daemon = move || serve_with(&files, threads, socket, seed, options);
+    let daemon = move || serve_with(&files, threads, socket, seed, clients, connections, idle);
     Ok(thread::spawn(&threads, daemon)?)
 }
 
-fn serve_with<R: Threads + Wait + Copy + Send + Drop + 'static>(
+fn serve_with<'a, R: Threads + Wait + Copy + Send + Drop + 'static>(
     rt: &HostRuntime,
     threads: R,
-    socket: &str,
-    seed: &str,
-    options: &[&str],
+    socket: &'a str,
+    seed: &'a str,
+    clients: &'a str,
+    connections: &'a str,
+    idle: &'a str,
 ) -> Result<Ended, AllocError> {
-    let mut words = Vec::new(rt.alloc());
-    for word in [
+    let words = [
         "serve",
         "--store",
         ":memory:",
@@ -60,13 +64,15 @@ fn serve_with<R: Threads + Wait + Copy + Send + Drop + 'static>(
         socket,
         "--seed-file",
         seed,
-    ] {
-        words.push(word)?;
-    }
-    for word in options {
-        words.push(*word)?;
-    }
-    run(rt, threads, &words, b"")
+        "--clients",
+        clients,
+        "--connections",
+        connections,
+        "--idle",
+        idle,
+    ];
+    let count = if idle.is_empty() { 11 } else { 13 };
+    run(rt, threads, words.get(..count).unwrap_or(&[]), b"")
 }
 
 /// A new connection, on which no byte is waited for without end.

@@ -1,7 +1,7 @@
 //! A connection more than there are places.
 
 use super::clients::{
-    Found, SESSION_TWO, ask_all, hear, join, join_all, look, pass_by, start_with,
+    Found, Options, SESSION_TWO, ask_all, hear, join, join_all, look, pass_by, start_with,
 };
 use super::daemon::{clear, expect_end};
 use super::{OPEN_SESSION, SESSION_ONE};
@@ -11,22 +11,12 @@ use std::test::*;
 
 /// How many connections are at once, the options of the daemon, its socket, and the file of its seed. Each seat ends after one
 /// connection more than it has places.
-type Case = (usize, &'static [&'static str], &'static str, &'static str);
+type Case = (usize, Options, &'static str, &'static str);
 
 const CASES: &[Case] = &[
-    (4, &["--connections", "2"], "four_at.sock", "four_at.seed"),
-    (
-        8,
-        &["--clients", "2", "--connections", "3"],
-        "eight_at.sock",
-        "eight_at.seed",
-    ),
-    (
-        256,
-        &["--clients", "64", "--connections", "65"],
-        "all_at.sock",
-        "all_at.seed",
-    ),
+    (4, ("1", "2", ""), "four_at.sock", "four_at.seed"),
+    (8, ("2", "3", ""), "eight_at.sock", "eight_at.seed"),
+    (256, ("64", "65", ""), "all_at.sock", "all_at.seed"),
 ];
 
 /// One more waits without an answer while all are there, and is served once one of them has left.

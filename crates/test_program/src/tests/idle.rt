@@ -37,7 +37,7 @@ fn wait_for_ends(
 #[test]
 fn idle_connections_are_ended_and_busy_ones_go_on(rt: HostRuntime) -> Result<(), Fail> {
     clear(&rt, IDLE);
-    let options = &["--clients", "2", "--idle", "3", "--connections", "2"];
+    let options = ("2", "2", "3");
     let daemon = start_with(&rt, rt, "idle.sock", "idle.seed", options)?;
     let mut idle = join_all(&rt, "idle.sock", 4)?;
     ask_all(&rt, &mut idle, OPEN_SESSION, SESSION_ONE)?;

@@ -77,7 +77,7 @@ fn lose_one(rt: &HostRuntime) -> Result<(), Fail> {
 #[test]
 fn a_check_of_a_peer_that_is_lost_stays_a_try(rt: HostRuntime) -> Result<(), Fail> {
     clear(&rt, LOST);
-    let options = &["--connections", "2"];
+    let options = ("1", "2", "");
     let daemon = start_with(&rt, rt, "lost.sock", "lost.seed", options)?;
     let mut first = join(&rt, "lost.sock")?;
     play(&rt, &mut first, SET_UP)?;

@@ -20,7 +20,7 @@ const ROWS: &[((usize, usize), (usize, usize))] = &[
 #[test]
 fn connections_at_once_are_each_answered_every_row(rt: HostRuntime) -> Result<(), Fail> {
     clear(&rt, MANY);
-    let options = &["--clients", "64", "--connections", "64"];
+    let options = ("64", "64", "");
     let daemon = start_with(&rt, rt, "many.sock", "many.seed", options)?;
     let mut peers = join_all(&rt, "many.sock", 256)?;
     for ((from, to), (first, last)) in ROWS {

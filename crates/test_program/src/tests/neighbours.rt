@@ -74,7 +74,7 @@ fn end_badly(rt: &HostRuntime, socket: &str, ending: &[u8]) -> Result<(), Fail> 
 #[test]
 fn what_is_no_call_and_a_bad_end_disturb_nobody(rt: HostRuntime) -> Result<(), Fail> {
     clear(&rt, BESIDE);
-    let options = &["--clients", "8", "--connections", "5"];
+    let options = ("8", "5", "");
     let daemon = start_with(&rt, rt, "beside.sock", "beside.seed", options)?;
     let mut peers = join_all(&rt, "beside.sock", 12)?;
     ask_all(&rt, &mut peers, FIRST_RUN, FIRST_REPLIES)?;

@@ -92,7 +92,7 @@ fn expect_streams(
 fn random_bytes_are_those_of_the_seed_and_the_application(rt: HostRuntime) -> Result<(), Fail> {
     for (byte, is_of_zeros) in [(0, true), (0, true), (1, false)] {
         clear(&rt, ONE_EACH);
-        let options = &["--connections", "3"];
+        let options = ("1", "3", "");
         let seed = ("one_each.seed", byte);
         let daemon = start_seeded(&rt, rt, "one_each.sock", seed, options)?;
         for streams in [(0, 4), (4, 8), (8, 12)] {
@@ -110,7 +110,7 @@ fn random_bytes_are_those_of_the_seed_and_the_application(rt: HostRuntime) -> Re
 #[test]
 fn random_bytes_differ_by_place_and_turn(rt: HostRuntime) -> Result<(), Fail> {
     clear(&rt, TWO_EACH);
-    let options = &["--clients", "2", "--connections", "4"];
+    let options = ("2", "4", "");
     let seed = ("two_each.seed", 0);
     let daemon = start_seeded(&rt, rt, "two_each.sock", seed, options)?;
     let mut first = join_all(&rt, "two_each.sock", 4)?;

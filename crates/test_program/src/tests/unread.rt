@@ -45,7 +45,7 @@ fn hear_random(rt: &HostRuntime, peer: &mut UnixStream, count: u32) -> Result<()
 #[test]
 fn a_peer_that_reads_late_holds_up_nobody_and_gets_all(rt: HostRuntime) -> Result<(), Fail> {
     clear(&rt, LATE);
-    let options = &["--clients", "4", "--connections", "4"];
+    let options = ("4", "4", "");
     let daemon = start_with(&rt, rt, "late.sock", "late.seed", options)?;
     let mut late = join(&rt, "late.sock")?;
     ask(&rt, &mut late, OPEN_SESSION, SESSION_ONE)?;
@@ -71,7 +71,7 @@ fn a_peer_that_reads_late_holds_up_nobody_and_gets_all(rt: HostRuntime) -> Resul
 #[test]
 fn a_peer_that_leaves_its_replies_unread_is_gone(rt: HostRuntime) -> Result<(), Fail> {
     clear(&rt, LEFT);
-    let options = &["--connections", "2"];
+    let options = ("1", "2", "");
     let daemon = start_with(&rt, rt, "left.sock", "left.seed", options)?;
     let mut leaving = join_all(&rt, "left.sock", 4)?;
     ask_all(&rt, &mut leaving, OPEN_SESSION, SESSION_ONE)?;
