@@ -86,11 +86,27 @@ impl<L: Log, C: Clock> SocketSeat<L, C> {
         }
     }
 
+    /// Whether the seat has one place, and no limit of time for its connection. Then a read of it may wait, since it holds up nobody.
+    pub(crate) fn is_single(&self) -> bool {
+        self.clients.len() == 1 && self.idle.is_none()
+    }
+
+    /// Lets a read and a write of a new connection wait for a second, where there is no other. Otherwise they never wait.
+    fn let_wait(&self, stream: &UnixStream) -> io::Result<()> {
+        if self.is_single() {
+            let longest = Some(Duration::from_secs(PATIENCE));
+            stream.set_read_timeout(longest)?;
+            stream.set_write_timeout(longest)
+        } else {
+            stream.set_nonblocking(true)
+        }
+    }
+
     /// Both halves of a new connection, which is waited for from now on.
     fn halves(&mut self, place: usize, stream: UnixStream) -> io::Result<(UnixStream, UnixStream)>
         ensures { Stays self.old self.new }
     {
-        stream.set_nonblocking(true)?;
+        self.let_wait(&stream)?;
         let writer = stream.try_clone()?;
         let fd = stream.as_raw_fd();
         self.poll

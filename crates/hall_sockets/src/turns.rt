@@ -44,6 +44,11 @@ impl<L: Log, C: Clock> SocketSeat<L, C> {
         }
     }
 
+    /// Whether there is one place, whose connection is there and took all that was written to it.
+    fn is_alone(&self) -> bool {
+        self.is_single() && self.count == 1 && !self.is_stuck[0]
+    }
+
     /// The next place that is to be asked. Once as many were asked as a seat has places at most, it is looked first who else is.
     fn next_due(&mut self) -> Option<usize>
         ensures { Stays self.old self.new }
@@ -58,10 +63,13 @@ impl<L: Log, C: Clock> SocketSeat<L, C> {
         Some(place)
     }
 
-    /// Ends a connection that is idle, or accepts one, or waits.
+    /// Asks the only connection, which a read waits for. Otherwise ends one that is idle, or accepts one, or waits.
     fn turn_round(&mut self) -> Option<SeatEvent>
         ensures { Gives self.old self.new result }
     {
+        if self.is_alone() {
+            return self.event_at(0);
+        }
         if self.must_look() {
             let event = self.end_idle();
             if event.is_some() {
