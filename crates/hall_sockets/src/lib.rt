@@ -1,8 +1,9 @@
 //! Seats on a Unix socket, whose connections are applications.
 //!
 //! A `SocketSeat` is a seat (`hall::Seat`) with 1 to 64 places. It waits for all its connections and for the listener at once
-//! (epoll, by the crate `mio`), and never for one of them. The t-th connection at place j of seat s, both from 0, is application
-//! s + 4 (j + n t), where it has n places. With one place that is s + 4 t.
+//! (epoll, by the crate `mio`), and never for one of them. With one place and no `idle` it waits for its connection by a read. The
+//! t-th connection at place j of seat s, both from 0, is application s + 4 (j + n t), where it has n places. With one place that is
+//! s + 4 t.
 //!
 //! A connection whose peer doesn't take its replies is asked nothing more until it does. One of which nothing came for as long as
 //! `idle` is ended. One that ends within a frame, or because of a fault, is logged. Once the daemon is to end, a seat accepts and
