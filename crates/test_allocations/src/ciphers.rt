@@ -56,11 +56,7 @@ const IN_PARTS: &[Row] = &[
     (A, EncryptInit(1, CBC, 1), OK),
     (A, EncryptUpdate(1, FOURTEEN_BYTES, Some(16)), NO_BYTES),
     (A, EncryptUpdate(1, LAST_BYTE, Some(16)), NO_BYTES),
-    (
-        A,
-        EncryptFinal(1, Some(16)),
-        Told::Code(Rv::DataLenRange),
-    ),
+    (A, EncryptFinal(1, Some(16)), Told::Code(Rv::DataLenRange)),
 ];
 
 /// The vector of RFC 3394, 4.1, without its last byte, and with a bit changed.

@@ -38,12 +38,7 @@ fn new_token(alloc: Global, record: Record) -> Result<Token<ListKeep>, Fail>
 }
 
 /// Takes events until all are taken, or an allocation fails.
-fn run(
-    alloc: Global,
-    token: &mut Token<ListKeep>,
-    events: Vec<Event>,
-    out: Vec<(u64, Job)>,
-) -> Ran
+fn run(alloc: Global, token: &mut Token<ListKeep>, events: Vec<Event>, out: Vec<(u64, Job)>) -> Ran
     requires random { All HasRandom events.items }
     requires jobs { IsWaiting token.old out.items }
     ensures random { All HasRandom result.left.items }
