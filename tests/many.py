@@ -5,6 +5,7 @@ Takes the program's path, and prints as `daemon.py` does, whose client and daemo
 """
 import re
 import select
+import socket
 import struct
 import sys
 import time
@@ -60,6 +61,19 @@ def connections_at_once_are_each_answered(folder):
         clients.pop().close()
         see(more.hear() == (OK, SESSION), "the place of one that left is not taken")
         play_all(clients, ENCRYPTING)
+
+
+@check
+def a_connection_that_ends_behind_its_call_is_answered_and_ended(folder):
+    for words in (), ("--clients", "2"):
+        with Daemon(folder, *words, store=":memory:") as daemon:
+            for _ in range(200):
+                client = daemon.client()
+                client.send(OPEN_SESSION)
+                client.stream.shutdown(socket.SHUT_WR)
+                see(client.hear() == (OK, SESSION), "another reply")
+                see(client.stream.recv(1) == b"", "more than a reply")
+                client.close()
 
 
 @check

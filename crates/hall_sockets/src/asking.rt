@@ -42,26 +42,12 @@ impl<L: Log, C: Clock> SocketSeat<L, C> {
                 let event = SeatEvent::Call(call);
                 self.asked.push(&event);
                 self.answering = place;
-                self.note_more(place);
+                // Asked again until a read would block: its event may have been of what is still to come, as the end.
+                self.note(place);
                 Asked::Call(event)
             }
             Came::Nothing => Asked::Nothing,
             Came::Ended(ending) => Asked::Ended(ending),
-        }
-    }
-
-    /// A place is to be asked again, where more may have come than was consumed.
-    fn note_more(&mut self, place: usize)
-        ensures stays { Stays self.old self.new }
-        ensures clients { self.new.clients ≡ self.old.clients }
-        ensures answering { self.new.answering ≡ self.old.answering }
-    {
-        let may_have_more = match self.clients.client(place) {
-            Some(client) => client.may_have_more(),
-            None => false,
-        };
-        if may_have_more {
-            self.note(place);
         }
     }
 

@@ -16,12 +16,12 @@ pub returns-in-Call : goal.returns-in-Call
 returns-in-Call g c =
     let was = c.args.self.now in
     let e = c.in-Call.ensures in
-    let n = c.note_more.ensures.stays in (
+    let n = c.note.ensures.stays in (
       n.0 ∙ e.same.number,
       n.1 ∙ e.same.seed,
       n.4 ∙ e.gives.2,
       n.5 ∙ c.push.ensures,
       e.gives.0,
-      owed-as c.note_more.new.self.clients.places.items c.next_call.new.self.places.items c.note_more.new.self.answering c.args.place c.in-Call.call.app (ap (λ x. x.places.items) c.note_more.ensures.clients) c.note_more.ensures.answering e.gives.3,
-      gone-same was.clients.past.items c.note_more.new.self.clients.past.items (n.2 ∙ e.past),
+      owed-as c.note.new.self.clients.places.items c.next_call.new.self.places.items c.note.new.self.answering c.args.place c.in-Call.call.app (ap (λ x. x.places.items) c.note.ensures.clients) c.note.ensures.answering e.gives.3,
+      gone-same was.clients.past.items c.note.new.self.clients.past.items (n.2 ∙ e.past),
     )
