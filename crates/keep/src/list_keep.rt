@@ -48,6 +48,7 @@ impl ListKeep {
 /// A count and one; at its greatest value it stays.
 fn counted(count: u64) -> u64
     ensures rises { Rises count result }
+    ensures once { result ≤ count + 1 }
     ensures more { count ≤ result }
 {
     count.saturating_add(1)
@@ -57,6 +58,7 @@ fn counted(count: u64) -> u64
 fn device_failure(failures: &mut u64) -> KeepFault
     ensures fault { result ≡ Device }
     ensures rises { Rises failures.old failures.new }
+    ensures once { failures.new ≤ failures.old + 1 }
     ensures more { failures.old ≤ failures.new }
 {
     *failures = counted(*failures);
@@ -65,15 +67,9 @@ fn device_failure(failures: &mut u64) -> KeepFault
 
 impl Keep for ListKeep {
     ghost use Rattle.std.specs.Prelude.{refl};
+    ghost use Rattle.keep.specs.ListState.{list_terms};
 
-    ghost terms = { record {
-      holds = λ k c. c ≡ k.contents;
-      may_leave = λ k left. left ≡ Some k.contents;
-      is_steady = λ _. Unit {0};
-      doubt = λ _. 0;
-      failures = λ k. k.failures;
-      tried = λ k. k.tried;
-    } };
+    ghost terms = { list_terms };
 
     ghost survives = { λ k _ none. none (Some k.contents) refl };
 

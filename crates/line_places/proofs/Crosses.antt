@@ -11,8 +11,8 @@ use Rattle.lists.specs.contracts.ghost_list.GhostList as GhostList
 use Rattle.wire.specs.contracts.stream.FrameReader as FrameReader
 use Rattle.line.specs.contracts.words.Words as Words
 use Rattle.line.specs.contracts.ending.Ending as Ending
-use Rattle.line.specs.contracts.watched.Watched as Watched
-use Rattle.line.specs.contracts.watched.Watched.TheInside as WatchedInside
+use Rattle.watched.specs.contracts.watched.Watched as Watched
+use Rattle.watched.specs.contracts.watched.Watched.TheInside as WatchedInside
 use Rattle.line.specs.contracts.outbox.Outbox as Outbox
 use Rattle.line.specs.contracts.outbox.Outbox.TheInside as OutboxInside
 use Rattle.line.specs.contracts.connection.Connection as Connection
@@ -31,7 +31,7 @@ words_send : IsSend Words.the_row
 words_send = search (sendable, crosses) depth 30 fits 20000
 
 watched_inside : (R : RattleType) → IsSend R → IsSend (WatchedInside.the_row R)
-watched_inside R r = declared_send (WatchedInside.the_type R) (as_row_send (row_field R) r, (search sendable depth 8, (search sendable depth 8, (bytes_send, (search sendable depth 8, tt)))))
+watched_inside R r = declared_send (WatchedInside.the_type R) (as_row_send (row_field R) r, (search sendable depth 8, (search sendable depth 8, (bytes_send, tt))))
 
 watched_send : (R : RattleType) → IsSend R → IsSend (Watched.the_row R)
 watched_send R r = search (watched_inside R r, sendable) depth 10

@@ -1,16 +1,17 @@
 //! What a client does.
 
-ghost use Rattle.std.specs.Prelude.{◌≡◌, ◌==◌, ◌<◌, if◌then◌else◌, [], length, not, true, false};
+ghost use Rattle.std.specs.Prelude.{◌≡◌, ◌==◌, ◌<◌, [], length, not, true, false};
 ghost use Rattle.line_places.specs.Coming.{Gave, SameApp, Takes};
 
 use crate::client::{Came, Client};
 use ck_calls::Reply;
 use hall_channels::messages::AppCall;
-use line::{Connection, Given, Next, Watched, Words, accounts};
+use line::{Connection, Given, Next, Words, accounts};
 use lists::GhostList;
 use std::alloc::Global;
 use std::io::{Read, Write};
 use std::snapshot::Snapshot;
+use watched::Watched;
 
 impl<R, W> Client<R, W> {
     /// A client of the application of these words, of which nothing was read yet. Its calls get the words from these on.
@@ -41,13 +42,6 @@ impl<R, W> Client<R, W> {
         ensures { result ≡ not (length self.now.connection.pending == 0) }
     {
         self.connection.is_pending()
-    }
-
-    /// Whether more may be there than was consumed: bytes are held, or the last read filled its buffer.
-    pub fn may_have_more(&self) -> bool
-        ensures { result ≡ (if self.now.reader.full then true else not (length self.now.connection.held == 0)) }
-    {
-        self.reader.is_full() || self.connection.is_holding()
     }
 }
 

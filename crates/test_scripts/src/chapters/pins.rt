@@ -12,8 +12,6 @@ const SO: u64 = 0;
 
 const USER: u64 = 1;
 
-const NAME: &[u8] = b"the token of the tests          ";
-
 const NEW_NAME: &[u8] = b"the same token under a new label";
 
 const RESET: Step = InitToken(0, b"so-pin", NEW_NAME);
@@ -57,11 +55,15 @@ const TENTH_TRY: &[Row] = &[
     FAILS,
     TRIES,
     FAILS,
-    (A, GetTokenInfo(0), Told::TokenInfo(NAME, 0x3040d, 1, 1)),
+    (
+        A,
+        GetTokenInfo(0),
+        Told::TokenInfo(TOKEN_NAME, 0x3040d, 1, 1),
+    ),
     (A, LOGIN, Told::Nothing),
     (B, LOGIN, Told::Code(Rv::PinLocked)),
     ENDS,
-    (A, GetTokenInfo(0), Told::TokenInfo(NAME, 0x40d, 1, 1)),
+    (A, GetTokenInfo(0), Told::TokenInfo(TOKEN_NAME, 0x40d, 1, 1)),
 ];
 
 const RESETS: &[Row] = &[
@@ -71,7 +73,7 @@ const RESETS: &[Row] = &[
     (A, RESET, Told::Nothing),
     (B, OPEN, Told::Session(2)),
     (A, Finish, Told::Code(Rv::SessionExists)),
-    (A, GetTokenInfo(0), Told::TokenInfo(NAME, 0x40d, 0, 0)),
+    (A, GetTokenInfo(0), Told::TokenInfo(TOKEN_NAME, 0x40d, 0, 0)),
     (B, GetObjectSize(2, 1), Told::ObjectSize(128)),
     (B, CloseSession(2), OK),
     (A, RESET, Told::Nothing),
