@@ -1,7 +1,7 @@
 -- What a keeper's call makes of what it holds and of what a crash may leave, and what it counts.
-use Rattle.std.specs.Prelude.{◌≡◌, ◌⊎◌, ℕ, ◌+◌, ◌-◌, ◌<◌, ◌≤◌, ◌^◌, Option, Some, Result, IsErrOf}
+use Rattle.std.specs.Prelude.{◌≡◌, ◌⊎◌, ℕ, ◌+◌, ◌-◌, ◌<◌, ◌≤◌, ◌^◌, Option, Some, Result, IsErrOf, OnOk}
 use Rattle.keep.specs.declared.keep.KeepFault.{KeepFault}
-use Rattle.keep.specs.declared.keep.KeepFault.TheVariants.{Device, Damaged}
+use Rattle.keep.specs.declared.keep.KeepFault.TheVariants.{Memory, Device, Damaged}
 use Rattle.keep.specs.Contents.{Contents}
 
 -- What is said of a keeper. What it holds and what a crash leaves are relations: a keeper that is shut, or whose disk was
@@ -63,7 +63,11 @@ pub record Begins {K : Type 0} (terms : Terms K) (k : K) (c : Contents) : Type 0
 abbrev pub Rises : ℕ → ℕ → Type 0
 Rises before now = (before < now) ⊎ ((before ≡ 2 ^ 64 - 1) × (now ≡ before))
 
--- a failure of the device was counted, and a store that is open is never found damaged
+-- A failure of the device was counted, once, and nothing else was: at success, and where an allocation failed, the count stays. A
+-- store that is open is never found damaged.
 pub record HasCause {T : Type 0} (failures_before failures_now : ℕ) (result : Result T KeepFault) : Type 0 where
   pub device : IsErrOf result Device → Rises failures_before failures_now
+  pub once : failures_now ≤ failures_before + 1
+  pub ok : OnOk result (failures_now ≡ failures_before)
+  pub memory : IsErrOf result Memory → failures_now ≡ failures_before
   pub damaged : IsErrOf result Damaged → ⊥

@@ -48,6 +48,7 @@ impl ListKeep {
 /// A count and one; at its greatest value it stays.
 fn counted(count: u64) -> u64
     ensures rises { Rises count result }
+    ensures once { result ≤ count + 1 }
     ensures more { count ≤ result }
 {
     count.saturating_add(1)
@@ -57,6 +58,7 @@ fn counted(count: u64) -> u64
 fn device_failure(failures: &mut u64) -> KeepFault
     ensures fault { result ≡ Device }
     ensures rises { Rises failures.old failures.new }
+    ensures once { failures.new ≤ failures.old + 1 }
     ensures more { failures.old ≤ failures.new }
 {
     *failures = counted(*failures);

@@ -5,7 +5,7 @@ ghost use Rattle.sqlite.specs.State.{HasCleanDisk};
 ghost use Rattle.sqlite.specs.Held.{state};
 ghost use Rattle.pin_record.specs.Records.{new_record};
 ghost use Rattle.keep.specs.Contents.{Contents, new_contents};
-ghost use Rattle.keep.specs.declared.keep.KeepFault.TheVariants.{Device};
+ghost use Rattle.keep.specs.declared.keep.KeepFault.TheVariants.{Device, Memory};
 ghost use Rattle.keep.specs.Keeping.{Counted, Rises, Stays};
 ghost use Rattle.sql_statements.specs.Tables.{no_schema};
 ghost use Rattle.keep_sql_model.specs.Store.{IsAt};
@@ -49,6 +49,7 @@ impl<S: Alter + Drop> Model for SqlKeep<S> {
 fn device_failure(failures: &mut u64) -> KeepFault
     ensures fault { result ≡ Device }
     ensures rises { Rises failures.old failures.new }
+    ensures once { failures.new ≤ failures.old + 1 }
     ensures more { failures.old ≤ failures.new }
 {
     *failures = failures.saturating_add(1);
@@ -59,6 +60,8 @@ fn device_failure(failures: &mut u64) -> KeepFault
 fn counted(failures: &mut u64, fault: KeepFault) -> KeepFault
     ensures same { result ≡ fault }
     ensures rises { fault ≡ Device → Rises failures.old failures.new }
+    ensures once { failures.new ≤ failures.old + 1 }
+    ensures memory { fault ≡ Memory → failures.new ≡ failures.old }
     ensures more { failures.old ≤ failures.new }
 {
     match fault {

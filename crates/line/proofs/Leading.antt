@@ -12,8 +12,8 @@ use Rattle.wire.specs.declared.fault.WireFault.TheVariants as faults
 use Rattle.wire.specs.Messages.{call_in}
 use Rattle.model_views.specs.Refusals.{resource_error}
 use Rattle.model_worlds.specs.Worlds.{World, after}
-use Rattle.token.specs.States.{HasJobs, TokenState, Shows, MayLeave, AccountsFor}
-use Rattle.token.proofs.States.{accounts-none, accounts-more, accounts-plain}
+use Rattle.token.specs.States.{HasIds, HasJobs, TokenState, Shows, MayLeave, AccountsFor, blames}
+use Rattle.token.proofs.States.{accounts-none, accounts-more, accounts-plain, blames-more}
 use Rattle.line.specs.Words.{taken}
 use Rattle.line.specs.Turns.{Message, messages, words_past, words_after, refusal_of, refusal_in}
 use Rattle.line.specs.Connecting.{IsNoCall}
@@ -51,6 +51,9 @@ plain-refusal faults.TooLong = refl
 plain-refusal faults.Memory = refl
 
 module _ {K : Type 0} (terms : Terms K) (app : ℕ) where
+  none-more : (t : TokenState K) (count : ℕ) → HasIds terms t [] (count + (0 + 0)) → HasIds terms t [] count
+  none-more t count has = subst (λ n. HasIds terms t [] n) (omega arith) has
+
   pub leads-none : (t : TokenState K) (words : ChaCha) → Leads terms app t t words words [] []
   leads-none t words = record {
     one_each = refl;
@@ -58,6 +61,7 @@ module _ {K : Type 0} (terms : Terms K) (app : ℕ) where
     remembers = omega arith;
     failures = omega arith;
     accounts = accounts-none _ _ (omega arith);
+    ids = λ count has. (refl, none-more t count has);
     run = λ sure w s h. record { told = []; moved = moved-none (Shows terms t) (MayLeave terms t) w s h; each = refl; answered = refl };
   }
 
@@ -69,20 +73,22 @@ module _ {K : Type 0} (terms : Terms K) (app : ℕ) where
     remembers = omega arith;
     failures = omega arith;
     accounts = accounts-plain _ (refusal_of fault) (plain-refusal fault);
+    ids = λ count has. (rw (plain-refusal fault) refl, none-more t count has);
     run = λ sure w s h. record { told = []; moved = moved-none (Shows terms t) (MayLeave terms t) w s h; each = refl; answered = refl };
   })
 
   -- a call
   pub leads-call : (old new : TokenState K) (words words' : ChaCha) (m : Message) (call : CallType) (random : List ℕ) (reply : Reply) → m ≡ Ok call → (random, words') ≡ taken (random_bytes call) words → terms.doubt old.store.keep ≤ terms.doubt new.store.keep
-      → terms.failures old.store.keep ≤ terms.failures new.store.keep → AccountsFor (terms.failures old.store.keep) (terms.failures new.store.keep) (reply ∷ [])
+      → terms.failures old.store.keep ≤ terms.failures new.store.keep → AccountsFor (terms.failures old.store.keep) (terms.failures new.store.keep) (reply ∷ []) → ((count : ℕ) → HasIds terms old [] (count + 2) → (blames (reply ∷ []) ≡ 0) × HasIds terms new [] count)
       → (terms.doubt new.store.keep ≡ 0 → (w : World) → Shows terms old w → HasJobs w [] → Moved (Shows terms new) (MayLeave terms old) (MayLeave terms new) w ((app, Calls call random) ∷ (app, Finishes) ∷ []) ((app, reply) ∷ []))
       → Leads terms app old new words words' (m ∷ []) (reply ∷ [])
-  leads-call old new words words' m call random reply is took rises failed accounts run = subst (λ n. Leads terms app old new words words' (n ∷ []) (reply ∷ [])) (sym is) (record {
+  leads-call old new words words' m call random reply is took rises failed accounts ids run = subst (λ n. Leads terms app old new words words' (n ∷ []) (reply ∷ [])) (sym is) (record {
     one_each = refl;
     words = ap (λ x. x.1) took;
     remembers = rises;
     failures = failed;
     accounts = accounts;
+    ids = ids;
     run = λ sure w s h. record {
       told = (app, reply) ∷ [];
       moved = subst (λ bytes. Moved (Shows terms new) (MayLeave terms old) (MayLeave terms new) w ((app, Calls call bytes) ∷ (app, Finishes) ∷ []) ((app, reply) ∷ [])) (ap (λ x. x.0) took) (run sure w s h);
@@ -99,6 +105,10 @@ module _ {K : Type 0} (terms : Terms K) (app : ℕ) where
     remembers = omega (arith, p.remembers, q.remembers);
     failures = omega (arith, p.failures, q.failures);
     accounts = accounts-more _ _ _ rs qs p.accounts q.accounts q.failures;
+    ids = λ count has.
+        let first = p.ids (count + (calls_in ns + calls_in ns)) (subst (λ n. HasIds terms a [] n) (omega (arith, calls-append ms ns)) has) in
+        let second = q.ids count first.1 in
+        (blames-more rs qs 0 first.0 second.0, second.1);
     run = λ sure w s h.
         let honest : terms.doubt b.store.keep ≡ 0 = omega (arith, sure, q.remembers) in
         let first = p.run honest w s h in

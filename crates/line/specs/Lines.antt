@@ -8,7 +8,7 @@ use Rattle.keep.specs.Keeping.{Terms}
 use Rattle.model_worlds.specs.declared.event.Event.{Event}
 use Rattle.model_worlds.specs.declared.event.Event.TheVariants.{Call, Finish, Gone}
 use Rattle.model_worlds.specs.Worlds.{World, Move, event_of, goes, after, replies}
-use Rattle.token.specs.States.{HasJobs, TokenState, Shows, Lasting, MayLeave, LeftAfter, AccountsFor}
+use Rattle.token.specs.States.{HasIds, HasJobs, TokenState, Shows, Lasting, MayLeave, LeftAfter, AccountsFor, blames}
 use Rattle.line.specs.Words.{taken}
 use Rattle.line.specs.Turns.{Message, words_past, words_after, refusal_of}
 
@@ -73,6 +73,10 @@ pub record IsLine (showing : World → Type 0) (prior left : Option Lasting → 
 
 -- ---- two states of a token
 
+-- Over a steady keeper with two ids for each call, one at the call and one at its result, no answer is CKR_DEVICE_ERROR.
+abbrev pub SparesIds : {K : Type 0} → Terms K → TokenState K → TokenState K → List Message → List Reply → Type 0
+SparesIds terms old new ms said = (count : ℕ) → HasIds terms old [] (count + (calls_in ms + calls_in ms)) → (blames said ≡ 0) × HasIds terms new [] count
+
 module _ {K : Type 0} (terms : Terms K) where
   -- What a token and the words of an application became while these messages were answered so. No fault of the disk is forgotten,
   -- and for each CKR_DEVICE_ERROR a failure of the keeper was counted. While there was no fault of the disk, this is a line's run
@@ -83,6 +87,7 @@ module _ {K : Type 0} (terms : Terms K) where
     pub remembers : terms.doubt old.store.keep ≤ terms.doubt new.store.keep
     pub failures : terms.failures old.store.keep ≤ terms.failures new.store.keep
     pub accounts : AccountsFor (terms.failures old.store.keep) (terms.failures new.store.keep) said
+    pub ids : SparesIds terms old new ms said
     pub run : terms.doubt new.store.keep ≡ 0 → (w : World) → Shows terms old w → HasJobs w [] → IsLine (Shows terms new) (MayLeave terms old) (MayLeave terms new) app w words_old ms said
 
   -- and then the application disconnected
@@ -90,4 +95,5 @@ module _ {K : Type 0} (terms : Terms K) where
     pub one_each : length said ≡ length ms
     pub words : words_new ≡ words_after words_old ms
     pub accounts : AccountsFor (terms.failures old.store.keep) (terms.failures new.store.keep) said
+    pub ids : SparesIds terms old new ms said
     pub run : terms.doubt new.store.keep ≡ 0 → (w : World) → Shows terms old w → IsLine (λ v. Shows terms new (goes v (Gone app))) (MayLeave terms old) (MayLeave terms new) app w words_old ms said

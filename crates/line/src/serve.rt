@@ -1,9 +1,9 @@
 //! Answers the frames of a reader to a writer.
 
-ghost use Rattle.std.specs.Prelude.{◌≡◌, ◌≤◌, ◌∷◌, [], length};
+ghost use Rattle.std.specs.Prelude.{◌≡◌, ◌+◌, ◌≤◌, ◌∷◌, ℕ, [], length};
 ghost use Rattle.ck_calls.specs.Need.{random_bytes};
 ghost use Rattle.model_worlds.specs.Worlds.{World};
-ghost use Rattle.token.specs.States.{HasJobs, Shows, AccountsFor, MayLeave};
+ghost use Rattle.token.specs.States.{HasIds, HasJobs, Shows, AccountsFor, MayLeave, blames};
 ghost use Rattle.serve_base.specs.Short.{IsShort, IsShortCall};
 ghost use Rattle.line.specs.Lines.{Calls, Finishes, LeadsAway, Moved};
 ghost use Rattle.line.specs.Serve.{ReadsBy, Serves, WritesBy};
@@ -38,6 +38,7 @@ fn answer_call<K: Keep>(
     ensures doubt { K.terms.doubt token.old.store.keep ≤ K.terms.doubt token.new.store.keep }
     ensures failures { K.terms.failures token.old.store.keep ≤ K.terms.failures token.new.store.keep }
     ensures accounts { AccountsFor (K.terms.failures token.old.store.keep) (K.terms.failures token.new.store.keep) (result ∷ []) }
+    ensures ids { (count : ℕ) → HasIds K.terms token.old [] (count + 2) → (blames (result ∷ []) ≡ 0) × HasIds K.terms token.new [] count }
     // A call with data that fits into a frame has a reply that is as short.
     ensures short { IsShortCall call → IsShort result }
 {

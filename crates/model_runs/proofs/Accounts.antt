@@ -9,7 +9,7 @@ use Rattle.model_views.specs.declared.fault.Fault.TheVariants.{Memory, Device}
 use Rattle.model_views.specs.Refusals.{resource_error}
 use Rattle.model_runs.specs.Runs.{blames, AccountsFor}
 
-blames-append : (xs ys : List Reply) → blames (xs ++ ys) ≡ blames xs + blames ys
+pub blames-append : (xs ys : List Reply) → blames (xs ++ ys) ≡ blames xs + blames ys
 blames-append [] ys = omega arith
 blames-append (x ∷ xs) ys = let k = blames-append xs ys in omega (arith, k)
 
@@ -21,7 +21,7 @@ accounts-more before mid now xs ys (inl few) (inl more) rises = inl (let k = bla
 pub accounts-none : (before now : ℕ) → before ≤ now → AccountsFor before now []
 accounts-none before now rises = inl (omega (arith, rises))
 
-device-is : (reply : Reply) → resource_error reply ≡ Some Device → reply ≡ Code DeviceError
+pub device-is : (reply : Reply) → resource_error reply ≡ Some Device → reply ≡ Code DeviceError
 device-is (Code DeviceError) is = refl
 device-is (Code HostMemory) is = let k : Some Memory ≡ Some Device = is in cc
 device-is _ is = let k : None ≡ Some Device = is in cc

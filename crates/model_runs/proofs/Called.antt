@@ -1,6 +1,6 @@
 -- A call at one desk is the world's next step.
 use Rattle.std.proofs.lemmas.Bool.{cases_eq}
-use Rattle.std.proofs.Common.{◌≡◌, false, true, ◌≢◌, ℕ, List, ◌++◌, Option, Some, None, Result, Ok, Err, refl, sym, ◌∙◌, ap, inl, inr, subst}
+use Rattle.std.proofs.Common.{◌≡◌, false, true, ◌≢◌, ℕ, List, ◌++◌, Option, Some, None, Result, Ok, Err, refl, sym, ◌∙◌, ap, inl, inr, subst, arith}
 use Rattle.std.specs.Prelude.{IfErr, IfOk, IsSome}
 use Rattle.std.specs.Option.{option_map}
 use Rattle.ck_types.specs.declared.rv.Rv.TheVariants.{DeviceError}
@@ -22,12 +22,12 @@ use Rattle.model_views.specs.Refusals.{resource_error_in, refusal}
 use Rattle.model_worlds.specs.Worlds.{World, answer_at, checks_of, list_change, called, reveal_by_call, reveal_to_call, says_called, stepped}
 use Rattle.serve_base.specs.Short.{IsShortSaid}
 use Rattle.serve_base.specs.Shown.{view_of, objects_of, said_of, Changes}
-use Rattle.model_runs.specs.Applications.{desk_at, checks_after, are_others_in_session, told_as, Depicts, Shows}
+use Rattle.model_runs.specs.Applications.{desk_at, checks_after, are_others_in_session, told_as, Depicts, Shows, ShowsAfter}
 use Rattle.model_runs.proofs.Seats.{seated-is}
-use Rattle.serve_base.specs.Stores.{StoreState, Serves}
+use Rattle.serve_base.specs.Stores.{StoreState, LacksId, Serves}
 use Rattle.model_runs.specs.Runs.{Lasting, lasting_of, lasting_in, MayLeave, LeavesBy, call_change}
 use Rattle.model_answers.proofs.Proper.{plain-answer}
-use Rattle.serve_base.proofs.Changing.{objects-changed, record-changed}
+use Rattle.serve_base.proofs.Changing.{last-changed, lacks-in_list, objects-changed, record-changed}
 use Rattle.model_runs.proofs.Steps.{state, fits-given, depicts-given, fits-all, depicts-same}
 
 -- which of both it was follows from what is returned
@@ -60,19 +60,32 @@ module _ {K : Type 0} (terms : Terms K) (old new : StoreState K) (ds ds' : List 
     | inr differ ↦ others b differ
   ]
 
+  pub next-called : (r : Result Out Fault) → IsServed r → ShowsAfter terms s.contents 1 (record { store = new; desks = ds'; checks = checks_after app r cs }) (called w app call random (resource_error_in (said_of (told_as r))))
+  next-called (Ok out) m = (
+    record {
+      contents = m.contents;
+      has = m.has;
+      fits = fits-given given s.contents m.contents ds ds' app s.fits others (said_of out) m.gives;
+      depicts = rw (went (view_of s.contents (desk_at ds app)) call random reveal out m.gives.says, given-is) (subst (λ x. Depicts (state m.contents ds' (cs ++ checks_of app (pin_checked_in x))) (stepped w app given)) (sym m.gives.says) (depicts-given given s.contents m.contents ds ds' app s.fits others (said_of out) m.gives cs w s.depicts));
+    },
+    last-changed (in_list (sees (desk_at ds app).sessions.login) (objects_of s.contents) given.change) s.contents m.contents m.gives.changes,
+  )
+  next-called (Err fault) m = let f = refused-resource_error_in fault in rw f.1 (
+    record {
+      contents = s.contents;
+      has = m.has;
+      fits = fits-all s.contents ds ds' (refused-desks fault m) s.fits;
+      depicts = depicts-same s.contents ds ds' cs w (refused-desks fault m) s.depicts;
+    },
+    omega arith,
+  )
+
   pub shows-called : (r : Result Out Fault) → IsServed r → Shows terms (record { store = new; desks = ds'; checks = checks_after app r cs }) (called w app call random (resource_error_in (said_of (told_as r))))
-  shows-called (Ok out) m = record {
-    contents = m.contents;
-    has = m.has;
-    fits = fits-given given s.contents m.contents ds ds' app s.fits others (said_of out) m.gives;
-    depicts = rw (went (view_of s.contents (desk_at ds app)) call random reveal out m.gives.says, given-is) (subst (λ x. Depicts (state m.contents ds' (cs ++ checks_of app (pin_checked_in x))) (stepped w app given)) (sym m.gives.says) (depicts-given given s.contents m.contents ds ds' app s.fits others (said_of out) m.gives cs w s.depicts));
-  }
-  shows-called (Err fault) m = let f = refused-resource_error_in fault in rw f.1 (record {
-    contents = s.contents;
-    has = m.has;
-    fits = fits-all s.contents ds ds' (refused-desks fault m) s.fits;
-    depicts = depicts-same s.contents ds ds' cs w (refused-desks fault m) s.depicts;
-  })
+  shows-called r m = (next-called r m).0
+
+  -- an answer for which there is no id adds an object to what lasts
+  pub lacks-called : LacksId given.change s.contents → LacksId (call_change w app call random) s.contents
+  lacks-called lacks = rw change-is (lacks-in_list (sees (desk_at ds app).sessions.login) (objects_of s.contents) given.change s.contents lacks)
 
   pub says-called : (r : Result Out Fault) → IsServed r → said_of (told_as r) ≡ says_called w app call random (resource_error_in (said_of (told_as r)))
   says-called (Ok out) m = m.gives.says ∙ ap (λ (a : Answer). a.says) (sym given-is) ∙ sym (ap (says_called w app call random) (went (view_of s.contents (desk_at ds app)) call random reveal out m.gives.says))

@@ -5,3 +5,4 @@ pub mod Resulted
 pub mod Jobs
 pub mod Accounts
 pub mod Runs
+pub mod Ids

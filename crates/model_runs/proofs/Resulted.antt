@@ -1,5 +1,5 @@
 -- A result at one desk, and a disconnect, are the world's next step.
-use Rattle.std.proofs.Common.{◌≡◌, ◌≢◌, ◌≤◌, ℕ, Bool, List, [], ◌∷◌, ◌++◌, Option, Some, None, Result, Ok, Err, refl, sym, ◌∙◌, ap, inl, inr}
+use Rattle.std.proofs.Common.{◌≡◌, ◌≢◌, ◌≤◌, ℕ, Bool, List, [], ◌∷◌, ◌++◌, Option, Some, None, Result, Ok, Err, refl, sym, ◌∙◌, ap, inl, inr, arith}
 use Rattle.std.specs.Prelude.{option_to_list, map}
 use Rattle.std.specs.Option.{option_map}
 use Rattle.ck_types.specs.declared.user_type.UserType.{UserType}
@@ -23,20 +23,20 @@ use Rattle.model_answers.specs.Answers.{answer_result}
 use Rattle.model_views.specs.Refusals.{resource_error_in, refusal, resource_error}
 use Rattle.model_worlds.specs.Worlds.{World, checks_of, others_checking, others_in_session, value_of, reveal_by_outcome, reveal_to_task, result_at, list_change, without_checks, stepped, unchecked, finished, finish_tells, finish_refusal, goes, happens, told, reply_to}
 use Rattle.serve_base.specs.Shown.{objects_of, view_of, question_of, over, Changes}
-use Rattle.model_runs.specs.Applications.{desk_at, are_others_in_session, reveal_by_job, told_result, moved, move_of, IsOpen, HasNumbers, HasJobs, opening, answer_by, answer_to_job, asked_by_job, by_job, taken_by, says_by, TokenState, Shows}
-use Rattle.serve_base.specs.Stores.{StoreState, Has, Serves}
-use Rattle.model_runs.specs.Runs.{Lasting, lasting_of, lasting_in, MayLeave, LeavesBy, LeftBy, IsTakenBy, result_change}
+use Rattle.model_runs.specs.Applications.{desk_at, are_others_in_session, reveal_by_job, told_result, moved, move_of, IsOpen, HasNumbers, HasJobs, opening, answer_by, answer_to_job, asked_by_job, by_job, taken_by, says_by, TokenState, Shows, ShowsAfter}
+use Rattle.serve_base.specs.Stores.{StoreState, Has, LacksId, Serves}
+use Rattle.model_runs.specs.Runs.{Lasting, lasting_of, lasting_in, MayLeave, LeavesBy, LeftBy, IsTakenBy, change_of, result_change}
 use Rattle.model_worlds.specs.Tries.{IsSound}
 use Rattle.model_answers.proofs.Proper.{plain-result, unasking-result}
 use Rattle.lists.proofs.IndexLemmas.{append_nil}
 use Rattle.model_runs.proofs.Seats.{seated-is}
 use Rattle.model_worlds.proofs.Tries.{sound-start}
-use Rattle.serve_base.proofs.Changing.{objects-changed, record-changed}
+use Rattle.serve_base.proofs.Changing.{last-changed, lacks-in_list, objects-changed, record-changed}
 use Rattle.model_runs.proofs.Steps.{fits-given, depicts-given, depicts-put, fits-put, fits-empty, depicts-gone, depicts-opening}
 
 -- ---- a result with the numbers of the pending call, by its own value
 
-module _ {K : Type 0} (terms : Terms K) (old new : StoreState K) (ds ds' : List (ℕ × DeskState)) (cs : List Check) (app : ℕ) (job : Job) (w : World) (s : Shows terms (record { store = old; desks = ds; checks = cs }) w) (q : Question) (asked : (w.views app).question ≡ Some q) (others : (b : ℕ) → b ≢ app → SameDesk (desk_at ds b) (desk_at ds' b)) where
+module _ {K : Type 0} (terms : Terms K) (old new : StoreState K) (ds ds' : List (ℕ × DeskState)) (cs : List Check) (app : ℕ) (job : Job) (w : World) (s : Shows terms (record { store = old; desks = ds; checks = cs }) w) where
   abbrev outcome : TaskResult
   outcome = value_of (question_of job).task
 
@@ -83,38 +83,52 @@ module _ {K : Type 0} (terms : Terms K) (old new : StoreState K) (ds ds' : List 
       let change : Change = in_list (sees (desk_at ds app).sessions.login) (objects_of s.contents) given.change in
       rw (change-is, s.depicts.token_record, s.depicts.objects, objects-changed change s.contents d is, record-changed change s.contents d is) refl
 
-  pub taken : (r : Result Reply Fault) → IsServed r → IsTakenBy (Shows terms after) (MayLeave terms before) (MayLeave terms after) w app job (told_result r)
-  taken (Ok reply) m =
-      let d = depicts-given given s.contents m.contents ds ds' app s.fits others (Replies reply) m.gives cs w s.depicts in
-      let e = went reply m.gives.says in
-      record {
-        shows = rw (e, takes) (record {
-          contents = m.contents;
-          has = m.has;
-          fits = fits-given given s.contents m.contents ds ds' app s.fits others (Replies reply) m.gives;
-          depicts = record { token_record = d.token_record; objects = d.objects; checks = ap (without_checks app) (d.checks ∙ ap (λ o. cs ++ checks_of app o) (unasking-result (asked_by_job job (view_of s.contents (desk_at ds app))) outcome reveal) ∙ append_nil cs); in_session = d.in_session; views = d.views };
-        });
-        says = rw e (m.gives.says ∙ ap (λ (a : Answer). a.says) (sym given-is));
-        leaves = λ l may. rw e (elim (m.leaves may.0 may.1) [
-          | inl before ↦ inl ((may.0, before.0, may.2), change-is ∙ before.1)
-          | inr is ↦ inr (may.2 ∙ ap (option_map lasting_in) is ∙ ap Some (lasts m.contents m.gives.changes))
-        ]);
-      }
-  taken (Err fault) m =
-      let f = fault-resource_error_in fault in
-      record {
-        shows = rw (f.1, asked) (record {
-          contents = s.contents;
-          has = m.has;
-          fits = fits-put s.contents ds ds' app (rw m.same (s.fits app)) others s.fits;
-          depicts = depicts-put s.contents ds ds' cs app (over (desk_at ds app)) (answered (w.views app)) w m.same (rw (s.depicts.views app) refl) others s.depicts;
-        });
-        says = rw f.1 (ap Replies (sym f.2));
-        leaves = λ l may. rw f.1 (elim (m.leaves may.0 may.1) [
-          | inl before ↦ inl (may.0, before, may.2)
-          | inr is ↦ inr (may.2 ∙ ap (option_map lasting_in) is.1 ∙ ap Some (lasts is.0 is.2))
-        ]);
-      }
+  module _ (q : Question) (asked : (w.views app).question ≡ Some q) (others : (b : ℕ) → b ≢ app → SameDesk (desk_at ds b) (desk_at ds' b)) where
+    pub next-taken : (r : Result Reply Fault) → IsServed r → IsTakenBy (ShowsAfter terms s.contents 1 after) (MayLeave terms before) (MayLeave terms after) w app job (told_result r)
+    next-taken (Ok reply) m =
+        let d = depicts-given given s.contents m.contents ds ds' app s.fits others (Replies reply) m.gives cs w s.depicts in
+        let e = went reply m.gives.says in
+        record {
+          shows = rw (e, takes) (
+            record {
+              contents = m.contents;
+              has = m.has;
+              fits = fits-given given s.contents m.contents ds ds' app s.fits others (Replies reply) m.gives;
+              depicts = record { token_record = d.token_record; objects = d.objects; checks = ap (without_checks app) (d.checks ∙ ap (λ o. cs ++ checks_of app o) (unasking-result (asked_by_job job (view_of s.contents (desk_at ds app))) outcome reveal) ∙ append_nil cs); in_session = d.in_session; views = d.views };
+            },
+            last-changed (in_list (sees (desk_at ds app).sessions.login) (objects_of s.contents) given.change) s.contents m.contents m.gives.changes,
+          );
+          says = rw e (m.gives.says ∙ ap (λ (a : Answer). a.says) (sym given-is));
+          leaves = λ l may. rw e (elim (m.leaves may.0 may.1) [
+            | inl prior ↦ inl ((may.0, prior.0, may.2), change-is ∙ prior.1)
+            | inr is ↦ inr (may.2 ∙ ap (option_map lasting_in) is ∙ ap Some (lasts m.contents m.gives.changes))
+          ]);
+        }
+    next-taken (Err fault) m =
+        let f = fault-resource_error_in fault in
+        record {
+          shows = rw (f.1, asked) (
+            record {
+              contents = s.contents;
+              has = m.has;
+              fits = fits-put s.contents ds ds' app (rw m.same (s.fits app)) others s.fits;
+              depicts = depicts-put s.contents ds ds' cs app (over (desk_at ds app)) (answered (w.views app)) w m.same (rw (s.depicts.views app) refl) others s.depicts;
+            },
+            omega arith,
+          );
+          says = rw f.1 (ap Replies (sym f.2));
+          leaves = λ l may. rw f.1 (elim (m.leaves may.0 may.1) [
+            | inl prior ↦ inl (may.0, prior, may.2)
+            | inr is ↦ inr (may.2 ∙ ap (option_map lasting_in) is.1 ∙ ap Some (lasts is.0 is.2))
+          ]);
+        }
+
+    pub taken : (r : Result Reply Fault) → IsServed r → IsTakenBy (Shows terms after) (MayLeave terms before) (MayLeave terms after) w app job (told_result r)
+    taken r m = let is = next-taken r m in record { shows = is.shows.0; says = is.says; leaves = is.leaves }
+
+  -- an answer for which there is no id adds an object to what lasts
+  pub lacks-taken : LacksId given.change s.contents → LacksId (list_change w app (answer_by w app job)) s.contents
+  lacks-taken lacks = rw change-is (lacks-in_list (sees (desk_at ds app).sessions.login) (objects_of s.contents) given.change s.contents lacks)
 
 -- ---- and where the job is the pending call's
 
@@ -129,6 +143,10 @@ module _ (w : World) (app : ℕ) (job : Job) (open_is : IsOpen w app job) where
       let f : Option Question → View = λ q. record v { question = q } in
       let same : asked_by_job job v ≡ v = ap (λ q. f (option_map (by_job job) q)) open_is.question ∙ ap f (sym open_is.question) in
       ap (λ v. answer_result v (value_of (question_of job).task) (reveal_to_task w app (question_of job).task)) same
+
+  -- an answer for which there is no id adds an object to what lasts
+  pub lacks-open : (c : Contents) → LacksId (list_change w app (answer_by w app job)) c → LacksId (change_of w (Finish app)) c
+  lacks-open c lacks = rw (ap (result_change w app) open_is.question ∙ ap (list_change w app) (sym asked-open)) lacks
 
   happens-taken : (o : Option Fault) → happens w (moved (Finish app) o) ≡ taken_by w app job o
   happens-taken None = ap (finished w app) open_is.question ∙ ap (λ a. unchecked (stepped w app a) app) (sym asked-open)
@@ -158,14 +176,21 @@ module _ {K : Type 0} (terms : Terms K) where
   desk-question old ds cs app w s = ap (λ v. v.question) (s.depicts.views app)
 
   -- -- a disconnect
+  pub next-gone : (old : StoreState K) (ds ds' : List (ℕ × DeskState)) (cs : List Check) (app : ℕ) (w : World) → desk_at ds' app ≡ empty_desk → ((b : ℕ) → b ≢ app → desk_at ds' b ≡ desk_at ds b)
+      → (s : Shows terms (record { store = old; desks = ds; checks = cs }) w) → ShowsAfter terms s.contents 0 (record { store = old; desks = ds'; checks = without_checks app cs }) (goes w (Gone app))
+  next-gone old ds ds' cs app w own others s = (
+    record {
+      contents = s.contents;
+      has = s.has;
+      fits = fits-put s.contents ds ds' app (rw own (fits-empty s.contents)) (λ b differ. rw (others b differ) refl) s.fits;
+      depicts = depicts-gone s.contents ds ds' cs app w own others s.depicts;
+    },
+    omega arith,
+  )
+
   pub shows-gone : (old : StoreState K) (ds ds' : List (ℕ × DeskState)) (cs : List Check) (app : ℕ) (w : World) → desk_at ds' app ≡ empty_desk → ((b : ℕ) → b ≢ app → desk_at ds' b ≡ desk_at ds b)
       → Shows terms (record { store = old; desks = ds; checks = cs }) w → Shows terms (record { store = old; desks = ds'; checks = without_checks app cs }) (goes w (Gone app))
-  shows-gone old ds ds' cs app w own others s = record {
-    contents = s.contents;
-    has = s.has;
-    fits = fits-put s.contents ds ds' app (rw own (fits-empty s.contents)) (λ b differ. rw (others b differ) refl) s.fits;
-    depicts = depicts-gone s.contents ds ds' cs app w own others s.depicts;
-  }
+  shows-gone old ds ds' cs app w own others s = (next-gone old ds ds' cs app w own others s).0
 
   -- nobody has come yet
   pub shows-opening : (store : StoreState K) (c : Contents) → Has terms store c → Shows terms (record { store = store; desks = []; checks = [] }) (opening c)

@@ -1,5 +1,5 @@
 -- What a token is to all applications: the desk of each, and the world that the token refines by them.
-use Rattle.std.specs.Prelude.{◌≡◌, ◌≢◌, ◌⊎◌, ℕ, ◌==◌, ◌&&◌, Bool, false, not, nat_lt, length, List, [], ◌∷◌, ◌++◌, map, filter, unwrap_or, option_to_list, Option, Some, None, Result, Ok, Err, IfOk, IfErr, IsErrOf}
+use Rattle.std.specs.Prelude.{◌≡◌, ◌≢◌, ◌⊎◌, ℕ, ◌+◌, ◌≤◌, ◌==◌, ◌&&◌, Bool, false, not, nat_lt, length, List, [], ◌∷◌, ◌++◌, map, filter, unwrap_or, option_to_list, Option, Some, None, Result, Ok, Err, IfOk, IfErr, IsErrOf}
 use Rattle.std.specs.Ordering.{nat_cmp}
 use Rattle.std.specs.BTreeMap.{is_at}
 use Rattle.std.specs.Map.{lookup, keys_of}
@@ -25,7 +25,7 @@ use Rattle.model_views.specs.Refusals.{refusal, resource_error_in, resource_erro
 use Rattle.model_worlds.specs.Worlds.{World, is_in_session, checks_of, Move, Goes, Refuses, value_of, reveal_by_outcome, reveal_to_task, stepped, unchecked, finish_refused}
 use Rattle.serve_base.specs.Short.{IsShort, IsShortTask}
 use Rattle.serve_base.specs.Shown.{objects_of, task_of, view_of, Fits, said_of, question_of, over}
-use Rattle.serve_base.specs.Stores.{StoreState, Has, Serves}
+use Rattle.serve_base.specs.Stores.{StoreState, Has, FailsForIds, Serves}
 
 -- ---- all desks
 
@@ -86,11 +86,13 @@ abbrev pub reveal_by_job : Job → (UserType → ℕ) → Bool → Contents → 
 reveal_by_job job under_way others_have_sessions c = reveal_by_outcome (question_of job).task (value_of (question_of job).task) (objects_of c) under_way others_have_sessions
 
 -- The answer to the result of the job is given, or it is refused, and the desk has no pending call. At most one write is tried,
--- and CKR_DEVICE_ERROR comes only where a failure of the keeper was counted. What is returned of a short task is short.
+-- and CKR_DEVICE_ERROR comes only where a failure of the keeper was counted. Over a steady keeper it comes only to an answer
+-- that adds an object, where the ids are used up. What is returned of a short task is short.
 pub record Finishes {K : Type 0} (terms : Terms K) (job : Job) (reveal : Contents → Reveal) (old new : StoreState K) (before : DeskState) (result : Result Reply Fault) (desk : DeskState) : Type 0 where
   pub serves : terms.doubt new.keep ≡ 0 → (c : Contents) → Has terms old c → Fits c before.handles.entries → Serves terms Replies (answer_to_job job (view_of c before) (reveal c)) c old new before (over before) result desk
   pub counts : Counted terms old.keep new.keep 0 1
   pub cause : IsErrOf result Device → Rises (terms.failures old.keep) (terms.failures new.keep)
+  pub steady : FailsForIds terms Device (λ c v. answer_to_job job v (reveal c)) old before result
   pub plain : IfOk result (λ reply. resource_error reply ≡ None)
   pub stays : IfErr result (λ fault. SameDesk (over before) desk)
   pub short : IsShortTask (task_of job.work.value) → IfOk result (λ reply. IsShort reply)
@@ -182,3 +184,7 @@ pub record Shows {K : Type 0} (terms : Terms K) (t : TokenState K) (w : World) :
   pub has : Has terms t.store contents
   pub fits : AllFit contents t.desks
   pub depicts : Depicts (record { kept = contents; desks = t.desks; checks = t.checks }) w
+
+-- the token refines the world, and since these contents it has given so many ids at most
+abbrev pub ShowsAfter : {K : Type 0} → Terms K → Contents → ℕ → TokenState K → World → Type 0
+ShowsAfter terms before count t w = (s : Shows terms t w) × (s.contents.last_id ≤ before.last_id + count)

@@ -6,7 +6,7 @@ use Rattle.ck_types.specs.declared.entry.Entry.{Entry}
 use Rattle.ck_types.specs.declared.user_type.UserType.{UserType}
 use Rattle.ck_calls.specs.declared.call.Call.{Call as CallType}
 use Rattle.ck_calls.specs.declared.reply.Reply.{Reply}
-use Rattle.keep.specs.Contents.{Contents}
+use Rattle.keep.specs.Contents.{Contents, greatest_id}
 use Rattle.keep.specs.Keeping.{Terms}
 use Rattle.model_views.specs.declared.fault.Fault.{Fault}
 use Rattle.model_views.specs.declared.fault.Fault.TheVariants.{Memory, Device}
@@ -22,7 +22,8 @@ use Rattle.model_worlds.specs.Worlds.{World, Move, Goes, Refuses, event_of, answ
 use Rattle.model_worlds.specs.Traces.{NoResourceError, IsTold}
 use Rattle.model_worlds.specs.Tries.{IsSound, spent_in}
 use Rattle.serve_base.specs.Shown.{objects_of}
-use Rattle.model_runs.specs.Applications.{HasJobs, TokenState, answer_by, taken_by, says_by}
+use Rattle.serve_base.specs.Stores.{LacksId}
+use Rattle.model_runs.specs.Applications.{HasJobs, Shows, TokenState, answer_by, taken_by, says_by}
 
 -- ---- crashes
 
@@ -96,6 +97,19 @@ blames (reply ∷ rs) = blame_of (resource_error reply) + blames rs
 -- For each there is a failure that the keeper counted since. A counter of 64 bits stays at its greatest value.
 abbrev pub AccountsFor : ℕ → ℕ → List Reply → Type 0
 AccountsFor before now said = (before + blames said ≤ now) ⊎ (2 ^ 64 - 1 ≤ now)
+
+-- The device is blamed only at an event that adds an object, where every id was given.
+abbrev pub BlamesForIds : World → Event → Contents → List Reply → Type 0
+BlamesForIds w event c said = (blames said ≡ 0) ⊎ LacksId (change_of w event) c
+
+-- The keeper is steady and has an id for each of so many objects to come. The token refines a world whose pending jobs these
+-- are.
+pub record HasIds {K : Type 0} (terms : Terms K) (t : TokenState K) (out : List (ℕ × Job)) (count : ℕ) : Type 0 where
+  pub steady : terms.is_steady t.store.keep
+  pub world : World
+  pub jobs : HasJobs world out
+  pub shows : Shows terms t world
+  pub ids : shows.contents.last_id + count ≤ greatest_id
 
 -- ---- runs
 

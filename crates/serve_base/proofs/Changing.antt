@@ -14,8 +14,9 @@ use Rattle.keep.specs.Contents.{Contents, Kept}
 use Rattle.desk.specs.Desks.{DeskState}
 use Rattle.lists.specs.Indexes.{seen_index, replaced}
 use Rattle.model_views.specs.Views.{View, TokenObject, sees}
-use Rattle.model_views.specs.Changes.{Change, Stays, Insert, Replace, Remove, Records, Resets, changed, recorded, rewritten, seen, as_seen, replaced_at, removed_at}
+use Rattle.model_views.specs.Changes.{Change, Stays, Insert, Replace, Remove, Records, Resets, changed, in_list, recorded, rewritten, seen, as_seen, replaced_at, removed_at}
 use Rattle.serve_base.specs.Shown.{objects_of, sees_kept, token_object, view_of, IsNoted, Fits, rekept, IsAsPublic, Changes}
+use Rattle.serve_base.specs.Stores.{LacksId}
 use Rattle.lists.proofs.ListLemmas.{map-push, map-remove}
 use Rattle.lists.proofs.IndexLemmas.{append_nil, filter-push, taken_out, filter-remove, seen_index-map}
 
@@ -86,6 +87,24 @@ record-changed (Replace index o) c c' is = rw is.1 refl
 record-changed (Remove index) c c' is = rw is refl
 record-changed (Records r) c c' is = rw is refl
 record-changed (Resets r) c c' is = rw is refl
+
+-- a change gives one id at most
+pub last-changed : (change : Change) (c c' : Contents) → Changes change c c' → c'.last_id ≤ c.last_id + 1
+last-changed Stays c c' is = rw is (omega arith)
+last-changed (Insert o) c c' is = rw is (omega arith)
+last-changed (Replace index o) c c' is = rw is.1 (omega arith)
+last-changed (Remove index) c c' is = rw is (omega arith)
+last-changed (Records r) c c' is = rw is (omega arith)
+last-changed (Resets r) c c' is = rw is (omega arith)
+
+-- a change that adds an object adds it to the list
+pub lacks-in_list : (sees : List Entry → Bool) (objects : List (List Entry)) (change : Change) (c : Contents) → LacksId change c → LacksId (in_list sees objects change) c
+lacks-in_list sees objects (Insert o) c lacks = lacks
+lacks-in_list sees objects Stays c lacks = absurd lacks.0
+lacks-in_list sees objects (Replace index o) c lacks = absurd lacks.0
+lacks-in_list sees objects (Remove index) c lacks = absurd lacks.0
+lacks-in_list sees objects (Records r) c lacks = absurd lacks.0
+lacks-in_list sees objects (Resets r) c lacks = absurd lacks.0
 
 -- ---- what another application sees
 

@@ -1,12 +1,13 @@
 -- What a call that may be refused does, and what it returns.
-use Rattle.std.proofs.Common.{◌≡◌, Result, Ok, Err, inl, inr, refl, sym, subst}
+use Rattle.std.proofs.Common.{◌≡◌, ℕ, Result, Ok, Err, inl, inr, refl, sym, subst}
+use Rattle.std.specs.Prelude.{IsErrOf}
 use Rattle.std.specs.Result.{IsErrAnd}
 use Rattle.ck_calls.specs.declared.reply.Reply.{Reply}
 use Rattle.ck_calls.specs.declared.reply.Reply.TheVariants.{Code}
 use Rattle.ck_types.specs.declared.rv.Rv.TheVariants as rv
 use Rattle.precede.specs.Condition.{code_of}
 use Rattle.keep.specs.Contents.{Contents}
-use Rattle.keep.specs.Keeping.{Terms}
+use Rattle.keep.specs.Keeping.{HasCause, Terms}
 use Rattle.keep.specs.declared.keep.KeepFault.{KeepFault}
 use Rattle.keep.specs.declared.keep.KeepFault.TheVariants as keep_faults
 use Rattle.desk.specs.Desks.{DeskState}
@@ -18,7 +19,7 @@ use Rattle.serve_base.specs.declared.refusal.Refusal.{Refusal}
 use Rattle.serve_base.specs.declared.refusal.Refusal.TheVariants as refusals
 use Rattle.serve_base.specs.Refusing.{of_fault, DoesAtDesk, DoesAs, Does, settled}
 use Rattle.serve_base.specs.Shown.{view_of, said_of, Fits}
-use Rattle.serve_base.specs.Stores.{StoreState, Has, Gave, Refused, Serves, LeavesAsBefore}
+use Rattle.serve_base.specs.Stores.{StoreState, Has, Gave, LacksId, Refused, Serves, LeavesAsBefore}
 use Rattle.serve_base.proofs.Gaves.{gave-quiet, gave-reply}
 
 -- it is a fault of the keeper, or allocation failure
@@ -36,15 +37,24 @@ pub fault-of : {T : Type 0} (r : Result T Refusal) (fault : KeepFault) → IsErr
 fault-of (Ok out) fault is = absurd is
 fault-of {T} (Err e) fault is = subst (λ x. IsFault {T = T} (Err x)) (sym is) (fault-is T fault)
 
+-- the device is blamed for a fault of a keeper alone
+pub device-of : {T : Type 0} {before now : ℕ} {kept : Result T KeepFault} (fault : KeepFault) → kept ≡ Err fault → HasCause before now kept → {U : Type 0} (r : Result U Refusal) → IsErrAnd r (λ e. e ≡ of_fault fault) → IsErrOf r refusals.Device → IsErrOf kept keep_faults.Device
+device-of keep_faults.Device was cause r is device = was
+device-of keep_faults.Damaged was cause r is device = absurd (cause.damaged was)
+device-of keep_faults.Memory was cause {U} r is device = let k : refusals.Device ≡ refusals.Memory = subst (λ (x : Result U Refusal). IsErrAnd x (λ e. e ≡ of_fault keep_faults.Memory)) device is in cc
+
+abbrev refused_by : (T : Type 0) → Refusal → Result T Refusal
+refused_by T refusal = Err refusal
+
 -- ---- by what is returned for the result
 
 module _ {K T : Type 0} (terms : Terms K) (tell : T → Said) where
-  pub does_as-refused : (a : Answer) (c : Contents) (old new : StoreState K) (before desk : DeskState) (r : Result T Refusal) → IsFault r → Refused terms a before.sessions.login c old new before desk → DoesAs terms tell a c old new before r desk
-  does_as-refused a c old new before desk (Err refusals.Memory) is refused = refused
-  does_as-refused a c old new before desk (Err refusals.Device) is refused = refused
-  does_as-refused a c old new before desk (Err (refusals.Condition row)) is refused = absurd is
-  does_as-refused a c old new before desk (Err (refusals.Code code)) is refused = absurd is
-  does_as-refused a c old new before desk (Ok out) is refused = absurd is
+  pub does_as-refused : (a : Answer) (c : Contents) (old new : StoreState K) (before desk : DeskState) (r : Result T Refusal) → IsFault r → (IsErrOf r refusals.Device → terms.is_steady old.keep → LacksId a.change c) → Refused terms a before.sessions.login c old new before desk → DoesAs terms tell a c old new before r desk
+  does_as-refused a c old new before desk (Err refusals.Memory) is lacks refused = refused
+  does_as-refused a c old new before desk (Err refusals.Device) is lacks refused = (refused, lacks refl)
+  does_as-refused a c old new before desk (Err (refusals.Condition row)) is lacks refused = absurd is
+  does_as-refused a c old new before desk (Err (refusals.Code code)) is lacks refused = absurd is
+  does_as-refused a c old new before desk (Ok out) is lacks refused = absurd is
 
   -- the same answer, written otherwise
   pub does_as-is : (a b : Answer) (c : Contents) (old new : StoreState K) (before desk : DeskState) (r : Result T Refusal) → a ≡ b → DoesAs terms tell b c old new before r desk → DoesAs terms tell a c old new before r desk
@@ -61,8 +71,8 @@ module _ {K T : Type 0} (terms : Terms K) (tell : T → Said) where
   }
 
   -- what a read leaves before it
-  pub does_as-after : (a : Answer) (c : Contents) (old mid new : StoreState K) (before desk : DeskState) (r : Result T Refusal) → LeavesAsBefore terms old mid → DoesAs terms tell a c mid new before r desk → DoesAs terms tell a c old new before r desk
-  does_as-after a c old mid new before desk (Ok out) first gave = record {
+  pub does_as-after : (a : Answer) (c : Contents) (old mid new : StoreState K) (before desk : DeskState) (r : Result T Refusal) → LeavesAsBefore terms old mid → (terms.is_steady old.keep → terms.is_steady mid.keep) → DoesAs terms tell a c mid new before r desk → DoesAs terms tell a c old new before r desk
+  does_as-after a c old mid new before desk (Ok out) first steady gave = record {
     contents = gave.contents;
     has = gave.has;
     gives = gave.gives;
@@ -71,22 +81,30 @@ module _ {K T : Type 0} (terms : Terms K) (tell : T → Said) where
       | inr is ↦ inr is
     ];
   }
-  does_as-after a c old mid new before desk (Err (refusals.Condition row)) first does = (does.0, record { has = does.1.has; leaves = λ d may. first d (does.1.leaves d may); desk = does.1.desk })
-  does_as-after a c old mid new before desk (Err (refusals.Code code)) first does = (does.0, record { has = does.1.has; leaves = λ d may. first d (does.1.leaves d may); desk = does.1.desk })
-  does_as-after a c old mid new before desk (Err refusals.Memory) first refused = refused-after a c old mid new before desk first refused
-  does_as-after a c old mid new before desk (Err refusals.Device) first refused = refused-after a c old mid new before desk first refused
+  does_as-after a c old mid new before desk (Err (refusals.Condition row)) first steady does = (does.0, record { has = does.1.has; leaves = λ d may. first d (does.1.leaves d may); desk = does.1.desk })
+  does_as-after a c old mid new before desk (Err (refusals.Code code)) first steady does = (does.0, record { has = does.1.has; leaves = λ d may. first d (does.1.leaves d may); desk = does.1.desk })
+  does_as-after a c old mid new before desk (Err refusals.Memory) first steady refused = refused-after a c old mid new before desk first refused
+  does_as-after a c old mid new before desk (Err refusals.Device) first steady does = (refused-after a c old mid new before desk first does.0, λ was. does.1 (steady was))
+
+  -- over a steady keeper, for which answers alone there was no id
+  pub lacks-does_as : (a : Answer) (c : Contents) (old new : StoreState K) (before desk : DeskState) (r : Result T Refusal) → DoesAs terms tell a c old new before r desk → terms.is_steady old.keep → IsErrOf r refusals.Device → LacksId a.change c
+  lacks-does_as a c old new before desk (Err refusals.Device) does steady device = does.1 steady
+  lacks-does_as a c old new before desk (Err refusals.Memory) does steady device = let k : refused_by T refusals.Memory ≡ Err refusals.Device = device in cc
+  lacks-does_as a c old new before desk (Err (refusals.Condition row)) does steady device = let k : refused_by T (refusals.Condition row) ≡ Err refusals.Device = device in cc
+  lacks-does_as a c old new before desk (Err (refusals.Code code)) does steady device = let k : refused_by T (refusals.Code code) ≡ Err refusals.Device = device in cc
+  lacks-does_as a c old new before desk (Ok out) does steady device = let k : Ok out ≡ Err refusals.Device = device in cc
 
 -- ---- and where it replies
 
 module _ {K : Type 0} (terms : Terms K) where
-  pub does-refused : (a : Answer) (c : Contents) (old new : StoreState K) (before desk : DeskState) (r : Result Reply Refusal) → IsFault r → Refused terms a before.sessions.login c old new before desk → Does terms a c old new before r desk
-  does-refused a c old new before desk r is refused = does_as-refused terms Replies a c old new before desk r is refused
+  pub does-refused : (a : Answer) (c : Contents) (old new : StoreState K) (before desk : DeskState) (r : Result Reply Refusal) → IsFault r → (IsErrOf r refusals.Device → terms.is_steady old.keep → LacksId a.change c) → Refused terms a before.sessions.login c old new before desk → Does terms a c old new before r desk
+  does-refused a c old new before desk r is lacks refused = does_as-refused terms Replies a c old new before desk r is lacks refused
 
   pub does-is : (a b : Answer) (c : Contents) (old new : StoreState K) (before desk : DeskState) (r : Result Reply Refusal) → a ≡ b → Does terms b c old new before r desk → Does terms a c old new before r desk
   does-is a b c old new before desk r is does = does_as-is terms Replies a b c old new before desk r is does
 
-  pub does-after : (a : Answer) (c : Contents) (old mid new : StoreState K) (before desk : DeskState) (r : Result Reply Refusal) → LeavesAsBefore terms old mid → Does terms a c mid new before r desk → Does terms a c old new before r desk
-  does-after a c old mid new before desk r first does = does_as-after terms Replies a c old mid new before desk r first does
+  pub does-after : (a : Answer) (c : Contents) (old mid new : StoreState K) (before desk : DeskState) (r : Result Reply Refusal) → LeavesAsBefore terms old mid → (terms.is_steady old.keep → terms.is_steady mid.keep) → Does terms a c mid new before r desk → Does terms a c old new before r desk
+  does-after a c old mid new before desk r first steady does = does_as-after terms Replies a c old mid new before desk r first steady does
 
   -- ---- what is returned
 
@@ -99,7 +117,7 @@ module _ {K : Type 0} (terms : Terms K) where
   serves-done_as tell as_out a c old new before desk (Err (refusals.Condition row)) same fits does = told-code a c old new before desk (Code (code_of rv.Ok row)) fits does.0 does.1.has does.1.leaves does.1.desk
   serves-done_as tell as_out a c old new before desk (Err (refusals.Code code)) same fits does = told-code a c old new before desk (Code code) fits does.0 does.1.has does.1.leaves does.1.desk
   serves-done_as tell as_out a c old new before desk (Err refusals.Memory) same fits does = does
-  serves-done_as tell as_out a c old new before desk (Err refusals.Device) same fits does = does
+  serves-done_as tell as_out a c old new before desk (Err refusals.Device) same fits does = does.0
 
   pub serves-done : (a : Answer) (c : Contents) (old new : StoreState K) (before desk : DeskState) (r : Result Reply Refusal) → Fits c before.handles.entries → Does terms a c old new before r desk → Serves terms said_of a c old new before before (settled OutReply r) desk
   serves-done a c old new before desk r fits does = serves-done_as Replies OutReply a c old new before desk r (λ t. refl) fits does

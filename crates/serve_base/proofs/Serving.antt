@@ -14,7 +14,7 @@ use Rattle.serve_base.specs.Short.{IsShortSaid}
 use Rattle.serve_base.specs.Shown.{said_of, view_of}
 use Rattle.serve_base.specs.Stores.{StoreState}
 use Rattle.serve_base.proofs.Plain.{plain-done_as, stays-settled}
-use Rattle.serve_base.proofs.Refusals.{serves-done_as}
+use Rattle.serve_base.proofs.Refusals.{lacks-does_as, serves-done_as}
 
 -- CKR_DEVICE_ERROR comes of a failed keeper alone
 pub blamed : {T : Type 0} (as_out : T → Out) (r : Result T Refusal) → settled as_out r ≡ Err faults.Device → r ≡ Err refusals.Device
@@ -33,13 +33,14 @@ short-settled tell as_out (Err refusals.Memory) same short = tt
 short-settled tell as_out (Err refusals.Device) same short = tt
 
 -- a call that replies or returns a job, and tries one write at most
-pub served-as : {given : Type 0} {K T : Type 0} (terms : Terms K) (tell : T → Said) (as_out : T → Out) (kind : Out → Type 0) (writes : ℕ) (f : View → Answer) (old new : StoreState K) (before desk : DeskState) (r : Result T Refusal) → ((t : T) → said_of (as_out t) ≡ tell t) → writes ≤ 1 → IfOk (settled as_out r) kind
+pub served-as : {given : Type 0} {K T : Type 0} (terms : Terms K) (tell : T → Said) (as_out : T → Out) (kind : Out → Type 0) (writes : ℕ) (f : View → Answer) (old new : StoreState K) (before desk : DeskState) (r : Result T Refusal) → ((t : T) → said_of (as_out t) ≡ tell t) → writes ≤ 1 → IfOk (settled as_out r) kind → ((k : K) → terms.is_steady k → terms.doubt k ≡ 0)
     → IsDoneIf given terms tell writes (λ c. f) old new before r desk → IsServedIf given terms kind f old new before (settled as_out r) desk
-served-as terms tell as_out kind writes f old new before desk r same few says done = record {
+served-as terms tell as_out kind writes f old new before desk r same few says sure_of done = record {
   serves = λ sure c h fits. serves-done_as terms tell as_out (f (view_of c before)) c old new before desk r same fits (done.serves sure c h fits);
   says = says;
   counts = record { steady = done.counts.steady; doubt = done.counts.doubt; failures = done.counts.failures; tried = done.counts.tried; bounded = (let k = done.counts.bounded in omega (arith, few, k)) };
   cause = λ device. done.cause (blamed as_out r device);
+  steady = λ was device c h fits. lacks-does_as terms tell (f (view_of c before)) c old new before desk r (done.serves (sure_of new.keep (done.counts.steady was)) c h fits) was (blamed as_out r device);
   plain = plain-done_as tell as_out r same done.plain;
   stays = stays-settled as_out before desk r done.stays;
   short = λ is. short-settled tell as_out r same (done.short is);

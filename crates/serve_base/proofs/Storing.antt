@@ -1,6 +1,7 @@
 -- What a call of the keeper makes of it and its ids.
 use Rattle.std.proofs.Common.{◌≡◌, ℕ, ◌+◌, ◌<◌, ◌≤◌, Bool, true, false, cond, not, map, arith, subst, List, [], ◌∷◌, ◌++◌, Option, Some, None, Result, Ok, Err, refl, sym, ◌∙◌, ap, is_some}
-use Rattle.std.specs.Prelude.{find, filter, is_ok, ◌==◌, ◌||◌, OnErr}
+use Rattle.std.specs.Prelude.{find, filter, is_ok, ◌==◌, ◌||◌, IsSome, OnErr}
+use Rattle.std.proofs.lemmas.Bool.{eq-eqb}
 use Rattle.std.specs.List.{list_any, AllByRecursion}
 use Rattle.ck_types.specs.declared.entry.Entry.{Entry}
 use Rattle.lists.specs.Bisection.{IsIndexOf, KeysRise}
@@ -76,3 +77,29 @@ not_there terms s c id h is = none (object_at c id) (is_some-object_at c id ∙ 
   none : (o : Option (List Entry)) → is_some o ≡ false → None ≡ o
   none None e = refl
   none (Some o) e = let k : true ≡ false = e in cc
+
+pub is_there : {K : Type 0} (terms : Terms K) (s : StoreState K) (c : Contents) (id : ℕ) → Has terms s c → list_any (λ i. i == id) s.ids ≡ true → object_at c id ≡ None → ⊥
+is_there terms s c id h is none =
+    let k : is_some (object_at c id) ≡ true = is_some-object_at c id ∙ sym (ap (list_any (λ i. i == id)) h.ids) ∙ is in
+    let n : is_some (object_at c id) ≡ false = ap is_some none in
+    cc
+
+-- by the test of the ids
+pub absent_at : {K : Type 0} (terms : Terms K) (s : StoreState K) (c : Contents) (id : ℕ) (has : Bool) → Has terms s c → (KeysRise (λ i. i) s.ids → has ≡ list_any (λ i. i == id) s.ids) → has ≡ false → None ≡ object_at c id
+absent_at terms s c id has h is none = not_there terms s c id h (sym (is (has-rising terms s c h)) ∙ none)
+
+pub present_at : {K : Type 0} (terms : Terms K) (s : StoreState K) (c : Contents) (id : ℕ) (has : Bool) → Has terms s c → (KeysRise (λ i. i) s.ids → has ≡ list_any (λ i. i == id) s.ids) → has ≡ true → object_at c id ≡ None → ⊥
+present_at terms s c id has h is some = is_there terms s c id h (sym (is (has-rising terms s c h)) ∙ some)
+
+-- ---- each id has an object
+
+or-true : (b r : Bool) → r ≡ true → (b || r) ≡ true
+or-true true r is = refl
+or-true false r is = is
+
+all-any : (P : ℕ → Type 0) (ids : List ℕ) → ((id : ℕ) → list_any (λ i. i == id) ids ≡ true → P id) → AllByRecursion P ids
+all-any P [] give = tt
+all-any P (x ∷ ids) give = (give x (rw (eq-eqb x x refl) refl), all-any P ids (λ id is. give id (or-true (x == id) (list_any (λ i. i == id) ids) is)))
+
+pub all-there : (c : Contents) → AllByRecursion (λ id. IsSome (object_at c id)) (ids_of c)
+all-there c = all-any (λ id. IsSome (object_at c id)) (ids_of c) (λ id is. is_some-object_at c id ∙ is)

@@ -22,7 +22,7 @@ use Rattle.serve_base.specs.declared.refusal.Refusal.{Refusal}
 use Rattle.serve_base.specs.declared.refusal.Refusal.TheVariants as refusals
 use Rattle.serve_base.specs.Short.{IsShortSaid}
 use Rattle.serve_base.specs.Shown.{view_of, said_of, Fits, Gives}
-use Rattle.serve_base.specs.Stores.{StoreState, Has, LeavesAsBefore, Gave, Refused, Served}
+use Rattle.serve_base.specs.Stores.{StoreState, Has, LeavesAsBefore, FailsForIds, LacksId, Gave, Refused, Served}
 
 -- the refusal that a keeper's fault is
 abbrev pub of_fault : KeepFault → Refusal
@@ -62,13 +62,14 @@ pub record Stands {K : Type 0} (terms : Terms K) (c : Contents) (old new : Store
   pub leaves : LeavesAsBefore terms old new
   pub desk : now ≡ before
 
--- what becomes of an answer, by what is returned for its result
+-- What becomes of an answer, by what is returned for its result. A steady keeper fails only where the answer adds an object and
+-- the ids are used up.
 abbrev pub DoesAs : {K T : Type 0} → Terms K → (T → Said) → Answer → Contents → StoreState K → StoreState K → DeskState → Result T Refusal → DeskState → Type 0
 DoesAs terms tell a c old new before (Ok out) desk = Gave terms a before.sessions.login c old new (tell out) desk
 DoesAs terms tell a c old new before (Err (refusals.Condition row)) desk = (a ≡ refuses_by (view_of c before) row) × Stands terms c old new before desk
 DoesAs terms tell a c old new before (Err (refusals.Code code)) desk = (a ≡ refuses (view_of c before) code) × Stands terms c old new before desk
 DoesAs terms tell a c old new before (Err refusals.Memory) desk = Refused terms a before.sessions.login c old new before desk
-DoesAs terms tell a c old new before (Err refusals.Device) desk = Refused terms a before.sessions.login c old new before desk
+DoesAs terms tell a c old new before (Err refusals.Device) desk = Refused terms a before.sessions.login c old new before desk × (terms.is_steady old.keep → LacksId a.change c)
 
 -- The answer is to the view, and what an answer takes from outside is determined by what is kept.
 abbrev pub DoneAs : {K T : Type 0} → Terms K → (T → Said) → (Contents → View → Answer) → StoreState K → StoreState K → DeskState → Result T Refusal → DeskState → Type 0
@@ -120,12 +121,14 @@ abbrev pub settled : {T : Type 0} → (T → Out) → Result T Refusal → Resul
 settled as_out (Ok out) = Ok (as_out out)
 settled as_out (Err refusal) = refused_as refusal
 
--- and in one clause, in which what is returned is short where this is given
+-- And in one clause, in which what is returned is short where this is given. Over a steady keeper CKR_DEVICE_ERROR comes only
+-- to an answer that adds an object, where the ids are used up.
 pub record IsServedIf (given : Type 0) {K : Type 0} (terms : Terms K) (kind : Out → Type 0) (f : View → Answer) (old new : StoreState K) (before : DeskState) (result : Result Out Fault) (desk : DeskState) : Type 0 where
   pub serves : Served terms said_of f old new before before result desk
   pub says : IfOk result kind
   pub counts : Counted terms old.keep new.keep 0 1
   pub cause : IsErrOf result faults.Device → Rises (terms.failures old.keep) (terms.failures new.keep)
+  pub steady : FailsForIds terms faults.Device (λ c. f) old before result
   pub plain : IfOk result (λ out. resource_error_in (said_of out) ≡ None)
   pub stays : IfErr result (λ fault. SameDesk before desk)
   pub short : given → IfOk result (λ out. IsShortSaid (said_of out))

@@ -1,11 +1,11 @@
 -- A keeper with the ids that the token has of it, and what the token refines by it.
-use Rattle.std.specs.Prelude.{◌≡◌, ◌⊎◌, ℕ, List, Option, Some, Result, Ok, Err}
+use Rattle.std.specs.Prelude.{◌≡◌, ◌⊎◌, ℕ, ◌≤◌, List, Option, Some, Result, Ok, Err, IsErrOf}
 use Rattle.ck_types.specs.declared.user_type.UserType.{UserType}
-use Rattle.keep.specs.Contents.{Contents, ids_of, IsSound}
+use Rattle.keep.specs.Contents.{Contents, greatest_id, ids_of, IsSound}
 use Rattle.keep.specs.Keeping.{Terms}
 use Rattle.desk.specs.Desks.{DeskState, SameDesk}
 use Rattle.model_views.specs.Views.{View, sees}
-use Rattle.model_views.specs.Changes.{Change, Stays, in_list}
+use Rattle.model_views.specs.Changes.{Change, Stays, Insert, in_list}
 use Rattle.model_views.specs.Answering.{Said, Answer}
 use Rattle.serve_base.specs.Shown.{view_of, objects_of, Changes, Gives, Fits}
 
@@ -40,6 +40,22 @@ module _ {K : Type 0} (terms : Terms K) where
   -- after a refusal: what it could leave before, or the change of the answer
   abbrev pub LeavesTried : Change → StoreState K → StoreState K → Contents → Type 0
   LeavesTried change old new c = (left : Option Contents) → terms.may_leave new.keep left → terms.may_leave old.keep left ⊎ ((d : Contents) × (left ≡ Some d) × Changes change c d)
+
+-- ---- ids that are used up
+
+-- the change adds an object
+abbrev pub AddsObject : Change → Type 0
+AddsObject (Insert o) = Unit {0}
+AddsObject _ = ⊥
+
+-- the change adds an object, and there is no id for it: the greatest one was given
+abbrev pub LacksId : Change → Contents → Type 0
+LacksId change c = AddsObject change × (greatest_id ≤ c.last_id)
+
+-- Over a steady keeper the event fails only at an answer that adds an object, where there is no id for it.
+abbrev pub FailsForIds : {K T E : Type 0} → Terms K → E → (Contents → View → Answer) → StoreState K → DeskState → Result T E → Type 0
+FailsForIds terms device f old before result =
+    terms.is_steady old.keep → IsErrOf result device → (c : Contents) → Has terms old c → Fits c before.handles.entries → LacksId (f c (view_of c before)).change c
 
 -- ---- an event at one desk
 module _ {K : Type 0} (terms : Terms K) where

@@ -1,9 +1,10 @@
 //! Objects under handles.
 
-ghost use Rattle.std.specs.Prelude.{◌≡◌, IfOk, IfSome};
+ghost use Rattle.std.specs.Prelude.{◌≡◌, IfOk, IfSome, IsErrOf};
 ghost use Rattle.handles.specs.Handles.{IsTable};
 ghost use Rattle.keep.specs.Contents.{Contents, IsTokenObject};
 ghost use Rattle.keep.specs.Keeping.{Counted, HasCause, Stays};
+ghost use Rattle.keep.specs.declared.keep.KeepFault.TheVariants.{Device};
 ghost use Rattle.desk.specs.Desks.{own_at};
 ghost use Rattle.model_views.specs.Views.{sees};
 ghost use Rattle.serve_base.specs.Shown.{Fits};
@@ -61,6 +62,7 @@ pub fn find<K: Keep>(
     ensures token { IfOk result (λ found. IfSome found (λ f. IfSome f.id (λ id. IsTokenObject f.object))) }
     ensures same { Stays K.terms store.old.keep store.new.keep }
     ensures ids { store.new.ids ≡ store.old.ids }
+    ensures steady { K.terms.is_steady store.old.keep → IsErrOf result Device → (c : Contents) → Has K.terms store.old c → ⊥ }
     ensures counts { Counted K.terms store.old.keep store.new.keep 0 0 }
     ensures cause { HasCause (K.terms.failures store.old.keep) (K.terms.failures store.new.keep) result }
 {

@@ -1,9 +1,10 @@
 //! Searching the token objects.
 
-ghost use Rattle.std.specs.Prelude.{◌≡◌, ◌++◌, OnOk};
+ghost use Rattle.std.specs.Prelude.{◌≡◌, ◌++◌, IsErrOf, IsSome, OnOk};
 ghost use Rattle.std.specs.List.{AllByRecursion};
 ghost use Rattle.keep.specs.Contents.{Contents, object_at};
 ghost use Rattle.keep.specs.Keeping.{Counted, HasCause, Stays};
+ghost use Rattle.keep.specs.declared.keep.KeepFault.TheVariants.{Device};
 ghost use Rattle.serve_base.specs.Searching.{found_at, found_of, MayFind};
 ghost use Rattle.std.specs.Prelude.{Some};
 
@@ -35,6 +36,7 @@ pub(crate) fn search_kept<K: Keep>(
     ensures found { K.terms.doubt keep.new ≡ 0 → (c : Contents) → K.terms.holds keep.old c → OnOk result (found.new.items ≡ found.old.items ++ found_at login template.now (object_at c) ids.now) }
     ensures may { AllByRecursion (MayFind login) found.old.items → OnOk result (AllByRecursion (MayFind login) found.new.items) }
     ensures same { Stays K.terms keep.old keep.new }
+    ensures steady { K.terms.is_steady keep.old → IsErrOf result Device → (c : Contents) → K.terms.holds keep.old c → AllByRecursion (λ id. IsSome (object_at c id)) ids.now → ⊥ }
     ensures counts { Counted K.terms keep.old keep.new 0 0 }
     ensures cause { HasCause (K.terms.failures keep.old) (K.terms.failures keep.new) result }
 {

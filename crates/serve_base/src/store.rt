@@ -1,9 +1,10 @@
 //! The keeper, with the ids of its objects in the order of their creation.
 
-ghost use Rattle.std.specs.Prelude.{◌≡◌, ◌==◌, ◌+◌, ◌++◌, not, filter, Option, IfOk, IfErr, OnOk, OnErr, IfSome};
+ghost use Rattle.std.specs.Prelude.{◌≡◌, ◌≢◌, ◌==◌, ◌+◌, ◌++◌, ◌≤◌, not, filter, None, Option, IfOk, IfErr, IsErrOf, OnOk, OnErr, IfSome};
 ghost use Rattle.std.specs.List.{AllByRecursion, list_any};
-ghost use Rattle.keep.specs.Contents.{Contents, IsTokenObject, after_reset, object_at, with_object, with_record, with_replacement, without_object};
+ghost use Rattle.keep.specs.Contents.{Contents, IsTokenObject, after_reset, greatest_id, object_at, with_object, with_record, with_replacement, without_object};
 ghost use Rattle.keep.specs.Keeping.{Stays, HasCause, Counted};
+ghost use Rattle.keep.specs.declared.keep.KeepFault.TheVariants.{Device};
 ghost use Rattle.lists.specs.Bisection.{IsIndexOf, KeysRise};
 ghost use Rattle.serve_base.specs.Searching.{tokens_found, MayFind};
 ghost use Rattle.serve_base.specs.Stores.{Has, LeavesAlone, LeavesOr};
@@ -37,6 +38,8 @@ impl<K: Keep> Store<K> {
         ensures has { (c : Contents) → K.terms.holds keep c → IfOk result (λ s. K.terms.doubt s.keep ≡ 0 → Has K.terms s c) }
         ensures leaves { (c : Contents) → K.terms.holds keep c → IfOk result (λ s. (left : Option Contents) → K.terms.may_leave s.keep left → K.terms.may_leave keep left) }
         ensures back { IfErr result (λ e. Stays K.terms keep e.1) }
+        ensures steady { K.terms.is_steady keep → IfOk result (λ s. K.terms.is_steady s.keep) }
+        ensures device { K.terms.is_steady keep → IfErr result (λ e. e.0 ≢ Device) }
     {
         match keep.ids(alloc) {
             Ok(ids) => Ok(Store { keep, ids }),
@@ -64,6 +67,7 @@ impl<K: Keep> Store<K> {
         ensures leaves { (c : Contents) → Has K.terms self.old c → OnOk result (LeavesAlone K.terms self.new (with_record token_record c)) }
         ensures same { (c : Contents) → Has K.terms self.old c → OnErr result (Has K.terms self.new c) }
         ensures leaves_or { (c : Contents) → Has K.terms self.old c → OnErr result (LeavesOr K.terms self.old self.new (with_record token_record c)) }
+        ensures steady { K.terms.is_steady self.old.keep → IsErrOf result Device → ⊥ }
         ensures counts { Counted K.terms self.old.keep self.new.keep 0 1 }
         ensures cause { HasCause (K.terms.failures self.old.keep) (K.terms.failures self.new.keep) result }
     {
@@ -77,6 +81,7 @@ impl<K: Keep> Store<K> {
         ensures leaves { (c : Contents) → Has K.terms self.old c → OnOk result (LeavesAlone K.terms self.new (after_reset token_record c)) }
         ensures same { (c : Contents) → Has K.terms self.old c → OnErr result (Has K.terms self.new c) }
         ensures leaves_or { (c : Contents) → Has K.terms self.old c → OnErr result (LeavesOr K.terms self.old self.new (after_reset token_record c)) }
+        ensures steady { K.terms.is_steady self.old.keep → IsErrOf result Device → ⊥ }
         ensures counts { Counted K.terms self.old.keep self.new.keep 0 1 }
         ensures cause { HasCause (K.terms.failures self.old.keep) (K.terms.failures self.new.keep) result }
     {
@@ -93,11 +98,13 @@ impl<K: Keep> Store<K> {
     }
 
     /// A copy of the object under an id.
+    #[tactic(auto, using(crate::proofs::Storing::absent_at, crate::proofs::Storing::present_at))]
     pub fn object(&mut self, alloc: Global, id: u64) -> Result<Option<Object>, KeepFault>
         ensures object { K.terms.doubt self.new.keep ≡ 0 → (c : Contents) → Has K.terms self.old c → IfOk result (λ found. found ≡ object_at c id) }
         ensures token { IfOk result (λ found. IfSome found IsTokenObject) }
         ensures same { Stays K.terms self.old.keep self.new.keep }
         ensures ids { self.new.ids ≡ self.old.ids }
+        ensures steady { K.terms.is_steady self.old.keep → IsErrOf result Device → (c : Contents) → Has K.terms self.old c → ⊥ }
         ensures counts { Counted K.terms self.old.keep self.new.keep 0 0 }
         ensures cause { HasCause (K.terms.failures self.old.keep) (K.terms.failures self.new.keep) result }
     {
@@ -120,6 +127,7 @@ impl<K: Keep> Store<K> {
         ensures may { AllByRecursion (MayFind login) found.old.items → OnOk result (AllByRecursion (MayFind login) found.new.items) }
         ensures same { Stays K.terms self.old.keep self.new.keep }
         ensures ids { self.new.ids ≡ self.old.ids }
+        ensures steady { K.terms.is_steady self.old.keep → IsErrOf result Device → (c : Contents) → Has K.terms self.old c → ⊥ }
         ensures counts { Counted K.terms self.old.keep self.new.keep 0 0 }
         ensures cause { HasCause (K.terms.failures self.old.keep) (K.terms.failures self.new.keep) result }
     {
@@ -134,6 +142,7 @@ impl<K: Keep> Store<K> {
         ensures leaves { (c : Contents) → Has K.terms self.old c → OnOk result (LeavesAlone K.terms self.new (with_object object.now c)) }
         ensures same { (c : Contents) → Has K.terms self.old c → OnErr result (Has K.terms self.new c) }
         ensures leaves_or { (c : Contents) → Has K.terms self.old c → OnErr result (LeavesOr K.terms self.old self.new (with_object object.now c)) }
+        ensures steady { K.terms.is_steady self.old.keep → IsErrOf result Device → (c : Contents) → Has K.terms self.old c → greatest_id ≤ c.last_id }
         ensures counts { Counted K.terms self.old.keep self.new.keep 0 1 }
         ensures cause { HasCause (K.terms.failures self.old.keep) (K.terms.failures self.new.keep) result }
     {
@@ -150,6 +159,7 @@ impl<K: Keep> Store<K> {
         ensures leaves { (c : Contents) → Has K.terms self.old c → OnOk result (LeavesAlone K.terms self.new (with_replacement id object.now c)) }
         ensures same { (c : Contents) → Has K.terms self.old c → OnErr result (Has K.terms self.new c) }
         ensures leaves_or { (c : Contents) → Has K.terms self.old c → OnErr result (LeavesOr K.terms self.old self.new (with_replacement id object.now c)) }
+        ensures steady { K.terms.is_steady self.old.keep → IsErrOf result Device → (c : Contents) → Has K.terms self.old c → object_at c id ≡ None }
         ensures counts { Counted K.terms self.old.keep self.new.keep 0 1 }
         ensures cause { HasCause (K.terms.failures self.old.keep) (K.terms.failures self.new.keep) result }
     {
@@ -163,6 +173,7 @@ impl<K: Keep> Store<K> {
         ensures leaves { (c : Contents) → Has K.terms self.old c → OnOk result (LeavesAlone K.terms self.new (without_object id c)) }
         ensures same { (c : Contents) → Has K.terms self.old c → OnErr result (Has K.terms self.new c) }
         ensures leaves_or { (c : Contents) → Has K.terms self.old c → OnErr result (LeavesOr K.terms self.old self.new (without_object id c)) }
+        ensures steady { K.terms.is_steady self.old.keep → IsErrOf result Device → (c : Contents) → Has K.terms self.old c → object_at c id ≡ None }
         ensures counts { Counted K.terms self.old.keep self.new.keep 0 1 }
         ensures cause { HasCause (K.terms.failures self.old.keep) (K.terms.failures self.new.keep) result }
     {

@@ -1,11 +1,12 @@
 //! C_WrapKey (PKCS #11 v3.1, 5.18).
 
-ghost use Rattle.std.specs.Prelude.{◌≡◌, ◌+◌, ◌<◌, ◌≤◌, ◌^◌, ◌&&◌, not, IfOk, Some, length, true};
+ghost use Rattle.std.specs.Prelude.{◌≡◌, ◌+◌, ◌<◌, ◌≤◌, ◌^◌, ◌&&◌, not, IfOk, IsErrOf, Some, length, true};
 ghost use Rattle.ck_types.specs.declared.attr_type.AttrType.TheVariants as attr;
 ghost use Rattle.attrs.specs.Masking.{is_secret_key};
 ghost use Rattle.attrs.specs.Objects.{attribute_of, class_of, flag};
 ghost use Rattle.keep.specs.Contents.{Contents};
 ghost use Rattle.keep.specs.Keeping.{Counted, HasCause, Stays};
+ghost use Rattle.keep.specs.declared.keep.KeepFault.TheVariants.{Device};
 ghost use Rattle.mech.specs.Wrappings.{is_value_length};
 ghost use Rattle.model_answers.specs.GetObjectSize.{value_len};
 ghost use Rattle.model_answers.specs.WrapKey.{wrap_key, wraps};
@@ -72,6 +73,7 @@ fn find_both<K: Keep>(
     ensures found { K.terms.doubt store.new.keep ≡ 0 → (c : Contents) → Has K.terms store.old c → Fits c desk.now.handles.entries → IfOk result (λ both. IsFound c desk.now first both.0 × IsFound c desk.now second both.1) }
     ensures same { Stays K.terms store.old.keep store.new.keep }
     ensures ids { store.new.ids ≡ store.old.ids }
+    ensures steady { K.terms.is_steady store.old.keep → IsErrOf result Device → (c : Contents) → Has K.terms store.old c → ⊥ }
     ensures counts { Counted K.terms store.old.keep store.new.keep 0 0 }
     ensures cause { HasCause (K.terms.failures store.old.keep) (K.terms.failures store.new.keep) result }
 {

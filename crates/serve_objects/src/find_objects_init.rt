@@ -1,9 +1,10 @@
 //! C_FindObjectsInit (PKCS #11 v3.1, 5.7.7).
 
-ghost use Rattle.std.specs.Prelude.{◌≡◌, ◌<◌, ◌^◌, ◌++◌, IfOk};
+ghost use Rattle.std.specs.Prelude.{◌≡◌, ◌<◌, ◌^◌, ◌++◌, IfOk, IsErrOf};
 ghost use Rattle.std.specs.List.{AllByRecursion};
 ghost use Rattle.keep.specs.Contents.{Contents};
 ghost use Rattle.keep.specs.Keeping.{Counted, HasCause, Stays};
+ghost use Rattle.keep.specs.declared.keep.KeepFault.TheVariants.{Device};
 ghost use Rattle.model_answers.specs.FindObjectsInit.{find_objects_init};
 ghost use Rattle.serve_base.specs.Refusing.{IsDone};
 ghost use Rattle.serve_base.specs.Searching.{tokens_found, MayFind};
@@ -57,6 +58,7 @@ fn find_all<K: Keep>(
     ensures may { IfOk result (λ found. AllByRecursion (MayFind desk.now.sessions.login) found.items) }
     ensures same { Stays K.terms store.old.keep store.new.keep }
     ensures ids { store.new.ids ≡ store.old.ids }
+    ensures steady { K.terms.is_steady store.old.keep → IsErrOf result Device → (c : Contents) → Has K.terms store.old c → ⊥ }
     ensures counts { Counted K.terms store.old.keep store.new.keep 0 0 }
     ensures cause { HasCause (K.terms.failures store.old.keep) (K.terms.failures store.new.keep) result }
 {

@@ -3,8 +3,8 @@
 
 mod unread_keep;
 
-ghost use Rattle.std.specs.Prelude.{◌≡◌, ◌≤◌, IfErr, IfOk, IsErrOf};
-ghost use Rattle.keep.specs.declared.keep.KeepFault.TheVariants.{Damaged, Device};
+ghost use Rattle.std.specs.Prelude.{◌≡◌, ◌+◌, ◌≤◌, IfErr, IfOk, IsErrOf, OnOk};
+ghost use Rattle.keep.specs.declared.keep.KeepFault.TheVariants.{Damaged, Device, Memory};
 ghost use Rattle.keep.specs.Keeping.{Rises};
 
 use attrs::Object;
@@ -66,6 +66,9 @@ impl<K: Keep> FailingKeep<K> {
         ensures tried { self.new.tried ≡ self.old.tried }
         ensures more { self.old.failures ≤ self.new.failures }
         ensures cause { IsErrOf result Device → Rises self.old.failures self.new.failures }
+        ensures once { self.new.failures ≤ self.old.failures + 1 }
+        ensures ok { OnOk result (self.new.failures ≡ self.old.failures) }
+        ensures memory { IsErrOf result Memory → self.new.failures ≡ self.old.failures }
         ensures damaged { IsErrOf result Damaged → ⊥ }
     {
         match self.left {
@@ -91,6 +94,7 @@ impl<K: Keep> FailingKeep<K> {
 /// A count and one; at its greatest value it stays.
 fn counted(count: u64) -> u64
     ensures rises { Rises count result }
+    ensures once { result ≤ count + 1 }
     ensures more { count ≤ result }
 {
     count.saturating_add(1)
@@ -101,6 +105,8 @@ fn noted(failures: &mut u64, fault: KeepFault) -> KeepFault
     ensures same { result ≡ fault }
     ensures more { failures.old ≤ failures.new }
     ensures cause { fault ≡ Device → Rises failures.old failures.new }
+    ensures once { failures.new ≤ failures.old + 1 }
+    ensures memory { fault ≡ Memory → failures.new ≡ failures.old }
 {
     if fault == KeepFault::Device {
         *failures = counted(*failures);

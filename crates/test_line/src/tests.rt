@@ -9,6 +9,7 @@ use line::{LineFault, Watched, Words, serve_one};
 use pin_record::Record;
 use std::alloc::Global;
 use std::io::{self, ErrorKind, Read, Write};
+use std::process::Abort;
 use std::test::*;
 use test_scripts::token_over;
 use token::{Out, Token};
@@ -265,14 +266,23 @@ fn a_length_above_the_limit_ends_the_line_without_a_reply(rt: HostRuntime) -> Re
     Ok(())
 }
 
+/// Sees that a reader of frames that has read this length gives and takes nothing more, however often it is asked.
+fn expect_too_long(rt: &impl Abort, alloc: Global, length: &[u8]) -> Result<(), Fail> {
+    let mut frames = FrameReader::new(alloc);
+    frames.feed(length)?;
+    for _ in 0..3 {
+        let next = frames.next(alloc);
+        assert!(rt; matches!(next, Err(WireFault::TooLong)), "{length:?}");
+        assert!(rt; matches!(frames.feed(OPEN_SESSION), Err(WireFault::TooLong)));
+    }
+    Ok(())
+}
+
 #[test]
 fn a_reader_of_frames_answers_too_long_for_ever(rt: HostRuntime) -> Result<(), Fail> {
-    let mut frames = FrameReader::new(rt.alloc());
-    frames.feed(b"\x00\x10\x00\x01")?;
-    for _ in 0..3 {
-        let next = frames.next(rt.alloc());
-        assert!(rt; matches!(next, Err(WireFault::TooLong)));
-        assert!(rt; matches!(frames.feed(OPEN_SESSION), Err(WireFault::TooLong)));
+    assert_eq!(rt; LONG.len(), 3);
+    for length in LONG {
+        expect_too_long(&rt, rt.alloc(), length)?;
     }
     Ok(())
 }

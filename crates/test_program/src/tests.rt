@@ -4,6 +4,7 @@ mod clients;
 mod daemon;
 mod full;
 mod idle;
+mod largest;
 mod lost;
 mod many;
 mod neighbours;
@@ -11,6 +12,7 @@ mod operating;
 mod options;
 mod peers;
 mod randomness;
+mod statuses;
 mod unread;
 
 use programs::{ask, refuse_args, tokend_with};
@@ -29,6 +31,16 @@ struct Ended {
     errors: Vec<u8>,
 }
 
+/// The words of a command line, after the program's name.
+fn args_of(alloc: Global, words: &[&str]) -> Result<Vec<String>, AllocError> {
+    let mut args = Vec::new(alloc);
+    args.push(String::from_str(alloc, "tokend")?)?;
+    for word in words {
+        args.push(String::from_str(alloc, word)?)?;
+    }
+    Ok(args)
+}
+
 fn run<R: Threads + Wait + Copy + Send + Drop + 'static>(
     rt: &HostRuntime,
     threads: R,
@@ -36,11 +48,7 @@ fn run<R: Threads + Wait + Copy + Send + Drop + 'static>(
     mut input: &[u8],
 ) -> Result<Ended, AllocError> {
     let alloc = rt.alloc();
-    let mut args = Vec::new(alloc);
-    args.push(String::from_str(alloc, "tokend")?)?;
-    for word in words {
-        args.push(String::from_str(alloc, word)?)?;
-    }
+    let args = args_of(alloc, words)?;
     let mut output = Vec::<u8>::new(alloc);
     let mut errors = Vec::<u8>::new(alloc);
     let status = tokend_with(rt, threads, &args, &mut input, &mut output, &mut errors);
@@ -83,6 +91,27 @@ const SESSION_ONE: &[u8] =
 #[test]
 fn stdio_answers_the_first_run_byte_for_byte(rt: HostRuntime) -> Result<(), Fail> {
     expect_run(&rt, rt, &["stdio"], FIRST_RUN, (0, FIRST_REPLIES, b""))
+}
+
+/// C_GetObjectSize of the first run's key, and C_GetAttributeValue of its CKA_UNIQUE_ID.
+const SIZE_AND_IDENTIFIER: &[u8] =
+    b"\x00\x00\x00\x12\x00\x10\x00\x00\x00\x00\x00\x00\x00\x01\x00\x00\x00\x00\x00\x00\x00\x01\
+\x00\x00\x00\x27\x00\x11\x00\x00\x00\x00\x00\x00\x00\x01\x00\x00\x00\x00\x00\x00\x00\x01\
+\x00\x00\x00\x01\x00\x00\x00\x00\x00\x00\x00\x04\x01\x00\x00\x00\x00\x00\x00\x00\x40";
+
+/// 309 bytes, and the first random bytes of application 0 in hexadecimal.
+const KEY_REPLIES: &[u8] =
+    b"\x00\x00\x00\x10\x00\x00\x00\x00\x00\x00\x00\x00\x00\x00\x00\x00\x00\x00\x01\x35\
+\x00\x00\x00\x35\x00\x00\x00\x00\x00\x00\x00\x00\x00\x00\x00\x01\x00\x00\x00\x00\x00\x00\x00\x20\x01\
+76b8e0ada0f13d90405d6ae55386bd28";
+
+#[test]
+fn stdio_answers_the_size_and_the_identifier_of_a_key(rt: HostRuntime) -> Result<(), Fail> {
+    let mut calls = Vec::from_slice(rt.alloc(), FIRST_RUN)?;
+    calls.extend_from_slice(SIZE_AND_IDENTIFIER)?;
+    let mut replies = Vec::from_slice(rt.alloc(), FIRST_REPLIES)?;
+    replies.extend_from_slice(KEY_REPLIES)?;
+    expect_run(&rt, rt, &["stdio"], &calls, (0, &replies, b""))
 }
 
 /// Sees that a command line with this input ends with this status and output, and reports this failure and this cause.
@@ -165,14 +194,62 @@ fn help_and_version_go_to_the_output(rt: HostRuntime) -> Result<(), Fail> {
     expect_run(&rt, rt, &["--version"], b"", (0, b"tokend 0.1.0\n", b""))
 }
 
+/// A command line that is refused, and the parser's text.
+const REFUSED: &[(&[&str], &[u8])] = &[
+    (
+        &[],
+        b"error: 'tokend' requires a subcommand but one was not provided
+  [subcommands: stdio, serve, p11call, check, backup, help]
+
+Usage: tokend <COMMAND>
+
+For more information, try '--help'.
+",
+    ),
+    (
+        &["serve"],
+        b"error: the following required arguments were not provided:
+  --store <store>
+  --socket <socket>
+
+Usage: tokend serve --store <store> --socket <socket>
+
+For more information, try '--help'.
+",
+    ),
+    (
+        &["stdio", "--sed"],
+        b"error: unexpected argument '--sed' found
+
+  tip: a similar argument exists: '--seed'
+
+Usage: tokend stdio --seed <seed>
+
+For more information, try '--help'.
+",
+    ),
+    (
+        &["stdio", "more"],
+        b"error: unexpected argument 'more' found
+
+Usage: tokend stdio [OPTIONS]
+
+For more information, try '--help'.
+",
+    ),
+    (
+        &["p11call", "--socket"],
+        b"error: a value is required for '--socket <socket>' but none was supplied
+
+For more information, try '--help'.
+",
+    ),
+];
+
 #[test]
 fn a_command_line_that_is_refused_says_why(rt: HostRuntime) -> Result<(), Fail> {
-    let lines: [&[&str]; 4] = [&[], &["serve"], &["stdio", "--sed"], &["stdio", "more"]];
-    for line in lines {
-        let ended = run(&rt, rt, line, OPEN_SESSION)?;
-        assert_eq!(rt; ended.status, 2);
-        assert_eq!(rt; ended.output.len(), 0);
-        assert!(rt; !ended.errors.is_empty());
+    for (line, text) in REFUSED {
+        expect_run(&rt, rt, line, OPEN_SESSION, (2, b"", *text))?;
     }
     Ok(())
 }

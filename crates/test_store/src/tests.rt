@@ -1,9 +1,11 @@
 mod crashes;
 mod every_call;
+mod faults;
 mod keepers;
 mod lines;
 mod many_objects;
 mod older_store;
+mod same_bytes;
 mod served;
 mod session_limit;
 mod unread;

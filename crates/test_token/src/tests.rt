@@ -1,7 +1,9 @@
+mod beside;
 mod failures;
 mod isolation;
 mod objects;
 mod order;
+mod refused_results;
 mod runs;
 mod session_calls;
 mod stores;

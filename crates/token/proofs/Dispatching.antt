@@ -7,9 +7,7 @@ use Rattle.ck_types.specs.declared.constants.TheConstants.{MAX_RANDOM_LEN}
 use Rattle.ck_calls.specs.declared.call.Call.{Call}
 use Rattle.ck_calls.specs.declared.call.Call.TheVariants as calls
 use Rattle.ck_calls.specs.Need.{random_bytes}
-use Rattle.ck_types.specs.declared.rv.Rv.{Rv}
 use Rattle.ck_calls.specs.declared.reply.Reply.{Reply}
-use Rattle.ck_calls.specs.declared.reply.Reply.TheVariants.{Code}
 use Rattle.ck_calls.specs.Functions.{function_of}
 use Rattle.keep.specs.Contents.{Contents}
 use Rattle.keep.specs.Keeping.{Terms}
@@ -17,15 +15,13 @@ use Rattle.precede.specs.declared.condition.Condition.TheVariants.{Busy, NoSessi
 use Rattle.mech.specs.declared.job.Job.{Job}
 use Rattle.desk.specs.Desks.{DeskState, is_busy}
 use Rattle.model_views.specs.declared.fault.Fault.{Fault}
-use Rattle.model_views.specs.declared.fault.Fault.TheVariants as faults
 use Rattle.ck_calls.specs.declared.function.Function.TheVariants as function
 use Rattle.model_views.specs.Views.{View, MakesPin}
 use Rattle.model_views.specs.Changes.{Stays}
-use Rattle.model_views.specs.Answering.{Said, Replies, Answer, Reveal, asks, refuses, refuses_by, is_closed}
+use Rattle.model_views.specs.Answering.{Said, Replies, Answer, Reveal, asks, refuses_by, is_closed}
 use Rattle.model_answers.specs.Answers.{answer, answer_to, is_still_function}
 use Rattle.model_session_answers.specs.InitPin.{init_pin_row, init_pin}
 use Rattle.model_worlds.specs.Worlds.{reveal_by_call}
-use Rattle.model_views.specs.Refusals.{resource_error}
 use Rattle.model_answers.proofs.Proper.{proper-answer_to}
 use Rattle.serve_base.specs.declared.out.Out.{Out}
 use Rattle.serve_base.specs.declared.out.Out.TheVariants.{Reply as OutReply}
@@ -35,7 +31,6 @@ use Rattle.serve_base.specs.Refusing.{AtDeskIf, IsDoneIf, IsServedIf, settled}
 use Rattle.serve_base.specs.Short.{IsShortCall}
 use Rattle.serve_base.specs.Shown.{IsFor, question_of, said_of, view_of}
 use Rattle.serve_base.specs.Stores.{StoreState, Serves}
-use Rattle.serve_base.proofs.Gaves.{gave-reply}
 use Rattle.serve_base.proofs.Plain.{plain-at-desk, stays-at-desk}
 use Rattle.serve_base.proofs.Refusals.{serves-at-desk}
 use Rattle.serve_base.proofs.Serving.{blamed, served-as, short-settled}
@@ -85,12 +80,12 @@ module _ {K : Type 0} (terms : Terms K) (app : ℕ) (others_have_sessions : Bool
   IsCallServed old new before out desk = IsServedIf (IsShortCall call) terms (IsFor app) (λ v. answer_to v call random (reveal_by_call call others_have_sessions)) old new before out desk
 
   -- a call at the desk and the store
-  pub call-done : (writes : ℕ) (old new : StoreState K) (before desk : DeskState) (r : Result Reply Refusal) (out : Result Out Fault) → writes ≤ 1 → out ≡ settled OutReply r → IsDoneIf (IsShortCall x) terms Replies writes (λ c. answers) old new before r desk → IsCallServed old new before out desk
-  call-done writes old new before desk r out few told done = rw (is, told) (served-as terms Replies OutReply (IsFor app) writes answers old new before desk r (λ t. refl) few (for-reply app r) done)
+  pub call-done : (writes : ℕ) (old new : StoreState K) (before desk : DeskState) (r : Result Reply Refusal) (out : Result Out Fault) → writes ≤ 1 → out ≡ settled OutReply r → IsDoneIf (IsShortCall x) terms Replies writes (λ c. answers) old new before r desk → ((k : K) → terms.is_steady k → terms.doubt k ≡ 0) → IsCallServed old new before out desk
+  call-done writes old new before desk r out few told done sure = rw (is, told) (served-as terms Replies OutReply (IsFor app) writes answers old new before desk r (λ t. refl) few (for-reply app r) sure done)
 
   -- which may return a job
-  pub call-asked : (writes : ℕ) → writes ≤ 1 → (old new : StoreState K) (before desk : DeskState) (r : Result Out Refusal) (out : Result Out Fault) → out ≡ settled (λ out. out) r → IfOk r (IsFor app) → IsDoneIf (IsShortCall x) terms said_of writes (λ c. answers) old new before r desk → IsCallServed old new before out desk
-  call-asked writes few old new before desk r out told for done = rw (is, told) (served-as terms said_of (λ out. out) (IsFor app) writes answers old new before desk r (λ t. refl) few (for-out app r for) done)
+  pub call-asked : (writes : ℕ) → writes ≤ 1 → (old new : StoreState K) (before desk : DeskState) (r : Result Out Refusal) (out : Result Out Fault) → out ≡ settled (λ out. out) r → IfOk r (IsFor app) → IsDoneIf (IsShortCall x) terms said_of writes (λ c. answers) old new before r desk → ((k : K) → terms.is_steady k → terms.doubt k ≡ 0) → IsCallServed old new before out desk
+  call-asked writes few old new before desk r out told for done sure = rw (is, told) (served-as terms said_of (λ out. out) (IsFor app) writes answers old new before desk r (λ t. refl) few (for-out app r for) sure done)
 
   -- and at the desk alone
   at-desk : {T : Type 0} (tell : T → Said) (as_out : T → Out) (store : StoreState K) (before desk : DeskState) (r : Result T Refusal) (out : Result Out Fault) → ((t : T) → said_of (as_out t) ≡ tell t) → ((v : View) → (answers v).change ≡ Stays) → out ≡ settled as_out r → IfOk (settled as_out r) (IsFor app)
@@ -100,6 +95,7 @@ module _ {K : Type 0} (terms : Terms K) (app : ℕ) (others_have_sessions : Bool
     says = for;
     counts = record { steady = λ s. s; doubt = omega arith; failures = omega arith; tried = omega arith; bounded = omega arith };
     cause = λ device. absurd (does.cause (blamed as_out r device));
+    steady = λ was device c h fits. absurd (does.cause (blamed as_out r device));
     plain = plain-at-desk tell as_out answers before desk r same (λ v. ((proper-answer_to x random).fair v (reveal_by_call x others_have_sessions)).plain) does;
     stays = stays-at-desk tell as_out answers before desk r does;
     short = λ few. short-settled tell as_out r same (does.short few);
@@ -139,6 +135,7 @@ taken terms app others_have_sessions x random old new before desk r free served 
   says = served.says;
   counts = served.counts;
   cause = served.cause;
+  steady = λ was device k h fits. rw (answer-is k before x random (reveal_by_call x others_have_sessions) free) (served.steady was device k h fits);
   plain = served.plain;
   stays = served.stays;
   short = served.short;

@@ -27,11 +27,11 @@ use Rattle.model_worlds.specs.Worlds.{reveal_by_outcome, value_of}
 use Rattle.serve_base.specs.declared.refusal.Refusal.{Refusal}
 use Rattle.serve_base.specs.declared.refusal.Refusal.TheVariants as refusals
 use Rattle.serve_base.specs.Refusing.{DoesAs, IsDoneAs, IsDoneIf, IsPlainAs}
-use Rattle.serve_base.specs.Short.{IsShort, IsShortTask}
+use Rattle.serve_base.specs.Short.{IsShort}
 use Rattle.serve_base.specs.Shown.{objects_of, question_of, task_of, over, view_of, Fits, Gives}
 use Rattle.serve_base.specs.Stores.{StoreState, Has, Gave, Serves}
 use Rattle.serve_base.proofs.Gaves.{gave-quiet, gave-reply}
-use Rattle.serve_base.proofs.Refusals.{does_as-is}
+use Rattle.serve_base.proofs.Refusals.{does_as-is, lacks-does_as}
 use Rattle.token.specs.declared.ending.Others.{Others}
 use Rattle.model_runs.specs.Applications.{Finishes, answer_to_job, by_job, reveal_by_job, told_result}
 use Rattle.token.specs.Endings.{EndsBy, IsShortOutcome, settled_reply, under_way_of}
@@ -39,7 +39,7 @@ use Rattle.token.proofs.Outcomes.{answer_by, answer-ends, ends_by, work-value}
 use Rattle.token.proofs.Shortness.{outcome-short}
 use Rattle.model_views.specs.Views.{sees}
 use Rattle.model_views.specs.Changes.{Stays, in_list}
-use Rattle.serve_base.specs.Stores.{LeavesTried}
+use Rattle.serve_base.specs.Stores.{LacksId, LeavesTried}
 
 -- ---- the outcome of a call that is pending no more
 
@@ -115,7 +115,7 @@ served-told terms a c old new before mid desk (Ok reply) is fits does = subst (�
 served-told terms a c old new before mid desk (Err (refusals.Condition row)) is fits does = subst (λ login. Gave terms a login c old new (Replies (Code (code_of rv.Ok row))) desk) (ap (λ (d : DeskState). d.sessions.login) is) (rw does.1.desk (gave-reply terms a c old new mid (Code (code_of rv.Ok row)) does.1.has does.1.leaves fits does.0))
 served-told terms a c old new before mid desk (Err (refusals.Code code)) is fits does = subst (λ login. Gave terms a login c old new (Replies (Code code)) desk) (ap (λ (d : DeskState). d.sessions.login) is) (rw does.1.desk (gave-reply terms a c old new mid (Code code) does.1.has does.1.leaves fits does.0))
 served-told terms a c old new before mid desk (Err refusals.Memory) is fits does = record { has = does.has; same = does.same; leaves = subst (λ login. LeavesTried terms (in_list (sees login) (objects_of c) a.change) old new c) (ap (λ (d : DeskState). d.sessions.login) is) does.leaves }
-served-told terms a c old new before mid desk (Err refusals.Device) is fits does = record { has = does.has; same = does.same; leaves = subst (λ login. LeavesTried terms (in_list (sees login) (objects_of c) a.change) old new c) (ap (λ (d : DeskState). d.sessions.login) is) does.leaves }
+served-told terms a c old new before mid desk (Err refusals.Device) is fits does = record { has = does.0.has; same = does.0.same; leaves = subst (λ login. LeavesTried terms (in_list (sees login) (objects_of c) a.change) old new c) (ap (λ (d : DeskState). d.sessions.login) is) does.0.leaves }
 
 plain-told : (r : Result Reply Refusal) → IsPlainAs Replies r → IfOk (settled_reply r) (λ reply. resource_error reply ≡ None)
 plain-told (Ok reply) plain = plain
@@ -159,8 +159,8 @@ module _ {K : Type 0} (terms : Terms K) (job : Job) (others : Others) (old new :
       let f : Option Job → Answer = λ q. answer_question (record v { question = option_map (by_job job) (option_map question_of q) }) (option_map (by_job job) (option_map question_of q)) (value_of (task_of job.work.value)) (reveal c) in
       ap f asked
 
-  pub finishes-by : (s : ℕ) (j : Job) (x : Outcome) (mid desk : DeskState) (r : Result Reply Refusal) (out : Result Reply Fault) → before.question ≡ Some j → s ≡ j.session → x ≡ outcome_of job.work.value → mid ≡ over before → out ≡ settled_reply r → HasRoom job.work.value x → EndsBy terms s x others old new mid r desk → Finishes terms job reveal old new before out desk
-  finishes-by s j x mid desk r out asked session is mid-is told room ends =
+  pub finishes-by : (s : ℕ) (j : Job) (x : Outcome) (mid desk : DeskState) (r : Result Reply Refusal) (out : Result Reply Fault) → before.question ≡ Some j → s ≡ j.session → x ≡ outcome_of job.work.value → mid ≡ over before → out ≡ settled_reply r → HasRoom job.work.value x → ((k : K) → terms.is_steady k → terms.doubt k ≡ 0) → EndsBy terms s x others old new mid r desk → Finishes terms job reveal old new before out desk
+  finishes-by s j x mid desk r out asked session is mid-is told room sure_of ends =
       let q = by_job job (question_of j) in
       let done = ends job.work.value q is (sym session) in
       let value : told_of x ≡ value_of (task_of job.work.value) = ap told_of is ∙ work-value job.work.value in
@@ -168,12 +168,14 @@ module _ {K : Type 0} (terms : Terms K) (job : Job) (others : Others) (old new :
       λ c. job-answer c j asked
       ∙ ap (λ d. answer_outcome (view_of c d) q (task_of job.work.value) (value_of (task_of job.work.value)) (reveal c)) (sym mid-is)
       ∙ ap (λ y. answer_outcome (view_of c mid) q (task_of job.work.value) y (reveal_by_outcome (task_of job.work.value) y (objects_of c) (under_way_of others) others.others_have_sessions)) (sym value) in
+      let does : terms.doubt new.keep ≡ 0 → (c : Contents) → Has terms old c → Fits c before.handles.entries → DoesAs terms Replies (answer_to_job job (view_of c before) (reveal c)) c old new mid r desk =
+      λ sure c h fits. does_as-is terms Replies (answer_to_job job (view_of c before) (reveal c)) (answer_outcome (view_of c mid) q (task_of job.work.value) (told_of x) (reveal_by_outcome (task_of job.work.value) (told_of x) (objects_of c) (under_way_of others) others.others_have_sessions)) c old new mid desk r (answer c) (done.serves sure c h (rw mid-is fits)) in
       rw told (record {
         serves = λ sure c h fits. subst (λ d. Serves terms Replies (answer_to_job job (view_of c before) (reveal c)) c old new before d (settled_reply r) desk) mid-is
-            (served-told terms (answer_to_job job (view_of c before) (reveal c)) c old new before mid desk r mid-is (rw mid-is fits)
-            (does_as-is terms Replies (answer_to_job job (view_of c before) (reveal c)) (answer_outcome (view_of c mid) q (task_of job.work.value) (told_of x) (reveal_by_outcome (task_of job.work.value) (told_of x) (objects_of c) (under_way_of others) others.others_have_sessions)) c old new mid desk r (answer c) (done.serves sure c h (rw mid-is fits))));
+            (served-told terms (answer_to_job job (view_of c before) (reveal c)) c old new before mid desk r mid-is (rw mid-is fits) (does sure c h fits));
         counts = done.counts;
         cause = λ device. done.cause (blamed-told r device);
+        steady = λ was device c h fits. lacks-does_as terms Replies (answer_to_job job (view_of c before) (reveal c)) c old new mid desk r (does (sure_of new.keep (done.counts.steady was)) c h fits) was (blamed-told r device);
         plain = plain-told r done.plain;
         stays = subst (λ d. IfErr (settled_reply r) (λ fault. SameDesk d desk)) mid-is (stays-told mid desk r done.stays);
         short = λ few. short-told r (done.short (outcome-short job.work.value x is room few));
@@ -186,6 +188,7 @@ module _ {K : Type 0} (terms : Terms K) (job : Job) (reveal : Contents → Revea
     serves = λ sure c h fits. record { has = h; same = refl; leaves = λ l may. inl may };
     counts = untouched terms store;
     cause = λ device. let k : Err Memory ≡ Err Device = device in cc;
+    steady = λ was device. let k : Err Memory ≡ Err Device = device in cc;
     plain = tt;
     stays = refl;
     short = λ few. tt;
@@ -204,6 +207,7 @@ module _ {K : Type 0} (terms : Terms K) (job : Job) (reveal : Contents → Revea
     serves = λ sure c h fits. gave-reply terms (answer_to_job job (view_of c before) (reveal c)) c store store before (Code FunctionFailed) h (λ l may. may) fits (none-answer c none);
     counts = untouched terms store;
     cause = λ device. let k : Ok (Code FunctionFailed) ≡ Err Device = device in cc;
+    steady = λ was device. let k : Ok (Code FunctionFailed) ≡ Err Device = device in cc;
     plain = refl;
     stays = tt;
     short = λ few. tt;
@@ -215,6 +219,7 @@ finishes-as terms job f g old new before r desk same done = record {
   serves = λ sure c h fits. subst (λ x. Serves terms Replies (answer_to_job job (view_of c before) x) c old new before (over before) r desk) (same c) (done.serves sure c h fits);
   counts = done.counts;
   cause = done.cause;
+  steady = λ was device c h fits. subst (λ x. LacksId (answer_to_job job (view_of c before) x).change c) (same c) (done.steady was device c h fits);
   plain = done.plain;
   stays = done.stays;
   short = done.short;

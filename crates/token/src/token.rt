@@ -13,6 +13,7 @@ ghost use Rattle.keep.specs.Contents.{Contents};
 ghost use Rattle.pin_record.specs.Charges.{is_same};
 ghost use Rattle.pin_record.specs.Records.{tries_limit, tries_of};
 ghost use Rattle.keep.specs.Keeping.{Counted, Rises, Stays};
+ghost use Rattle.keep.specs.declared.keep.KeepFault.TheVariants as keep_faults;
 ghost use Rattle.model_worlds.specs.declared.event.Event.TheVariants.{Finish, Gone};
 ghost use Rattle.serve_base.specs.declared.out.Out.TheVariants.{Reply as OutReply};
 ghost use Rattle.model_worlds.specs.Events.{HasRandom};
@@ -20,13 +21,13 @@ ghost use Rattle.model_views.specs.declared.fault.Fault.TheVariants.{Device};
 ghost use Rattle.model_views.specs.Answering.{pin_checked_in};
 ghost use Rattle.model_answers.specs.Answers.{answer};
 ghost use Rattle.model_views.specs.Refusals.{resource_error_in, refusal, resource_error};
-ghost use Rattle.model_worlds.specs.Worlds.{World, called, checks_of, goes, happens, is_init_token, others_checking, reply_to, reveal_by_call, says_called, without_checks};
+ghost use Rattle.model_worlds.specs.Worlds.{World, called, list_change, checks_of, goes, happens, is_init_token, others_checking, reply_to, reveal_by_call, says_called, without_checks};
 ghost use Rattle.model_worlds.specs.Tries.{IsSound};
 ghost use Rattle.serve_base.specs.Shown.{IsFor, over, said_of, task_of};
 ghost use Rattle.serve_base.specs.Short.{IsShort, IsShortCall, IsShortSaid, IsShortTask};
-ghost use Rattle.model_runs.specs.Applications.{Finishes, HasJobs, reveal_by_job, checks_after, has_session_at, are_others_in_session, HasNumbers, IsOpen, IsOther, TakesJob, desk_at, is_answer, move_of, opening, told_as, told_result, Shows};
-ghost use Rattle.serve_base.specs.Stores.{Served};
-ghost use Rattle.model_runs.specs.Runs.{AccountsFor, Advances, IsRun, IsStep, IsTakenBy, Lasting, LeavesBy, LeftBy, MayLeave, call_change};
+ghost use Rattle.model_runs.specs.Applications.{Finishes, HasJobs, reveal_by_job, checks_after, has_session_at, are_others_in_session, HasNumbers, IsOpen, IsOther, TakesJob, answer_by, desk_at, is_answer, move_of, opening, told_as, told_result, Shows, ShowsAfter};
+ghost use Rattle.serve_base.specs.Stores.{FailsForIds, LacksId, Served};
+ghost use Rattle.model_runs.specs.Runs.{AccountsFor, Advances, BlamesForIds, HasIds, IsRun, IsStep, IsTakenBy, Lasting, LeavesBy, LeftBy, MayLeave, blames, call_change};
 
 use crate::ending::{Others, finish_at};
 use crate::ran::Ran;
@@ -71,6 +72,9 @@ impl<K: Keep> Token<K> {
         ensures jobs { IfOk result (λ t. (w : World) → Shows K.terms t w → HasJobs w []) }
         ensures leaves { (c : Contents) → K.terms.holds keep c → IfOk result (λ t. (left : Option Contents) → K.terms.may_leave t.store.keep left → K.terms.may_leave keep left) }
         ensures back { IfErr result (λ e. Stays K.terms keep e.1) }
+        // A steady keeper stays so, and is not refused by `Device`.
+        ensures steady { K.terms.is_steady keep → IfOk result (λ t. K.terms.is_steady t.store.keep) }
+        ensures device { K.terms.is_steady keep → IfErr result (λ e. e.0 ≢ keep_faults.Device) }
     {
         let store = Store::adopt(alloc, keep)?;
         Ok(Token {
@@ -104,6 +108,10 @@ impl<K: Keep> Token<K> {
         ensures counts { Counted K.terms self.old.store.keep self.new.store.keep 0 1 }
         // CKR_DEVICE_ERROR comes only where a failure of the keeper was counted.
         ensures cause { result ≡ OutReply (Code DeviceError) → Rises (K.terms.failures self.old.store.keep) (K.terms.failures self.new.store.keep) }
+        // Over a steady keeper it comes only to a call that adds a token object, where every id was given.
+        ensures steady { K.terms.is_steady self.old.store.keep → result ≡ OutReply (Code DeviceError) → (w : World) → (s : Shows K.terms self.old w) → LacksId (call_change w app call random.now) s.contents }
+        // One id is given at most.
+        ensures ids { K.terms.doubt self.new.store.keep ≡ 0 → (w : World) → (s : Shows K.terms self.old w) → ShowsAfter K.terms s.contents 1 self.new (called w app call random.now (resource_error_in (said_of result))) }
         // Of the other applications nothing changes, nor where it is refused of this one, but capacities.
         ensures others { (b : ℕ) → b ≢ app → SameDesk (desk_at self.old.desks b) (desk_at self.new.desks b) }
         ensures stays { IsSome (resource_error_in (said_of result)) → SameDesk (desk_at self.old.desks app) (desk_at self.new.desks app) }
@@ -138,6 +146,10 @@ impl<K: Keep> Token<K> {
         ensures counts { Counted K.terms self.old.store.keep self.new.store.keep 0 1 }
         // CKR_DEVICE_ERROR comes only where a failure of the keeper was counted.
         ensures cause { result ≡ Code DeviceError → Rises (K.terms.failures self.old.store.keep) (K.terms.failures self.new.store.keep) }
+        // Over a steady keeper it comes only to a result that adds a token object, where every id was given.
+        ensures steady { K.terms.is_steady self.old.store.keep → result ≡ Code DeviceError → (w : World) → (s : Shows K.terms self.old w) → LacksId (list_change w app (answer_by w app done.job.value)) s.contents }
+        // One id is given at most.
+        ensures ids { K.terms.doubt self.new.store.keep ≡ 0 → (w : World) → (s : Shows K.terms self.old w) → IsOpen w app done.job.value → ShowsAfter K.terms s.contents 1 self.new (happens w (move_of (Finish app) (OutReply result))) }
         // Of the other applications nothing changes, nor where it is refused of this one, but its pending call and capacities.
         ensures others { (b : ℕ) → b ≢ app → desk_at self.new.desks b ≡ desk_at self.old.desks b }
         ensures stays { IsSome (resource_error result) → SameDesk (over (desk_at self.old.desks app)) (desk_at self.new.desks app) }
@@ -161,6 +173,8 @@ impl<K: Keep> Token<K> {
     /// A disconnect: the application's state ends. Allocates nothing.
     pub fn gone(&mut self, app: u64)
         ensures world { (w : World) → Shows K.terms self.old w → Shows K.terms self.new (goes w (Gone app)) }
+        // No id is given.
+        ensures ids { (w : World) → (s : Shows K.terms self.old w) → ShowsAfter K.terms s.contents 0 self.new (goes w (Gone app)) }
         // Neither the keeper nor what a crash may leave changes.
         ensures keep { self.new.store ≡ self.old.store }
     {
@@ -177,7 +191,8 @@ impl<K: Keep> Token<K> {
     ) -> Option<(u64, Reply)>
         requires room { vec_len out.old < vec_capacity out.old }
         requires random { HasRandom event }
-        ensures step { K.terms.doubt self.new.store.keep ≡ 0 → (w : World) → Shows K.terms self.old w → HasJobs w out.old.items → IsStep (Shows K.terms self.new) (MayLeave K.terms self.old) (MayLeave K.terms self.new) w event (option_to_list result) out.new.items }
+        ensures step { K.terms.doubt self.new.store.keep ≡ 0 → (w : World) → (s : Shows K.terms self.old w) → HasJobs w out.old.items → IsStep (ShowsAfter K.terms s.contents 1 self.new) (MayLeave K.terms self.old) (MayLeave K.terms self.new) w event (option_to_list result) out.new.items }
+        ensures steady { K.terms.is_steady self.old.store.keep → (w : World) → (s : Shows K.terms self.old w) → HasJobs w out.old.items → BlamesForIds w event s.contents (map (λ r. r.1) (option_to_list result)) }
         ensures counts { Counted K.terms self.old.store.keep self.new.store.keep 0 1 }
         ensures accounts { AccountsFor (K.terms.failures self.old.store.keep) (K.terms.failures self.new.store.keep) (map (λ r. r.1) (option_to_list result)) }
     {
@@ -220,6 +235,7 @@ impl<K: Keep> Token<K> {
         ensures random { All HasRandom events.new.items }
         ensures doubt { K.terms.doubt self.old.store.keep ≤ K.terms.doubt self.new.store.keep }
         ensures accounts { (before : ℕ) → AccountsFor before (K.terms.failures self.old.store.keep) (map (λ r. r.1) replies.old.items) → AccountsFor before (K.terms.failures self.new.store.keep) (map (λ r. r.1) replies.new.items) }
+        ensures ids { HasIds K.terms self.old out.old.items (length events.old.items) → OnOk result ((blames (map (λ r. r.1) replies.new.items) ≡ blames (map (λ r. r.1) replies.old.items)) × HasIds K.terms self.new out.new.items (length events.new.items)) }
     {
         replies.reserve(1)?;
         out.reserve(1)?;
@@ -243,6 +259,8 @@ impl<K: Keep> Token<K> {
         ensures doubt { K.terms.doubt self.old.store.keep ≤ K.terms.doubt self.new.store.keep }
         // For each CKR_DEVICE_ERROR a failure of the keeper was counted.
         ensures accounts { AccountsFor (K.terms.failures self.old.store.keep) (K.terms.failures self.new.store.keep) (map (λ r. r.1) result.replies.items) }
+        // None is returned over a steady keeper that has an id for each event.
+        ensures ids { HasIds K.terms self.old out.items (length events.items) → (blames (map (λ r. r.1) result.replies.items) ≡ 0) × HasIds K.terms self.new result.out.items (length result.left.items) }
     {
         let mut replies = Vec::new(alloc);
         events.reverse();
@@ -308,6 +326,7 @@ fn serve_app<K: Keep>(
     ensures asker { IfOk result (IsFor app) }
     ensures counts { Counted K.terms store.old.keep store.new.keep 0 1 }
     ensures cause { IsErrOf result Device → Rises (K.terms.failures store.old.keep) (K.terms.failures store.new.keep) }
+    ensures steady { FailsForIds K.terms Device (λ c v. answer v call random.now (reveal_by_call call (are_others_in_session desks.old.entries app))) store.old (desk_at desks.old.entries app) result }
     ensures plain { IfOk result (λ out. resource_error_in (said_of out) ≡ None) }
     ensures stays { IfErr result (λ fault. SameDesk (desk_at desks.old.entries app) (desk_at desks.new.entries app)) }
     ensures short { IsShortCall call → IfOk result (λ out. IsShortSaid (said_of out)) }
@@ -337,6 +356,7 @@ fn serve_seated<K: Keep>(
     ensures asker { IfOk result (IsFor app) }
     ensures counts { Counted K.terms store.old.keep store.new.keep 0 1 }
     ensures cause { IsErrOf result Device → Rises (K.terms.failures store.old.keep) (K.terms.failures store.new.keep) }
+    ensures steady { FailsForIds K.terms Device (λ c v. answer v call random.now (reveal_by_call call others_have_sessions)) store.old (desk_at desks.old.entries app) result }
     ensures plain { IfOk result (λ out. resource_error_in (said_of out) ≡ None) }
     ensures stays { IfErr result (λ fault. SameDesk (desk_at desks.old.entries app) (desk_at desks.new.entries app)) }
     ensures short { IsShortCall call → IfOk result (λ out. IsShortSaid (said_of out)) }

@@ -5,7 +5,7 @@ mod script;
 use disks::{Disks, ENDLESS, Work, disks, endings, work_in};
 use keep::Keep;
 use lasting::{Lasting, lasting_of, states};
-use script::told_as_wanted;
+use script::{VIEWS, told_as_wanted};
 use sqlite::Files;
 use sqlite_disk::Memory;
 use std::alloc::Global;
@@ -81,21 +81,46 @@ fn expect_whole(
     Ok(told.0)
 }
 
+/// At how many rows runs have stopped, each of which goes as far as the one before, or farther.
+#[derive(Clone, Copy)]
+struct Refused {
+    last: usize,
+    count: usize,
+}
+
+impl Refused {
+    fn new() -> Refused {
+        Refused { last: 0, count: 0 }
+    }
+
+    /// A run that has stopped after so many rows, of which the first writes nothing.
+    fn note(&mut self, told: usize) {
+        if told != self.last {
+            self.count = self.count.saturating_add(1);
+            self.last = told;
+        }
+    }
+}
+
 #[test]
 fn a_stop_at_each_call_of_the_log_leaves_whole_changes(rt: HostRuntime) -> Result<(), Fail> {
     let states = states(rt.alloc())?;
     for frames in FRAMES {
+        let mut refused = Refused::new();
         let mut is_done = false;
         for calls in 0..1000 {
             if !is_done {
                 let files = disks(rt.alloc(), calls, ENDLESS);
                 let told = expect_whole(rt.alloc(), &states, files, frames, ("log", calls))?;
                 is_done = told.saturating_add(1) == states.len();
+                refused.note(told);
                 // More calls than the opening of a store takes.
                 assert!(rt; !is_done || calls > 10, "{calls} calls");
             }
         }
         assert!(rt; is_done, "each run with {frames} frames stopped");
+        // And the end, at which no row was refused.
+        assert_eq!(rt; refused.count, VIEWS.len() + 1);
     }
     Ok(())
 }

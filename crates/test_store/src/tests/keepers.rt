@@ -56,7 +56,7 @@ fn cached_sql(alloc: Global, record: Record) -> Result<Cached<SqlKeep<MemStore>>
 }
 
 /// A new keeper over SQL in memory, with this record.
-fn sql_keep(alloc: Global, record: Record) -> Result<SqlKeep<MemStore>, Fail> {
+pub(super) fn sql_keep(alloc: Global, record: Record) -> Result<SqlKeep<MemStore>, Fail> {
     let mut keep = SqlKeep::in_memory(alloc)?;
     keep.set_record(record)?;
     Ok(keep)
@@ -74,23 +74,29 @@ impl Script for InARun<'_> {
 
 #[test]
 fn each_script_goes_so_over_each_keeper(rt: HostRuntime) -> Result<(), Fail> {
+    let mut played = 0_usize;
     for place in 0..usize::MAX {
         let Some((name, rows)) = script_at(place) else {
             break;
         };
         let rows = with_finishes(rt.alloc(), rows)?;
         see_over_each(rt.alloc(), Record::new(), &InARun((name, &rows)))?;
+        played = place.saturating_add(1);
     }
+    assert_eq!(rt; played, 9);
     Ok(())
 }
 
 #[test]
 fn each_script_of_questions_goes_so_over_each_keeper(rt: HostRuntime) -> Result<(), Fail> {
+    let mut played = 0_usize;
     for place in 0..usize::MAX {
         let Some(script) = questions_at(place) else {
             break;
         };
         see_over_each(rt.alloc(), record_at(place)?, &InARun(script))?;
+        played = place.saturating_add(1);
     }
+    assert_eq!(rt; played, 5);
     Ok(())
 }

@@ -20,10 +20,10 @@ use token::Token;
 
 /// What a line takes, how it ends, and what it writes.
 #[derive(Clone, Copy)]
-struct Bytes<'a> {
-    input: &'a [u8],
-    ended: Result<u64, LineFault>,
-    written: &'a [u8],
+pub(super) struct Bytes<'a> {
+    pub(super) input: &'a [u8],
+    pub(super) ended: Result<u64, LineFault>,
+    pub(super) written: &'a [u8],
 }
 
 impl Script for Bytes<'_> {

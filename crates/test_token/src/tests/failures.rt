@@ -45,7 +45,8 @@ fn failing(alloc: Global, n: u64, failure: Failure) -> FailingKeep<ListKeep> {
     FailingKeep::new(ListKeep::new(alloc, Record::new()), n, failure)
 }
 
-fn code_of(failure: Failure) -> Rv {
+/// The code of a call that fails so.
+pub(super) fn code_of(failure: Failure) -> Rv {
     match failure {
         Failure::Memory => Rv::HostMemory,
         Failure::Device => Rv::DeviceError,

@@ -1,7 +1,6 @@
-use Rattle.std.proofs.Common.{Some, None, refl, sym, ap, ◌∙◌}
+use Rattle.std.proofs.Common.{refl, sym, ap}
 use Rattle.wire.specs.Messages.{call_in}
 use Rattle.line.specs.State.{Connected}
-use Rattle.line.specs.Parts.{Ends}
 use Rattle.line.proofs.Leading.{leads-call}
 use Rattle.line.proofs.Framing.{short-call, short-framed}
 use Rattle.line.proofs.Serving.{serving-none, serving-told, ends-told, ends-waits, ends-ended, ends-memory}
@@ -19,7 +18,7 @@ returns-in-Some g c =
     let gives = comes.does in
     let sends = c.reply.ensures.sends (ap (λ (x : Connected). x.ended) gives.same) in
     let led = leads-call g.K.Keep.terms c.args.app c.calls.token c.answer_call-reply.new.token gives.mid.words c.next_call.new.self.words (call_in gives.call.payload) c.in-Call.given.call c.in-Call.given.random.items c.answer_call-reply.result gives.call.is.is gives.call.is.took
-    c.answer_call-reply.ensures.doubt c.answer_call-reply.ensures.failures c.answer_call-reply.ensures.accounts c.answer_call-reply.ensures.moved in
+    c.answer_call-reply.ensures.doubt c.answer_call-reply.ensures.failures c.answer_call-reply.ensures.accounts c.answer_call-reply.ensures.ids c.answer_call-reply.ensures.moved in
     ends-told g.K.Keep.terms c.args.app c.args.token.now c.args.connection.now.words g.R.Read.remaining g.W.Write.contents c.args.reader.now c.args.writer.now c.calls.token c.answer_call-reply.new.token c.calls.reader c.next_call.new.reader c.calls.writer c.next_call.new.writer c.reply.new.writer
     c.calls.connection c.next_call.new.self c.reply.new.self c.in-Call.given c.answer_call-reply.result c.calls.invariant gives comes sends led
     (short-framed c.answer_call-reply.result sends.fits (c.answer_call-reply.ensures.short (short-call c.in-Call.given.call gives.call.is.framed))) c.in-Some.fault (sym c.in-Some.ensures)
@@ -30,7 +29,7 @@ calls-preserved g c =
     let gives = comes.does in
     let sends = c.reply.ensures.sends (ap (λ (x : Connected). x.ended) gives.same) in
     let led = leads-call g.K.Keep.terms c.args.app c.calls.token c.answer_call-reply.new.token gives.mid.words c.next_call.new.self.words (call_in gives.call.payload) c.in-Call.given.call c.in-Call.given.random.items c.answer_call-reply.result gives.call.is.is gives.call.is.took
-    c.answer_call-reply.ensures.doubt c.answer_call-reply.ensures.failures c.answer_call-reply.ensures.accounts c.answer_call-reply.ensures.moved in
+    c.answer_call-reply.ensures.doubt c.answer_call-reply.ensures.failures c.answer_call-reply.ensures.accounts c.answer_call-reply.ensures.ids c.answer_call-reply.ensures.moved in
     serving-told g.K.Keep.terms c.args.app c.args.token.now c.args.connection.now.words g.R.Read.remaining g.W.Write.contents c.args.reader.now c.args.writer.now c.calls.token c.answer_call-reply.new.token c.calls.reader c.next_call.new.reader c.calls.writer c.next_call.new.writer c.reply.new.writer
     c.calls.connection c.next_call.new.self c.reply.new.self c.in-Call.given c.answer_call-reply.result c.calls.invariant gives comes sends led (sym c.in_default.ensures)
 

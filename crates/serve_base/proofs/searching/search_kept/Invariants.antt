@@ -9,6 +9,7 @@ abbrev pub invariant-loop-id : goal.invariant-loop-id
 invariant-loop-id g l = record {
   same : Stays g.K.Keep.terms l.fn.keep l.keep;
   counts : Counted g.K.Keep.terms l.fn.keep l.keep 0 0;
+  failures : g.K.Keep.terms.failures l.keep ≡ g.K.Keep.terms.failures l.fn.keep;
   found : g.K.Keep.terms.doubt l.keep ≡ 0 → (c : Contents) → g.K.Keep.terms.holds l.fn.keep c → l.found.items ++ found_at l.login l.template (object_at c) (drop l.id-index l.ids) ≡ l.fn.found.items ++ found_at l.login l.template (object_at c) l.ids;
   may : AllByRecursion (MayFind l.login) l.fn.found.items → AllByRecursion (MayFind l.login) l.found.items;
 }

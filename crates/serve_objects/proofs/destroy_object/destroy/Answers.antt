@@ -6,7 +6,7 @@ use Rattle.model_answers.specs.DestroyObject.{destroyed}
 use Rattle.serve_base.specs.Shown.{view_of}
 use Rattle.serve_base.proofs.Gaves.{gave-change, gave-quiet}
 use Rattle.serve_base.proofs.Plain.{plain-fault}
-use Rattle.serve_base.proofs.Refusals.{does-refused, fault-of}
+use Rattle.serve_base.proofs.Refusals.{does-refused, device-of, fault-of}
 use Rattle.serve_objects.proofs.Destroying.{gives-kept, gives-own, stays-own}
 use Rattle.serve_objects.proofs.destroy_object.destroy.Goals as goal
 
@@ -31,7 +31,8 @@ returns-in_err-remove-in-Some-clause-serves g c = λ o sure k h fits at.
     let gone = gives-kept k d _ c.args.handle c.requires o c.in-Some.id there h.sound fits in
     let v = view_of k d in
     let a : Answer = destroyed v c.args.handle (index_of v.tokens c.args.handle) in
-    does-refused _ a k _ _ d d c.from_residual.result (fault-of c.from_residual.result _ c.from_residual.ensures.1) (record {
+    does-refused _ a k _ _ d d c.from_residual.result (fault-of c.from_residual.result _ c.from_residual.ensures.1)
+    (λ device steady. let none = c.remove.ensures.steady steady (device-of c.in_err-remove-in-Some.field-0.0 c.in_err-remove-in-Some.was c.remove.ensures.cause c.from_residual.result c.from_residual.ensures.1 device) k h in let found = there.1 in cc) (record {
       has = c.in_err-remove-in-Some.ensures.same k h;
       same = refl;
       leaves = λ x may. elim (c.in_err-remove-in-Some.ensures.leaves_or k h x may) [

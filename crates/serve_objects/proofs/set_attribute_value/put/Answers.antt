@@ -6,7 +6,7 @@ use Rattle.model_answers.specs.SetAttributeValue.{puts}
 use Rattle.serve_base.specs.Shown.{view_of}
 use Rattle.serve_base.proofs.Gaves.{gave-change, gave-quiet}
 use Rattle.serve_base.proofs.Plain.{plain-fault}
-use Rattle.serve_base.proofs.Refusals.{does-refused, fault-of}
+use Rattle.serve_base.proofs.Refusals.{does-refused, device-of, fault-of}
 use Rattle.serve_objects.proofs.Setting.{gives-put, gives-put_own, stays-own}
 use Rattle.serve_objects.proofs.set_attribute_value.put.Goals as goal
 
@@ -33,7 +33,8 @@ returns-in_err-replace-in-Some-clause-serves g c = λ old public sure k h fits a
     let put = gives-put k d _ c.args.handle c.requires.table old c.args.object c.in-Some.id public there h.sound fits in
     let v = view_of k d in
     let a : Answer = puts v c.args.handle c.args.object (index_of v.tokens c.args.handle) in
-    does-refused _ a k _ _ d d c.from_residual.result (fault-of c.from_residual.result _ c.from_residual.ensures.1) (record {
+    does-refused _ a k _ _ d d c.from_residual.result (fault-of c.from_residual.result _ c.from_residual.ensures.1)
+    (λ device steady. let none = c.replace.ensures.steady steady (device-of c.in_err-replace-in-Some.field-0.0 c.in_err-replace-in-Some.was c.replace.ensures.cause c.from_residual.result c.from_residual.ensures.1 device) k h in let found = there.1 in cc) (record {
       has = c.in_err-replace-in-Some.ensures.same k h;
       same = refl;
       leaves = λ x may. elim (c.in_err-replace-in-Some.ensures.leaves_or k h x may) [

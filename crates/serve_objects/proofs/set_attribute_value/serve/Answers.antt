@@ -26,7 +26,7 @@ returns g c = record {
       let made = made-object _ _ c.in_ok-object.object c.in_ok-object.ensures.made in
       does-is _ _ _ k _ _ d c.put.new.desk c.put.result
       (set-is (view_of k d) c.args.session c.args.template.now s.0 s.1 c.args.handle o found.0 (rw s.2 writable) (ap not (sym c.flag-2.ensures ∙ c.if-not-flag.false)) c.in_ok-object.object (rw s.2 made.0) made.1)
-      (does-after _ _ k _ c.find.new.store _ d c.put.new.desk c.put.result (λ left may. c.find.ensures.same.crash k left h.held may) (c.put.ensures.serves o (ap not c.in_ok-object.ensures.placed.private) sure k held fits found.1));
+      (does-after _ _ k _ c.find.new.store _ d c.put.new.desk c.put.result (λ left may. c.find.ensures.same.crash k left h.held may) c.find.ensures.counts.steady (c.put.ensures.serves o (ap not c.in_ok-object.ensures.placed.private) sure k held fits found.1));
   counts = search rules;
   cause = search rules;
   plain = c.put.ensures.plain;

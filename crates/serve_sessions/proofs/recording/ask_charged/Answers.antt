@@ -4,7 +4,7 @@ use Rattle.keep.specs.Contents.{with_record}
 use Rattle.serve_base.specs.Shown.{view_of, said_of, task_of}
 use Rattle.serve_base.proofs.Gaves.{gave-change}
 use Rattle.serve_base.proofs.Plain.{plain_as-fault}
-use Rattle.serve_base.proofs.Refusals.{does_as-refused, fault-of}
+use Rattle.serve_base.proofs.Refusals.{does_as-refused, device-of, fault-of}
 use Rattle.serve_sessions.specs.Recording.{asks_charged}
 use Rattle.serve_sessions.proofs.Charging.{gives-charged, refused-recorded}
 use Rattle.serve_sessions.proofs.recording.ask_charged.Goals as goal
@@ -30,6 +30,7 @@ returns-in_err-set_record-clause-done g c = record {
       let d = c.args.desk.now in
       let a = asks_charged r (view_of k d) c.args.function c.args.session (task_of c.args.work) c.args.who in
       does_as-refused _ said_of a k _ _ d d c.from_residual-in_err-set_record.result (fault-of c.from_residual-in_err-set_record.result _ c.from_residual-in_err-set_record.ensures.1)
+      (λ device steady. absurd (c.set_record.ensures.steady steady (device-of c.in_err-set_record.field-0.0 c.in_err-set_record.was c.set_record.ensures.cause c.from_residual-in_err-set_record.result c.from_residual-in_err-set_record.ensures.1 device)))
       (refused-recorded _ a k _ _ d (charged r c.args.who) refl (c.in_err-set_record.ensures.same k h) (rw c.begin_check.ensures at (c.in_err-set_record.ensures.leaves_or k h)));
   counts = search rules;
   cause = search rules;

@@ -3,7 +3,7 @@ use Rattle.keep.specs.Contents.{after_reset}
 use Rattle.serve_base.specs.Shown.{view_of}
 use Rattle.serve_base.proofs.Gaves.{gave-change}
 use Rattle.serve_base.proofs.Plain.{plain-fault}
-use Rattle.serve_base.proofs.Refusals.{does-refused, fault-of}
+use Rattle.serve_base.proofs.Refusals.{does-refused, device-of, fault-of}
 use Rattle.model_session_answers.specs.Pins.{resets}
 use Rattle.serve_sessions.proofs.Charging.{gives-reset, refused-reset}
 use Rattle.serve_sessions.proofs.recording.reset_to.Goals as goal
@@ -27,6 +27,7 @@ returns-in_err-reset g c = record {
       let d = c.args.desk.now in
       let a = resets r (view_of k d) in
       does-refused _ a k _ _ d d c.from_residual.result (fault-of c.from_residual.result _ c.from_residual.ensures.1)
+      (λ device steady. absurd (c.reset.ensures.steady steady (device-of c.in_err-reset.field-0.0 c.in_err-reset.was c.reset.ensures.cause c.from_residual.result c.from_residual.ensures.1 device)))
       (refused-reset _ a k _ _ d r refl (c.in_err-reset.ensures.same k h) (c.in_err-reset.ensures.leaves_or k h));
   counts = c.reset.ensures.counts;
   cause = search rules;

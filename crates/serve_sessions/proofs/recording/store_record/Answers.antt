@@ -3,7 +3,7 @@ use Rattle.keep.specs.Contents.{with_record}
 use Rattle.serve_base.specs.Shown.{view_of}
 use Rattle.serve_base.proofs.Gaves.{gave-change}
 use Rattle.serve_base.proofs.Plain.{plain-fault}
-use Rattle.serve_base.proofs.Refusals.{does-refused, fault-of}
+use Rattle.serve_base.proofs.Refusals.{does-refused, device-of, fault-of}
 use Rattle.serve_sessions.specs.Recording.{codes_with}
 use Rattle.serve_sessions.proofs.Charging.{gives-stored, refused-recorded}
 use Rattle.serve_sessions.proofs.recording.store_record.Goals as goal
@@ -27,6 +27,7 @@ returns-in_err-set_record g c = record {
       let d = c.args.desk.now in
       let a = codes_with c.args.code r (view_of k d) in
       does-refused _ a k _ _ d d c.from_residual.result (fault-of c.from_residual.result _ c.from_residual.ensures.1)
+      (λ device steady. absurd (c.set_record.ensures.steady steady (device-of c.in_err-set_record.field-0.0 c.in_err-set_record.was c.set_record.ensures.cause c.from_residual.result c.from_residual.ensures.1 device)))
       (refused-recorded _ a k _ _ d r refl (c.in_err-set_record.ensures.same k h) (c.in_err-set_record.ensures.leaves_or k h));
   counts = search rules;
   cause = search rules;

@@ -11,4 +11,4 @@ returns-in-None g c =
 pub returns-in-Ok : goal.returns-in-Ok
 returns-in-Ok g c =
     finishes-by g.K.Keep.terms c.args.done.job.value c.args.others.now c.args.store.now c.serve_outcome.new.store c.args.desk.now c.session-session.result c.in-Some.question.now c.in-Ok.outcome c.end_question.new.self c.serve_outcome.new.desk c.serve_outcome.result c.settle_reply.result
-    (sym c.question.ensures ∙ rw c.in-Some.is refl) c.session-session.ensures c.in-Ok.ensures.value c.end_question.ensures c.settle_reply.ensures c.in-Ok.ensures.room c.serve_outcome.ensures
+    (sym c.question.ensures ∙ rw c.in-Some.is refl) c.session-session.ensures c.in-Ok.ensures.value c.end_question.ensures c.settle_reply.ensures c.in-Ok.ensures.room g.met.K.Keep.sure c.serve_outcome.ensures

@@ -1,37 +1,36 @@
-use Rattle.std.proofs.Common.{refl, rules, arith}
+use Rattle.std.proofs.Common.{refl, arith}
 use Rattle.ck_calls.specs.declared.call.Call.TheVariants as call
-use Rattle.ck_types.specs.declared.rv.Rv.TheVariants.{FunctionNotSupported}
 use Rattle.model_answers.specs.Answers.{answer_to}
 use Rattle.token.proofs.Dispatching.{call-done, call-asked, call-at-desk, call-asking, call-unchecked, random-few, still-init_pin}
 use Rattle.token.proofs.serving.dispatch.Goals as goal
 
 pub returns-in-CreateObject : goal.returns-in-CreateObject
 unfolding answer_to
-returns-in-CreateObject g c = call-done g.K.Keep.terms c.args.app c.args.others_have_sessions c.args.call (call.CreateObject c.in-CreateObject.session c.in-CreateObject.template) c.args.random.now c.in-CreateObject.is 1 c.args.store.now _ c.args.desk.now _ c.serve-in-CreateObject.result c.settle-in-CreateObject.result (omega arith) c.settle-in-CreateObject.ensures c.serve-in-CreateObject.ensures
+returns-in-CreateObject g c = call-done g.K.Keep.terms c.args.app c.args.others_have_sessions c.args.call (call.CreateObject c.in-CreateObject.session c.in-CreateObject.template) c.args.random.now c.in-CreateObject.is 1 c.args.store.now _ c.args.desk.now _ c.serve-in-CreateObject.result c.settle-in-CreateObject.result (omega arith) c.settle-in-CreateObject.ensures c.serve-in-CreateObject.ensures g.met.K.Keep.sure
 
 pub returns-in-CopyObject : goal.returns-in-CopyObject
 unfolding answer_to
-returns-in-CopyObject g c = call-done g.K.Keep.terms c.args.app c.args.others_have_sessions c.args.call (call.CopyObject c.in-CopyObject.session c.in-CopyObject.object c.in-CopyObject.template) c.args.random.now c.in-CopyObject.is 1 c.args.store.now _ c.args.desk.now _ c.serve-in-CopyObject.result c.settle-in-CopyObject.result (omega arith) c.settle-in-CopyObject.ensures c.serve-in-CopyObject.ensures
+returns-in-CopyObject g c = call-done g.K.Keep.terms c.args.app c.args.others_have_sessions c.args.call (call.CopyObject c.in-CopyObject.session c.in-CopyObject.object c.in-CopyObject.template) c.args.random.now c.in-CopyObject.is 1 c.args.store.now _ c.args.desk.now _ c.serve-in-CopyObject.result c.settle-in-CopyObject.result (omega arith) c.settle-in-CopyObject.ensures c.serve-in-CopyObject.ensures g.met.K.Keep.sure
 
 pub returns-in-DestroyObject : goal.returns-in-DestroyObject
 unfolding answer_to
-returns-in-DestroyObject g c = call-done g.K.Keep.terms c.args.app c.args.others_have_sessions c.args.call (call.DestroyObject c.in-DestroyObject.session c.in-DestroyObject.object) c.args.random.now c.in-DestroyObject.is 1 c.args.store.now _ c.args.desk.now _ c.serve-in-DestroyObject.result c.settle-in-DestroyObject.result (omega arith) c.settle-in-DestroyObject.ensures c.serve-in-DestroyObject.ensures
+returns-in-DestroyObject g c = call-done g.K.Keep.terms c.args.app c.args.others_have_sessions c.args.call (call.DestroyObject c.in-DestroyObject.session c.in-DestroyObject.object) c.args.random.now c.in-DestroyObject.is 1 c.args.store.now _ c.args.desk.now _ c.serve-in-DestroyObject.result c.settle-in-DestroyObject.result (omega arith) c.settle-in-DestroyObject.ensures c.serve-in-DestroyObject.ensures g.met.K.Keep.sure
 
 pub returns-in-GetObjectSize : goal.returns-in-GetObjectSize
 unfolding answer_to
-returns-in-GetObjectSize g c = call-done g.K.Keep.terms c.args.app c.args.others_have_sessions c.args.call (call.GetObjectSize c.in-GetObjectSize.session c.in-GetObjectSize.object) c.args.random.now c.in-GetObjectSize.is 0 c.args.store.now _ c.args.desk.now _ c.serve-in-GetObjectSize.result c.settle-in-GetObjectSize.result (omega arith) c.settle-in-GetObjectSize.ensures c.serve-in-GetObjectSize.ensures
+returns-in-GetObjectSize g c = call-done g.K.Keep.terms c.args.app c.args.others_have_sessions c.args.call (call.GetObjectSize c.in-GetObjectSize.session c.in-GetObjectSize.object) c.args.random.now c.in-GetObjectSize.is 0 c.args.store.now _ c.args.desk.now _ c.serve-in-GetObjectSize.result c.settle-in-GetObjectSize.result (omega arith) c.settle-in-GetObjectSize.ensures c.serve-in-GetObjectSize.ensures g.met.K.Keep.sure
 
 pub returns-in-GetAttributeValue : goal.returns-in-GetAttributeValue
 unfolding answer_to
-returns-in-GetAttributeValue g c = call-done g.K.Keep.terms c.args.app c.args.others_have_sessions c.args.call (call.GetAttributeValue c.in-GetAttributeValue.session c.in-GetAttributeValue.object c.in-GetAttributeValue.query) c.args.random.now c.in-GetAttributeValue.is 0 c.args.store.now _ c.args.desk.now _ c.serve-in-GetAttributeValue.result c.settle-in-GetAttributeValue.result (omega arith) c.settle-in-GetAttributeValue.ensures c.serve-in-GetAttributeValue.ensures
+returns-in-GetAttributeValue g c = call-done g.K.Keep.terms c.args.app c.args.others_have_sessions c.args.call (call.GetAttributeValue c.in-GetAttributeValue.session c.in-GetAttributeValue.object c.in-GetAttributeValue.query) c.args.random.now c.in-GetAttributeValue.is 0 c.args.store.now _ c.args.desk.now _ c.serve-in-GetAttributeValue.result c.settle-in-GetAttributeValue.result (omega arith) c.settle-in-GetAttributeValue.ensures c.serve-in-GetAttributeValue.ensures g.met.K.Keep.sure
 
 pub returns-in-SetAttributeValue : goal.returns-in-SetAttributeValue
 unfolding answer_to
-returns-in-SetAttributeValue g c = call-done g.K.Keep.terms c.args.app c.args.others_have_sessions c.args.call (call.SetAttributeValue c.in-SetAttributeValue.session c.in-SetAttributeValue.object c.in-SetAttributeValue.template) c.args.random.now c.in-SetAttributeValue.is 1 c.args.store.now _ c.args.desk.now _ c.serve-in-SetAttributeValue.result c.settle-in-SetAttributeValue.result (omega arith) c.settle-in-SetAttributeValue.ensures c.serve-in-SetAttributeValue.ensures
+returns-in-SetAttributeValue g c = call-done g.K.Keep.terms c.args.app c.args.others_have_sessions c.args.call (call.SetAttributeValue c.in-SetAttributeValue.session c.in-SetAttributeValue.object c.in-SetAttributeValue.template) c.args.random.now c.in-SetAttributeValue.is 1 c.args.store.now _ c.args.desk.now _ c.serve-in-SetAttributeValue.result c.settle-in-SetAttributeValue.result (omega arith) c.settle-in-SetAttributeValue.ensures c.serve-in-SetAttributeValue.ensures g.met.K.Keep.sure
 
 pub returns-in-FindObjectsInit : goal.returns-in-FindObjectsInit
 unfolding answer_to
-returns-in-FindObjectsInit g c = call-done g.K.Keep.terms c.args.app c.args.others_have_sessions c.args.call (call.FindObjectsInit c.in-FindObjectsInit.session c.in-FindObjectsInit.template) c.args.random.now c.in-FindObjectsInit.is 0 c.args.store.now _ c.args.desk.now _ c.serve-in-FindObjectsInit.result c.settle-in-FindObjectsInit.result (omega arith) c.settle-in-FindObjectsInit.ensures c.serve-in-FindObjectsInit.ensures
+returns-in-FindObjectsInit g c = call-done g.K.Keep.terms c.args.app c.args.others_have_sessions c.args.call (call.FindObjectsInit c.in-FindObjectsInit.session c.in-FindObjectsInit.template) c.args.random.now c.in-FindObjectsInit.is 0 c.args.store.now _ c.args.desk.now _ c.serve-in-FindObjectsInit.result c.settle-in-FindObjectsInit.result (omega arith) c.settle-in-FindObjectsInit.ensures c.serve-in-FindObjectsInit.ensures g.met.K.Keep.sure
 
 pub returns-in-FindObjects : goal.returns-in-FindObjects
 unfolding answer_to
@@ -43,7 +42,7 @@ returns-in-FindObjectsFinal g c = call-at-desk g.K.Keep.terms c.args.app c.args.
 
 pub returns-in-EncryptInit : goal.returns-in-EncryptInit
 unfolding answer_to
-returns-in-EncryptInit g c = call-done g.K.Keep.terms c.args.app c.args.others_have_sessions c.args.call (call.EncryptInit c.in-EncryptInit.session c.in-EncryptInit.mechanism c.in-EncryptInit.key) c.args.random.now c.in-EncryptInit.is 0 c.args.store.now _ c.args.desk.now _ c.serve-in-EncryptInit.result c.settle-in-EncryptInit.result (omega arith) c.settle-in-EncryptInit.ensures c.serve-in-EncryptInit.ensures
+returns-in-EncryptInit g c = call-done g.K.Keep.terms c.args.app c.args.others_have_sessions c.args.call (call.EncryptInit c.in-EncryptInit.session c.in-EncryptInit.mechanism c.in-EncryptInit.key) c.args.random.now c.in-EncryptInit.is 0 c.args.store.now _ c.args.desk.now _ c.serve-in-EncryptInit.result c.settle-in-EncryptInit.result (omega arith) c.settle-in-EncryptInit.ensures c.serve-in-EncryptInit.ensures g.met.K.Keep.sure
 
 pub returns-in-Encrypt : goal.returns-in-Encrypt
 unfolding answer_to
@@ -59,7 +58,7 @@ returns-in-EncryptFinal g c = call-asking g.K.Keep.terms c.args.app c.args.other
 
 pub returns-in-DecryptInit : goal.returns-in-DecryptInit
 unfolding answer_to
-returns-in-DecryptInit g c = call-done g.K.Keep.terms c.args.app c.args.others_have_sessions c.args.call (call.DecryptInit c.in-DecryptInit.session c.in-DecryptInit.mechanism c.in-DecryptInit.key) c.args.random.now c.in-DecryptInit.is 0 c.args.store.now _ c.args.desk.now _ c.serve-in-DecryptInit.result c.settle-in-DecryptInit.result (omega arith) c.settle-in-DecryptInit.ensures c.serve-in-DecryptInit.ensures
+returns-in-DecryptInit g c = call-done g.K.Keep.terms c.args.app c.args.others_have_sessions c.args.call (call.DecryptInit c.in-DecryptInit.session c.in-DecryptInit.mechanism c.in-DecryptInit.key) c.args.random.now c.in-DecryptInit.is 0 c.args.store.now _ c.args.desk.now _ c.serve-in-DecryptInit.result c.settle-in-DecryptInit.result (omega arith) c.settle-in-DecryptInit.ensures c.serve-in-DecryptInit.ensures g.met.K.Keep.sure
 
 pub returns-in-Decrypt : goal.returns-in-Decrypt
 unfolding answer_to
@@ -75,11 +74,11 @@ returns-in-DecryptFinal g c = call-asking g.K.Keep.terms c.args.app c.args.other
 
 pub returns-in-GetTokenInfo : goal.returns-in-GetTokenInfo
 unfolding answer_to
-returns-in-GetTokenInfo g c = call-done g.K.Keep.terms c.args.app c.args.others_have_sessions c.args.call (call.GetTokenInfo c.in-GetTokenInfo.slot) c.args.random.now c.in-GetTokenInfo.is 0 c.args.store.now _ c.args.desk.now _ c.serve.result c.settle.result (omega arith) c.settle.ensures c.serve.ensures
+returns-in-GetTokenInfo g c = call-done g.K.Keep.terms c.args.app c.args.others_have_sessions c.args.call (call.GetTokenInfo c.in-GetTokenInfo.slot) c.args.random.now c.in-GetTokenInfo.is 0 c.args.store.now _ c.args.desk.now _ c.serve.result c.settle.result (omega arith) c.settle.ensures c.serve.ensures g.met.K.Keep.sure
 
 pub returns-in-InitToken : goal.returns-in-InitToken
 unfolding answer_to
-returns-in-InitToken g c = call-asked g.K.Keep.terms c.args.app c.args.others_have_sessions c.args.call (call.InitToken c.in-InitToken.slot c.in-InitToken.pin c.in-InitToken.label) c.args.random.now c.in-InitToken.is 1 (omega arith) c.args.store.now _ c.args.desk.now _ c.serve-in-InitToken.result c.settle_asking.result c.settle_asking.ensures c.serve-in-InitToken.ensures.asker c.serve-in-InitToken.ensures.done
+returns-in-InitToken g c = call-asked g.K.Keep.terms c.args.app c.args.others_have_sessions c.args.call (call.InitToken c.in-InitToken.slot c.in-InitToken.pin c.in-InitToken.label) c.args.random.now c.in-InitToken.is 1 (omega arith) c.args.store.now _ c.args.desk.now _ c.serve-in-InitToken.result c.settle_asking.result c.settle_asking.ensures c.serve-in-InitToken.ensures.asker c.serve-in-InitToken.ensures.done g.met.K.Keep.sure
 
 pub returns-in-InitPin : goal.returns-in-InitPin
 unfolding answer_to
@@ -87,11 +86,11 @@ returns-in-InitPin g c = call-unchecked g.K.Keep.terms c.args.app c.args.others_
 
 pub returns-in-SetPin : goal.returns-in-SetPin
 unfolding answer_to
-returns-in-SetPin g c = call-asked g.K.Keep.terms c.args.app c.args.others_have_sessions c.args.call (call.SetPin c.in-SetPin.session c.in-SetPin.old_pin c.in-SetPin.new_pin) c.args.random.now c.in-SetPin.is 1 (omega arith) c.args.store.now _ c.args.desk.now _ c.serve-in-SetPin.result c.settle_asking-in-SetPin.result c.settle_asking-in-SetPin.ensures c.serve-in-SetPin.ensures.asker c.serve-in-SetPin.ensures.done
+returns-in-SetPin g c = call-asked g.K.Keep.terms c.args.app c.args.others_have_sessions c.args.call (call.SetPin c.in-SetPin.session c.in-SetPin.old_pin c.in-SetPin.new_pin) c.args.random.now c.in-SetPin.is 1 (omega arith) c.args.store.now _ c.args.desk.now _ c.serve-in-SetPin.result c.settle_asking-in-SetPin.result c.settle_asking-in-SetPin.ensures c.serve-in-SetPin.ensures.asker c.serve-in-SetPin.ensures.done g.met.K.Keep.sure
 
 pub returns-in-Login : goal.returns-in-Login
 unfolding answer_to
-returns-in-Login g c = call-asked g.K.Keep.terms c.args.app c.args.others_have_sessions c.args.call (call.Login c.in-Login.session c.in-Login.user_type c.in-Login.pin) c.args.random.now c.in-Login.is 1 (omega arith) c.args.store.now _ c.args.desk.now _ c.serve-in-Login.result c.settle_asking-in-Login.result c.settle_asking-in-Login.ensures c.serve-in-Login.ensures.asker c.serve-in-Login.ensures.done
+returns-in-Login g c = call-asked g.K.Keep.terms c.args.app c.args.others_have_sessions c.args.call (call.Login c.in-Login.session c.in-Login.user_type c.in-Login.pin) c.args.random.now c.in-Login.is 1 (omega arith) c.args.store.now _ c.args.desk.now _ c.serve-in-Login.result c.settle_asking-in-Login.result c.settle_asking-in-Login.ensures c.serve-in-Login.ensures.asker c.serve-in-Login.ensures.done g.met.K.Keep.sure
 
 pub returns-in-Logout : goal.returns-in-Logout
 unfolding answer_to
@@ -116,15 +115,15 @@ returns-in-GenerateRandom g c = call-at-desk g.K.Keep.terms c.args.app c.args.ot
 
 pub returns-in-GenerateKey : goal.returns-in-GenerateKey
 unfolding answer_to
-returns-in-GenerateKey g c = call-done g.K.Keep.terms c.args.app c.args.others_have_sessions c.args.call (call.GenerateKey c.in-GenerateKey.session c.in-GenerateKey.mechanism c.in-GenerateKey.template) c.args.random.now c.in-GenerateKey.is 1 c.args.store.now _ c.args.desk.now _ c.serve-in-GenerateKey.result c.settle-in-GenerateKey.result (omega arith) c.settle-in-GenerateKey.ensures c.serve-in-GenerateKey.ensures
+returns-in-GenerateKey g c = call-done g.K.Keep.terms c.args.app c.args.others_have_sessions c.args.call (call.GenerateKey c.in-GenerateKey.session c.in-GenerateKey.mechanism c.in-GenerateKey.template) c.args.random.now c.in-GenerateKey.is 1 c.args.store.now _ c.args.desk.now _ c.serve-in-GenerateKey.result c.settle-in-GenerateKey.result (omega arith) c.settle-in-GenerateKey.ensures c.serve-in-GenerateKey.ensures g.met.K.Keep.sure
 
 pub returns-in-SignInit : goal.returns-in-SignInit
 unfolding answer_to
-returns-in-SignInit g c = call-done g.K.Keep.terms c.args.app c.args.others_have_sessions c.args.call (call.SignInit c.in-SignInit.session c.in-SignInit.mechanism c.in-SignInit.key) c.args.random.now c.in-SignInit.is 0 c.args.store.now _ c.args.desk.now _ c.serve-in-SignInit.result c.settle-in-SignInit.result (omega arith) c.settle-in-SignInit.ensures c.serve-in-SignInit.ensures
+returns-in-SignInit g c = call-done g.K.Keep.terms c.args.app c.args.others_have_sessions c.args.call (call.SignInit c.in-SignInit.session c.in-SignInit.mechanism c.in-SignInit.key) c.args.random.now c.in-SignInit.is 0 c.args.store.now _ c.args.desk.now _ c.serve-in-SignInit.result c.settle-in-SignInit.result (omega arith) c.settle-in-SignInit.ensures c.serve-in-SignInit.ensures g.met.K.Keep.sure
 
 pub returns-in-VerifyInit : goal.returns-in-VerifyInit
 unfolding answer_to
-returns-in-VerifyInit g c = call-done g.K.Keep.terms c.args.app c.args.others_have_sessions c.args.call (call.VerifyInit c.in-VerifyInit.session c.in-VerifyInit.mechanism c.in-VerifyInit.key) c.args.random.now c.in-VerifyInit.is 0 c.args.store.now _ c.args.desk.now _ c.serve-in-VerifyInit.result c.settle-in-VerifyInit.result (omega arith) c.settle-in-VerifyInit.ensures c.serve-in-VerifyInit.ensures
+returns-in-VerifyInit g c = call-done g.K.Keep.terms c.args.app c.args.others_have_sessions c.args.call (call.VerifyInit c.in-VerifyInit.session c.in-VerifyInit.mechanism c.in-VerifyInit.key) c.args.random.now c.in-VerifyInit.is 0 c.args.store.now _ c.args.desk.now _ c.serve-in-VerifyInit.result c.settle-in-VerifyInit.result (omega arith) c.settle-in-VerifyInit.ensures c.serve-in-VerifyInit.ensures g.met.K.Keep.sure
 
 pub returns-in-Sign : goal.returns-in-Sign
 unfolding answer_to
@@ -152,8 +151,8 @@ returns-in-VerifyFinal g c = call-asking g.K.Keep.terms c.args.app c.args.others
 
 pub returns-in-WrapKey : goal.returns-in-WrapKey
 unfolding answer_to
-returns-in-WrapKey g c = call-asked g.K.Keep.terms c.args.app c.args.others_have_sessions c.args.call (call.WrapKey c.in-WrapKey.session c.in-WrapKey.mechanism c.in-WrapKey.wrapping_key c.in-WrapKey.key c.in-WrapKey.buffer_len) c.args.random.now c.in-WrapKey.is 0 (omega arith) c.args.store.now _ c.args.desk.now _ c.serve-in-WrapKey.result c.settle_asking-in-WrapKey.result c.settle_asking-in-WrapKey.ensures c.serve-in-WrapKey.ensures.asker c.serve-in-WrapKey.ensures.done
+returns-in-WrapKey g c = call-asked g.K.Keep.terms c.args.app c.args.others_have_sessions c.args.call (call.WrapKey c.in-WrapKey.session c.in-WrapKey.mechanism c.in-WrapKey.wrapping_key c.in-WrapKey.key c.in-WrapKey.buffer_len) c.args.random.now c.in-WrapKey.is 0 (omega arith) c.args.store.now _ c.args.desk.now _ c.serve-in-WrapKey.result c.settle_asking-in-WrapKey.result c.settle_asking-in-WrapKey.ensures c.serve-in-WrapKey.ensures.asker c.serve-in-WrapKey.ensures.done g.met.K.Keep.sure
 
 pub returns-in-UnwrapKey : goal.returns-in-UnwrapKey
 unfolding answer_to
-returns-in-UnwrapKey g c = call-asked g.K.Keep.terms c.args.app c.args.others_have_sessions c.args.call (call.UnwrapKey c.in-UnwrapKey.session c.in-UnwrapKey.mechanism c.in-UnwrapKey.unwrapping_key c.in-UnwrapKey.wrapped_key c.in-UnwrapKey.template) c.args.random.now c.in-UnwrapKey.is 0 (omega arith) c.args.store.now _ c.args.desk.now _ c.serve-in-UnwrapKey.result c.settle_asking-in-UnwrapKey.result c.settle_asking-in-UnwrapKey.ensures c.serve-in-UnwrapKey.ensures.asker c.serve-in-UnwrapKey.ensures.done
+returns-in-UnwrapKey g c = call-asked g.K.Keep.terms c.args.app c.args.others_have_sessions c.args.call (call.UnwrapKey c.in-UnwrapKey.session c.in-UnwrapKey.mechanism c.in-UnwrapKey.unwrapping_key c.in-UnwrapKey.wrapped_key c.in-UnwrapKey.template) c.args.random.now c.in-UnwrapKey.is 0 (omega arith) c.args.store.now _ c.args.desk.now _ c.serve-in-UnwrapKey.result c.settle_asking-in-UnwrapKey.result c.settle_asking-in-UnwrapKey.ensures c.serve-in-UnwrapKey.ensures.asker c.serve-in-UnwrapKey.ensures.done g.met.K.Keep.sure

@@ -12,6 +12,7 @@ returns-then-is_busy g c = rw (c.code.ensures) (record {
   says = search rules;
   counts = search rules;
   cause = search rules;
+  steady = search rules;
   plain = refl;
   stays = tt;
   short = λ few. tt;

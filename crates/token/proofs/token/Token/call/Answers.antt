@@ -1,6 +1,6 @@
 use Rattle.std.proofs.Common.{sym, ◌∙◌}
 use Rattle.model_runs.specs.Applications.{desk_at}
-use Rattle.model_runs.proofs.Called.{shows-called, says-called, leaves-called, blames-device, stays-called, short-called}
+use Rattle.model_runs.proofs.Called.{lacks-called, next-called, shows-called, says-called, leaves-called, blames-device, stays-called, short-called}
 use Rattle.token.proofs.token.Token.call.Goals as goal
 
 pub returns-clause-world : goal.returns-clause-world
@@ -26,3 +26,15 @@ returns-clause-stays g c = λ some. rw (← c.self.view_is) (stays-called c.serv
 
 pub returns-clause-short : goal.returns-clause-short
 returns-clause-short g c = λ few. rw c.told_as.ensures (short-called c.serve_app.result (c.serve_app.ensures.short few))
+
+-- ---- ids
+
+pub returns-clause-ids : goal.returns-clause-ids
+returns-clause-ids g c = λ sure.
+    rw (c.told_as.ensures, c.serve_app.ensures.checks, ← c.self.view_is) (λ w s. next-called _ _ _ _ _ _ c.args.app c.args.call c.args.random.now w s c.serve_app.ensures.others c.serve_app.result (c.serve_app.ensures.serves sure s.contents s.has (s.fits c.args.app)))
+
+pub returns-clause-steady : goal.returns-clause-steady
+returns-clause-steady g c =
+    rw (← c.self.view_is) (λ steady is w s.
+    let blamed = blames-device c.serve_app.result c.serve_app.ensures.plain (sym c.told_as.ensures ∙ is) in
+    lacks-called g.K.Keep.terms _ c.serve_app.new.store _ c.serve_app.new.desks.entries _ c.args.app c.args.call c.args.random.now w s c.serve_app.ensures.others (c.serve_app.ensures.steady steady blamed s.contents s.has (s.fits c.args.app)))

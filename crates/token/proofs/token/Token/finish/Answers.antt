@@ -3,7 +3,7 @@ use Rattle.std.proofs.lemmas.Bool.{true≢false}
 use Rattle.model_runs.specs.Applications.{desk_at}
 use Rattle.token.proofs.Endings.{blames-device, short-result, stays-finished}
 use Rattle.model_runs.proofs.Jobs.{asked-of, told-has, told-other}
-use Rattle.model_runs.proofs.Resulted.{taken, open-numbers, shows-open, tells-open, leaves-open}
+use Rattle.model_runs.proofs.Resulted.{lacks-taken, next-taken, taken, open-numbers, shows-open, tells-open, leaves-open}
 use Rattle.token.proofs.token.Token.finish.Goals as goal
 
 pub returns-clause-taken : goal.returns-clause-taken
@@ -52,3 +52,23 @@ returns-then-not-is_pending_job-clause-told g c = λ sure w s is.
 pub returns-then-not-is_pending_job-clause-leaves : goal.returns-then-not-is_pending_job-clause-leaves
 returns-then-not-is_pending_job-clause-leaves g c = λ sure w s is.
     absurd (true≢false (sym (told-has _ _ _ _ c.args.app c.args.done.job.value w (rw (← c.self.view_is) at s) (open-numbers w c.args.app c.args.done.job.value is)) ∙ sym c.is_pending_job.ensures ∙ c.if-not-is_pending_job.true))
+
+-- ---- ids
+
+pub returns-clause-ids : goal.returns-clause-ids
+returns-clause-ids g c = λ sure.
+    let f = rw c.deref.ensures.value at c.finish_app.ensures.finishes in
+    rw (c.told_result-reply.ensures, c.retain_others.ensures, ← c.self.view_is) (λ w s is.
+    let q = asked-of _ c.args.app c.args.done.job.value (open-numbers w c.args.app c.args.done.job.value is) in
+    shows-open w c.args.app c.args.done.job.value is _ _ _ _ (next-taken g.K.Keep.terms _ c.finish_app.new.store _ _ _ c.args.app c.args.done.job.value w s q.0 q.1 (λ b differ. rw (c.finish_app.ensures.others b differ) refl) c.finish_app.result (f.serves sure s.contents s.has (s.fits c.args.app))))
+
+pub returns-then-not-is_pending_job-clause-ids : goal.returns-then-not-is_pending_job-clause-ids
+returns-then-not-is_pending_job-clause-ids g c = λ sure w s is.
+    absurd (true≢false (sym (told-has _ _ _ _ c.args.app c.args.done.job.value w (rw (← c.self.view_is) at s) (open-numbers w c.args.app c.args.done.job.value is)) ∙ sym c.is_pending_job.ensures ∙ c.if-not-is_pending_job.true))
+
+pub returns-clause-steady : goal.returns-clause-steady
+returns-clause-steady g c =
+    let f = rw c.deref.ensures.value at c.finish_app.ensures.finishes in
+    rw (← c.self.view_is) (λ steady is w s.
+    let blamed = blames-device g.K.Keep.terms c.args.done.job.value _ _ _ (desk_at c.self.inside.desks.entries c.args.app) c.finish_app.result (desk_at c.finish_app.new.desks.entries c.args.app) c.finish_app.ensures.finishes (sym c.told_result-reply.ensures ∙ is) in
+    lacks-taken g.K.Keep.terms _ c.finish_app.new.store _ c.finish_app.new.desks.entries _ c.args.app c.args.done.job.value w s (f.steady steady blamed s.contents s.has (s.fits c.args.app)))
