@@ -14,3 +14,4 @@ pub mod GenerateKey
 pub mod WrapKey
 pub mod UnwrapKey
 pub mod Answers
+pub mod Standing
