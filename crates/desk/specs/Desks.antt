@@ -6,6 +6,7 @@ use Rattle.ck_types.specs.declared.entry.Entry.{Entry}
 use Rattle.attrs.specs.Objects.{flag}
 use Rattle.guard.specs.Access.{is_user_in}
 use Rattle.ck_types.specs.declared.attr_type.AttrType.TheVariants.{Private}
+use Rattle.ck_calls.specs.declared.call.Call.{Call}
 use Rattle.lists.specs.Indexes.{updated_where}
 use Rattle.mech.specs.declared.job.Job.{Job}
 use Rattle.handles.specs.Handles.{HandleTable, no_handles, public_handles}
@@ -14,19 +15,20 @@ use Rattle.desk.specs.declared.own_object.OwnObject.{OwnObject}
 use Rattle.ops.specs.Operations.{Operations, no_operations}
 
 -- The state of one application. It has its sessions with their operations and its login, its session objects in the order of
--- their creation, and its handles of token objects. Then it has the pending call, and the number of the next job.
+-- their creation, and its handles of token objects. Then it has the pending call with its job, and the number of the next job.
 -- `own_capacity` is how many session objects fit without an allocation.
 pub record DeskState : Type 0 where
   pub sessions : SessionTable Operations
   pub own : List OwnObject
   pub own_capacity : ℕ
   pub handles : HandleTable
+  pub call : Option Call
   pub question : Option Job
   pub next_question : ℕ
 
 -- the desk of an application that has none yet
 abbrev pub empty_desk : DeskState
-empty_desk = record { sessions = no_sessions; own = []; own_capacity = 0; handles = no_handles; question = None; next_question = 1 }
+empty_desk = record { sessions = no_sessions; own = []; own_capacity = 0; handles = no_handles; call = None; question = None; next_question = 1 }
 
 -- the same but for capacities
 abbrev pub SameDesk : DeskState → DeskState → Type 0
@@ -87,3 +89,11 @@ logged_out_desk d =
 -- the call is pending that this job answers
 abbrev pub with_question : DeskState → Job → DeskState
 with_question d job = record d { question = Some job; next_question = d.next_question + 1 }
+
+-- and it is seen which call that is
+abbrev pub with_call : DeskState → Call → DeskState
+with_call d c = record d { call = Some c }
+
+-- no call is pending any more
+abbrev pub over : DeskState → DeskState
+over d = record d { call = None; question = None }

@@ -9,13 +9,14 @@ ghost use Rattle.handles.specs.Handles.{IsTable as IsHandleTable};
 ghost use Rattle.sessions.specs.Sessions.{session_at, state_of, has_read_only, with_session, with_work, IsTable};
 ghost use Rattle.guard.specs.Access.{is_user_in};
 ghost use Rattle.ops.specs.Operations.{mac_in, mac_of, no_operations, operation_in, operation_of, search_in, with_mac, with_operation, with_search};
-ghost use Rattle.desk.specs.Desks.{DeskState, SameDesk, IsDiscreet, empty_desk, is_busy, own_at, replaced_own, closed, all_closed, logged_out_desk, with_question};
+ghost use Rattle.desk.specs.Desks.{DeskState, SameDesk, IsDiscreet, empty_desk, is_busy, own_at, replaced_own, closed, all_closed, logged_out_desk, over, with_call, with_question};
 ghost use Rattle.attrs.specs.Objects.{flag};
 ghost use Rattle.ck_types.specs.declared.attr_type.AttrType.TheVariants.{Private};
 
 use crate::own_object::OwnObject;
 use crate::question::Question;
 use attrs::Object;
+use ck_calls::Call;
 use ck_types::{AttrType, MAX_SESSION_OBJECTS, SessionState, UserType};
 use handles::Handles;
 use lists::NUMBER_LIMIT;
@@ -25,6 +26,7 @@ use ops::{MacPlace, Place, Places, Search};
 use sessions::Sessions;
 use std::alloc::{AllocError, Global};
 use std::marker::Model;
+use std::snapshot::Snapshot;
 use streams::Stream;
 
 /// One application's part of a token.
@@ -33,19 +35,20 @@ pub struct Desk {
     sessions: Sessions<Places>,
     own: Vec<OwnObject>,
     handles: Handles,
+    call: Option<Snapshot<Call>>,
     question: Option<Question>,
     next_question: u64,
 }
 
 impl Model for Desk {
-    ghost use Rattle.std.specs.Prelude.{vec_capacity};
+    ghost use Rattle.std.specs.Prelude.{option_map, vec_capacity};
     ghost use Rattle.desk.specs.Desks.{DeskState, IsDiscreet};
 
     ghost Value = { DeskState };
 
-    ghost view = { λ d. record { sessions = d.sessions; own = d.own.items; own_capacity = vec_capacity d.own; handles = d.handles; question = d.question; next_question = d.next_question } };
+    ghost view = { λ d. record { sessions = d.sessions; own = d.own.items; own_capacity = vec_capacity d.own; handles = d.handles; call = option_map (λ s. s.value) d.call; question = d.question; next_question = d.next_question } };
 
-    ghost invariant = { λ d. IsDiscreet (record { sessions = d.sessions; own = d.own.items; own_capacity = vec_capacity d.own; handles = d.handles; question = d.question; next_question = d.next_question }) };
+    ghost invariant = { λ d. IsDiscreet (record { sessions = d.sessions; own = d.own.items; own_capacity = vec_capacity d.own; handles = d.handles; call = option_map (λ s. s.value) d.call; question = d.question; next_question = d.next_question }) };
 }
 
 impl Desk {
@@ -57,6 +60,7 @@ impl Desk {
             sessions: Sessions::new(alloc),
             own: Vec::new(alloc),
             handles: Handles::new(alloc),
+            call: None,
             question: None,
             next_question: 1,
         }
@@ -363,10 +367,18 @@ impl Desk {
         self.question.as_ref()
     }
 
+    /// Notes which call is pending. The call is for contracts alone: none of its bytes is kept.
+    pub fn note_call(&mut self, call: Snapshot<Call>)
+        ensures { self.new ≡ with_call self.old call.value }
+    {
+        self.call = Some(call);
+    }
+
     /// The call is pending no more.
     pub fn end_question(&mut self)
-        ensures { self.new ≡ record self.old { question = None } }
+        ensures { self.new ≡ over self.old }
     {
+        self.call = None;
         self.question = None;
     }
 

@@ -1,18 +1,16 @@
 -- What a reader or a writer that counts its failures has counted. The kinds of errors are std's.
-use Rattle.std.specs.Prelude.{◌≡◌, ◌⊎◌, ℕ, ◌+◌, ◌-◌, ◌^◌, ◌<◌, ◌≤◌, Bool, List, [], ◌++◌, length, take, Result, Ok, Err}
+use Rattle.std.specs.Prelude.{◌≡◌, ◌⊎◌, ℕ, ◌+◌, ◌-◌, ◌^◌, ◌<◌, ◌≤◌, List, [], ◌++◌, length, take, Result, Ok, Err}
 use Rattle.std.specs.declared.io.Error.{Error}
 use Rattle.std.specs.declared.io.ErrorKind.TheVariants.{Interrupted}
 use Rattle.std.specs.IoError.{error_kind}
 use Rattle.keep.specs.Keeping.{Rises}
 
--- What it is made of, how many of its calls failed, how many were made, and which bytes were written since the last flush. Then whether
--- the last read filled its buffer.
+-- What it is made of, how many of its calls failed, how many were made, and which bytes were written since the last flush.
 pub record Noting (T : Type 0) : Type 0 where
   pub inner : T
   pub failures : ℕ
   pub calls : ℕ
   pub unflushed : List ℕ
-  pub full : Bool
 
 -- a call with this error may be made again
 abbrev pub IsInterruption : Error → Type 0

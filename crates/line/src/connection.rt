@@ -95,13 +95,6 @@ impl Connection {
         !self.out.is_empty()
     }
 
-    /// Whether bytes are held, which were read and not consumed.
-    pub fn is_holding(&self) -> bool
-        ensures { result ≡ not (length self.now.held == 0) }
-    {
-        !self.frames.is_empty()
-    }
-
     /// How many payloads were answered; at its greatest value the count stays.
     pub fn answered(&self) -> u64
         ensures { result ≡ min self.now.answered (2 ^ 64 - 1) }

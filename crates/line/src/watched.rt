@@ -1,6 +1,6 @@
 //! A reader or a writer that counts its failures.
 
-ghost use Rattle.std.specs.Prelude.{◌≡◌, ◌==◌, ◌↔◌, [], false, length, IfOk, IsTrue};
+ghost use Rattle.std.specs.Prelude.{◌≡◌, ◌↔◌, [], IsTrue};
 ghost use Rattle.std.specs.Io.{ReadsAtMost, WritesAtMost};
 ghost use Rattle.std.specs.Io.KnownBytes.{Keeps, ReadConsumes, WriteAppends};
 ghost use Rattle.keep.specs.Keeping.{Rises};
@@ -20,8 +20,6 @@ pub struct Watched<T> {
     failures: u64,
     calls: CallCount,
     unflushed: GhostBytes,
-    /// The last read filled its buffer.
-    is_full: bool,
 }
 
 impl<T> Model for Watched<T> {
@@ -29,7 +27,7 @@ impl<T> Model for Watched<T> {
 
     ghost Value = { Noting T };
 
-    ghost view = { λ n. record { inner = n.inner; failures = n.failures; calls = n.calls; unflushed = n.unflushed.bytes; full = n.is_full } };
+    ghost view = { λ n. record { inner = n.inner; failures = n.failures; calls = n.calls; unflushed = n.unflushed.bytes } };
 }
 
 /// Whether a read, a write or a flush may be tried again.
@@ -59,14 +57,13 @@ fn note(failures: &mut u64, error: &Error)
 impl<T> Watched<T> {
     /// A reader or a writer of which no call was made yet.
     pub fn new(inner: T) -> Watched<T>
-        ensures { result ≡ record { inner = inner; failures = 0; calls = 0; unflushed = []; full = false } }
+        ensures { result ≡ record { inner = inner; failures = 0; calls = 0; unflushed = [] } }
     {
         Watched {
             inner,
             failures: 0,
             calls: CallCount::new(),
             unflushed: GhostBytes::new(),
-            is_full: false,
         }
     }
 
@@ -75,13 +72,6 @@ impl<T> Watched<T> {
         ensures { result ≡ self.now.failures }
     {
         self.failures
-    }
-
-    /// Whether the last read filled its buffer, so that more may be there.
-    pub fn is_full(&self) -> bool
-        ensures { result ≡ self.now.full }
-    {
-        self.is_full
     }
 
     /// The reader or the writer itself.
@@ -99,14 +89,10 @@ impl<R: Read> Read for Watched<R> {
         ensures bound { ReadsAtMost result buf.new }
         ensures bytes { ReadConsumes (R.remaining self.old.inner) (R.remaining self.new.inner) result buf.new }
         ensures noted { Notes self.old self.new result }
-        ensures full { IfOk result (λ n. self.new.full ≡ (n == length buf.old)) }
     {
         self.calls.add();
         match self.inner.read(buf) {
-            Ok(count) => {
-                self.is_full = count == buf.len();
-                Ok(count)
-            }
+            Ok(count) => Ok(count),
             Err(error) => {
                 note(&mut self.failures, &error);
                 Err(error)

@@ -1,6 +1,6 @@
 //! What a client does.
 
-ghost use Rattle.std.specs.Prelude.{◌≡◌, ◌==◌, ◌<◌, if◌then◌else◌, [], length, not, true, false};
+ghost use Rattle.std.specs.Prelude.{◌≡◌, ◌==◌, ◌<◌, [], length, not, true, false};
 ghost use Rattle.line_places.specs.Coming.{Gave, SameApp, Takes};
 
 use crate::client::{Came, Client};
@@ -41,13 +41,6 @@ impl<R, W> Client<R, W> {
         ensures { result ≡ not (length self.now.connection.pending == 0) }
     {
         self.connection.is_pending()
-    }
-
-    /// Whether more may be there than was consumed: bytes are held, or the last read filled its buffer.
-    pub fn may_have_more(&self) -> bool
-        ensures { result ≡ (if self.now.reader.full then true else not (length self.now.connection.held == 0)) }
-    {
-        self.reader.is_full() || self.connection.is_holding()
     }
 }
 

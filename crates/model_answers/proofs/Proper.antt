@@ -12,7 +12,7 @@ mod MacInit
 mod Mac
 pub mod WrapKey
 pub mod UnwrapKey
-use Rattle.std.proofs.Common.{◌≡◌, ℕ, ◌^◌, Bool, true, false, cond, not, List, Option, Some, None, refl, ◌∙◌, ap}
+use Rattle.std.proofs.Common.{◌≡◌, ℕ, ◌^◌, Bool, true, false, cond, not, List, Option, Some, None, refl, sym, ◌∙◌, ap}
 use Rattle.std.specs.Prelude.{◌||◌, nat_le, is_some}
 use Rattle.std.specs.Option.{option_map}
 use Rattle.ck_types.specs.declared.rv.Rv.TheVariants.{FunctionFailed}
@@ -36,7 +36,7 @@ use Rattle.ck_calls.specs.declared.function.Function.{Function}
 use Rattle.ck_calls.specs.declared.function.Function.TheVariants as function
 use Rattle.model_views.proofs.Masks.{mask-twice}
 use Rattle.model_views.specs.Changes.{Stays, recorded}
-use Rattle.model_views.specs.Answering.{Said, Replies, Asks, Answer, Reveal, shown, mask_reveal, refuses, refuses_by, answered, is_closed, pin_checked_in}
+use Rattle.model_views.specs.Answering.{Said, Replies, Asks, Answer, Reveal, mask_said, noted, noted_by, shown, mask_reveal, refuses, refuses_by, answered, is_closed, pin_checked_in}
 use Rattle.model_answers.specs.Cipher.{ciphered}
 use Rattle.model_answers.specs.CipherInit.{place_for}
 use Rattle.model_answers.specs.Mac.{taken, signed, verified}
@@ -132,13 +132,26 @@ closed-mask v = ap (λ b. b || (nat_le (2 ^ 63) v.sessions.next_number || (nat_l
   out None = refl
   out (Some q) = refl
 
+-- the call that becomes pending is noted in the view alone
+pub shown-noted : (c : Call) (a : Answer) → shown (noted c a) ≡ noted c (shown a)
+shown-noted c a = at a.says where
+  at : (s : Said) → shown (noted_by c a s) ≡ noted_by c (shown a) (mask_said s)
+  at (Replies reply) = refl
+  at (Asks q) = refl
+
+pub fair-noted : {quiet : Bool} (c : Call) (v : View) (a : Answer) → IsFair quiet v a → IsFair quiet v (noted c a)
+fair-noted {quiet} c v a p = at a.says where
+  at : (s : Said) → IsFair quiet v (noted_by c a s)
+  at (Replies reply) = p
+  at (Asks q) = record { plain = p.plain; still = p.still; asks = p.asks; shows = p.shows; charges = p.charges; seats = p.seats }
+
 pub shown-answer : (v : View) (c : Call) (random : List ℕ) (r : Reveal) → shown (answer (mask v) c random (mask_reveal r)) ≡ shown (answer v c random r)
 unfolding answer
-shown-answer v c random r = blind-row v Busy _ (is_closed v) _ _ (closed-mask v) ((proper-answer_to c random).blind v r)
+shown-answer v c random r = blind-row v Busy _ (is_closed v) _ _ (closed-mask v) (shown-noted c _ ∙ ap (noted c) ((proper-answer_to c random).blind v r) ∙ sym (shown-noted c (answer_to v c random r)))
 
 pub fair-answer : (v : View) (c : Call) (random : List ℕ) (r : Reveal) → IsFair (is_still_function (function_of c)) v (answer v c random r)
 unfolding answer
-fair-answer v c random r = fair-row v Busy (is_closed v) refl ((proper-answer_to c random).fair v r)
+fair-answer v c random r = fair-row v Busy (is_closed v) refl (fair-noted c v (answer_to v c random r) ((proper-answer_to c random).fair v r))
 
 pub plain-answer : (v : View) (c : Call) (random : List ℕ) (r : Reveal) → resource_error_in (answer v c random r).says ≡ None
 plain-answer v c random r = (fair-answer v c random r).plain

@@ -15,7 +15,7 @@ use Rattle.ops.specs.declared.place.MacPlace.TheVariants as mac_place
 use Rattle.ops.specs.Operations.{Operation, MacOperation}
 use Rattle.streams.specs.declared.part.Part.{Part}
 use Rattle.model_views.specs.Views.{View, Question, Task, Ciphers, Takes, Signs, Verifies, WrapsKey, UnwrapsKey, ChecksPin, MakesPin, ChangesPin, InitsToken, ResetsToken}
-use Rattle.model_views.specs.Answering.{Answer, Reveal, refuses, refuses_by, answered, is_closed}
+use Rattle.model_views.specs.Answering.{Answer, Reveal, refuses, refuses_by, noted, answered, is_closed}
 use Rattle.model_session_answers.specs.GetTokenInfo.{get_token_info}
 use Rattle.model_session_answers.specs.Mechanisms.{get_mechanism_list, get_mechanism_info}
 use Rattle.model_answers.specs.GenerateKey.{generate_key}
@@ -88,7 +88,7 @@ answer_to v (call.UnwrapKey session mechanism unwrapping_key wrapped template) r
 answer_to v (call.GenerateRandom session len) random reveal = generate_random v session len random
 
 unfoldable pub answer : View → Call → List ℕ → Reveal → Answer
-answer v call random reveal = if is_closed v then refuses_by v Busy else answer_to v call random reveal
+answer v call random reveal = if is_closed v then refuses_by v Busy else noted call (answer_to v call random reveal)
 
 -- the answer to the result of the pending call, by its task
 abbrev pub answer_outcome : View → Question → Task → TaskResult → Reveal → Answer

@@ -1,5 +1,5 @@
--- What an answer that refuses leaves: the view as it was, but for an operation that it ends (PKCS #11 v3.1, 5.2). The result of
--- a pending call ends it, and may change tries.
+-- What an answer that refuses leaves: the view as it was, but for an operation that it ends (PKCS #11 v3.1, 5.2), and all that
+-- others see. The result of a pending call ends it, and may change tries.
 use Rattle.std.specs.Prelude.{◌≡◌, ◌⊎◌, ℕ, true, None}
 use Rattle.ck_calls.specs.declared.call.Call.{Call}
 use Rattle.ck_calls.specs.declared.call.Call.TheVariants as call
@@ -7,6 +7,7 @@ use Rattle.ops.specs.declared.place.Place.TheVariants as place
 use Rattle.ops.specs.declared.place.MacPlace.TheVariants as mac_place
 use Rattle.pin_record.specs.Records.{TokenRecord}
 use Rattle.model_views.specs.Views.{View, Question, Task, Ciphers, Takes, Signs, Verifies}
+use Rattle.model_views.specs.Changes.{Stays, Records}
 use Rattle.model_views.specs.Answering.{Answer, answered, with_operation, with_mac}
 use Rattle.model_views.specs.Refusals.{is_refused}
 use Rattle.model_answers.specs.CipherInit.{place_for}
@@ -31,9 +32,9 @@ ended_by _ v = v
 abbrev pub StandsAfter : Call → View → View → Type 0
 StandsAfter c v new = (new ≡ v) ⊎ (new ≡ ended_by c v)
 
--- an answer to a call leaves so much where it refuses
+-- an answer to a call leaves so much where it refuses, and others see nothing of it
 abbrev pub RefusesAlone : Call → View → Answer → Type 0
-RefusesAlone c v a = is_refused a.says ≡ true → StandsAfter c v a.view
+RefusesAlone c v a = is_refused a.says ≡ true → StandsAfter c v a.view × (a.change ≡ Stays)
 
 -- ---- results
 
@@ -49,11 +50,13 @@ ended_with session _ v = v
 abbrev pub retried : TokenRecord → ℕ → ℕ → TokenRecord
 retried r so user = record r { so = record r.so { tries = so }; user = record r.user { tries = user } }
 
--- the view after a refused result: the call is pending no more, its operation ended, and the tries are these
-pub record LeavesTries (v : View) (q : Question) (new : View) : Type 0 where
+-- an answer to a result whose call is pending no more, whose operation ended, and after which the tries are these
+pub record LeavesTries (v : View) (q : Question) (a : Answer) : Type 0 where
   pub so : ℕ
   pub user : ℕ
-  pub view : new ≡ ended_with q.session q.task (record (answered v) { token_record = retried v.token_record so user })
+  pub view : a.view ≡ ended_with q.session q.task (record (answered v) { token_record = retried v.token_record so user })
+  -- others see no more than the tries
+  pub change : (a.change ≡ Stays) ⊎ (a.change ≡ Records (retried v.token_record so user))
 
 abbrev pub FailsAlone : View → Question → Answer → Type 0
-FailsAlone v q a = is_refused a.says ≡ true → LeavesTries v q a.view
+FailsAlone v q a = is_refused a.says ≡ true → LeavesTries v q a

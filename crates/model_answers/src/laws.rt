@@ -16,8 +16,8 @@ pub fn blind_answers()
     ensures results { (v : View) (outcome : TaskResult) (r : Reveal) → shown (answer_result (mask v) (mask_outcome outcome) (mask_reveal r)) ≡ shown (answer_result v outcome r) }
 {}
 
-/// A refusal changes nothing that the application sees, but for an operation that it ends (PKCS #11 v3.1, 5.2). That of a result
-/// ends the pending call, and may change tries.
+/// A refusal changes nothing that the application or others see, but for an operation that it ends (PKCS #11 v3.1, 5.2). That
+/// of a result ends the pending call, and may change tries, which others see.
 pub fn refused_answers()
     ensures calls { (v : View) (call : Call) (random : List ℕ) (r : Reveal) → RefusesAlone call v (answer v call random r) }
     ensures results { (v : View) (q : Question) (outcome : TaskResult) (r : Reveal) → v.question ≡ Some q → FailsAlone v q (answer_result v outcome r) }

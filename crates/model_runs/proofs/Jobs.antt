@@ -211,6 +211,11 @@ pub asked-of : (o : Option Question) (app : ℕ) (job : Job) → HasNumbers o ap
 asked-of None app job has = absurd has
 asked-of (Some q) app job has = (q, refl)
 
+-- and its job
+pub job-of : (o : Option Job) (app : ℕ) (job : Job) → HasNumbers (option_map question_of o) app job → (j : Job) × (o ≡ Some j)
+job-of None app job has = absurd has
+job-of (Some j) app job has = (j, refl)
+
 and-false : (b : Bool) → (b && false) ≡ false
 and-false true = refl
 and-false false = refl
@@ -225,6 +230,3 @@ answer-other (Some j) app job (inr (inr f)) = rw (ne_eqb (function_number job.fu
 module _ {K : Type 0} (terms : Terms K) (store : StoreState K) (ds : List (ℕ × DeskState)) (cs : List Check) (app : ℕ) (job : Job) (w : World) (s : Shows terms (record { store = store; desks = ds; checks = cs }) w) where
   pub told-has : HasNumbers (w.views app).question app job → is_answer (desk_at ds app).question app job ≡ true
   told-has has = answer-has (desk_at ds app).question app job (rw (ap (λ v. v.question) (s.depicts.views app)) at has)
-
-  pub told-other : IsOther (w.views app).question app job → is_answer (desk_at ds app).question app job ≡ false
-  told-other other = answer-other (desk_at ds app).question app job (rw (ap (λ v. v.question) (s.depicts.views app)) at other)

@@ -11,7 +11,7 @@ use Rattle.model_views.specs.declared.fault.Fault.{Fault}
 use Rattle.model_views.specs.declared.fault.Fault.TheVariants.{Memory, Device}
 use Rattle.mech.specs.declared.job.Job.{Job}
 use Rattle.model_views.specs.TaskResults.{TaskResult}
-use Rattle.desk.specs.Desks.{DeskState, SameDesk, empty_desk}
+use Rattle.desk.specs.Desks.{DeskState, SameDesk, empty_desk, over}
 use Rattle.model_worlds.specs.declared.check.Check.{Check}
 use Rattle.model_worlds.specs.declared.event.Event.TheVariants.{Finish, Gone}
 use Rattle.serve_base.specs.declared.out.Out.TheVariants.{Reply as OutReply}
@@ -22,7 +22,7 @@ use Rattle.model_views.specs.Answering.{Replies, Answer, Reveal, answered}
 use Rattle.model_answers.specs.Answers.{answer_result}
 use Rattle.model_views.specs.Refusals.{resource_error_in, refusal, resource_error}
 use Rattle.model_worlds.specs.Worlds.{World, checks_of, others_checking, others_in_session, value_of, reveal_by_outcome, reveal_to_task, result_at, list_change, without_checks, stepped, unchecked, finished, finish_tells, finish_refusal, goes, happens, told, reply_to}
-use Rattle.serve_base.specs.Shown.{objects_of, view_of, question_of, over, Changes}
+use Rattle.serve_base.specs.Shown.{objects_of, view_of, question_of, Changes}
 use Rattle.model_runs.specs.Applications.{desk_at, are_others_in_session, reveal_by_job, told_result, moved, move_of, IsOpen, HasNumbers, HasJobs, opening, answer_by, answer_to_job, asked_by_job, by_job, taken_by, says_by, TokenState, Shows, ShowsAfter}
 use Rattle.serve_base.specs.Stores.{StoreState, Has, LacksId, Serves}
 use Rattle.model_runs.specs.Runs.{Lasting, lasting_of, lasting_in, MayLeave, LeavesBy, LeftBy, IsTakenBy, change_of, result_change}

@@ -1,5 +1,5 @@
 -- What a token is to all applications: the desk of each, and the world that the token refines by them.
-use Rattle.std.specs.Prelude.{◌≡◌, ◌≢◌, ◌⊎◌, ℕ, ◌+◌, ◌≤◌, ◌==◌, ◌&&◌, Bool, false, not, nat_lt, length, List, [], ◌∷◌, ◌++◌, map, filter, unwrap_or, option_to_list, Option, Some, None, Result, Ok, Err, IfOk, IfErr, IsErrOf}
+use Rattle.std.specs.Prelude.{◌≡◌, ◌≢◌, ◌⊎◌, ℕ, ◌+◌, ◌≤◌, ◌==◌, ◌&&◌, Bool, true, false, not, nat_lt, length, List, [], ◌∷◌, ◌++◌, map, filter, unwrap_or, option_to_list, Option, Some, None, Result, Ok, Err, IfOk, IfErr, IsErrOf}
 use Rattle.std.specs.Ordering.{nat_cmp}
 use Rattle.std.specs.BTreeMap.{is_at}
 use Rattle.std.specs.Map.{lookup, keys_of}
@@ -11,7 +11,7 @@ use Rattle.keep.specs.Keeping.{Counted, Rises, Terms}
 use Rattle.model_views.specs.declared.fault.Fault.{Fault}
 use Rattle.model_views.specs.declared.fault.Fault.TheVariants.{Device}
 use Rattle.mech.specs.declared.job.Job.{Job}
-use Rattle.desk.specs.Desks.{DeskState, SameDesk, empty_desk}
+use Rattle.desk.specs.Desks.{DeskState, SameDesk, empty_desk, over}
 use Rattle.ck_calls.specs.declared.reply.Reply.{Reply}
 use Rattle.ck_calls.specs.Functions.{function_number}
 use Rattle.model_worlds.specs.declared.event.Event.{Event}
@@ -19,12 +19,14 @@ use Rattle.serve_base.specs.declared.out.Out.{Out}
 use Rattle.serve_base.specs.declared.out.Out.TheVariants.{Reply as OutReply}
 use Rattle.model_worlds.specs.declared.check.Check.{Check}
 use Rattle.model_views.specs.Views.{Question, View, fresh}
-use Rattle.model_views.specs.Answering.{Said, Replies, Answer, Reveal, has_session, pin_checked_in}
+use Rattle.model_views.specs.Answering.{Said, Replies, Answer, Reveal, answered, has_session, pin_checked_in}
 use Rattle.model_answers.specs.Answers.{answer_result}
-use Rattle.model_views.specs.Refusals.{refusal, resource_error_in, resource_error}
+use Rattle.model_answers.specs.Standing.{ended_with}
+use Rattle.model_views.specs.Refusals.{is_refusal, refusal, resource_error_in, resource_error}
 use Rattle.model_worlds.specs.Worlds.{World, is_in_session, checks_of, Move, Goes, Refuses, value_of, reveal_by_outcome, reveal_to_task, stepped, unchecked, finish_refused}
+use Rattle.serve_base.specs.Refusing.{GivesAnyway}
 use Rattle.serve_base.specs.Short.{IsShort, IsShortTask}
-use Rattle.serve_base.specs.Shown.{objects_of, task_of, view_of, Fits, said_of, question_of, over}
+use Rattle.serve_base.specs.Shown.{objects_of, task_of, view_of, Fits, ShowsSame, said_of, question_of}
 use Rattle.serve_base.specs.Stores.{StoreState, Has, FailsForIds, Serves}
 
 -- ---- all desks
@@ -87,7 +89,8 @@ reveal_by_job job under_way others_have_sessions c = reveal_by_outcome (question
 
 -- The answer to the result of the job is given, or it is refused, and the desk has no pending call. At most one write is tried,
 -- and CKR_DEVICE_ERROR comes only where a failure of the keeper was counted. Over a steady keeper it comes only to an answer
--- that adds an object, where the ids are used up. What is returned of a short task is short.
+-- that adds an object, where the ids are used up. A refusal leaves what the desk shows without the pending call, or what the
+-- answer says, store faithful or not. What is returned of a short task is short.
 pub record Finishes {K : Type 0} (terms : Terms K) (job : Job) (reveal : Contents → Reveal) (old new : StoreState K) (before : DeskState) (result : Result Reply Fault) (desk : DeskState) : Type 0 where
   pub serves : terms.doubt new.keep ≡ 0 → (c : Contents) → Has terms old c → Fits c before.handles.entries → Serves terms Replies (answer_to_job job (view_of c before) (reveal c)) c old new before (over before) result desk
   pub counts : Counted terms old.keep new.keep 0 1
@@ -95,7 +98,12 @@ pub record Finishes {K : Type 0} (terms : Terms K) (job : Job) (reveal : Content
   pub steady : FailsForIds terms Device (λ c v. answer_to_job job v (reveal c)) old before result
   pub plain : IfOk result (λ reply. resource_error reply ≡ None)
   pub stays : IfErr result (λ fault. SameDesk (over before) desk)
+  pub refused : IfOk result (λ reply. is_refusal reply ≡ true → ShowsSame (over before) desk ⊎ GivesAnyway (λ c v. answer_to_job job v (reveal c)) before (Replies reply) desk)
   pub short : IsShortTask (task_of job.work.value) → IfOk result (λ reply. IsShort reply)
+
+-- a view, and what a refused result may leave of it
+abbrev pub StandsOver : Job → View → View → Type 0
+StandsOver job v new = (new ≡ answered v) ⊎ ((q : Question) × (v.question ≡ Some q) × (new ≡ ended_with q.session (question_of job).task (answered v)))
 
 -- the answer to the job's own value, and the world after it; or what a refusal leaves
 abbrev pub answer_by : World → ℕ → Job → Answer

@@ -2,3 +2,4 @@ pub mod Masks
 pub mod Blind
 pub mod Checks
 pub mod Seen
+pub mod Refused

@@ -6,6 +6,7 @@ use Rattle.ck_types.specs.declared.rv.Rv.{Rv}
 use Rattle.ck_types.specs.declared.rv.Rv.TheVariants.{Ok}
 use Rattle.ck_types.specs.declared.user_type.UserType.{UserType}
 use Rattle.ck_types.specs.declared.user_type.UserType.TheVariants.{So}
+use Rattle.ck_calls.specs.declared.call.Call.{Call}
 use Rattle.ck_calls.specs.declared.function.Function.{Function}
 use Rattle.ck_calls.specs.declared.reply.Reply.{Reply}
 use Rattle.ck_calls.specs.declared.reply.Reply.TheVariants.{Code}
@@ -112,9 +113,17 @@ asks_checked v function session task who =
     let r = charged v.token_record who in
     record { says = Asks q; view = record v { token_record = r; question = Some q; next_question = v.next_question + 1 }; change = Records r }
 
+-- the call that becomes pending is seen
+abbrev pub noted_by : Call → Answer → Said → Answer
+noted_by c a (Replies reply) = a
+noted_by c a (Asks q) = record a { view = record a.view { call = Some c } }
+
+abbrev pub noted : Call → Answer → Answer
+noted c a = noted_by c a a.says
+
 -- its pending call is over
 abbrev pub answered : View → View
-answered v = record v { question = None }
+answered v = record v { call = None; question = None }
 
 -- ---- sessions
 

@@ -5,6 +5,7 @@ use Rattle.std.specs.Option.{option_map}
 use Rattle.ck_types.specs.declared.entry.Entry.{Entry}
 use Rattle.ck_types.specs.declared.session_state.SessionState.{SessionState}
 use Rattle.ck_types.specs.declared.user_type.UserType.{UserType}
+use Rattle.ck_calls.specs.declared.call.Call.{Call}
 use Rattle.ck_calls.specs.declared.function.Function.{Function}
 use Rattle.attrs.specs.Masking.{mask as mask_object}
 use Rattle.guard.specs.Access.{is_visible}
@@ -51,7 +52,7 @@ pub data Task : Type 0 where
   Signs : (operation : MacOperation) (input : List ℕ) → Task
   -- C_Verify and C_VerifyFinal: whether a signature is that of the data
   Verifies : (operation : MacOperation) (input signature : List ℕ) → Task
-  -- C_WrapKey: the wrapping of a key's value. The wrapping key and the value may be left out.
+  -- C_WrapKey: the wrapping of a key's value. The wrapping key and the value may be left out; their handles are in the call.
   WrapsKey : (key value : Option (List ℕ)) → Task
   -- C_UnwrapKey: the key that a template makes of the value which is wrapped in the bytes, in a session of this state
   UnwrapsKey : (key : Option (List ℕ)) (wrapped : List ℕ) (state : SessionState) (template : List Entry) (random : List ℕ) → Task
@@ -65,7 +66,7 @@ pub data Task : Type 0 where
   InitsToken : (label pin salt : List ℕ) → Task
   ResetsToken : (label : List ℕ) (verifier : PinVerifier) (pin : List ℕ) → Task
 
--- the pending call, by its function and session, to which its result belongs
+-- what a pending call asks, by its function and session, to which its result belongs
 pub record Question : Type 0 where
   pub number : ℕ
   pub function : Function
@@ -80,6 +81,8 @@ pub record View : Type 0 where
   pub tokens : List TokenObject
   pub own : List SessionObject
   pub sessions : SessionTable Operations
+  -- the pending call, in which the handles of its keys are, and what it asks: both are there, or none
+  pub call : Option Call
   pub question : Option Question
   pub next_handle : ℕ
   pub next_question : ℕ
@@ -92,6 +95,7 @@ fresh token_record objects =
       tokens = map without_handle (filter (sees None) objects);
       own = [];
       sessions = no_sessions;
+      call = None;
       question = None;
       next_handle = 1;
       next_question = 1;
@@ -159,6 +163,7 @@ mask v =
       tokens = map mask_token_object v.tokens;
       own = map mask_session_object v.own;
       sessions = mask_sessions v.sessions;
+      call = v.call;
       question = option_map mask_question v.question;
       next_handle = v.next_handle;
       next_question = v.next_question;

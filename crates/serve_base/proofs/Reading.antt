@@ -1,6 +1,6 @@
 -- Calls that read the store, and then answer at the desk.
-use Rattle.std.proofs.Common.{◌≡◌, Option, Some, None, Result, Ok, Err, inl, refl, sym, ◌∙◌, ap, subst, arith}
-use Rattle.std.specs.Prelude.{IfErr}
+use Rattle.std.proofs.Common.{◌≡◌, ◌⊎◌, true, Option, Some, None, Result, Ok, Err, inl, refl, sym, ◌∙◌, ap, subst, arith}
+use Rattle.std.specs.Prelude.{IfErr, IfOk}
 use Rattle.std.specs.Option.{ok_or}
 use Rattle.std.specs.Result.{IsErrAnd}
 use Rattle.precede.specs.declared.condition.Condition.{Condition}
@@ -10,12 +10,12 @@ use Rattle.desk.specs.Desks.{DeskState, SameDesk}
 use Rattle.model_views.specs.Views.{View}
 use Rattle.model_views.specs.Changes.{Stays}
 use Rattle.model_views.specs.Answering.{Said, Answer, refuses_by}
-use Rattle.model_views.specs.Refusals.{resource_error_in}
+use Rattle.model_views.specs.Refusals.{is_refused, resource_error_in}
 use Rattle.model_views.proofs.Checks.{plain-row}
 use Rattle.serve_base.specs.declared.refusal.Refusal.{Refusal}
 use Rattle.serve_base.specs.declared.refusal.Refusal.TheVariants as refusals
-use Rattle.serve_base.specs.Refusing.{AtDesk, DoesAs, DoesAtDesk, IsDoneAs, IsPlainAs}
-use Rattle.serve_base.specs.Shown.{view_of, Fits}
+use Rattle.serve_base.specs.Refusing.{AtDesk, DoesAs, DoesAtDesk, EndsNone, IsDoneAs, IsPlainAs}
+use Rattle.serve_base.specs.Shown.{view_of, Fits, ShowsSame}
 use Rattle.serve_base.specs.Stores.{StoreState, Has, LeavesAsBefore}
 use Rattle.serve_base.proofs.Gaves.{gave-is, gave-quiet}
 use Rattle.serve_base.proofs.Plain.{some-fits}
@@ -43,9 +43,13 @@ module _ {K T : Type 0} (terms : Terms K) (tell : T → Said) (f a : View → An
   stays-read c (Err refusals.Memory) does = does
   stays-read c (Err refusals.Device) does = absurd does
 
-  pub done-read : (r : Result T Refusal) → KeepStays terms old.keep new.keep → new.ids ≡ old.ids → Counted terms old.keep new.keep 0 0 → ((v : View) → (a v).change ≡ Stays) → ((v : View) → resource_error_in (a v).says ≡ None)
+  refused-read : (r : Result T Refusal) → ((v : View) → is_refused (a v).says ≡ true → (a v).view ≡ v) → AtDesk tell a before r desk → IfOk r (λ out. is_refused (tell out) ≡ true → ShowsSame before desk ⊎ EndsNone (tell out))
+  refused-read (Ok out) alone at = λ is. inl (λ c fits. let gives = at.serves c fits in gives.view ∙ alone (view_of c before) (ap is_refused (sym gives.says) ∙ is))
+  refused-read (Err e) alone at = tt
+
+  pub done-read : (r : Result T Refusal) → KeepStays terms old.keep new.keep → new.ids ≡ old.ids → Counted terms old.keep new.keep 0 0 → ((v : View) → (a v).change ≡ Stays) → ((v : View) → resource_error_in (a v).says ≡ None) → ((v : View) → is_refused (a v).says ≡ true → (a v).view ≡ v)
       → (terms.doubt new.keep ≡ 0 → (c : Contents) → Has terms old c → Fits c before.handles.entries → f (view_of c before) ≡ a (view_of c before)) → AtDesk tell a before r desk → IsDoneAs terms tell 0 (λ c v. f v) old new before r desk
-  done-read r same ids counts still plain is at =
+  done-read r same ids counts still plain alone is at =
       let some = some-fits before.handles.entries in
       record {
         serves = λ sure c h fits. does-read c r (is sure c h fits) (still (view_of c before)) (has-still terms old new c same ids h) (λ l may. same.crash c l h.held may) (at.serves c fits);
@@ -53,6 +57,7 @@ module _ {K T : Type 0} (terms : Terms K) (tell : T → Said) (f a : View → An
         cause = λ device. absurd (at.cause device);
         plain = plain-read some.0 r (plain (view_of some.0 before)) (at.serves some.0 some.1);
         stays = stays-read some.0 r (at.serves some.0 some.1);
+        refused = refused-read r alone at;
         short = at.short;
       }
 
@@ -82,7 +87,7 @@ at-row {T} tell desk (Err e) row is = subst (λ x. AtDesk {T = T} tell (λ v. re
 module _ {K T : Type 0} (terms : Terms K) (tell : T → Said) (f : View → Answer) where
   pub done-row : (old new : StoreState K) (desk : DeskState) (r : Result T Refusal) (row : Condition) → IsErrAnd r (λ e. e ≡ refusals.Condition row) → KeepStays terms old.keep new.keep → new.ids ≡ old.ids → Counted terms old.keep new.keep 0 0
       → (terms.doubt new.keep ≡ 0 → (c : Contents) → Has terms old c → Fits c desk.handles.entries → f (view_of c desk) ≡ refuses_by (view_of c desk) row) → IsDoneAs terms tell 0 (λ c v. f v) old new desk r desk
-  done-row old new desk r row is same ids counts holds = done-read terms tell f (λ v. refuses_by v row) old new desk desk r same ids counts (λ v. refl) (λ v. plain-row row) holds (at-row tell desk r row is)
+  done-row old new desk r row is same ids counts holds = done-read terms tell f (λ v. refuses_by v row) old new desk desk r same ids counts (λ v. refl) (λ v. plain-row row) (λ v is. refl) holds (at-row tell desk r row is)
 
   -- before anything is read
   pub done-row-first : (store : StoreState K) (desk : DeskState) (r : Result T Refusal) (row : Condition) → IsErrAnd r (λ e. e ≡ refusals.Condition row) → ((c : Contents) → f (view_of c desk) ≡ refuses_by (view_of c desk) row) → IsDoneAs terms tell 0 (λ c v. f v) store store desk r desk

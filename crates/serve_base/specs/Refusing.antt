@@ -1,5 +1,5 @@
 -- What a call does whose refusals are an Err: nothing has changed then.
-use Rattle.std.specs.Prelude.{◌≡◌, ℕ, None, Result, Ok, Err, IsErrOf, IfErr, IfOk}
+use Rattle.std.specs.Prelude.{◌≡◌, ◌⊎◌, ℕ, true, None, Result, Ok, Err, IsErrOf, IfErr, IfOk}
 use Rattle.ck_types.specs.declared.rv.Rv.TheVariants as rv
 use Rattle.ck_calls.specs.declared.reply.Reply.{Reply}
 use Rattle.ck_calls.specs.declared.reply.Reply.TheVariants.{Code}
@@ -15,13 +15,13 @@ use Rattle.model_views.specs.declared.fault.Fault.{Fault}
 use Rattle.model_views.specs.declared.fault.Fault.TheVariants as faults
 use Rattle.model_views.specs.Views.{View}
 use Rattle.model_views.specs.Answering.{Said, Replies, Answer, refuses, refuses_by}
-use Rattle.model_views.specs.Refusals.{resource_error_in, resource_error}
+use Rattle.model_views.specs.Refusals.{is_refused, resource_error_in, resource_error}
 use Rattle.serve_base.specs.declared.out.Out.{Out}
 use Rattle.serve_base.specs.declared.out.Out.TheVariants.{Reply as OutReply}
 use Rattle.serve_base.specs.declared.refusal.Refusal.{Refusal}
 use Rattle.serve_base.specs.declared.refusal.Refusal.TheVariants as refusals
 use Rattle.serve_base.specs.Short.{IsShortSaid}
-use Rattle.serve_base.specs.Shown.{view_of, said_of, Fits, Gives}
+use Rattle.serve_base.specs.Shown.{view_of, said_of, Fits, Gives, ShowsSame}
 use Rattle.serve_base.specs.Stores.{StoreState, Has, LeavesAsBefore, FailsForIds, LacksId, Gave, Refused, Served}
 
 -- the refusal that a keeper's fault is
@@ -33,6 +33,12 @@ of_fault _ = refusals.Device
 abbrev pub of_make_fault : MakeFault → Refusal
 of_make_fault (make_faults.Refused code) = refusals.Code code
 of_make_fault make_faults.Memory = refusals.Memory
+
+-- ---- what a refusal leaves
+
+-- the answer is given to what the desk shows, whatever is kept
+abbrev pub GivesAnyway : (Contents → View → Answer) → DeskState → Said → DeskState → Type 0
+GivesAnyway f before said desk = (c : Contents) → Fits c before.handles.entries → Gives (f c (view_of c before)) before.sessions.login c said c desk
 
 -- ---- at the desk alone
 
@@ -76,6 +82,10 @@ abbrev pub DoneAs : {K T : Type 0} → Terms K → (T → Said) → (Contents �
 DoneAs terms tell f old new before result desk =
     terms.doubt new.keep ≡ 0 → (c : Contents) → Has terms old c → Fits c before.handles.entries → DoesAs terms tell (f c (view_of c before)) c old new before result desk
 
+-- no operation ends by a refusal
+abbrev pub EndsNone : Said → Type 0
+EndsNone said = ⊥
+
 -- what is returned is no resource error, nor is the code of a refusal
 abbrev pub IsPlainAs : {T : Type 0} → (T → Said) → Result T Refusal → Type 0
 IsPlainAs tell (Ok out) = resource_error_in (tell out) ≡ None
@@ -86,17 +96,19 @@ IsPlainAs tell (Err refusals.Device) = Unit {0}
 
 -- What a call or the result of its job does, in one clause. While the store is faithful its answer is given or refused. It
 -- tries no more than so many writes, and CKR_DEVICE_ERROR comes only where a failure of the keeper was counted. Whether or
--- not the store is faithful, a refusal leaves the desk but for capacities, and what is returned is short where this is given.
-pub record IsDoneIf (given : Type 0) {K T : Type 0} (terms : Terms K) (tell : T → Said) (writes : ℕ) (f : Contents → View → Answer) (old new : StoreState K) (before : DeskState) (result : Result T Refusal) (desk : DeskState) : Type 0 where
+-- not the store is faithful, a refusal leaves what the desk shows, unless it ends an operation. What is returned is short where
+-- this is given.
+pub record IsDoneIf (given : Type 0) (ends : Said → Type 0) {K T : Type 0} (terms : Terms K) (tell : T → Said) (writes : ℕ) (f : Contents → View → Answer) (old new : StoreState K) (before : DeskState) (result : Result T Refusal) (desk : DeskState) : Type 0 where
   pub serves : DoneAs terms tell f old new before result desk
   pub counts : Counted terms old.keep new.keep 0 writes
   pub cause : IsErrOf result refusals.Device → Rises (terms.failures old.keep) (terms.failures new.keep)
   pub plain : IsPlainAs tell result
   pub stays : IfErr result (λ refusal. SameDesk before desk)
+  pub refused : IfOk result (λ out. is_refused (tell out) ≡ true → ShowsSame before desk ⊎ ends (tell out))
   pub short : given → IfOk result (λ out. IsShortSaid (tell out))
 
 abbrev pub IsDoneAs : {K T : Type 0} → Terms K → (T → Said) → ℕ → (Contents → View → Answer) → StoreState K → StoreState K → DeskState → Result T Refusal → DeskState → Type 0
-IsDoneAs terms tell writes f old new before result desk = IsDoneIf (Unit {0}) terms tell writes f old new before result desk
+IsDoneAs terms tell writes f old new before result desk = IsDoneIf (Unit {0}) EndsNone terms tell writes f old new before result desk
 
 -- ---- and where it replies, to the view alone
 
@@ -122,7 +134,8 @@ settled as_out (Ok out) = Ok (as_out out)
 settled as_out (Err refusal) = refused_as refusal
 
 -- And in one clause, in which what is returned is short where this is given. Over a steady keeper CKR_DEVICE_ERROR comes only
--- to an answer that adds an object, where the ids are used up.
+-- to an answer that adds an object, where the ids are used up. A refusal leaves what the desk shows, or what the answer
+-- says, store faithful or not.
 pub record IsServedIf (given : Type 0) {K : Type 0} (terms : Terms K) (kind : Out → Type 0) (f : View → Answer) (old new : StoreState K) (before : DeskState) (result : Result Out Fault) (desk : DeskState) : Type 0 where
   pub serves : Served terms said_of f old new before before result desk
   pub says : IfOk result kind
@@ -131,4 +144,5 @@ pub record IsServedIf (given : Type 0) {K : Type 0} (terms : Terms K) (kind : Ou
   pub steady : FailsForIds terms faults.Device (λ c. f) old before result
   pub plain : IfOk result (λ out. resource_error_in (said_of out) ≡ None)
   pub stays : IfErr result (λ fault. SameDesk before desk)
+  pub refused : IfOk result (λ out. is_refused (said_of out) ≡ true → ShowsSame before desk ⊎ GivesAnyway (λ c. f) before (said_of out) desk)
   pub short : given → IfOk result (λ out. IsShortSaid (said_of out))

@@ -58,6 +58,7 @@ view_of c d =
       tokens = map (token_object d) (filter (sees_kept d.sessions.login) c.objects);
       own = map session_object d.own;
       sessions = d.sessions;
+      call = d.call;
       question = option_map question_of d.question;
       next_handle = d.handles.next_number;
       next_question = d.next_question;
@@ -70,6 +71,10 @@ IsNoted hs e = AllByRecursion (λ h. h.id ≡ e.0 → h.private ≡ not (is_publ
 pub record Fits (c : Contents) (hs : List Handle) : Type 0 where
   pub given : AllByRecursion (λ h. h.id ≤ c.last_id) hs
   pub noted : AllByRecursion (IsNoted hs) c.objects
+
+-- a desk shows what another one showed, whatever is kept
+abbrev pub ShowsSame : DeskState → DeskState → Type 0
+ShowsSame old new = (c : Contents) → Fits c old.handles.entries → view_of c new ≡ view_of c old
 
 -- ---- what is kept changes
 
@@ -92,10 +97,6 @@ Changes (Records r) old new = new ≡ with_record r old
 Changes (Resets r) old new = new ≡ after_reset r old
 
 -- ---- what is returned
-
--- a desk after the result of its job
-abbrev pub over : DeskState → DeskState
-over d = record d { question = None }
 
 abbrev pub said_of : Out → Said
 said_of (OutReply reply) = Replies reply

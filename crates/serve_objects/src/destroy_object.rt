@@ -1,18 +1,19 @@
 //! C_DestroyObject (PKCS #11 v3.1, 5.7.3).
 
-ghost use Rattle.std.specs.Prelude.{◌≡◌, List, IfErr, IfOk, IsErrOf};
+ghost use Rattle.std.specs.Prelude.{◌≡◌, ◌⊎◌, true, List, IfErr, IfOk, IsErrOf};
 ghost use Rattle.ck_types.specs.declared.entry.Entry.{Entry};
 ghost use Rattle.desk.specs.Desks.{SameDesk};
 ghost use Rattle.handles.specs.Handles.{IsTable};
 ghost use Rattle.keep.specs.Contents.{Contents};
 ghost use Rattle.keep.specs.Keeping.{Counted, Rises};
-ghost use Rattle.model_views.specs.Answering.{index_of};
+ghost use Rattle.model_views.specs.Answering.{Replies, index_of};
+ghost use Rattle.model_views.specs.Refusals.{is_refusal};
 ghost use Rattle.model_answers.specs.DestroyObject.{destroy_object, destroyed};
 ghost use Rattle.serve_base.specs.declared.refusal.Refusal.TheVariants.{Device};
 ghost use Rattle.serve_base.specs.Found.{IsAt};
-ghost use Rattle.serve_base.specs.Refusing.{Does, IsDone, IsPlain};
+ghost use Rattle.serve_base.specs.Refusing.{Does, EndsNone, IsDone, IsPlain};
 ghost use Rattle.serve_base.specs.Short.{IsShort};
-ghost use Rattle.serve_base.specs.Shown.{Fits, view_of};
+ghost use Rattle.serve_base.specs.Shown.{Fits, ShowsSame, view_of};
 ghost use Rattle.serve_base.specs.Stores.{Has};
 
 use ck_calls::Reply;
@@ -59,6 +60,7 @@ fn destroy<K: Keep>(
     ensures cause { IsErrOf result Device → Rises (K.terms.failures store.old.keep) (K.terms.failures store.new.keep) }
     ensures plain { IsPlain result }
     ensures stays { IfErr result (λ refusal. SameDesk desk.old desk.new) }
+    ensures refused { IfOk result (λ reply. is_refusal reply ≡ true → ShowsSame desk.old desk.new ⊎ EndsNone (Replies reply)) }
     ensures short { IfOk result (λ reply. IsShort reply) }
 {
     match id {

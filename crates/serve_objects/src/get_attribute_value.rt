@@ -3,7 +3,7 @@
 ghost use Rattle.std.specs.Prelude.{◌≡◌, ◌≤◌, ◌∷◌, [], IfOk, length};
 ghost use Rattle.model_views.specs.Answering.{Replies};
 ghost use Rattle.model_answers.specs.GetAttributeValue.{attribute_told, attributes_told, code_of_all, get_attribute_value, has_code, unavailable};
-ghost use Rattle.serve_base.specs.Refusing.{IsDoneIf};
+ghost use Rattle.serve_base.specs.Refusing.{EndsNone, IsDoneIf};
 ghost use Rattle.serve_base.specs.Short.{IsShort};
 
 use attrs::{Object, find_attribute};
@@ -27,7 +27,7 @@ pub fn serve<K: Keep>(
     handle: u64,
     query: &Query,
 ) -> Result<Reply, Refusal>
-    ensures { IsDoneIf (length query.now ≤ MAX_ENTRIES) K.terms Replies 0 (λ c v. get_attribute_value v session handle query.now) store.old store.new desk.now result desk.now }
+    ensures { IsDoneIf (length query.now ≤ MAX_ENTRIES) EndsNone K.terms Replies 0 (λ c v. get_attribute_value v session handle query.now) store.old store.new desk.now result desk.now }
 {
     let _ = desk.state(session).ok_or(Condition::NoSession)?;
     let found = find(alloc, desk, store, handle)?.ok_or(Condition::NoObject)?;

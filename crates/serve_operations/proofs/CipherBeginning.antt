@@ -10,14 +10,15 @@ use Rattle.streams.specs.declared.mechanism.Mechanism.{Mechanism as Cipher}
 use Rattle.attrs.specs.Masking.{is_secret_key}
 use Rattle.attrs.specs.Objects.{flag, class_of, key_type_of}
 use Rattle.precede.specs.declared.condition.Condition.{Condition}
-use Rattle.precede.specs.declared.condition.Condition.TheVariants.{OperationActive, NoKey}
+use Rattle.precede.specs.declared.condition.Condition.TheVariants.{OperationActive, NoKey, WrongKeyType, KeyNotPermitted}
 use Rattle.ops.specs.Operations.{operation_in}
 use Rattle.model_views.specs.Views.{View}
 use Rattle.model_views.specs.Changes.{Stays}
 use Rattle.model_views.specs.Answering.{Answer, refuses_by, session_of, object_at}
 use Rattle.model_views.specs.Checked.{is_aes}
 use Rattle.model_views.specs.Refusals.{resource_error_in}
-use Rattle.model_answers.specs.CipherInit.{permission, place_for, cipher_at, with_parameter, cipher_init}
+use Rattle.model_views.proofs.Refused.{OnRefusal, no-refusal, refusal-if, refusal-row}
+use Rattle.model_answers.specs.CipherInit.{begins, permission, place_for, cipher_at, with_parameter, cipher_init}
 use Rattle.serve_operations.specs.CipherBeginning.{by_key, cipher_by, cipher_of, cipher_for}
 
 -- ---- the answer
@@ -63,3 +64,10 @@ quiet-if false x y first other = other
 
 pub quiet-key : (d : Direction) (session : ℕ) (cipher : Cipher) (o : List Entry) (v : View) → IsQuiet (by_key d v session cipher o)
 quiet-key d session cipher o v = quiet-if (not (is_secret_key (class_of o))) _ _ (refl, refl) (quiet-if (not (is_aes (key_type_of o))) _ _ (refl, refl) (quiet-if (not (flag o (permission d))) _ _ (refl, refl) (refl, refl)))
+
+-- a key that is refused leaves the view
+pub alone-key : (d : Direction) (session : ℕ) (cipher : Cipher) (o : List Entry) (v : View) → OnRefusal (λ (a : Answer). a.view ≡ v) (by_key d v session cipher o)
+alone-key d session cipher o v =
+    refusal-if (not (is_secret_key (class_of o))) (refusal-row v NoKey refl) (
+    refusal-if (not (is_aes (key_type_of o))) (refusal-row v WrongKeyType refl) (
+    refusal-if (not (flag o (permission d))) (refusal-row v KeyNotPermitted refl) (no-refusal {a = begins d v session cipher o} refl)))

@@ -11,7 +11,7 @@ use Rattle.macs.specs.declared.mechanism.Mechanism.TheVariants.{Sha224Hmac, Sha2
 use Rattle.attrs.specs.Masking.{is_secret_key}
 use Rattle.attrs.specs.Objects.{flag, class_of, key_type_of}
 use Rattle.precede.specs.declared.condition.Condition.{Condition}
-use Rattle.precede.specs.declared.condition.Condition.TheVariants.{OperationActive, NoKey}
+use Rattle.precede.specs.declared.condition.Condition.TheVariants.{OperationActive, NoKey, WrongKeyType, KeyNotPermitted}
 use Rattle.ops.specs.declared.place.MacPlace.{MacPlace}
 use Rattle.ops.specs.declared.place.MacPlace.TheVariants.{Sign, Verify}
 use Rattle.ops.specs.Operations.{mac_in}
@@ -20,7 +20,8 @@ use Rattle.model_views.specs.Changes.{Stays}
 use Rattle.model_views.specs.Answering.{Answer, refuses_by, session_of, object_at}
 use Rattle.model_views.specs.Checked.{is_of_type}
 use Rattle.model_views.specs.Refusals.{resource_error_in}
-use Rattle.model_answers.specs.MacInit.{mac_permission, mac_type_at, mac_mechanism_with, mac_init}
+use Rattle.model_views.proofs.Refused.{OnRefusal, no-refusal, refusal-if, refusal-row}
+use Rattle.model_answers.specs.MacInit.{mac_begins, mac_permission, mac_type_at, mac_mechanism_with, mac_init}
 use Rattle.serve_operations.specs.MacBeginning.{Chosen, IsOfKind, by_key, mac_mechanism_by, mac_mechanism_of, mac_mechanism_for}
 
 -- ---- a mechanism is of a kind
@@ -106,3 +107,10 @@ quiet-if false x y first other = other
 
 pub quiet-key : (p : MacPlace) (session : ℕ) (kind : MechType) (mac_mechanism : MacMechanism) (o : List Entry) (v : View) → IsQuiet (by_key p v session kind mac_mechanism o)
 quiet-key p session kind mac_mechanism o v = quiet-if (not (is_secret_key (class_of o))) _ _ (refl, refl) (quiet-if (not (is_of_type (key_type_for kind) (key_type_of o))) _ _ (refl, refl) (quiet-if (not (flag o (mac_permission p))) _ _ (refl, refl) (refl, refl)))
+
+-- a key that is refused leaves the view
+pub alone-key : (p : MacPlace) (session : ℕ) (kind : MechType) (mac_mechanism : MacMechanism) (o : List Entry) (v : View) → OnRefusal (λ (a : Answer). a.view ≡ v) (by_key p v session kind mac_mechanism o)
+alone-key p session kind mac_mechanism o v =
+    refusal-if (not (is_secret_key (class_of o))) (refusal-row v NoKey refl) (
+    refusal-if (not (is_of_type (key_type_for kind) (key_type_of o))) (refusal-row v WrongKeyType refl) (
+    refusal-if (not (flag o (mac_permission p))) (refusal-row v KeyNotPermitted refl) (no-refusal {a = mac_begins p v session mac_mechanism o} refl)))

@@ -7,7 +7,7 @@ ghost use Rattle.pin_record.specs.Records.{tries_limit, tries_of, verifier_of};
 ghost use Rattle.model_views.specs.Answering.{Replies};
 ghost use Rattle.model_views.specs.Refusals.{resource_error};
 ghost use Rattle.model_session_answers.specs.Pins.{is_pin_length, resets};
-ghost use Rattle.serve_base.specs.Refusing.{IsDone, IsDoneIf};
+ghost use Rattle.serve_base.specs.Refusing.{EndsNone, IsDone, IsDoneIf};
 ghost use Rattle.serve_base.specs.Short.{IsShortTask};
 ghost use Rattle.serve_base.specs.Shown.{IsFor, said_of, task_of};
 ghost use Rattle.serve_sessions.specs.Recording.{asks_charged, codes_with};
@@ -45,7 +45,7 @@ pub(crate) fn ask_charged<K: Keep>(
     requires runnable { IsTrue (is_runnable work) }
     requires set { is_some (verifier_of «record» who) ≡ true }
     requires unlocked { tries_of «record» who < tries_limit }
-    ensures done { IsDoneIf (IsShortTask (task_of work)) K.terms said_of 1 (λ c v. asks_charged «record» v function session (task_of work) who) store.old store.new desk.old result desk.new }
+    ensures done { IsDoneIf (IsShortTask (task_of work)) EndsNone K.terms said_of 1 (λ c v. asks_charged «record» v function session (task_of work) who) store.old store.new desk.old result desk.new }
     ensures asker { IfOk result (IsFor app) }
 {
     let job = new_job(alloc, app, desk, function, session, work)?;

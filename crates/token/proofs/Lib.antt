@@ -2,4 +2,5 @@ pub mod Outcomes
 mod Shortness
 pub mod Endings
 pub mod Dispatching
+pub mod Refused
 pub mod States

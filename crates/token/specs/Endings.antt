@@ -6,6 +6,7 @@ use Rattle.ck_types.specs.declared.user_type.UserType.TheVariants.{So, User}
 use Rattle.ck_calls.specs.declared.reply.Reply.{Reply}
 use Rattle.ck_calls.specs.declared.reply.Reply.TheVariants.{Code}
 use Rattle.precede.specs.Condition.{code_of}
+use Rattle.keep.specs.Contents.{Contents}
 use Rattle.keep.specs.Keeping.{Terms}
 use Rattle.mech.specs.declared.outcome.Outcome.{Outcome}
 use Rattle.mech.specs.declared.work.Work.{Work}
@@ -15,13 +16,13 @@ use Rattle.desk.specs.Desks.{DeskState}
 use Rattle.model_views.specs.declared.fault.Fault.{Fault}
 use Rattle.model_views.specs.declared.fault.Fault.TheVariants as faults
 use Rattle.model_worlds.specs.WorkResults.{told_of}
-use Rattle.model_views.specs.Views.{Question}
-use Rattle.model_views.specs.Answering.{Replies}
+use Rattle.model_views.specs.Views.{Question, View}
+use Rattle.model_views.specs.Answering.{Answer, Replies}
 use Rattle.model_answers.specs.Answers.{answer_outcome}
 use Rattle.model_worlds.specs.Worlds.{reveal_by_outcome}
 use Rattle.serve_base.specs.declared.refusal.Refusal.{Refusal}
 use Rattle.serve_base.specs.declared.refusal.Refusal.TheVariants as refusals
-use Rattle.serve_base.specs.Refusing.{IsDoneIf}
+use Rattle.serve_base.specs.Refusing.{GivesAnyway, IsDoneIf}
 use Rattle.serve_base.specs.Short.{most_data}
 use Rattle.serve_base.specs.Shown.{objects_of, task_of}
 use Rattle.serve_base.specs.Stores.{StoreState}
@@ -36,11 +37,17 @@ under_way_of o User = o.user_checks
 abbrev pub IsShortOutcome : Outcome → Type 0
 IsShortOutcome outcome = length (given_of outcome) ≤ most_data
 
--- The outcome of some work is answered as the definition of the pending call says, and shortly where it is short.
+-- the answer to an outcome, which is of this work
+abbrev pub outcome_answer : Outcome → Others → Work → Question → Contents → View → Answer
+outcome_answer outcome others work q c v =
+    answer_outcome v q (task_of work) (told_of outcome) (reveal_by_outcome (task_of work) (told_of outcome) (objects_of c) (under_way_of others) others.others_have_sessions)
+
+-- The outcome of some work is answered as the definition of the pending call says, and shortly where it is short. A refusal may
+-- end an operation, as the answer says.
 abbrev pub EndsBy : {K : Type 0} → Terms K → ℕ → Outcome → Others → StoreState K → StoreState K → DeskState → Result Reply Refusal → DeskState → Type 0
 EndsBy terms session outcome others old new before result desk =
     (work : Work) (q : Question) → outcome ≡ outcome_of work → q.session ≡ session
-    → IsDoneIf (IsShortOutcome outcome) terms Replies 1 (λ c v. answer_outcome v q (task_of work) (told_of outcome) (reveal_by_outcome (task_of work) (told_of outcome) (objects_of c) (under_way_of others) others.others_have_sessions)) old new before result desk
+    → IsDoneIf (IsShortOutcome outcome) (λ said. GivesAnyway (outcome_answer outcome others work q) before said desk) terms Replies 1 (outcome_answer outcome others work q) old new before result desk
 
 -- what is returned for it
 abbrev pub settled_reply : Result Reply Refusal → Result Reply Fault

@@ -1,6 +1,7 @@
 //! The result of a pending call, at its desk: the one place where an outcome finds the function that takes it.
 
-ghost use Rattle.std.specs.Prelude.{◌≡◌, None};
+ghost use Rattle.std.specs.Prelude.{◌≡◌};
+ghost use Rattle.desk.specs.Desks.{over};
 ghost use Rattle.model_runs.specs.Applications.{Finishes, reveal_by_job};
 ghost use Rattle.token.specs.Endings.{EndsBy, settled_reply, under_way_of};
 
@@ -64,7 +65,7 @@ fn serve_outcome<K: Keep>(
     outcome: Outcome,
     others: &Others,
 ) -> Result<Reply, Refusal>
-    requires { desk.old.question ≡ None }
+    requires { over desk.old ≡ desk.old }
     ensures { EndsBy K.terms session outcome others.now store.old store.new desk.old result desk.new }
 {
     match outcome {

@@ -5,7 +5,7 @@ ghost use Rattle.ck_calls.specs.Need.{random_bytes};
 ghost use Rattle.desk.specs.Desks.{is_busy};
 ghost use Rattle.model_worlds.specs.Worlds.{reveal_by_call};
 ghost use Rattle.model_answers.specs.Answers.{answer, answer_to};
-ghost use Rattle.token.specs.Dispatching.{is_on_sessions};
+ghost use Rattle.token.specs.Dispatching.{is_on_sessions, noted_at};
 ghost use Rattle.serve_base.specs.Refusing.{IsServedIf};
 ghost use Rattle.serve_base.specs.Short.{IsShortCall};
 ghost use Rattle.serve_base.specs.Shown.{IsFor};
@@ -30,6 +30,7 @@ use serve_sessions::{
     init_pin, init_token, login, logout, open_session, set_pin,
 };
 use std::alloc::Global;
+use std::snapshot::Snapshot;
 
 /// A call with its random bytes.
 pub(crate) fn serve<K: Keep>(
@@ -47,6 +48,26 @@ pub(crate) fn serve<K: Keep>(
     if desk.is_busy() {
         return Ok(Out::Reply(Reply::Code(Condition::Busy.code(Rv::Ok))));
     }
+    let asked = Snapshot::of(&call);
+    let outcome = serve_taken(alloc, app, desk, store, call, random, others_have_sessions);
+    note_pending(desk, asked, &outcome);
+    outcome
+}
+
+/// A call that is taken. Those on sessions are answered first.
+fn serve_taken<K: Keep>(
+    alloc: Global,
+    app: u64,
+    desk: &mut Desk,
+    store: &mut Store<K>,
+    call: Call,
+    random: &[u8],
+    others_have_sessions: bool,
+) -> Result<Out, Fault>
+    requires random { length random.now ≡ random_bytes call }
+    requires free { is_busy desk.old ≡ false }
+    ensures { IsServedIf (IsShortCall call) K.terms (IsFor app) (λ v. answer_to v call random.now (reveal_by_call call others_have_sessions)) store.old store.new desk.old result desk.new }
+{
     match call {
         // Session management (PKCS #11 v3.1, 5.6).
         Call::OpenSession { slot, flags } => settle(open_session::serve(desk, slot, flags)),
@@ -54,6 +75,15 @@ pub(crate) fn serve<K: Keep>(
         Call::CloseAllSessions { slot } => settle(close_session::serve_all(desk, slot)),
         Call::GetSessionInfo { session } => settle(get_session_info::serve(desk, session)),
         call => dispatch(alloc, app, desk, store, call, random, others_have_sessions),
+    }
+}
+
+/// A call that became pending is noted.
+fn note_pending(desk: &mut Desk, call: Snapshot<Call>, outcome: &Result<Out, Fault>)
+    ensures { desk.new ≡ noted_at call.value outcome.now desk.old }
+{
+    if let Ok(Out::Ask(_)) = outcome {
+        desk.note_call(call);
     }
 }
 

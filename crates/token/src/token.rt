@@ -1,6 +1,6 @@
 //! The token: one event at a time.
 
-ghost use Rattle.std.specs.Prelude.{◌≡◌, ◌≢◌, ◌∷◌, ◌++◌, [], ℕ, ◌<◌, ◌≤◌, ◌==◌, ◌&&◌, not, All, IfErr, IfOk, IsErrOf, IsSome, None, OnErr, OnOk, Option, count_by, length, map, option_to_list, reverse, vec_capacity, vec_len};
+ghost use Rattle.std.specs.Prelude.{◌≡◌, ◌≢◌, ◌∷◌, ◌++◌, [], ℕ, ◌<◌, ◌≤◌, ◌==◌, ◌&&◌, true, not, All, IfErr, IfOk, IsErrOf, IsSome, None, OnErr, OnOk, Option, count_by, length, map, option_map, option_to_list, reverse, vec_capacity, vec_len};
 ghost use Rattle.std.specs.List.{position};
 ghost use Rattle.std.specs.BTreeMap.{get};
 ghost use Rattle.std.specs.Ordering.{nat_cmp};
@@ -8,7 +8,7 @@ ghost use Rattle.ck_calls.specs.declared.reply.Reply.TheVariants.{Code};
 ghost use Rattle.ck_calls.specs.Need.{random_bytes};
 ghost use Rattle.ck_types.specs.declared.rv.Rv.TheVariants.{DeviceError, FunctionFailed};
 ghost use Rattle.ck_types.specs.declared.user_type.UserType.{UserType as Who};
-ghost use Rattle.desk.specs.Desks.{SameDesk, empty_desk};
+ghost use Rattle.desk.specs.Desks.{SameDesk, empty_desk, over};
 ghost use Rattle.keep.specs.Contents.{Contents};
 ghost use Rattle.pin_record.specs.Charges.{is_same};
 ghost use Rattle.pin_record.specs.Records.{tries_limit, tries_of};
@@ -20,12 +20,14 @@ ghost use Rattle.model_worlds.specs.Events.{HasRandom};
 ghost use Rattle.model_views.specs.declared.fault.Fault.TheVariants.{Device};
 ghost use Rattle.model_views.specs.Answering.{pin_checked_in};
 ghost use Rattle.model_answers.specs.Answers.{answer};
-ghost use Rattle.model_views.specs.Refusals.{resource_error_in, refusal, resource_error};
+ghost use Rattle.model_answers.specs.Standing.{StandsAfter};
+ghost use Rattle.model_views.specs.Refusals.{is_refusal, is_refused, resource_error_in, refusal, resource_error};
 ghost use Rattle.model_worlds.specs.Worlds.{World, called, list_change, checks_of, goes, happens, is_init_token, others_checking, reply_to, reveal_by_call, says_called, without_checks};
 ghost use Rattle.model_worlds.specs.Tries.{IsSound};
-ghost use Rattle.serve_base.specs.Shown.{IsFor, over, said_of, task_of};
+ghost use Rattle.serve_base.specs.Shown.{Fits, IsFor, question_of, said_of, task_of, view_of};
 ghost use Rattle.serve_base.specs.Short.{IsShort, IsShortCall, IsShortSaid, IsShortTask};
-ghost use Rattle.model_runs.specs.Applications.{Finishes, HasJobs, reveal_by_job, checks_after, has_session_at, are_others_in_session, HasNumbers, IsOpen, IsOther, TakesJob, answer_by, desk_at, is_answer, move_of, opening, told_as, told_result, Shows, ShowsAfter};
+ghost use Rattle.token.specs.Dispatching.{Stands};
+ghost use Rattle.model_runs.specs.Applications.{Finishes, HasJobs, reveal_by_job, checks_after, has_session_at, are_others_in_session, HasNumbers, IsOpen, IsOther, TakesJob, answer_by, desk_at, is_answer, move_of, opening, told_as, told_result, Shows, ShowsAfter, StandsOver};
 ghost use Rattle.serve_base.specs.Stores.{FailsForIds, LacksId, Served};
 ghost use Rattle.model_runs.specs.Runs.{AccountsFor, Advances, BlamesForIds, HasIds, IsRun, IsStep, IsTakenBy, Lasting, LeavesBy, LeftBy, MayLeave, blames, call_change};
 
@@ -115,6 +117,8 @@ impl<K: Keep> Token<K> {
         // Of the other applications nothing changes, nor where it is refused of this one, but capacities.
         ensures others { (b : ℕ) → b ≢ app → SameDesk (desk_at self.old.desks b) (desk_at self.new.desks b) }
         ensures stays { IsSome (resource_error_in (said_of result)) → SameDesk (desk_at self.old.desks app) (desk_at self.new.desks app) }
+        // A refusal leaves what the application has, but for an operation that it ends, whatever is kept, and store faithful or not.
+        ensures refused { is_refused (said_of result) ≡ true → (c : Contents) → Fits c (desk_at self.old.desks app).handles.entries → StandsAfter call (view_of c (desk_at self.old.desks app)) (view_of c (desk_at self.new.desks app)) }
         // A call with data that fits into a frame returns something as short, or a job for it.
         ensures short { IsShortCall call → IsShortSaid (said_of result) }
     {
@@ -139,7 +143,8 @@ impl<K: Keep> Token<K> {
         ensures told { K.terms.doubt self.new.store.keep ≡ 0 → (w : World) → Shows K.terms self.old w → IsOpen w app done.job.value → reply_to w (move_of (Finish app) (OutReply result)) ≡ (app, result) ∷ [] }
         // A result that has the pending call's numbers is taken by its own value, whatever job it is of.
         ensures taken { K.terms.doubt self.new.store.keep ≡ 0 → (w : World) → Shows K.terms self.old w → HasNumbers (w.views app).question app done.job.value → IsTakenBy (Shows K.terms self.new) (MayLeave K.terms self.old) (MayLeave K.terms self.new) w app done.job.value result }
-        ensures other { (w : World) → Shows K.terms self.old w → IsOther (w.views app).question app done.job.value → (result ≡ Code FunctionFailed) × (self.new ≡ self.old) }
+        // That of no pending call changes nothing, store faithful or not.
+        ensures other { IsOther (option_map question_of (desk_at self.old.desks app).question) app done.job.value → (result ≡ Code FunctionFailed) × (self.new ≡ self.old) }
         // A crash leaves the change of the result alone, or after a refusal what it could leave before, or the change.
         ensures leaves { K.terms.doubt self.new.store.keep ≡ 0 → (w : World) → Shows K.terms self.old w → IsOpen w app done.job.value → (l : Option Lasting) → MayLeave K.terms self.new l → LeftBy (MayLeave K.terms self.old) w (move_of (Finish app) (OutReply result)) l }
         // At most one write is tried.
@@ -153,6 +158,8 @@ impl<K: Keep> Token<K> {
         // Of the other applications nothing changes, nor where it is refused of this one, but its pending call and capacities.
         ensures others { (b : ℕ) → b ≢ app → desk_at self.new.desks b ≡ desk_at self.old.desks b }
         ensures stays { IsSome (resource_error result) → SameDesk (over (desk_at self.old.desks app)) (desk_at self.new.desks app) }
+        // A refused result leaves what the application has, but for its pending call and an operation that it ends.
+        ensures refused { HasNumbers (option_map question_of (desk_at self.old.desks app).question) app done.job.value → is_refusal result ≡ true → (c : Contents) → Fits c (desk_at self.old.desks app).handles.entries → StandsOver done.job.value (view_of c (desk_at self.old.desks app)) (view_of c (desk_at self.new.desks app)) }
         // What is returned for a short job is short.
         ensures short { IsShortTask (task_of done.job.value.work.value) → IsShort result }
     {
@@ -177,6 +184,10 @@ impl<K: Keep> Token<K> {
         ensures ids { (w : World) → (s : Shows K.terms self.old w) → ShowsAfter K.terms s.contents 0 self.new (goes w (Gone app)) }
         // Neither the keeper nor what a crash may leave changes.
         ensures keep { self.new.store ≡ self.old.store }
+        // It has nothing any more, and its checks are over; the others have what they had.
+        ensures own { desk_at self.new.desks app ≡ empty_desk }
+        ensures others { (b : ℕ) → b ≢ app → desk_at self.new.desks b ≡ desk_at self.old.desks b }
+        ensures checks { self.new.checks ≡ without_checks app self.old.checks }
     {
         leave(&mut self.desks, app);
         retain_others(&mut self.checks, app);
@@ -329,6 +340,7 @@ fn serve_app<K: Keep>(
     ensures steady { FailsForIds K.terms Device (λ c v. answer v call random.now (reveal_by_call call (are_others_in_session desks.old.entries app))) store.old (desk_at desks.old.entries app) result }
     ensures plain { IfOk result (λ out. resource_error_in (said_of out) ≡ None) }
     ensures stays { IfErr result (λ fault. SameDesk (desk_at desks.old.entries app) (desk_at desks.new.entries app)) }
+    ensures refused { Stands (λ v. answer v call random.now (reveal_by_call call (are_others_in_session desks.old.entries app))) (desk_at desks.old.entries app) result (desk_at desks.new.entries app) }
     ensures short { IsShortCall call → IfOk result (λ out. IsShortSaid (said_of out)) }
 {
     checks.reserve(1)?;
@@ -359,6 +371,7 @@ fn serve_seated<K: Keep>(
     ensures steady { FailsForIds K.terms Device (λ c v. answer v call random.now (reveal_by_call call others_have_sessions)) store.old (desk_at desks.old.entries app) result }
     ensures plain { IfOk result (λ out. resource_error_in (said_of out) ≡ None) }
     ensures stays { IfErr result (λ fault. SameDesk (desk_at desks.old.entries app) (desk_at desks.new.entries app)) }
+    ensures refused { Stands (λ v. answer v call random.now (reveal_by_call call others_have_sessions)) (desk_at desks.old.entries app) result (desk_at desks.new.entries app) }
     ensures short { IsShortCall call → IfOk result (λ out. IsShortSaid (said_of out)) }
 {
     add_desk(alloc, desks, app)?;

@@ -15,5 +15,6 @@ returns g c = record {
   cause = search rules;
   plain = refl;
   stays = tt;
+  refused = λ is. absurd cc;
   short = λ _. tt;
 }

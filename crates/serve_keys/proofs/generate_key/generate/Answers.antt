@@ -27,6 +27,7 @@ returns g c = record {
   cause = search rules;
   plain = c.add_object.ensures.plain;
   stays = c.add_object.ensures.stays;
+  refused = c.add_object.ensures.refused;
   short = search rules;
 }
 

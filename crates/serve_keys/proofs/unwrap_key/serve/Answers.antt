@@ -4,6 +4,7 @@ use Rattle.templates.specs.declared.making.Making.TheVariants.{Unwrap}
 use Rattle.templates.specs.Faults.{template_fault}
 use Rattle.model_answers.specs.UnwrapKey.{unwrap_key, unwraps}
 use Rattle.model_answers.proofs.Proper.UnwrapKey.{fair-unwraps}
+use Rattle.model_answers.proofs.Standing.{alone-stays, alone-unwrap}
 use Rattle.serve_base.specs.Shown.{said_of, view_of}
 use Rattle.serve_keys.specs.Objects.{object_in}
 use Rattle.serve_base.proofs.Reading.{done-read}
@@ -20,6 +21,10 @@ returns-clause-done g c =
     c.find.ensures.same c.find.ensures.ids c.find.ensures.counts
     (λ v. (fair-unwraps {quiet = true} v c.args.session c.args.mechanism (object_in k) c.args.wrapped_key c.args.template c.args.random.now).still refl)
     (λ v. (fair-unwraps {quiet = true} v c.args.session c.args.mechanism (object_in k) c.args.wrapped_key c.args.template c.args.random.now).plain)
+    (λ v.
+    let state = state_in v c.args.session in
+    let fault = template_fault (Unwrap n) state [] c.args.template in
+    alone-stays v (unwraps v c.args.session c.args.mechanism (object_in k) c.args.wrapped_key c.args.template c.args.random.now state fault) (alone-unwrap v v c.args.session c.args.mechanism (object_in k) c.args.wrapped_key c.args.template c.args.random.now state fault))
     (λ sure x h fits.
     let d = c.args.desk.now in
     let v = view_of x d in

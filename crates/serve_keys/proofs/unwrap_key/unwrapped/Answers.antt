@@ -17,5 +17,6 @@ returns-then-next_handle-lt-NUMBER_LIMIT g c = record {
   cause = search rules;
   plain = c.add_object.ensures.plain;
   stays = c.add_object.ensures.stays;
+  refused = c.add_object.ensures.refused;
   short = search rules;
 }

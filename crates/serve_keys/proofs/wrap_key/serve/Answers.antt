@@ -2,6 +2,7 @@ use Rattle.std.proofs.Common.{◌∙◌, ap, refl}
 use Rattle.model_views.specs.Answering.{object_at}
 use Rattle.model_answers.specs.WrapKey.{wrap_key, wraps}
 use Rattle.model_answers.proofs.Proper.WrapKey.{fair-wraps}
+use Rattle.model_answers.proofs.Standing.{alone-stays, alone-wrap}
 use Rattle.serve_base.specs.Shown.{said_of, view_of}
 use Rattle.serve_keys.specs.Objects.{object_in}
 use Rattle.serve_base.proofs.Reading.{done-read}
@@ -17,6 +18,7 @@ returns-clause-done g c =
     c.find_both.ensures.same c.find_both.ensures.ids c.find_both.ensures.counts
     (λ v. (fair-wraps v c.args.session c.args.mechanism (object_in w) (object_in k) c.args.buffer_len).still refl)
     (λ v. (fair-wraps v c.args.session c.args.mechanism (object_in w) (object_in k) c.args.buffer_len).plain)
+    (λ v. alone-stays v (wraps v c.args.session c.args.mechanism (object_in w) (object_in k) c.args.buffer_len) (alone-wrap v v c.args.session c.args.mechanism (object_in w) (object_in k) c.args.buffer_len))
     (λ sure x h fits.
     let d = c.args.desk.now in
     let found = c.in_ok-wrapping_key.ensures.found sure x h fits in

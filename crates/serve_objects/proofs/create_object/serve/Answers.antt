@@ -21,6 +21,7 @@ returns g c = record {
   cause = c.add_object.ensures.cause;
   plain = c.add_object.ensures.plain;
   stays = c.add_object.ensures.stays;
+  refused = c.add_object.ensures.refused;
   short = c.add_object.ensures.short;
 }
 

@@ -25,5 +25,6 @@ returns g c = record {
   cause = search rules;
   plain = c.destroy.ensures.plain;
   stays = c.destroy.ensures.stays;
+  refused = c.destroy.ensures.refused;
   short = λ _. c.destroy.ensures.short;
 }

@@ -31,6 +31,7 @@ returns g c = record {
   cause = search rules;
   plain = c.put.ensures.plain;
   stays = c.put.ensures.stays;
+  refused = c.put.ensures.refused;
   short = λ _. c.put.ensures.short;
 }
 

@@ -10,7 +10,7 @@ use Rattle.serve_base.specs.Shown.{view_of}
 use Rattle.serve_base.proofs.Reading.{done-read, done-row, done-row-first, row-of}
 use Rattle.serve_base.proofs.InSession.{in_session}
 use Rattle.serve_operations.specs.MacBeginning.{by_key}
-use Rattle.serve_operations.proofs.MacBeginning.{begins_by, chosen-is, init-is, quiet-key}
+use Rattle.serve_operations.proofs.MacBeginning.{alone-key, begins_by, chosen-is, init-is, quiet-key}
 use Rattle.serve_operations.proofs.mac_init.begin.Goals as goal
 use Rattle.serve_operations.proofs.mac_init.begin.Goals.{After-mac_mechanism_for}
 
@@ -55,6 +55,7 @@ returns g c =
     c.args.store.now c.find.new.store d c.begin_under.new.desk c.begin_under.result c.find.ensures.same c.find.ensures.ids c.find.ensures.counts
     (λ v. (quiet-key c.args.place c.args.session kind mac_mechanism o v).0)
     (λ v. (quiet-key c.args.place c.args.session kind mac_mechanism o v).1)
+    (λ v. (alone-key c.args.place c.args.session kind mac_mechanism o v).leaves)
     (λ sure x h fits.
     let v = view_of x d in
     let found = subst (λ y. IsFound x d c.args.key y) c.in_ok-found.ensures.ok_part (c.in_ok-find.ensures.found sure x h fits) in

@@ -22,6 +22,7 @@ returns-then-not-may_log_in g c = record {
   cause = search rules;
   plain = c.store_record.ensures.plain;
   stays = c.store_record.ensures.stays;
+  refused = c.store_record.ensures.refused;
   short = search rules;
 }
 
@@ -40,5 +41,6 @@ returns g c = record {
   cause = search rules;
   plain = refl;
   stays = tt;
+  refused = λ is. absurd cc;
   short = search rules;
 }

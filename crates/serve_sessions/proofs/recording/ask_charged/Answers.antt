@@ -20,6 +20,7 @@ returns-clause-done g c = record {
   cause = search rules;
   plain = refl;
   stays = tt;
+  refused = λ is. absurd cc;
   short = c.in_ok-job.ensures.short;
 }
 
@@ -36,5 +37,6 @@ returns-in_err-set_record-clause-done g c = record {
   cause = search rules;
   plain = plain_as-fault said_of c.from_residual-in_err-set_record.result (fault-of c.from_residual-in_err-set_record.result _ c.from_residual-in_err-set_record.ensures.1);
   stays = search rules;
+  refused = search rules;
   short = search rules;
 }

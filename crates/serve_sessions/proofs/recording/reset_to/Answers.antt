@@ -17,6 +17,7 @@ returns g c = record {
   cause = search rules;
   plain = refl;
   stays = tt;
+  refused = λ is. absurd cc;
   short = search rules;
 }
 
@@ -33,5 +34,6 @@ returns-in_err-reset g c = record {
   cause = search rules;
   plain = plain-fault c.from_residual.result (fault-of c.from_residual.result _ c.from_residual.ensures.1);
   stays = search rules;
+  refused = search rules;
   short = search rules;
 }

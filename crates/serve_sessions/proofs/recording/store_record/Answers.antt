@@ -1,4 +1,4 @@
-use Rattle.std.proofs.Common.{refl, rules}
+use Rattle.std.proofs.Common.{inl, refl, rules}
 use Rattle.keep.specs.Contents.{with_record}
 use Rattle.serve_base.specs.Shown.{view_of}
 use Rattle.serve_base.proofs.Gaves.{gave-change}
@@ -17,6 +17,7 @@ returns g c = record {
   cause = search rules;
   plain = c.requires;
   stays = tt;
+  refused = λ is. inl (λ k fits. refl);
   short = search rules;
 }
 
@@ -33,5 +34,6 @@ returns-in_err-set_record g c = record {
   cause = search rules;
   plain = plain-fault c.from_residual.result (fault-of c.from_residual.result _ c.from_residual.ensures.1);
   stays = search rules;
+  refused = search rules;
   short = search rules;
 }

@@ -1,17 +1,25 @@
-use Rattle.std.proofs.Common.{Some, None, refl, true, false}
+use Rattle.std.proofs.Common.{◌≡◌, ℕ, Some, None, refl, sym, ◌∙◌, ap, true, false}
 use Rattle.ck_types.specs.declared.rv.Rv.TheVariants as rv
+use Rattle.ck_types.specs.declared.user_type.UserType.{UserType}
+use Rattle.ck_types.specs.declared.user_type.UserType.TheVariants.{So, User}
 use Rattle.ck_calls.specs.declared.reply.Output.TheVariants.{Data}
 use Rattle.ck_calls.specs.declared.reply.Reply.TheVariants.{Code, Output}
+use Rattle.keep.specs.Contents.{Contents}
 use Rattle.mech.specs.declared.outcome.Outcome.TheVariants as out
 use Rattle.ops.specs.declared.place.MacPlace.TheVariants as place
 use Rattle.ops.specs.Operations.{operation_of, mac_of}
 use Rattle.model_views.specs.TaskResults.{Unwrapped}
-use Rattle.model_views.specs.Answering.{becomes, replies, with_operation, with_mac}
+use Rattle.model_views.specs.Answering.{answered, becomes, replies, with_operation, with_mac}
+use Rattle.model_session_answers.specs.Login.{right_pin}
+use Rattle.model_worlds.specs.Worlds.{reveals_login}
 use Rattle.model_answers.specs.CipherInit.{place_for}
 use Rattle.model_answers.specs.UnwrapKey.{unwrapped_result}
+use Rattle.serve_base.specs.Shown.{objects_of, view_of}
+use Rattle.serve_sessions.specs.Recording.{right_reveal}
 use Rattle.serve_operations.proofs.Ciphering as ciphering
 use Rattle.serve_operations.proofs.Signing as signing
-use Rattle.token.proofs.Endings.{ends-as, done-at-desk, done-code, done-over}
+use Rattle.token.specs.Endings.{under_way_of}
+use Rattle.token.proofs.Endings.{ends-as, done-at-desk, done-code, done-is, done-over}
 use Rattle.token.proofs.ending.serve_outcome.Goals as goal
 
 -- ---- a cipher's
@@ -89,3 +97,18 @@ pub returns-in-Unwrapped : goal.returns-in-Unwrapped
 returns-in-Unwrapped g c =
     rw (c.in-Unwrapped.is) (ends-as g.K.Keep.terms c.args.session (out.Unwrapped c.in-Unwrapped.object) c.args.others.now c.args.store.now _ c.args.desk.now _ _
     (done-over g.K.Keep.terms (λ k v. unwrapped_result v c.args.session (Unwrapped c.in-Unwrapped.object)) c.args.store.now _ c.args.desk.now _ _ c.requires c.unwrapped.ensures))
+
+-- what the login reveals is that of the pending call
+right-is : (who : UserType) (n : ℕ) (k : Contents) → right_reveal who n k ≡ reveals_login (objects_of k) who n
+right-is So n k = refl
+right-is User n k = refl
+
+pub returns-in-RightPin : goal.returns-in-RightPin
+returns-in-RightPin g c =
+    let d = c.args.desk.now in
+    let who = c.in-RightPin.who in
+    let n = c.checks.result in
+    rw (c.in-RightPin.is) (ends-as g.K.Keep.terms c.args.session (out.RightPin who) c.args.others.now c.args.store.now _ d _ _
+    (done-is g.K.Keep.terms 1 (λ k v. right_pin (answered v) who (reveals_login (objects_of k) who (under_way_of c.args.others.now who))) (λ k v. right_pin (answered v) who (right_reveal who n k)) c.args.store.now _ d _ _
+    (λ k. ap (right_pin (answered (view_of k d)) who) (ap (reveals_login (objects_of k) who) (sym c.checks.ensures) ∙ sym (right-is who n k)))
+    (done-over g.K.Keep.terms (λ k v. right_pin v who (right_reveal who n k)) c.args.store.now _ d _ _ c.requires c.right.ensures)))

@@ -1,6 +1,7 @@
 use Rattle.std.proofs.Common.{sym, ◌∙◌}
 use Rattle.model_runs.specs.Applications.{desk_at}
 use Rattle.model_runs.proofs.Called.{lacks-called, next-called, shows-called, says-called, leaves-called, blames-device, stays-called, short-called}
+use Rattle.token.proofs.Refused.{stands-called}
 use Rattle.token.proofs.token.Token.call.Goals as goal
 
 pub returns-clause-world : goal.returns-clause-world
@@ -26,6 +27,10 @@ returns-clause-stays g c = λ some. rw (← c.self.view_is) (stays-called c.serv
 
 pub returns-clause-short : goal.returns-clause-short
 returns-clause-short g c = λ few. rw c.told_as.ensures (short-called c.serve_app.result (c.serve_app.ensures.short few))
+
+pub returns-clause-refused : goal.returns-clause-refused
+returns-clause-refused g c =
+    rw (← c.self.view_is) (λ is k fits. stands-called c.args.call c.args.random.now _ (desk_at c.self.inside.desks.entries c.args.app) (desk_at c.serve_app.new.desks.entries c.args.app) c.serve_app.result c.serve_app.ensures.stays c.serve_app.ensures.refused (rw c.told_as.ensures at is) k fits)
 
 -- ---- ids
 

@@ -2,8 +2,9 @@ use Rattle.std.proofs.Common.{refl, sym, ◌∙◌}
 use Rattle.std.proofs.lemmas.Bool.{true≢false}
 use Rattle.model_runs.specs.Applications.{desk_at}
 use Rattle.token.proofs.Endings.{blames-device, short-result, stays-finished}
-use Rattle.model_runs.proofs.Jobs.{asked-of, told-has, told-other}
+use Rattle.model_runs.proofs.Jobs.{answer-has, answer-other, asked-of, job-of, told-has}
 use Rattle.model_runs.proofs.Resulted.{lacks-taken, next-taken, taken, open-numbers, shows-open, tells-open, leaves-open}
+use Rattle.token.proofs.Refused.{stands-finished}
 use Rattle.token.proofs.token.Token.finish.Goals as goal
 
 pub returns-clause-taken : goal.returns-clause-taken
@@ -34,8 +35,19 @@ returns-clause-short g c = λ few. rw c.told_result-reply.ensures (short-result 
 -- ---- a job of no pending call, and one that has its numbers
 
 pub returns-clause-other : goal.returns-clause-other
-returns-clause-other g c = λ w s other.
-    absurd (true≢false (sym c.if-not-is_pending_job.false ∙ c.is_pending_job.ensures ∙ told-other _ _ _ _ c.args.app c.args.done.job.value w (rw (← c.self.view_is) at s) other))
+returns-clause-other g c = λ other.
+    absurd (true≢false (sym c.if-not-is_pending_job.false ∙ c.is_pending_job.ensures ∙ answer-other _ c.args.app c.args.done.job.value (rw (← c.self.view_is) at other)))
+
+pub returns-clause-refused : goal.returns-clause-refused
+returns-clause-refused g c =
+    rw (← c.self.view_is) (λ has is k fits.
+    let f = c.finish_app.ensures.finishes in
+    let q = job-of _ c.args.app c.args.done.job.value has in
+    stands-finished c.args.done.job.value q.0 _ (desk_at c.self.inside.desks.entries c.args.app) (desk_at c.finish_app.new.desks.entries c.args.app) c.finish_app.result q.1 f.stays f.refused (rw c.told_result-reply.ensures at is) k fits)
+
+pub returns-then-not-is_pending_job-clause-refused : goal.returns-then-not-is_pending_job-clause-refused
+returns-then-not-is_pending_job-clause-refused g c = λ has.
+    absurd (true≢false (sym (answer-has _ c.args.app c.args.done.job.value (rw (← c.self.view_is) at has)) ∙ sym c.is_pending_job.ensures ∙ c.if-not-is_pending_job.true))
 
 pub returns-then-not-is_pending_job-clause-taken : goal.returns-then-not-is_pending_job-clause-taken
 returns-then-not-is_pending_job-clause-taken g c = λ sure w s has.
