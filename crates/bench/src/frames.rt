@@ -8,12 +8,13 @@ use aes_modes::{Direction, ecb};
 use ck_calls::{Call, Mechanism};
 use ck_types::{AttrType, Bytes, Entry, KeyType, MechType, ObjectClass, Template};
 use keep::ListKeep;
-use line::{Watched, Words, serve_one};
+use line::{Words, serve_one};
 use pin_record::Record;
 use std::alloc::Global;
 use std::io::{self, Read, Write};
 use std::time::CpuClock;
 use token::Token;
+use watched::Watched;
 use wire::write_call;
 
 /// The handle of the key.

@@ -16,13 +16,13 @@ use Rattle.line.specs.declared.next.Given.{Given}
 use Rattle.line.specs.declared.next.Next.{Next}
 use Rattle.line.specs.declared.next.Next.TheVariants as next
 use Rattle.line.specs.declared.asked.Piece.TheVariants as piece
-use Rattle.line.specs.Noting.{Noting, Unfailing, Settles, HasFailed}
+use Rattle.watched.specs.Noting.{Noting, Unfailing, Settles, HasFailed}
 use Rattle.line.specs.Turns.{refusal_in, refusal_of, reply_frame}
 use Rattle.line.specs.Asking.{IsCall, IsRefused, Lets, Gave, Took, Fed, Takes, PieceBy}
 use Rattle.line.specs.State.{Connected, output}
 use Rattle.line.specs.Connecting.{refusal_frame, IsNoCall, Advances, Gives, Tail, Waits, Why, Halts, Does, AtEnd, ReadsTo, WritesTo, Comes, IsHeard, Hears, standing, Answers, Omits, SendsBy, Tells, SendsTo, Sends, FlushesBy, Moves, Flushes}
 use Rattle.line.proofs.Lines.{gave-none, gave-then, took-none, took-then, all-append}
-use Rattle.line.proofs.Noting.{unfailing-none, unfailing-then, failed-after, settles-none, settles-then, settles-unfailing}
+use Rattle.watched.proofs.Noting.{unfailing-none, unfailing-then, failed-after, settles-none, settles-then, settles-unfailing}
 
 abbrev pub advances-none : (a : Connected) → Advances a a
 advances-none a = record {

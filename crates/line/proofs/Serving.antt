@@ -18,7 +18,7 @@ use Rattle.line.specs.declared.fault.LineFault.{LineFault}
 use Rattle.line.specs.declared.fault.LineFault.TheVariants as faults
 use Rattle.line.specs.declared.next.Given.{Given}
 use Rattle.line.specs.declared.next.Next.TheVariants as next
-use Rattle.line.specs.Noting.{Noting, Unfailing, Settles, HasFailed}
+use Rattle.watched.specs.Noting.{Noting, Unfailing, Settles, HasFailed}
 use Rattle.line.specs.Turns.{Message, messages, refusal_in, reply_frame}
 use Rattle.line.specs.State.{Connected, output}
 use Rattle.line.specs.Asking.{Gave, Took}
@@ -27,7 +27,7 @@ use Rattle.line.specs.Lines.{Leads}
 use Rattle.line.specs.Serve.{AreFrames, IsCutOff, LacksLast, IsWritten, counted, EndsBy, ReadsBy, WritesBy, Serves}
 use Rattle.line.specs.Parts.{IsFresh, outcome_of, fault_at, block_at, Ends}
 use Rattle.line.proofs.Lines.{gave-none, gave-then, took-none, took-then, all-append}
-use Rattle.line.proofs.Noting.{unfailing-none, unfailing-then, failed-after, settles-none, settles-then, settles-unfailing}
+use Rattle.watched.proofs.Noting.{unfailing-none, unfailing-then, failed-after, settles-none, settles-then, settles-unfailing}
 use Rattle.line.proofs.Leading.{leads-none, leads-then, leads-refusals}
 use Rattle.line.proofs.Advancing.{refusal-framed}
 use Rattle.line.proofs.Turning.{messages-append, short-each}

@@ -18,7 +18,7 @@ use Rattle.line.specs.declared.asked.Wrote.{Wrote}
 use Rattle.line.specs.declared.asked.Wrote.TheVariants as wrote
 use Rattle.line.specs.declared.ending.Ending.TheVariants as endings
 use Rattle.line.specs.Words.{taken}
-use Rattle.line.specs.Noting.{Noting, Unfailing, Settles, HasFailed}
+use Rattle.watched.specs.Noting.{Noting, Unfailing, Settles, HasFailed}
 use Rattle.line.specs.Turns.{refusal_of, reply_frame}
 use Rattle.line.specs.State.{Outgoing}
 

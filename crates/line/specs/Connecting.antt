@@ -12,7 +12,7 @@ use Rattle.line.specs.declared.ending.Ending.TheVariants as endings
 use Rattle.line.specs.declared.next.Given.{Given}
 use Rattle.line.specs.declared.next.Next.{Next}
 use Rattle.line.specs.declared.next.Next.TheVariants as next
-use Rattle.line.specs.Noting.{Noting, Unfailing, Settles, HasFailed}
+use Rattle.watched.specs.Noting.{Noting, Unfailing, Settles, HasFailed}
 use Rattle.line.specs.Turns.{refusal_in, reply_frame}
 use Rattle.line.specs.Asking.{IsCall, Lets, Gave, Took}
 use Rattle.line.specs.State.{Connected, output}

@@ -7,7 +7,7 @@ use Rattle.line.specs.declared.ending.Ending.{Ending}
 use Rattle.line.specs.declared.ending.Ending.TheVariants as endings
 use Rattle.line.specs.declared.fault.LineFault.{LineFault}
 use Rattle.line.specs.declared.fault.LineFault.TheVariants as faults
-use Rattle.line.specs.Noting.{Noting}
+use Rattle.watched.specs.Noting.{Noting}
 use Rattle.line.specs.State.{Connected}
 use Rattle.line.specs.Lines.{Leads}
 use Rattle.line.specs.Serve.{Serves, ReadsBy, WritesBy}

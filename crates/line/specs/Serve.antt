@@ -9,7 +9,7 @@ use Rattle.wire.specs.Stream.{IsPartial, IsTooLong}
 use Rattle.line.specs.declared.fault.LineFault.{LineFault}
 use Rattle.line.specs.declared.fault.LineFault.TheVariants as faults
 use Rattle.line.specs.Turns.{Message, messages, reply_frame}
-use Rattle.line.specs.Noting.{Noting, Unfailing, Settles, HasFailed}
+use Rattle.watched.specs.Noting.{Noting, Unfailing, Settles, HasFailed}
 
 -- ---- what is written
 

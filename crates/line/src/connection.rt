@@ -13,7 +13,6 @@ use crate::front::asked_at;
 use crate::next::Next;
 use crate::outbox::Outbox;
 use crate::take::{give_back, take_piece};
-use crate::watched::Watched;
 use crate::words::Words;
 use ck_calls::Reply;
 use keep::WriteCount as AnswerCount;
@@ -21,6 +20,7 @@ use lists::GhostBytes;
 use std::alloc::Global;
 use std::io::{Read, Write};
 use std::marker::Model;
+use watched::Watched;
 use wire::{FrameReader, WireFault};
 
 /// A connection of one application: the frames that it sends, the calls in them, and the replies to them.

@@ -2,7 +2,7 @@
 //!
 //! - `Words` are the random bytes of one application: the words of ChaCha20 under the operator's seed, whose stream number is
 //!   the application's. `take` returns the next of them; where an allocation fails it leaves them where they were.
-//! - `Watched` wraps a reader or a writer and counts its failures.
+//! - The reader and the writer are watched (`watched::Watched`): their failures are counted.
 //! - `Connection` returns the calls of an application, each with its random bytes, and takes the replies to them. It answers what
 //!   is no call itself: by `CKR_ARGUMENTS_BAD`, and by `CKR_FUNCTION_NOT_SUPPORTED` where no function is known by the number.
 //!   `specs/Connecting.antt` defines what becomes of it, and `accounts` adds that up over whole connections (`specs/Whole.antt`).
@@ -23,7 +23,6 @@ mod put;
 mod refusal;
 mod serve;
 mod take;
-mod watched;
 mod words;
 
 pub use connection::Connection;
@@ -33,5 +32,4 @@ pub use law::accounts;
 pub use next::{Given, Next};
 pub use refusal::reply_to_fault;
 pub use serve::serve_one;
-pub use watched::Watched;
 pub use words::Words;

@@ -6,12 +6,12 @@ ghost use Rattle.line.specs.Asking.{Queues, SentBy, Took};
 
 use crate::asked::Wrote;
 use crate::put::{flush_out, put};
-use crate::watched::Watched;
 use ck_calls::Reply;
 use lists::GhostBytes;
 use std::alloc::Global;
 use std::io::Write;
 use std::marker::Model;
+use watched::Watched;
 use wire::{WireFault, write_reply, write_reply_over};
 
 /// The greatest length of a frame whose memory is kept for the next one.

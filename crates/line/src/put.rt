@@ -2,13 +2,13 @@
 
 ghost use Rattle.std.specs.Prelude.{◌≡◌, [], IfErr, OnOk};
 ghost use Rattle.std.specs.Io.KnownBytes.{Keeps};
-ghost use Rattle.line.specs.Noting.{HasFailed, Unfailing};
+ghost use Rattle.watched.specs.Noting.{HasFailed, Unfailing};
 ghost use Rattle.line.specs.Asking.{PutBy, Puts, Took};
 
 use crate::asked::{Put, Wrote};
-use crate::watched::{Watched, is_interrupted};
 use lists::GhostBytes;
 use std::io::{Error, ErrorKind, Write};
+use watched::{Watched, is_interrupted};
 
 /// Writes all of the bytes, by up to 2^64 - 1 writes, and notes what the writer took. It ends early where a write would block or
 /// fails. One that was interrupted is made again, and counts.

@@ -13,7 +13,6 @@ use crate::connection::Connection;
 use crate::ending::Ending;
 use crate::fault::LineFault;
 use crate::next::Next;
-use crate::watched::Watched;
 use crate::words::Words;
 use ck_calls::{Call, Reply};
 use keep::Keep;
@@ -21,6 +20,7 @@ use std::alloc::Global;
 use std::io::{Read, Write};
 use std::mem;
 use token::{Out, Token};
+use watched::Watched;
 
 /// How many bytes are read at once.
 const PIECE_LEN: usize = 4096;

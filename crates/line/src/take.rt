@@ -5,10 +5,10 @@ ghost use Rattle.line.specs.Asking.{Gave, PieceBy, Takes};
 
 use crate::asked::Piece;
 use crate::ending::Ending;
-use crate::watched::{Watched, is_interrupted};
 use lists::GhostBytes;
 use std::alloc::Global;
 use std::io::{ErrorKind, Read};
+use watched::{Watched, is_interrupted};
 use wire::FrameReader;
 
 /// Gives back what a long frame took of memory, once nothing is held.

@@ -11,8 +11,8 @@ use Rattle.lists.specs.contracts.ghost_list.GhostList as GhostList
 use Rattle.wire.specs.contracts.stream.FrameReader as FrameReader
 use Rattle.line.specs.contracts.words.Words as Words
 use Rattle.line.specs.contracts.ending.Ending as Ending
-use Rattle.line.specs.contracts.watched.Watched as Watched
-use Rattle.line.specs.contracts.watched.Watched.TheInside as WatchedInside
+use Rattle.watched.specs.contracts.watched.Watched as Watched
+use Rattle.watched.specs.contracts.watched.Watched.TheInside as WatchedInside
 use Rattle.line.specs.contracts.outbox.Outbox as Outbox
 use Rattle.line.specs.contracts.outbox.Outbox.TheInside as OutboxInside
 use Rattle.line.specs.contracts.connection.Connection as Connection

@@ -4,9 +4,10 @@ ghost use Rattle.line_places.specs.Standing.{Stands};
 
 use ck_calls::Reply;
 use hall_channels::messages::AppCall;
-use line::{Connection, Ending, Watched, Words};
+use line::{Connection, Ending, Words};
 use lists::GhostList;
 use std::snapshot::Snapshot;
+use watched::Watched;
 
 /// A connection of an application, with its reader and its writer. What it gave and took is for contracts alone.
 #[derive(Drop)]

@@ -6,11 +6,12 @@ ghost use Rattle.line_places.specs.Coming.{Gave, SameApp, Takes};
 use crate::client::{Came, Client};
 use ck_calls::Reply;
 use hall_channels::messages::AppCall;
-use line::{Connection, Given, Next, Watched, Words, accounts};
+use line::{Connection, Given, Next, Words, accounts};
 use lists::GhostList;
 use std::alloc::Global;
 use std::io::{Read, Write};
 use std::snapshot::Snapshot;
+use watched::Watched;
 
 impl<R, W> Client<R, W> {
     /// A client of the application of these words, of which nothing was read yet. Its calls get the words from these on.

@@ -1,7 +1,8 @@
 //! What each call returns to an application, from its view alone: a definition for each call, in the order of its table.
 //!
 //! `specs/Answers.antt` finds the definition by the call, or by the pending call whose result has come; each of the others
-//! is that of one call or of calls that are alike. The law of `laws` holds for all of them.
+//! is that of one call or of calls that are alike. `specs/Standing.antt` is what a refusal leaves. The laws of `laws` hold for
+//! all of them.
 #![tactic(auto)]
 
 pub mod laws;

@@ -1,4 +1,5 @@
--- Refusals; and resource errors: CKR_HOST_MEMORY and CKR_DEVICE_ERROR, which no answer returns (PKCS #11 v3.1, 5.1.1).
+-- Refusals; and resource errors: CKR_HOST_MEMORY and CKR_DEVICE_ERROR, which no answer returns (PKCS #11 v3.1, 5.1.1
+-- and 5.1.3).
 use Rattle.std.specs.Prelude.{Bool, true, false, Option, Some, None}
 use Rattle.ck_types.specs.declared.rv.Rv.TheVariants.{Ok, HostMemory, DeviceError}
 use Rattle.ck_calls.specs.declared.reply.Reply.{Reply}

@@ -2,7 +2,7 @@
 //!
 //! `specs/Views.antt` is what one application sees, and what is masked of it. `specs/Changes.antt` is what others see of what
 //! it does. `specs/Answering.antt` is what an answer is, and `specs/Checked.antt` how the conditions of a call's table
-//! determine it. `specs/Refusals.antt` is the two resource errors, which no answer returns.
+//! determine it. `specs/Refusals.antt` is which replies are refusals, and the two resource errors, which no answer returns.
 #![tactic(auto)]
 
 mod fault;

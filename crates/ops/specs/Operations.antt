@@ -1,4 +1,5 @@
--- The operations of a session (PKCS #11 v3.1, 5.2): one of each kind may be active at a time.
+-- The operations of a session (PKCS #11 v3.1, 5.7.7, 5.8, 5.10, 5.13 and 5.15): one of each kind may be active at a time. Which
+-- may be active together a token decides (5.1.6, CKR_OPERATION_ACTIVE).
 use Rattle.std.specs.Prelude.{ℕ, List, [], ◌++◌, Option, Some, None}
 use Rattle.std.specs.Option.{unwrap_or}
 use Rattle.streams.specs.declared.mechanism.Mechanism.{Mechanism}

@@ -1,7 +1,7 @@
 //! The places of a session's operations.
 
-/// Where an operation of a session stands that encrypts or decrypts (PKCS #11 v3.1, 5.2): one of each kind may be active at
-/// a time.
+/// Where an operation of a session stands that encrypts or decrypts (PKCS #11 v3.1, 5.8 and 5.10): one of each kind may be
+/// active at a time.
 #[derive(Clone, Copy, Debug, PartialEq, Eq)]
 pub enum Place {
     /// C_EncryptInit begins it.
@@ -10,8 +10,8 @@ pub enum Place {
     Decrypt,
 }
 
-/// Where an operation of a session stands that signs or verifies (PKCS #11 v3.1, 5.2): one of each kind may be active at a
-/// time.
+/// Where an operation of a session stands that signs or verifies (PKCS #11 v3.1, 5.13 and 5.15): one of each kind may be
+/// active at a time.
 #[derive(Clone, Copy, Debug, PartialEq, Eq)]
 pub enum MacPlace {
     /// C_SignInit begins it.

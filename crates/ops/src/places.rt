@@ -11,7 +11,7 @@ use sessions::Activity;
 use std::marker::Model;
 use streams::Stream;
 
-/// What a session has in progress (PKCS #11 v3.1, 5.2): an operation at each place, or none, and a search, or none.
+/// What a session has in progress: an operation at each place, or none, and a search, or none.
 ///
 /// An operation keeps its own copy of the key, so that a later change of the key's object leaves it running.
 #[derive(Drop)]

@@ -14,7 +14,7 @@ use crate::upkeep::{backup, check};
 use clap::error::ErrorKind;
 use clap::{ArgMatches, Error};
 use keep::ListKeep;
-use line::{Watched, Words, serve_one};
+use line::{Words, serve_one};
 use pin_record::Record;
 use std::alloc::Global;
 use std::io::{Read, Write};
@@ -22,6 +22,7 @@ use std::os::unix::net::UnixStream;
 use std::sync::Wait;
 use std::thread::Threads;
 use token::Token;
+use watched::Watched;
 
 /// The application of standard input.
 const STDIO_APP: u64 = 0;

@@ -11,7 +11,8 @@
 //! - what a call does, in one clause (`specs/Refusing.antt`).
 //!
 //! That clause is `IsDone` where the call reads or writes the store, and `AtDesk` where it doesn't. It is `IsDoneAs` where the
-//! call returns a job and writes, or where its answer depends on what the store has.
+//! call returns a job and writes, or where its answer depends on what the store has. A refusal leaves what the desk shows, store
+//! faithful or not.
 #![tactic(auto)]
 
 mod adding;

@@ -32,11 +32,7 @@ const FIRST_RUN: &[Row] = &[
     (A, GetObjectSize(1, 1), Told::ObjectSize(309)),
 ];
 
-/// The first block of SP 800-38A, F.2.1, and its parts.
-const CHAINED: Told = Told::Data(
-    b"\x76\x49\xab\xac\x81\x19\xb2\x46\xce\xe9\x8e\x9b\x12\xe9\x19\x7d",
-);
-
+/// The parts of the first block of SP 800-38A, F.2.1.
 const FIRST_BYTE: &[u8] = b"\x6b";
 
 const FOURTEEN_BYTES: &[u8] = b"\xc1\xbe\xe2\x2e\x40\x9f\x96\xe9\x3d\x7e\x11\x73\x93\x17";
@@ -59,15 +55,6 @@ const IN_PARTS: &[Row] = &[
     (A, EncryptFinal(1, Some(16)), Told::Code(Rv::DataLenRange)),
 ];
 
-/// The vector of RFC 3394, 4.1, without its last byte, and with a bit changed.
-const SHORTER: &[u8] =
-    b"\x1f\xa6\x8b\x0a\x81\x12\xb4\x47\xae\xf3\x4b\xd8\xfb\x5a\x7b\x82\x9d\x3e\x86\x23\x71\xd2\xcf";
-
-const CHANGED: &[u8] =
-    b"\x1f\xa6\x8b\x0a\x81\x12\xb4\x47\xae\xf3\x4b\xd8\xfb\x5a\x7b\x82\x9d\x3e\x86\x23\x71\xd2\xcf\xe4";
-
-const UNWRAPPED: Given = &[(AttrType::KeyType, AES), (AttrType::Private, NO)];
-
 const WRAPS: &[Row] = &[
     (A, OPEN, Told::Session(1)),
     (A, CreateObject(1, WRAPPING_KEY), Told::Object(1)),
@@ -79,17 +66,17 @@ const WRAPS: &[Row] = &[
     ),
     (
         A,
-        UnwrapKey(1, AES_KEY_WRAP, 1, SHORTER, UNWRAPPED),
+        UnwrapKey(1, AES_KEY_WRAP, 1, SHORTER, PUBLIC_AES),
         Told::Code(Rv::WrappedKeyLenRange),
     ),
     (
         A,
-        UnwrapKey(1, AES_KEY_WRAP, 1, CHANGED, UNWRAPPED),
+        UnwrapKey(1, AES_KEY_WRAP, 1, CHANGED, PUBLIC_AES),
         Told::Code(Rv::WrappedKeyInvalid),
     ),
     (
         A,
-        UnwrapKey(1, AES_KEY_WRAP, 1, WRAPPED, UNWRAPPED),
+        UnwrapKey(1, AES_KEY_WRAP, 1, WRAPPED, PUBLIC_AES),
         Told::Object(3),
     ),
     (A, CreateObject(1, SESSION_KEY), Told::Object(4)),

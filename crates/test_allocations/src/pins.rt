@@ -12,8 +12,6 @@ use test_scripts::{Step, Told, record_with};
 /// An application that calls C_GetTokenInfo alone.
 const ASKER: u64 = 99;
 
-const NAME: &[u8] = b"the token of the tests          ";
-
 const LOGIN: Step = Step::Login(1, 1, b"user-pin");
 
 const WRONG_LOGIN: Step = Step::Login(1, 1, b"wrong-pin");

@@ -4,12 +4,13 @@
 use crate::keepers::frame_of;
 use ck_calls::{Function, Reply, need};
 use keep::ListKeep;
-use line::{LineFault, Watched, Words, serve_one};
+use line::{LineFault, Words, serve_one};
 use pin_record::Record;
 use std::alloc::Global;
 use std::process::Abort;
 use std::test::*;
 use test_scripts::{EVERY_CALL, Step, call_of, expect_row, token_over};
+use watched::Watched;
 use wire::{FrameReader, read_reply};
 
 /// The frames of all calls.

@@ -4,12 +4,13 @@ ghost use Rattle.std.specs.Prelude.{Some};
 
 use crate::tests::{Drip, Narrow, after_cut, first_run};
 use keep::ListKeep;
-use line::{LineFault, Watched, Words, serve_one};
+use line::{LineFault, Words, serve_one};
 use pin_record::Record;
 use std::alloc::Global;
 use std::io::{self, ErrorKind, Read, Write};
 use std::test::*;
 use test_scripts::token_over;
+use watched::Watched;
 
 /// Gives two bytes a read, and fails after so many of them.
 #[derive(Drop)]

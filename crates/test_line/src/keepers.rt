@@ -2,7 +2,7 @@
 
 use ck_types::Rv;
 use keep::ListKeep;
-use line::{Watched, Words, serve_one};
+use line::{Words, serve_one};
 use pin_record::Record;
 use std::alloc::Global;
 use std::process::Abort;
@@ -10,6 +10,7 @@ use std::test::*;
 use test_keepers::{FailingKeep, Failure};
 use test_scripts::given::*;
 use test_scripts::{Step, call_of, token_over};
+use watched::Watched;
 use wire::{FrameReader, write_call};
 
 /// A session, a token object, its size, and its end.

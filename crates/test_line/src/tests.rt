@@ -5,7 +5,7 @@ ghost use Rattle.std.specs.Prelude.{Some};
 use ck_calls::{Call, Reply};
 use ck_types::Rv;
 use keep::{Keep, ListKeep};
-use line::{LineFault, Watched, Words, serve_one};
+use line::{LineFault, Words, serve_one};
 use pin_record::Record;
 use std::alloc::Global;
 use std::io::{self, ErrorKind, Read, Write};
@@ -13,6 +13,7 @@ use std::process::Abort;
 use std::test::*;
 use test_scripts::token_over;
 use token::{Out, Token};
+use watched::Watched;
 use wire::{FrameReader, WireFault, read_reply, write_call};
 
 const OPEN_SESSION: &[u8] =

@@ -3,10 +3,11 @@
 ghost use Rattle.std.specs.Prelude.{Some};
 
 use ck_calls::Reply;
-use line::{Connection, Ending, Next, Watched, Words};
+use line::{Connection, Ending, Next, Words};
 use std::alloc::Global;
 use std::io::{self, ErrorKind, Read, Write};
 use std::test::*;
+use watched::Watched;
 
 /// Gives at most five bytes a read. Every other read would block.
 #[derive(Drop)]

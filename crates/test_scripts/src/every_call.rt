@@ -17,8 +17,6 @@ const USER_PIN: &[u8] = b"user-pin";
 
 const NEW_PIN: &[u8] = b"new-pin";
 
-const NAME: &[u8] = b"the token of the tests          ";
-
 const MECHANISMS: &[u64] = &[
     0x251, 0x256, 0x261, 0x271, 0x350, 0x1080, 0x1081, 0x1082, 0x1085, 0x1086, 0x108a, 0x2109,
 ];
@@ -48,8 +46,6 @@ const GENERATED: Given = &[
     (AttrType::ValueLen, b"\x00\x00\x00\x00\x00\x00\x00\x10"),
     (AttrType::Private, NO),
 ];
-
-const UNWRAPPED: Given = &[(AttrType::KeyType, AES), (AttrType::Private, NO)];
 
 /// The calls of an application of a new token. Its first random bytes are those of `random`; no other reply depends on random
 /// bytes.
@@ -122,7 +118,7 @@ pub const EVERY_CALL: &[Row] = &[
     ),
     (
         A,
-        UnwrapKey(SESSION, AES_KEY_WRAP, WRAPS, WRAPPED, UNWRAPPED),
+        UnwrapKey(SESSION, AES_KEY_WRAP, WRAPS, WRAPPED, PUBLIC_AES),
         Told::Object(5),
     ),
     (

@@ -213,3 +213,21 @@ pub const OPERATION_ACTIVE: Told = Told::Code(Rv::OperationActive);
 pub const WRONG_PADDING: Told = Told::Code(Rv::EncryptedDataInvalid);
 
 pub const NO_KEY: Told = Told::Code(Rv::KeyHandleInvalid);
+
+/// The label of the tests' token: 32 bytes.
+pub const NAME: &[u8] = b"the token of the tests          ";
+
+/// What CBC makes of the first block of SP 800-38A, appendix F.
+pub const CHAINED: Told = Told::Data(
+    b"\x76\x49\xab\xac\x81\x19\xb2\x46\xce\xe9\x8e\x9b\x12\xe9\x19\x7d",
+);
+
+/// The wrapped value of RFC 3394, 4.1, without its last byte, and with its last bit flipped.
+pub const SHORTER: &[u8] =
+    b"\x1f\xa6\x8b\x0a\x81\x12\xb4\x47\xae\xf3\x4b\xd8\xfb\x5a\x7b\x82\x9d\x3e\x86\x23\x71\xd2\xcf";
+
+pub const CHANGED: &[u8] =
+    b"\x1f\xa6\x8b\x0a\x81\x12\xb4\x47\xae\xf3\x4b\xd8\xfb\x5a\x7b\x82\x9d\x3e\x86\x23\x71\xd2\xcf\xe4";
+
+/// A public AES key.
+pub const PUBLIC_AES: Given = &[(AttrType::KeyType, AES), (AttrType::Private, NO)];

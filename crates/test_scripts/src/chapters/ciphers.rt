@@ -32,11 +32,6 @@ const BLOCKS: &[Row] = &[
     ),
 ];
 
-/// What CBC makes of the first block of SP 800-38A, appendix F, and CTR with 128 bits.
-const CHAINED: Told = Told::Data(
-    b"\x76\x49\xab\xac\x81\x19\xb2\x46\xce\xe9\x8e\x9b\x12\xe9\x19\x7d",
-);
-
 const COUNTED: Told = Told::Data(
     b"\x87\x4d\x61\x91\xb6\x20\xe3\x26\x1b\xef\x68\x64\x99\x0d\xb6\xce",
 );
@@ -158,13 +153,6 @@ const CODES: &[Row] = &[
     ),
 ];
 
-/// The wrapping of the vector without its last byte, and with its last bit flipped.
-const SHORTER: &[u8] =
-    b"\x1f\xa6\x8b\x0a\x81\x12\xb4\x47\xae\xf3\x4b\xd8\xfb\x5a\x7b\x82\x9d\x3e\x86\x23\x71\xd2\xcf";
-
-const OTHER: &[u8] =
-    b"\x1f\xa6\x8b\x0a\x81\x12\xb4\x47\xae\xf3\x4b\xd8\xfb\x5a\x7b\x82\x9d\x3e\x86\x23\x71\xd2\xcf\xe4";
-
 const WRAPPED_KEYS: &[Row] = &[
     (A, OPEN, Told::Session(1)),
     (A, CreateObject(1, WRAPPING), Told::Object(1)),
@@ -186,7 +174,7 @@ const WRAPPED_KEYS: &[Row] = &[
     ),
     (
         A,
-        UnwrapKey(1, AES_KEY_WRAP, 1, OTHER, UNWRAPPED),
+        UnwrapKey(1, AES_KEY_WRAP, 1, CHANGED, UNWRAPPED),
         Told::Code(Rv::WrappedKeyInvalid),
     ),
     (A, FindObjectsInit(1, NOTHING), OK),

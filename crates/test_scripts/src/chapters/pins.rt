@@ -12,8 +12,6 @@ const SO: u64 = 0;
 
 const USER: u64 = 1;
 
-const NAME: &[u8] = b"the token of the tests          ";
-
 const NEW_NAME: &[u8] = b"the same token under a new label";
 
 const RESET: Step = InitToken(0, b"so-pin", NEW_NAME);

@@ -2,11 +2,12 @@
 
 use ck_calls::Function;
 use keep::Keep;
-use line::{LineFault, Watched, Words, serve_one};
+use line::{LineFault, Words, serve_one};
 use std::alloc::Global;
 use std::test::*;
 use test_scripts::{Row, Step, call_of, expect_row, token_over};
 use token::Token;
+use watched::Watched;
 use wire::{FrameReader, read_reply, write_call};
 
 /// A line that has ended: how, what it wrote, and the token after it.

@@ -1,5 +1,5 @@
 use Rattle.std.specs.Io.KnownBytes.{Keeps}
-use Rattle.line.proofs.Noting.{Made}
+use Rattle.watched.proofs.Noting.{Made}
 use Rattle.line.proofs.put.flush_out.Given as goal
 
 abbrev pub invariant-flushes : goal.invariant-flushes

@@ -2,7 +2,7 @@
 use Rattle.std.proofs.Common.{◌≡◌, ℕ, ◌+◌, Bool, true, IsTrue, Err, refl, ◌∙◌, subst, arith, inl, inr}
 use Rattle.std.specs.declared.io.Error.{Error}
 use Rattle.keep.specs.Keeping.{Rises}
-use Rattle.line.specs.Noting.{Noting, IsInterruption, Passes, Slips, Unfailing, Settles, HasFailed}
+use Rattle.watched.specs.Noting.{Noting, IsInterruption, Passes, Slips, Unfailing, Settles, HasFailed}
 
 -- so many calls, none of which failed
 pub record Made {T : Type 0} (turns : ℕ) (old new : Noting T) : Type 0 where

@@ -4,7 +4,7 @@ ghost use Rattle.std.specs.Prelude.{◌≡◌, ◌↔◌, [], IsTrue};
 ghost use Rattle.std.specs.Io.{ReadsAtMost, WritesAtMost};
 ghost use Rattle.std.specs.Io.KnownBytes.{Keeps, ReadConsumes, WriteAppends};
 ghost use Rattle.keep.specs.Keeping.{Rises};
-ghost use Rattle.line.specs.Noting.{HoldsBack, IsInterruption, LetsOut, Notes, NotesWrite};
+ghost use Rattle.watched.specs.Noting.{HoldsBack, IsInterruption, LetsOut, Notes, NotesWrite};
 
 use keep::WriteCount as CallCount;
 use lists::GhostBytes;
@@ -23,15 +23,15 @@ pub struct Watched<T> {
 }
 
 impl<T> Model for Watched<T> {
-    ghost use Rattle.line.specs.Noting.{Noting};
+    ghost use Rattle.watched.specs.Noting.{Noting};
 
     ghost Value = { Noting T };
 
     ghost view = { λ n. record { inner = n.inner; failures = n.failures; calls = n.calls; unflushed = n.unflushed.bytes } };
 }
 
-/// Whether a read, a write or a flush may be tried again.
-pub(crate) fn is_interrupted(error: &Error) -> bool
+/// Whether a read, a write or a flush that failed so may be tried again.
+pub fn is_interrupted(error: &Error) -> bool
     ensures { IsTrue result ↔ IsInterruption error.now }
 {
     error.kind() == ErrorKind::Interrupted

@@ -1,0 +1,8 @@
+//! A reader or a writer that counts which of its calls failed, so that who reads or writes knows why it ended.
+//!
+//! `specs/Noting.antt` is what is counted of one call, and of many.
+#![tactic(auto)]
+
+mod watched;
+
+pub use watched::{Watched, is_interrupted};
