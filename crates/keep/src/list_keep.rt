@@ -67,15 +67,9 @@ fn device_failure(failures: &mut u64) -> KeepFault
 
 impl Keep for ListKeep {
     ghost use Rattle.std.specs.Prelude.{refl};
+    ghost use Rattle.keep.specs.ListState.{list_terms};
 
-    ghost terms = { record {
-      holds = λ k c. c ≡ k.contents;
-      may_leave = λ k left. left ≡ Some k.contents;
-      is_steady = λ _. Unit {0};
-      doubt = λ _. 0;
-      failures = λ k. k.failures;
-      tried = λ k. k.tried;
-    } };
+    ghost terms = { list_terms };
 
     ghost survives = { λ k _ none. none (Some k.contents) refl };
 
