@@ -12,6 +12,7 @@ use Rattle.model_views.specs.declared.fault.Fault.{Fault}
 use Rattle.model_views.specs.declared.fault.Fault.TheVariants.{Device}
 use Rattle.mech.specs.declared.job.Job.{Job}
 use Rattle.desk.specs.Desks.{DeskState, SameDesk, empty_desk, over}
+use Rattle.ck_calls.specs.declared.call.Call.{Call}
 use Rattle.ck_calls.specs.declared.reply.Reply.{Reply}
 use Rattle.ck_calls.specs.Functions.{function_number}
 use Rattle.model_worlds.specs.declared.event.Event.{Event}
@@ -21,7 +22,7 @@ use Rattle.model_worlds.specs.declared.check.Check.{Check}
 use Rattle.model_views.specs.Views.{Question, View, fresh}
 use Rattle.model_views.specs.Answering.{Said, Replies, Answer, Reveal, answered, has_session, pin_checked_in}
 use Rattle.model_answers.specs.Answers.{answer_result}
-use Rattle.model_answers.specs.Standing.{ended_with}
+use Rattle.model_answers.specs.Standing.{StandsAfter, ended_with}
 use Rattle.model_views.specs.Refusals.{is_refusal, refusal, resource_error_in, resource_error}
 use Rattle.model_worlds.specs.Worlds.{World, is_in_session, checks_of, Move, Goes, Refuses, value_of, reveal_by_outcome, reveal_to_task, stepped, unchecked, finish_refused}
 use Rattle.serve_base.specs.Refusing.{GivesAnyway}
@@ -101,9 +102,17 @@ pub record Finishes {K : Type 0} (terms : Terms K) (job : Job) (reveal : Content
   pub refused : IfOk result (λ reply. is_refusal reply ≡ true → ShowsSame (over before) desk ⊎ GivesAnyway (λ c v. answer_to_job job v (reveal c)) before (Replies reply) desk)
   pub short : IsShortTask (task_of job.work.value) → IfOk result (λ reply. IsShort reply)
 
+-- what an application sees of its desk after a refused call, whatever is kept
+abbrev pub StandsAtDesk : Call → DeskState → DeskState → Type 0
+StandsAtDesk call old new = (c : Contents) → Fits c old.handles.entries → StandsAfter call (view_of c old) (view_of c new)
+
 -- a view, and what a refused result may leave of it
 abbrev pub StandsOver : Job → View → View → Type 0
 StandsOver job v new = (new ≡ answered v) ⊎ ((q : Question) × (v.question ≡ Some q) × (new ≡ ended_with q.session (question_of job).task (answered v)))
+
+-- and of a desk, whatever is kept
+abbrev pub StandsOverDesk : Job → DeskState → DeskState → Type 0
+StandsOverDesk job old new = (c : Contents) → Fits c old.handles.entries → StandsOver job (view_of c old) (view_of c new)
 
 -- the answer to the job's own value, and the world after it; or what a refusal leaves
 abbrev pub answer_by : World → ℕ → Job → Answer

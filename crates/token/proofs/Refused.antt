@@ -19,12 +19,12 @@ use Rattle.serve_base.specs.declared.out.Out.{Out}
 use Rattle.serve_base.specs.Refusing.{GivesAnyway}
 use Rattle.serve_base.specs.Shown.{question_of, said_of, view_of, Fits, ShowsSame}
 use Rattle.token.specs.Dispatching.{Stands}
-use Rattle.model_runs.specs.Applications.{StandsOver, answer_to_job, asked_by_job, by_job, told_as, told_result}
+use Rattle.model_runs.specs.Applications.{StandsAtDesk, StandsOverDesk, answer_to_job, asked_by_job, by_job, told_as, told_result}
 
 -- ---- a call
 
 pub stands-called : (call : Call) (random : List ℕ) (reveal : Reveal) (before desk : DeskState) (r : Result Out Fault) → IfErr r (λ fault. SameDesk before desk) → Stands (λ v. answer v call random reveal) before r desk
-    → is_refused (said_of (told_as r)) ≡ true → (c : Contents) → Fits c before.handles.entries → StandsAfter call (view_of c before) (view_of c desk)
+    → is_refused (said_of (told_as r)) ≡ true → StandsAtDesk call before desk
 stands-called call random reveal before desk (Ok out) stays refused is c fits = elim (refused is) [
   | inl shows ↦ inl (shows c fits)
   | inr gives ↦
@@ -53,7 +53,7 @@ asked-at c before j asked = ap (option_map question_of) asked
 
 pub stands-finished : (job j : Job) (reveal : Contents → Reveal) (before desk : DeskState) (r : Result _ Fault) → before.question ≡ Some j → IfErr r (λ fault. SameDesk (over before) desk)
     → IfOk r (λ reply. is_refusal reply ≡ true → ShowsSame (over before) desk ⊎ GivesAnyway (λ c v. answer_to_job job v (reveal c)) before (Replies reply) desk)
-    → is_refusal (told_result r) ≡ true → (c : Contents) → Fits c before.handles.entries → StandsOver job (view_of c before) (view_of c desk)
+    → is_refusal (told_result r) ≡ true → StandsOverDesk job before desk
 stands-finished job j reveal before desk (Ok reply) asked stays refused is c fits = elim (refused is) [
   | inl shows ↦ inl (shows c fits)
   | inr gives ↦

@@ -20,14 +20,13 @@ ghost use Rattle.model_worlds.specs.Events.{HasRandom};
 ghost use Rattle.model_views.specs.declared.fault.Fault.TheVariants.{Device};
 ghost use Rattle.model_views.specs.Answering.{pin_checked_in};
 ghost use Rattle.model_answers.specs.Answers.{answer};
-ghost use Rattle.model_answers.specs.Standing.{StandsAfter};
 ghost use Rattle.model_views.specs.Refusals.{is_refusal, is_refused, resource_error_in, refusal, resource_error};
 ghost use Rattle.model_worlds.specs.Worlds.{World, called, list_change, checks_of, goes, happens, is_init_token, others_checking, reply_to, reveal_by_call, says_called, without_checks};
 ghost use Rattle.model_worlds.specs.Tries.{IsSound};
-ghost use Rattle.serve_base.specs.Shown.{Fits, IsFor, question_of, said_of, task_of, view_of};
+ghost use Rattle.serve_base.specs.Shown.{IsFor, question_of, said_of, task_of};
 ghost use Rattle.serve_base.specs.Short.{IsShort, IsShortCall, IsShortSaid, IsShortTask};
 ghost use Rattle.token.specs.Dispatching.{Stands};
-ghost use Rattle.model_runs.specs.Applications.{Finishes, HasJobs, reveal_by_job, checks_after, has_session_at, are_others_in_session, HasNumbers, IsOpen, IsOther, TakesJob, answer_by, desk_at, is_answer, move_of, opening, told_as, told_result, Shows, ShowsAfter, StandsOver};
+ghost use Rattle.model_runs.specs.Applications.{Finishes, HasJobs, reveal_by_job, checks_after, has_session_at, are_others_in_session, HasNumbers, IsOpen, IsOther, TakesJob, answer_by, desk_at, is_answer, move_of, opening, told_as, told_result, Shows, ShowsAfter, StandsAtDesk, StandsOverDesk};
 ghost use Rattle.serve_base.specs.Stores.{FailsForIds, LacksId, Served};
 ghost use Rattle.model_runs.specs.Runs.{AccountsFor, Advances, BlamesForIds, HasIds, IsRun, IsStep, IsTakenBy, Lasting, LeavesBy, LeftBy, MayLeave, blames, call_change};
 
@@ -118,7 +117,7 @@ impl<K: Keep> Token<K> {
         ensures others { (b : ℕ) → b ≢ app → SameDesk (desk_at self.old.desks b) (desk_at self.new.desks b) }
         ensures stays { IsSome (resource_error_in (said_of result)) → SameDesk (desk_at self.old.desks app) (desk_at self.new.desks app) }
         // A refusal leaves what the application has, but for an operation that it ends, whatever is kept, and store faithful or not.
-        ensures refused { is_refused (said_of result) ≡ true → (c : Contents) → Fits c (desk_at self.old.desks app).handles.entries → StandsAfter call (view_of c (desk_at self.old.desks app)) (view_of c (desk_at self.new.desks app)) }
+        ensures refused { is_refused (said_of result) ≡ true → StandsAtDesk call (desk_at self.old.desks app) (desk_at self.new.desks app) }
         // A call with data that fits into a frame returns something as short, or a job for it.
         ensures short { IsShortCall call → IsShortSaid (said_of result) }
     {
@@ -159,7 +158,8 @@ impl<K: Keep> Token<K> {
         ensures others { (b : ℕ) → b ≢ app → desk_at self.new.desks b ≡ desk_at self.old.desks b }
         ensures stays { IsSome (resource_error result) → SameDesk (over (desk_at self.old.desks app)) (desk_at self.new.desks app) }
         // A refused result leaves what the application has, but for its pending call and an operation that it ends.
-        ensures refused { HasNumbers (option_map question_of (desk_at self.old.desks app).question) app done.job.value → is_refusal result ≡ true → (c : Contents) → Fits c (desk_at self.old.desks app).handles.entries → StandsOver done.job.value (view_of c (desk_at self.old.desks app)) (view_of c (desk_at self.new.desks app)) }
+        ensures refused { HasNumbers (option_map question_of (desk_at self.old.desks app).question) app done.job.value
+            → is_refusal result ≡ true → StandsOverDesk done.job.value (desk_at self.old.desks app) (desk_at self.new.desks app) }
         // What is returned for a short job is short.
         ensures short { IsShortTask (task_of done.job.value.work.value) → IsShort result }
     {
