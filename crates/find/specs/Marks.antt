@@ -1,12 +1,12 @@
 -- Marks of objects. By an object's mark a search passes over it without reading it, where the template can't match it
 -- (PKCS #11 v3.1, 5.7.7).
-use Rattle.std.specs.Prelude.{ℕ, ◌*◌, ◌%◌, ◌^◌, Bool, ◌&&◌, ◌||◌, ◌==◌, not, List, Option, Some, None, bit_xor}
+use Rattle.std.specs.Prelude.{ℕ, ◌*◌, ◌%◌, ◌^◌, Bool, false, ◌||◌, ◌==◌, not, List, Option, Some, None, bit_xor}
 use Rattle.std.specs.Bool.{beq}
-use Rattle.std.specs.List.{fold, list_any}
+use Rattle.std.specs.List.{fold}
+use Rattle.std.specs.Option.{option_map}
 use Rattle.ck_types.specs.declared.entry.Entry.{Entry}
 use Rattle.ck_types.specs.declared.attr_type.AttrType.{AttrType}
 use Rattle.ck_types.specs.declared.attr_type.AttrType.TheVariants as attr
-use Rattle.ck_types.specs.Numbers.{attr_type_number}
 use Rattle.find.specs.declared.marks.TheConstants.{HASH_FACTOR, HASH_START}
 use Rattle.attrs.specs.Objects.{attribute_of, flag, is_true}
 
@@ -42,24 +42,46 @@ mark_of object = record {
   application = hash_in (attribute_of object attr.Application);
 }
 
--- an entry of this type, whose value has another hash
-abbrev pub differs : AttrType → ℕ → Entry → Bool
-differs t hash e = (e.attr_type == attr_type_number t) && not (hash_of e.value == hash)
+-- What a template wants of marks: of each attribute that marks have, what its first entry of that type makes of a mark. A template
+-- that has no such entry wants nothing there.
+pub record WantedMarks : Type 0 where
+  pub private : Option Bool
+  pub class : Option ℕ
+  pub key_type : Option ℕ
+  pub label : Option ℕ
+  pub id : Option ℕ
+  pub application : Option ℕ
 
--- an entry of CKA_PRIVATE, which is true where the object isn't private, or the other way round
-abbrev pub differs_in_privacy : Bool → Entry → Bool
-differs_in_privacy private e = (e.attr_type == attr_type_number attr.Private) && not (beq (is_true (Some e.value)) private)
+-- a value as a truth value
+abbrev pub truth_of : List ℕ → Bool
+truth_of bytes = is_true (Some bytes)
 
--- the entry is of a marked attribute, and what the mark has of it is not that of the entry's value
-abbrev pub entry_excludes : ObjectMark → Entry → Bool
-entry_excludes mark e =
-    differs_in_privacy mark.private e
-    || differs attr.Class mark.class e
-    || differs attr.KeyType mark.key_type e
-    || differs attr.Label mark.label e
-    || differs attr.Id mark.id e
-    || differs attr.Application mark.application e
+abbrev pub wanted_of : List Entry → WantedMarks
+wanted_of template = record {
+  private = option_map truth_of (attribute_of template attr.Private);
+  class = option_map hash_of (attribute_of template attr.Class);
+  key_type = option_map hash_of (attribute_of template attr.KeyType);
+  label = option_map hash_of (attribute_of template attr.Label);
+  id = option_map hash_of (attribute_of template attr.Id);
+  application = option_map hash_of (attribute_of template attr.Application);
+}
 
--- some entry of the template excludes what has this mark
-abbrev pub excludes : ObjectMark → List Entry → Bool
-excludes mark template = list_any (entry_excludes mark) template
+-- a hash is wanted, and it isn't this one
+abbrev pub is_other_hash : Option ℕ → ℕ → Bool
+is_other_hash None hash = false
+is_other_hash (Some wanted) hash = not (wanted == hash)
+
+-- a truth value is wanted, and it isn't this one
+abbrev pub is_other_truth : Option Bool → Bool → Bool
+is_other_truth None truth = false
+is_other_truth (Some wanted) truth = not (beq wanted truth)
+
+-- what is wanted excludes the objects that have this mark
+abbrev pub excludes : WantedMarks → ObjectMark → Bool
+excludes wanted mark =
+    is_other_truth wanted.private mark.private
+    || is_other_hash wanted.class mark.class
+    || is_other_hash wanted.key_type mark.key_type
+    || is_other_hash wanted.label mark.label
+    || is_other_hash wanted.id mark.id
+    || is_other_hash wanted.application mark.application

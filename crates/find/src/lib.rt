@@ -15,6 +15,6 @@ mod matching;
 mod searching;
 
 pub use laws::{marks_are_blind, marks_pass_over, marks_tell_privacy};
-pub use marks::Mark;
+pub use marks::{Mark, Wanted};
 pub use matching::matches;
 pub use searching::search;

@@ -1,14 +1,14 @@
 //! Marks of objects.
 
-ghost use Rattle.std.specs.Prelude.{◌≡◌, List, Some, true, false};
-ghost use Rattle.std.specs.Option.{option_copied};
+ghost use Rattle.std.specs.Prelude.{◌≡◌, List, true, false};
+ghost use Rattle.std.specs.Option.{option_copied, option_map};
 ghost use Rattle.ck_types.specs.declared.entry.Entry.{Entry as AnEntry};
 ghost use Rattle.attrs.specs.Masking.{mask};
-ghost use Rattle.attrs.specs.Objects.{attribute_of, is_true};
+ghost use Rattle.attrs.specs.Objects.{attribute_of};
 ghost use Rattle.find.specs.Matching.{template_matches};
-ghost use Rattle.find.specs.Marks.{differs, differs_in_privacy, entry_excludes, excludes, hash_in, hash_of, mark_of};
+ghost use Rattle.find.specs.Marks.{excludes, hash_in, hash_of, is_other_hash, is_other_truth, mark_of, truth_of, wanted_of};
 
-use attrs::Object;
+use attrs::{Object, find_attribute};
 use ck_types::{AttrType, Entry, Template};
 use std::marker::Model;
 
@@ -65,51 +65,111 @@ impl Mark {
     {
         self.private
     }
+}
 
-    /// Whether a search by the template may pass over each object with this mark, since it matches none (PKCS #11 v3.1,
-    /// 5.7.7). An object that isn't excluded may still not match. Nothing is allocated.
-    pub fn excludes(&self, template: &Template) -> bool
-        ensures value { result ≡ excludes self.now template.now }
-        ensures passes_over { (object : List AnEntry) → self.now ≡ mark_of object → result ≡ true → template_matches template.now object ≡ false }
+/// What a template wants of marks: the hash of its first entry of each type that marks have, and what it says of CKA_PRIVATE
+/// (PKCS #11 v3.1, 5.7.7). It is computed once for a search, so that a mark is tested by six comparisons.
+#[derive(Clone, Copy, Debug, PartialEq, Eq)]
+pub struct Wanted {
+    private: Option<bool>,
+    class: Option<u16>,
+    key_type: Option<u16>,
+    label: Option<u16>,
+    id: Option<u16>,
+    application: Option<u16>,
+}
+
+impl Model for Wanted {
+    ghost use Rattle.find.specs.Marks.{WantedMarks};
+
+    ghost Value = { WantedMarks };
+
+    ghost view = { λ w. record { private = w.private; class = w.class; key_type = w.key_type; label = w.label; id = w.id; application = w.application } };
+
+    ghost inverse = { λ w. record { private = w.private; class = w.class; key_type = w.key_type; label = w.label; id = w.id; application = w.application } };
+}
+
+impl Wanted {
+    /// What the template wants of marks. Nothing is allocated.
+    pub fn of(template: &Template) -> Wanted
+        ensures { result ≡ wanted_of template.now }
     {
-        excludes_any(self, template.as_slice())
+        let entries = template.as_slice();
+        Wanted {
+            private: wanted_truth(entries, AttrType::Private),
+            class: wanted_hash(entries, AttrType::Class),
+            key_type: wanted_hash(entries, AttrType::KeyType),
+            label: wanted_hash(entries, AttrType::Label),
+            id: wanted_hash(entries, AttrType::Id),
+            application: wanted_hash(entries, AttrType::Application),
+        }
     }
 
-    fn excludes_entry(&self, entry: &Entry) -> bool
-        ensures { result ≡ entry_excludes self.now entry.now }
+    /// Whether a search may pass over each object with this mark, since the template finds none of them (PKCS #11 v3.1,
+    /// 5.7.7). An object that isn't excluded may still not match.
+    pub fn excludes(&self, mark: &Mark) -> bool
+        ensures value { result ≡ excludes self.now mark.now }
+        ensures passes_over { (template object : List AnEntry) → self.now ≡ wanted_of template → mark.now ≡ mark_of object → result ≡ true → template_matches template object ≡ false }
     {
-        differs_in_privacy(self.private, entry)
-            || differs(AttrType::Class, self.class, entry)
-            || differs(AttrType::KeyType, self.key_type, entry)
-            || differs(AttrType::Label, self.label, entry)
-            || differs(AttrType::Id, self.id, entry)
-            || differs(AttrType::Application, self.application, entry)
+        self.wants_other(mark)
+    }
+
+    /// Whether something is wanted that the mark has otherwise.
+    fn wants_other(&self, mark: &Mark) -> bool
+        ensures { result ≡ excludes self.now mark.now }
+    {
+        is_other_truth(self.private, mark.private)
+            || is_other_hash(self.class, mark.class)
+            || is_other_hash(self.key_type, mark.key_type)
+            || is_other_hash(self.label, mark.label)
+            || is_other_hash(self.id, mark.id)
+            || is_other_hash(self.application, mark.application)
     }
 }
 
-fn excludes_any(mark: &Mark, template: &[Entry]) -> bool
-    ensures { result ≡ excludes mark.now template.now }
+/// Whether a hash is wanted that isn't this one.
+fn is_other_hash(wanted: Option<u16>, hash: u16) -> bool
+    ensures { result ≡ is_other_hash wanted hash }
 {
-    template.iter().any(|entry| mark.excludes_entry(entry))
+    match wanted {
+        Some(wanted) => wanted != hash,
+        None => false,
+    }
 }
 
-/// Whether the entry is of this type, and its value has another hash.
-fn differs(attribute: AttrType, hash: u16, entry: &Entry) -> bool
-    ensures { result ≡ differs attribute hash entry.now }
+/// Whether a truth value is wanted that isn't this one.
+fn is_other_truth(wanted: Option<bool>, truth: bool) -> bool
+    ensures { result ≡ is_other_truth wanted truth }
 {
-    entry.attr_type == attribute.number() && hash_of(entry.value.as_slice()) != hash
+    match wanted {
+        Some(wanted) => wanted != truth,
+        None => false,
+    }
 }
 
-/// Whether the entry is of CKA_PRIVATE, and says otherwise.
-fn differs_in_privacy(private: bool, entry: &Entry) -> bool
-    ensures { result ≡ differs_in_privacy private entry.now }
+/// The hash of the first entry of this type, if there is one.
+fn wanted_hash(template: &[Entry], attribute: AttrType) -> Option<u16>
+    ensures { result ≡ option_map hash_of (attribute_of template.now attribute) }
 {
-    entry.attr_type == AttrType::Private.number() && is_true(entry.value.as_slice()) != private
+    match find_attribute(template, attribute.number()) {
+        Some(value) => Some(hash_of(value)),
+        None => None,
+    }
+}
+
+/// Whether the first entry of this type is a truth value that is true, if there is one.
+fn wanted_truth(template: &[Entry], attribute: AttrType) -> Option<bool>
+    ensures { result ≡ option_map truth_of (attribute_of template.now attribute) }
+{
+    match find_attribute(template, attribute.number()) {
+        Some(value) => Some(is_true(value)),
+        None => None,
+    }
 }
 
 /// Whether a value is a truth value that is true.
 fn is_true(value: &[u8]) -> bool
-    ensures { result ≡ is_true (Some value.now) }
+    ensures { result ≡ truth_of value.now }
 {
     value.len() == 1 && value[0] == 1
 }
