@@ -47,17 +47,15 @@ is_other_truth-matched o template h = step (attribute_of template attr.Private) 
   step None has = refl
   step (Some value) has = ap not ((booleans_Decides (is_true (Some value)) (flag o attr.Private)).1 (sym (ap is_true (has value refl))))
 
--- what the template finds is not excluded
-pub excludes-matched : (o template : List Entry) → template_matches template o ≡ true → excludes (wanted_of template) (mark_of o) ≡ false
-excludes-matched o template h =
-    rw (is_other_truth-matched o template h, is_other_hash-matched o template attr.Class h, is_other_hash-matched o template attr.KeyType h, is_other_hash-matched o template attr.Label h, is_other_hash-matched o template attr.Id h, is_other_hash-matched o template attr.Application h) refl
-
--- what is excluded is not found
+-- what is excluded is not found, since what the template finds is not excluded
 pub template_matches-excluded : (o template : List Entry) → excludes (wanted_of template) (mark_of o) ≡ true → template_matches template o ≡ false
 template_matches-excluded o template h =
     let step : (b : Bool) → template_matches template o ≡ b → b ≡ false =
     λ b. elim b as (λ c. template_matches template o ≡ c → c ≡ false) [
-      | true ↦ λ k. let no = excludes-matched o template k in absurd cc
+      | true ↦ λ k.
+          let no : excludes (wanted_of template) (mark_of o) ≡ false =
+          rw (is_other_truth-matched o template k, is_other_hash-matched o template attr.Class k, is_other_hash-matched o template attr.KeyType k, is_other_hash-matched o template attr.Label k, is_other_hash-matched o template attr.Id k, is_other_hash-matched o template attr.Application k) refl in
+          absurd cc
       | false ↦ λ k. refl
     ] in
     step (template_matches template o) refl
