@@ -1,8 +1,10 @@
-use Rattle.std.proofs.Common.{◌∙◌, ap, subst, sym}
+use Rattle.std.proofs.Common.{◌≡◌, ◌∙◌, ap, subst, sym, arith}
 use Rattle.std.specs.Prelude.{IsSome}
 use Rattle.std.specs.List.{AllByRecursion}
 use Rattle.keep.specs.Contents.{object_at}
+use Rattle.serve_base.specs.Listing.{AreMarks, ids_in}
 use Rattle.serve_base.specs.Searching.{found_at}
+use Rattle.serve_base.proofs.Edits.{written-back}
 use Rattle.serve_base.proofs.Searched.{found-objects}
 use Rattle.serve_base.proofs.Storing.{all-there}
 use Rattle.serve_base.proofs.store.Store.search.Goals as goal
@@ -10,10 +12,21 @@ use Rattle.serve_base.proofs.store.Store.search.Goals as goal
 pub returns-clause-found : goal.returns-clause-found
 returns-clause-found g c = λ sure k h.
     let t = rw (← c.self.view_is) at h in
-    rw (ap (found_at c.args.login c.args.template.now (object_at k)) (c.deref.ensures.value ∙ t.ids) ∙ found-objects c.args.login c.args.template.now k h.sound) at (c.search_kept.ensures.found sure k t.held)
+    let clean : g.K.Keep.terms.doubt c.self.inside.keep ≡ 0 = omega (arith, c.search_kept.ensures.counts.doubt, sure) in
+    rw (ap (λ xs. found_at c.args.login c.args.template.now (object_at k) (ids_in xs)) c.deref_mut.ensures.value ∙ ap (found_at c.args.login c.args.template.now (object_at k)) t.ids ∙ found-objects c.args.login c.args.template.now k h.sound) at
+    (c.search_kept.ensures.found sure k t.held (subst (AreMarks k) (sym c.deref_mut.ensures.value) (t.marks clean)))
+
+pub returns-clause-ids : goal.returns-clause-ids
+returns-clause-ids g c =
+    let back = written-back c.search_kept.new.listed c.self.inside.listed.items c.self.inside.listed.len (omega (arith, c.search_kept.auto.listed, c.deref_mut.ensures.len)) in
+    let was = c.deref_mut.ensures.value in
+    rw (← c.self.view_is) (record {
+      ids = ap ids_in back ∙ c.search_kept.ensures.ids ∙ ap ids_in was;
+      marks = λ k held knows sure. subst (AreMarks k) (sym back) (c.search_kept.ensures.marks sure k held (subst (AreMarks k) (sym was) (knows (omega (arith, c.search_kept.ensures.counts.doubt, sure)))));
+    })
 
 pub returns-clause-steady : goal.returns-clause-steady
 returns-clause-steady g c = λ steady device k h.
     let t = rw (← c.self.view_is) at h in
     let was = rw (← c.self.view_is) at steady in
-    c.search_kept.ensures.steady was device k t.held (subst (AllByRecursion (λ id. IsSome (object_at k id))) (sym (c.deref.ensures.value ∙ t.ids)) (all-there k))
+    c.search_kept.ensures.steady was device k t.held (subst (AllByRecursion (λ id. IsSome (object_at k id))) (sym (ap ids_in c.deref_mut.ensures.value ∙ t.ids)) (all-there k))
