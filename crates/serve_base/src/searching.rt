@@ -84,8 +84,8 @@ fn search_next<K: Keep>(
     Ok(())
 }
 
-/// Whether a search passes over each object with this mark: by the mark, one who is logged in so doesn't see it, or the template
-/// doesn't find it.
+/// Whether a search passes over each object with this mark. One who is logged in so doesn't see it, or the template doesn't find
+/// it.
 fn passes_over(login: Option<UserType>, wanted: &Wanted, mark: &Mark) -> bool
     ensures { result ≡ passes_over login wanted.now mark.now }
 {
