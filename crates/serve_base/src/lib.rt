@@ -2,8 +2,9 @@
 //!
 //! `Store` is the keeper of the token objects (a storage backend) with their ids in the order of their creation. It has their
 //! marks too, by which a search passes over objects without reading them. `find` copies the object that an application sees
-//! under a handle, and `Store::search` collects those that a template finds. A call returns `Result<Reply, Refusal>` or, where it may return a job, `Result<Out, Refusal>`: an `Err` always means that nothing has
-//! changed. `settle` makes of it what the application gets.
+//! under a handle, and `Store::search` collects those that a template finds. A call returns `Result<Reply, Refusal>` or, where
+//! it may return a job, `Result<Out, Refusal>`: an `Err` always means that nothing has changed. `settle` makes of it what the
+//! application gets.
 //!
 //! Contracts speak of three things:
 //! - what an application sees (`specs/Shown.antt`: `view_of`);
