@@ -7,10 +7,18 @@
 //! template matches every object.
 //!
 //! `search` reads one object at a time, and keeps no more of it than a note.
+//!
+//! A `Mark` is what a search may know of an object without reading it: whether it is private, and hashes of CKA_CLASS,
+//! CKA_KEY_TYPE, CKA_LABEL, CKA_ID and CKA_APPLICATION. An object that its mark excludes doesn't match
+//! (`marks_pass_over`), so a search passes over it. A mark has nothing of a value that is masked (`marks_are_blind`).
 #![tactic(auto)]
 
+mod laws;
+mod marks;
 mod matching;
 mod searching;
 
+pub use laws::{marks_are_blind, marks_pass_over, marks_tell_privacy};
+pub use marks::Mark;
 pub use matching::matches;
 pub use searching::search;

@@ -3,6 +3,7 @@ mod caches;
 mod given;
 mod handle_table;
 mod keepers;
+mod marks;
 mod matching;
 mod messages;
 mod objects;

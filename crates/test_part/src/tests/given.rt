@@ -1,7 +1,7 @@
-//! Objects of given attributes.
+//! Objects and templates of given attributes.
 
 use attrs::{AttributeRow, Form, Object, attributes};
-use ck_types::{AttrType, Bytes, Entry, Items, ObjectClass};
+use ck_types::{AttrType, Bytes, Entry, Items, ObjectClass, Template};
 use std::alloc::{AllocError, Global};
 use std::test::Fail;
 
@@ -61,4 +61,17 @@ pub(super) fn object_of(
     given: &[Given],
 ) -> Result<Object, Fail> {
     Ok(Object::from_entries(entries_of(alloc, class, given)?).ok_or("an object")?)
+}
+
+/// A template of these attributes, by their numbers.
+pub(super) fn template_of(alloc: Global, given: &[(u64, &[u8])]) -> Result<Template, AllocError> {
+    let mut entries = Items::new(alloc);
+    for (number, bytes) in given {
+        let value = Bytes::from_slice(alloc, bytes)?;
+        entries.push(Entry {
+            attr_type: *number,
+            value,
+        })?;
+    }
+    Ok(entries)
 }

@@ -1,8 +1,8 @@
-use super::given::{Given, object_of};
+use super::given::{Given, object_of, template_of};
 use attrs::Object;
-use ck_types::{AttrType, Bytes, Entry, Items, ObjectClass, Template};
+use ck_types::{AttrType, ObjectClass, Template};
 use find::*;
-use std::alloc::{AllocError, Global};
+use std::alloc::Global;
 use std::test::Fail;
 
 const LABEL: Given = (AttrType::Label, b"k1");
@@ -17,18 +17,6 @@ fn key(alloc: Global, extractable: bool) -> Result<Object, Fail> {
         &[LABEL]
     };
     object_of(alloc, ObjectClass::SecretKey, given)
-}
-
-fn template(alloc: Global, given: &[(u64, &[u8])]) -> Result<Template, AllocError> {
-    let mut entries = Items::new(alloc);
-    for (number, bytes) in given {
-        let value = Bytes::from_slice(alloc, bytes)?;
-        entries.push(Entry {
-            attr_type: *number,
-            value,
-        })?;
-    }
-    Ok(entries)
 }
 
 /// What is searched for, and whether a key is found that is unextractable, and one that isn't.
@@ -53,7 +41,7 @@ fn is_found(alloc: Global, template: &Template, extractable: bool) -> Result<boo
 #[test]
 fn a_search_never_finds_a_key_by_a_value_that_is_kept_back(rt: HostRuntime) -> Result<(), Fail> {
     for (given, kept_back, shown) in CASES {
-        let template = template(rt.alloc(), given)?;
+        let template = template_of(rt.alloc(), given)?;
         let found = [
             is_found(rt.alloc(), &template, false)?,
             is_found(rt.alloc(), &template, true)?,
