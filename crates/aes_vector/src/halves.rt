@@ -3,7 +3,6 @@
 
 ghost use Rattle.std.specs.Prelude.{◌≡◌, ℕ, T, List, map};
 ghost use Rattle.std.specs.Simd.Lanes.{Each1};
-ghost use Rattle.fips_197.specs.Bytes.{AreBytes};
 ghost use Rattle.fips_197.specs.Cipher.{substitute_bytes};
 ghost use Rattle.aes_vector.specs.Halves.{look, is_place, low, high, in_tables, upper, lower, of_inverse};
 
@@ -82,7 +81,7 @@ pub(crate) fn in_tables(x: u8x16, lows: [u8; 16], highs: [u8; 16]) -> u8x16
 /// SubBytes (FIPS 197, 5.1.1).
 #[inline(always)]
 pub(crate) fn substituted(x: u8x16) -> u8x16
-    ensures { AreBytes x → result ≡ substitute_bytes x }
+    ensures { result ≡ substitute_bytes x }
 {
     let halves = inverted(in_tables(x, BASIS_LOW, BASIS_HIGH));
     by_halves(halves, LAST_UPPER, LAST_LOWER) ^ u8x16::splat(0x63)
