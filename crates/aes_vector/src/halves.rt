@@ -1,12 +1,15 @@
 //! A byte by its two halves: look-ups in tables of 16, all bytes of a vector at once. None is at a place in memory that a
 //! secret gives, since a table stays in a register.
 
-ghost use Rattle.std.specs.Prelude.{◌≡◌, ℕ, T, List, map};
+ghost use Rattle.std.specs.Prelude.{◌≡◌, ℕ, T, List, map, bit_xor};
 ghost use Rattle.std.specs.Simd.Lanes.{Each1};
 ghost use Rattle.fips_197.specs.Cipher.{substitute_bytes};
-ghost use Rattle.aes_vector.specs.Halves.{look, is_place, low, high, in_tables, upper, lower, of_inverse};
+ghost use Rattle.aes_vector.specs.Halves.{look, is_place, low, high, in_tables, upper, lower, of_inverse, inverse_basis};
 
-use crate::tables::{BASIS_HIGH, BASIS_LOW, INVERSE, INVERSE_TIMES_A, LAST_LOWER, LAST_UPPER};
+use crate::tables::{
+    BASIS_HIGH, BASIS_LOW, INVERSE, INVERSE_BASIS_HIGH, INVERSE_BASIS_LOW, INVERSE_TIMES_A,
+    LAST_LOWER, LAST_UPPER,
+};
 use std::simd::prelude::*;
 
 /// The entries of a table at these places, and 0 at a place from 128 on.
@@ -78,11 +81,27 @@ pub(crate) fn in_tables(x: u8x16, lows: [u8; 16], highs: [u8; 16]) -> u8x16
     look(lows, low(x)) ^ look(highs, high(x))
 }
 
-/// SubBytes (FIPS 197, 5.1.1).
+/// 0x63, which the S-box adds (FIPS 197, 5.1.1), added to each byte.
+#[inline(always)]
+pub(crate) fn with_constant(x: u8x16) -> u8x16
+    ensures { result ≡ map (λ b. bit_xor b 0x63) x }
+{
+    x ^ u8x16::splat(0x63)
+}
+
+/// SubBytes (5.1.1).
 #[inline(always)]
 pub(crate) fn substituted(x: u8x16) -> u8x16
     ensures { result ≡ substitute_bytes x }
 {
     let halves = inverted(in_tables(x, BASIS_LOW, BASIS_HIGH));
-    by_halves(halves, LAST_UPPER, LAST_LOWER) ^ u8x16::splat(0x63)
+    with_constant(by_halves(halves, LAST_UPPER, LAST_LOWER))
+}
+
+/// Bytes in the basis of the inverse rounds.
+#[inline(always)]
+pub(crate) fn in_inverse_basis(x: u8x16) -> u8x16
+    ensures { result ≡ map inverse_basis x }
+{
+    in_tables(with_constant(x), INVERSE_BASIS_LOW, INVERSE_BASIS_HIGH)
 }

@@ -73,14 +73,23 @@ fn expansion_term<const NK: usize>(i: usize, before: Word) -> Word
     }
 }
 
+// A key, and zeros after it.
+fn begun(key: &[u8]) -> RoundKeys
+    requires { IsKeyLength (length key.now) }
+    ensures { take (length key.now) result ≡ key.now }
+{
+    let mut schedule = [0; SCHEDULE_SIZE];
+    schedule[..key.len()].copy_from_slice(key);
+    schedule
+}
+
 // The key schedule of a key of NK words, a parameter so that each division is by a constant.
 fn expanded_by<const NK: usize>(key: &[u8]) -> RoundKeys
     requires key { IsKeyLength (4 * NK) }
     requires size { length key.now ≡ 4 * NK }
     ensures { take (16 * (round_count key.now + 1)) result ≡ key_expansion key.now }
 {
-    let mut schedule = [0; SCHEDULE_SIZE];
-    schedule[..4 * NK].copy_from_slice(key);
+    let mut schedule = begun(key);
     'schedule: for i in NK..4 * (NK + 7) {
         let term = expansion_term::<NK>(i, word_at(&schedule, i - 1));
         let next = xor_words(word_at(&schedule, i - NK), term);

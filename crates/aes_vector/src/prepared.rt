@@ -6,11 +6,12 @@ ghost use Rattle.fips_197.specs.InverseCipher.{inverse_mix_columns};
 ghost use Rattle.aes_vector.specs.Halves.{inverse_basis};
 ghost use Rattle.aes_vector.specs.Prepared.{ArePrepared, AreInversePrepared};
 
-use crate::halves::{in_tables, substituted};
+use crate::halves::{in_inverse_basis, in_tables, substituted, with_constant};
 use crate::inverse_round::inverse_round;
 use crate::round_keys::{RoundKeys, SCHEDULE_SIZE, round_key};
 use crate::rows::shifted;
-use crate::tables::{BASIS_HIGH, BASIS_LOW, INVERSE_BASIS_HIGH, INVERSE_BASIS_LOW};
+use crate::tables::{BASIS_HIGH, BASIS_LOW};
+use aes_base::are_bytes;
 use std::simd::prelude::*;
 
 // Round key r becomes the key given, and the others stay.
@@ -28,18 +29,19 @@ pub(crate) fn prepared(schedule: &RoundKeys, rounds: usize) -> RoundKeys
     requires high { rounds < 15 }
     ensures { ArePrepared result rounds schedule.now }
 {
-    let added = u8x16::splat(0x63);
+    are_bytes(schedule);
     let mut keys = [0; SCHEDULE_SIZE];
+    let first = in_tables(round_key(schedule, 0), BASIS_LOW, BASIS_HIGH);
+    store(&mut keys, 0, first);
+    'middle: for r in 1..rounds {
+        let key = with_constant(round_key(schedule, r));
+        store(&mut keys, r, in_tables(key, BASIS_LOW, BASIS_HIGH));
+    }
     store(
         &mut keys,
-        0,
-        in_tables(round_key(schedule, 0), BASIS_LOW, BASIS_HIGH),
+        rounds,
+        with_constant(round_key(schedule, rounds)),
     );
-    'middle: for r in 1..rounds {
-        let key = in_tables(round_key(schedule, r) ^ added, BASIS_LOW, BASIS_HIGH);
-        store(&mut keys, r, key);
-    }
-    store(&mut keys, rounds, round_key(schedule, rounds) ^ added);
     keys
 }
 
@@ -48,12 +50,8 @@ pub(crate) fn prepared(schedule: &RoundKeys, rounds: usize) -> RoundKeys
 fn inverse_mixed(key: u8x16) -> u8x16
     ensures { result ≡ map inverse_basis (inverse_mix_columns key) }
 {
-    let added = u8x16::splat(0x63);
-    let state = shifted(substituted(key)) ^ added;
-    inverse_round(
-        in_tables(state, INVERSE_BASIS_LOW, INVERSE_BASIS_HIGH),
-        in_tables(added, INVERSE_BASIS_LOW, INVERSE_BASIS_HIGH),
-    )
+    let state = in_inverse_basis(shifted(substituted(key)));
+    inverse_round(state, in_inverse_basis(u8x16::splat(0)))
 }
 
 /// The round keys that the rounds of the inverse cipher take, the last round key first.
@@ -62,13 +60,9 @@ pub(crate) fn inverse_prepared(schedule: &RoundKeys, rounds: usize) -> RoundKeys
     requires high { rounds < 15 }
     ensures { AreInversePrepared result rounds schedule.now }
 {
-    let last = round_key(schedule, rounds) ^ u8x16::splat(0x63);
+    are_bytes(schedule);
     let mut keys = [0; SCHEDULE_SIZE];
-    store(
-        &mut keys,
-        0,
-        in_tables(last, INVERSE_BASIS_LOW, INVERSE_BASIS_HIGH),
-    );
+    store(&mut keys, 0, in_inverse_basis(round_key(schedule, rounds)));
     'middle: for i in 1..rounds {
         store(&mut keys, i, inverse_mixed(round_key(schedule, rounds - i)));
     }

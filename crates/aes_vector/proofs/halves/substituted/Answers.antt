@@ -1,4 +1,4 @@
-use Rattle.std.proofs.Common.{bit_xor}
+use Rattle.std.proofs.Common.{bit_xor, ◌∙◌}
 use Rattle.fips_197.specs.Cipher.{substitute_bytes}
 use Rattle.aes_vector.specs.declared.tables.TheConstants.{LAST_UPPER, LAST_LOWER}
 use Rattle.aes_vector.specs.Halves.{of_inverse}
@@ -11,6 +11,7 @@ unfolding substitute_bytes
 returns c =
     let x = c.args.x in
     let block = IsBlock-lanes x c.fits-x in
-    substituted-of x _ block
+    c.with_constant.ensures
+    ∙ substituted-of x _
     (made (of_inverse LAST_UPPER LAST_LOWER) (λ b. bit_xor b 99) x c.in_tables.result _ block.bytes last-at
     (c.by_halves.ensures c.in_tables.result c.inverted-halves.ensures.upper c.inverted-halves.ensures.lower) c.in_tables.ensures)
