@@ -10,8 +10,8 @@
 #![tactic(auto)]
 
 mod sizes;
-mod texts;
 mod sums;
+mod texts;
 
 pub use sizes::{BLOCK_SIZE, Block, rounds_of};
 pub use sums::xor_blocks;

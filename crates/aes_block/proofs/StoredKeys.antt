@@ -1,9 +1,9 @@
 -- A stored key against the definition's.
-use Rattle.std.proofs.Common.{◌≡◌, ℕ, zero, suc, ◌+◌, ◌-◌, ◌*◌, ◌/◌, ◌<◌, ◌≤◌, List, length, take, drop, ap, refl, sym, subst, ◌∙◌, arith}
-use Rattle.std.proofs.lemmas.List.{take-take, drop-take}
+use Rattle.std.proofs.Common.{◌≡◌, ℕ, ◌+◌, ◌-◌, ◌*◌, ◌/◌, ◌<◌, ◌≤◌, List, length, take, ap, refl, sym, subst, ◌∙◌, arith}
+use Rattle.std.proofs.lemmas.List.{take-take}
 use Rattle.std.proofs.lemmas.List.Elements.{All-take}
 use Rattle.fips_197.specs.Bytes.{IsBlock}
-use Rattle.fips_197.specs.Cipher.{add_round_key, round, last_round, round_key, state_after, cipher}
+use Rattle.fips_197.specs.Cipher.{round_key, cipher}
 use Rattle.fips_197.specs.KeyExpansion.{IsKeyLength, IsKey, word_count, round_count, key_expansion}
 use Rattle.fips_197.specs.InverseCipher.{inverse_mix_columns}
 use Rattle.fips_197.specs.Encrypt.{encrypted_block}

@@ -36,7 +36,6 @@ use key_expansion::Schedule;
 use state::State;
 use std::marker::Model;
 
-
 /// A key of 128, 192 or 256 bits, expanded for encrypting and decrypting. Contracts see it as the
 /// list of its bytes.
 #[derive(Drop)]

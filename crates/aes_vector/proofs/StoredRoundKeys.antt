@@ -1,5 +1,5 @@
 -- Round keys one after another, of which one is written.
-use Rattle.std.proofs.Common.{◌≡◌, ℕ, zero, ◌+◌, ◌-◌, ◌*◌, ◌<◌, ◌≤◌, List, [], ◌∷◌, length, take, drop, ap, refl, sym, ◌∙◌, arith, inl, inr}
+use Rattle.std.proofs.Common.{◌≡◌, ℕ, ◌+◌, ◌-◌, ◌*◌, ◌<◌, ◌≤◌, List, [], ◌∷◌, length, take, drop, ap, refl, sym, ◌∙◌, arith, inl, inr}
 use borrow.Rule.Slice.PartMut.{put_mid}
 use lib.Lanes.{put_chunk}
 use Rattle.std.proofs.lemmas.Bool.{cases_lt}

@@ -1,5 +1,5 @@
 use Rattle.std.proofs.Common.{◌≡◌, ◌+◌, ◌-◌, ◌*◌, ◌/◌, length, take, ap, ◌∙◌, arith}
-use borrow.Rule.Slice.PartMut.{same_len_mid, mid_of, put_mid}
+use borrow.Rule.Slice.PartMut.{same_len_mid, mid_of}
 use Rattle.std.proofs.lemmas.List.{length-take-le, length-drop}
 use Rattle.std.proofs.lemmas.Slice.{take-put_mid}
 use Rattle.fips_197.specs.Bytes.{xor_bytes}

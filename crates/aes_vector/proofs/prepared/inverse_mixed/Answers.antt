@@ -1,9 +1,9 @@
-use Rattle.std.proofs.Common.{◌≡◌, ℕ, zero, suc, ◌<◌, List, [], ◌∷◌, length, map, replicate, bit_xor, ap, refl, ◌∙◌, arith}
+use Rattle.std.proofs.Common.{◌≡◌, ℕ, zero, suc, ◌<◌, List, [], ◌∷◌, length, map, replicate, ap, refl, ◌∙◌, arith}
 use Rattle.std.specs.Int.Bits.{xor_zero_r}
 use Rattle.std.proofs.lemmas.List.Elements.{All-nil}
 use Rattle.fips_197.specs.Bytes.{AreBytes, IsBlock, xor_bytes}
 use Rattle.fips_197.proofs.Blocks.{AreBytes-cons}
-use Rattle.fips_197.specs.Cipher.{substitute_bytes, shift_rows, add_round_key}
+use Rattle.fips_197.specs.Cipher.{shift_rows, add_round_key}
 use Rattle.fips_197.specs.InverseCipher.{inverse_mix_columns, inverse_round}
 use Rattle.fips_197.specs.State.{state, byte_at}
 use Rattle.fips_197.proofs.Steps.{shifted, unshifted, IsBlock-shifted, unshifted-shifted, IsBlock-inverse_mix_columns}

@@ -1,4 +1,4 @@
-use Rattle.std.proofs.Common.{◌≡◌, ℕ, ◌<◌, ◌∙◌, arith}
+use Rattle.std.proofs.Common.{◌∙◌, arith}
 use Rattle.aes_vector.proofs.StoredRoundKeys.{IsBlock-part}
 use Rattle.aes_vector.proofs.prepared.inverse_prepared.Goals as goal
 

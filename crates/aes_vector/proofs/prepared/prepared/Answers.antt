@@ -1,4 +1,4 @@
-use Rattle.std.proofs.Common.{◌≡◌, ℕ, ◌≤◌, ◌+◌, ◌<◌, map, bit_xor, ap, ◌∙◌, arith, below_more}
+use Rattle.std.proofs.Common.{◌≡◌, ◌≤◌, map, bit_xor, ap, ◌∙◌, arith, below_more}
 use Rattle.std.proofs.lemmas.Simd.{map-map}
 use Rattle.fips_197.specs.Cipher.{round_key}
 use Rattle.aes_vector.specs.Halves.{basis}
