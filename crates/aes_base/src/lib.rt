@@ -4,15 +4,18 @@
 //!
 //! - `xor_blocks` is the exclusive or, byte by byte.
 //! - `block_at` is a whole block of a text.
+//! - `same_bytes` is true exactly where two rows of bytes are the same. It looks at all of them.
 //! - `rounds_of` gives a number of rounds exactly where a key has 16, 24 or 32 bytes.
 //!
 //! No call takes memory, and none can fail but `rounds_of`, for the length.
 #![tactic(auto)]
 
+mod sameness;
 mod sizes;
 mod sums;
 mod texts;
 
+pub use sameness::same_bytes;
 pub use sizes::{BLOCK_SIZE, Block, rounds_of};
 pub use sums::xor_blocks;
 pub use texts::{are_bytes, block_at};

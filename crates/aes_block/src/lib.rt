@@ -31,7 +31,7 @@ ghost use Rattle.fips_197.specs.KeyExpansion.{IsKey, IsKeyLength};
 ghost use Rattle.fips_197.specs.Encrypt.{encrypted_block};
 
 use aes_base::rounds_of;
-pub use aes_base::{BLOCK_SIZE, Block, are_bytes, block_at, xor_blocks};
+pub use aes_base::{BLOCK_SIZE, Block, are_bytes, block_at, same_bytes, xor_blocks};
 use key_expansion::Schedule;
 use state::State;
 use std::marker::Model;

@@ -8,7 +8,7 @@ ghost use Rattle.aes_modes.specs.Directions.{IsTurned};
 
 use crate::blocks::{is_key, push_number, xor_number};
 use crate::{Direction, ModeFault};
-use aes_block::{BLOCK_SIZE, Block, Key, are_bytes, block_at, xor_blocks};
+use aes_vector::{BLOCK_SIZE, Block, Key, are_bytes, block_at, xor_blocks};
 use std::alloc::{AllocError, Global};
 
 /// Adds the text's whole blocks, encrypted, to `out`, and gives what the next block is added to.

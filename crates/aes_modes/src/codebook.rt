@@ -8,7 +8,7 @@ ghost use Rattle.aes_modes.specs.Directions.{IsTurned};
 
 use crate::blocks::is_key;
 use crate::{Direction, ModeFault};
-use aes_block::{BLOCK_SIZE, Key, are_bytes, block_at};
+use aes_vector::{BLOCK_SIZE, Key, are_bytes, block_at};
 use std::alloc::{AllocError, Global};
 
 fn encrypted(alloc: Global, key: &Key, text: &[u8]) -> Result<Vec<u8>, AllocError>

@@ -9,7 +9,7 @@ ghost use Rattle.aes_modes.specs.Directions.{IsTurned};
 use crate::blocks::{filled_block, is_key, push_number, rest_of, xor_number};
 use crate::counter::has_counters;
 use crate::{CounterBits, Direction, ModeFault};
-use aes_block::{BLOCK_SIZE, Block, Key, block_at};
+use aes_vector::{BLOCK_SIZE, Block, Key, block_at};
 use std::alloc::{AllocError, Global};
 
 /// The text encrypted, where each of its blocks has a counter.

@@ -18,8 +18,8 @@
 //!
 //! `filled_block`, `xor_number`, `push_number` and `unpadded_len` are for `streams`, which works in parts.
 //!
-//! Each call makes one allocation, of the length that it gives. The time that it takes depends on
-//! secrets, as that of `aes_block`. Nothing here is authenticated.
+//! Each call makes one allocation, of the length that it gives. No read and no branch depends on the key or the text, as in
+//! `aes_vector`, but on their lengths and on whether a padding is right. Nothing here is authenticated.
 #![tactic(auto)]
 
 mod blocks;

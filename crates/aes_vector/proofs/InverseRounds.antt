@@ -14,8 +14,9 @@ use Rattle.fips_197.specs.Cipher.{multiply_columns, add_round_key}
 use Rattle.fips_197.specs.InverseCipher.{inverse_shift_rows, inverse_mix_columns}
 use Rattle.fips_197.proofs.Blocks.{AreBytes-at}
 use Rattle.fips_197.proofs.SBoxLaws.{inverse_s_box-lt}
+use Rattle.aes_vector.specs.Rows.{in_order, pick, rows_next, rows_shifted_back}
 use Rattle.aes_vector.specs.Halves.{inverse_basis}
-use Rattle.aes_vector.proofs.Rounds.{pick, turned, entry}
+use Rattle.aes_vector.proofs.Rounds.{turned, entry}
 use Rattle.aes_vector.proofs.InverseBasis.{bare_inverse, bare_inverse-xor, cell_back}
 
 abbrev Sum : ℕ → ℕ → ℕ → ℕ → ℕ → ℕ
@@ -53,16 +54,16 @@ table-entry f g s x bs ex same j lt =
     ∙ ap g (sym (get_or-map inverse_s_box s j 0 0 (omega (arith, bs.size))))
 
 abbrev pub moved : (ℕ → ℕ) → List ℕ → List ℕ
-moved f x = map f (pick (0 ∷ 13 ∷ 10 ∷ 7 ∷ 4 ∷ 1 ∷ 14 ∷ 11 ∷ 8 ∷ 5 ∷ 2 ∷ 15 ∷ 12 ∷ 9 ∷ 6 ∷ 3 ∷ []) x)
+moved f x = map f (pick rows_shifted_back x)
 
 abbrev pub next : List ℕ → List ℕ
-next x = pick (1 ∷ 2 ∷ 3 ∷ 0 ∷ 5 ∷ 6 ∷ 7 ∷ 4 ∷ 9 ∷ 10 ∷ 11 ∷ 8 ∷ 13 ∷ 14 ∷ 15 ∷ 12 ∷ []) x
+next x = pick rows_next x
 
 pub inverse_round-of : (f9 f13 f11 f14 : ℕ → ℕ) (s k x key : List ℕ) (bs : IsBlock s) (bk : IsBlock k) → x ≡ map inverse_basis s → key ≡ map inverse_basis k
     → ((b : ℕ) → b < 256 → f9 (inverse_basis b) ≡ bare_inverse (product 9 (inverse_s_box b))) → ((b : ℕ) → b < 256 → f13 (inverse_basis b) ≡ bare_inverse (product 13 (inverse_s_box b)))
     → ((b : ℕ) → b < 256 → f11 (inverse_basis b) ≡ bare_inverse (product 11 (inverse_s_box b))) → ((b : ℕ) → b < 256 → f14 (inverse_basis b) ≡ bare_inverse (product 14 (inverse_s_box b)))
-    → zip2 bit_xor (zip2 bit_xor (next (zip2 bit_xor (next (zip2 bit_xor (next (moved f9 x)) (moved f13 x))) (moved f11 x))) (moved f14 x)) (pick (0 ∷ 1 ∷ 2 ∷ 3 ∷ 4 ∷ 5 ∷ 6 ∷ 7 ∷ 8 ∷ 9 ∷ 10 ∷ 11 ∷ 12 ∷ 13 ∷ 14 ∷ 15 ∷ []) key)
-    ≡ map inverse_basis (add_round_key (inverse_mix_columns (inverse_shift_rows (map inverse_s_box s))) (pick (0 ∷ 1 ∷ 2 ∷ 3 ∷ 4 ∷ 5 ∷ 6 ∷ 7 ∷ 8 ∷ 9 ∷ 10 ∷ 11 ∷ 12 ∷ 13 ∷ 14 ∷ 15 ∷ []) k))
+    → zip2 bit_xor (zip2 bit_xor (next (zip2 bit_xor (next (zip2 bit_xor (next (moved f9 x)) (moved f13 x))) (moved f11 x))) (moved f14 x)) (pick in_order key)
+    ≡ map inverse_basis (add_round_key (inverse_mix_columns (inverse_shift_rows (map inverse_s_box s))) (pick in_order k))
 unfolding add_round_key inverse_mix_columns multiply_columns columns column word_product coefficient inverse_shift_rows state byte_at xor_bytes
 inverse_round-of f9 f13 f11 f14 s k x key bs bk ex ek s9 s13 s11 s14 =
     let at = λ (j : ℕ). get_or (map inverse_s_box s) j 0 in
@@ -122,12 +123,19 @@ inverse_round-of f9 f13 f11 f14 s k x key bs bk ex ek s9 s13 s11 s14 =
     ∙ back3 (at 3) (at 12) (at 9) (at 6) (get_or k 15 0) (below 3) (below 12) (below 9) (below 6) (AreBytes-at k bk.bytes 15) in
     λ i. e0 i ∷ e1 i ∷ e2 i ∷ e3 i ∷ e4 i ∷ e5 i ∷ e6 i ∷ e7 i ∷ e8 i ∷ e9 i ∷ e10 i ∷ e11 i ∷ e12 i ∷ e13 i ∷ e14 i ∷ e15 i ∷ []
 
-pub last_inverse_round-of : (g : ℕ → ℕ) (s k x : List ℕ) (bs : IsBlock s) → x ≡ map inverse_basis s → ((b : ℕ) → b < 256 → g (inverse_basis b) ≡ inverse_s_box b)
-    → zip2 bit_xor (moved g x) (pick (0 ∷ 1 ∷ 2 ∷ 3 ∷ 4 ∷ 5 ∷ 6 ∷ 7 ∷ 8 ∷ 9 ∷ 10 ∷ 11 ∷ 12 ∷ 13 ∷ 14 ∷ 15 ∷ []) k) ≡ add_round_key (inverse_shift_rows (map inverse_s_box s)) (pick (0 ∷ 1 ∷ 2 ∷ 3 ∷ 4 ∷ 5 ∷ 6 ∷ 7 ∷ 8 ∷ 9 ∷ 10 ∷ 11 ∷ 12 ∷ 13 ∷ 14 ∷ 15 ∷ []) k)
+pub inverse_last_round-of : (g : ℕ → ℕ) (s k x : List ℕ) (bs : IsBlock s) → x ≡ map inverse_basis s → ((b : ℕ) → b < 256 → g (inverse_basis b) ≡ inverse_s_box b)
+    → zip2 bit_xor (moved g x) (pick in_order k) ≡ add_round_key (inverse_shift_rows (map inverse_s_box s)) (pick in_order k)
 unfolding add_round_key inverse_shift_rows state byte_at xor_bytes
-last_inverse_round-of g s k x bs ex same =
+inverse_last_round-of g s k x bs ex same =
     let o = λ (j : ℕ) (lt : j < 16). table-entry g (λ b. b) s x bs ex same j lt in
-    λ i. bit_xor (o 0 (omega arith) i) (get_or k 0 0) ∷ bit_xor (o 13 (omega arith) i) (get_or k 1 0) ∷ bit_xor (o 10 (omega arith) i) (get_or k 2 0) ∷ bit_xor (o 7 (omega arith) i) (get_or k 3 0) ∷ bit_xor (o 4 (omega arith) i) (get_or k 4 0) ∷ bit_xor (o 1 (omega arith) i) (get_or k 5 0) ∷ bit_xor (o 14 (omega arith) i) (get_or k 6 0) ∷ bit_xor (o 11 (omega arith) i) (get_or k 7 0) ∷ bit_xor (o 8 (omega arith) i) (get_or k 8 0) ∷ bit_xor (o 5 (omega arith) i) (get_or k 9 0) ∷ bit_xor (o 2 (omega arith) i) (get_or k 10 0) ∷ bit_xor (o 15 (omega arith) i) (get_or k 11 0) ∷ bit_xor (o 12 (omega arith) i) (get_or k 12 0) ∷ bit_xor (o 9 (omega arith) i) (get_or k 13 0) ∷ bit_xor (o 6 (omega arith) i) (get_or k 14 0) ∷ bit_xor (o 3 (omega arith) i) (get_or k 15 0) ∷ []
+    λ i. bit_xor (o 0 (omega arith) i) (get_or k 0 0) ∷ bit_xor (o 13 (omega arith) i) (get_or k 1 0)
+    ∷ bit_xor (o 10 (omega arith) i) (get_or k 2 0) ∷ bit_xor (o 7 (omega arith) i) (get_or k 3 0)
+    ∷ bit_xor (o 4 (omega arith) i) (get_or k 4 0) ∷ bit_xor (o 1 (omega arith) i) (get_or k 5 0)
+    ∷ bit_xor (o 14 (omega arith) i) (get_or k 6 0) ∷ bit_xor (o 11 (omega arith) i) (get_or k 7 0)
+    ∷ bit_xor (o 8 (omega arith) i) (get_or k 8 0) ∷ bit_xor (o 5 (omega arith) i) (get_or k 9 0)
+    ∷ bit_xor (o 2 (omega arith) i) (get_or k 10 0) ∷ bit_xor (o 15 (omega arith) i) (get_or k 11 0)
+    ∷ bit_xor (o 12 (omega arith) i) (get_or k 12 0) ∷ bit_xor (o 9 (omega arith) i) (get_or k 13 0)
+    ∷ bit_xor (o 6 (omega arith) i) (get_or k 14 0) ∷ bit_xor (o 3 (omega arith) i) (get_or k 15 0) ∷ []
 
 along : (s k : List ℕ) → length s ≡ length k → AreBytes s → AreBytes k → zip2 bit_xor (map bare_inverse s) (map inverse_basis k) ≡ map inverse_basis (xor_bytes s k)
 unfolding xor_bytes
@@ -141,6 +149,6 @@ along (x ∷ s) (y ∷ k) e hs hk =
     offset : (y : ℕ) → y < 256 → bit_xor y 99 < 256
     offset y h = xor_lt 8 y 99 h (omega arith)
 
-pub first_back-of : (s k xs key : List ℕ) → IsBlock s → IsBlock k → xs ≡ map bare_inverse s → key ≡ map inverse_basis k → zip2 bit_xor xs key ≡ map inverse_basis (add_round_key s k)
+pub first_inverse-of : (s k xs key : List ℕ) → IsBlock s → IsBlock k → xs ≡ map bare_inverse s → key ≡ map inverse_basis k → zip2 bit_xor xs key ≡ map inverse_basis (add_round_key s k)
 unfolding add_round_key
-first_back-of s k xs key bs bk e f = (λ i. zip2 bit_xor (e i) (f i)) ∙ along s k (bs.size ∙ sym bk.size) bs.bytes bk.bytes
+first_inverse-of s k xs key bs bk e f = (λ i. zip2 bit_xor (e i) (f i)) ∙ along s k (bs.size ∙ sym bk.size) bs.bytes bk.bytes

@@ -34,7 +34,7 @@ pub(crate) fn deciphered(keys: &RoundKeys, rounds: usize, block: u8x16) -> u8x16
     ensures { (w : List ℕ) → AreInversePrepared keys.now rounds w → result ≡ inverse_cipher w rounds block }
 {
     let mut x = in_tables(block, INVERSE_BASIS_LOW, INVERSE_BASIS_HIGH) ^ round_key(keys, 0);
-    'rounds: for r in 1..rounds {
+    'inverse_rounds: for r in 1..rounds {
         x = inverse_round(x, round_key(keys, r));
     }
     inverse_last_round(x, round_key(keys, rounds))

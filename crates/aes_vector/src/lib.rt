@@ -37,7 +37,7 @@ ghost use Rattle.fips_197.specs.KeyExpansion.{IsKey, IsKeyLength};
 ghost use Rattle.fips_197.specs.Encrypt.{encrypted_block};
 
 use aes_base::rounds_of;
-pub use aes_base::{BLOCK_SIZE, Block, are_bytes, block_at, xor_blocks};
+pub use aes_base::{BLOCK_SIZE, Block, are_bytes, block_at, same_bytes, xor_blocks};
 use round_keys::RoundKeys;
 use std::marker::Model;
 use std::simd::prelude::*;

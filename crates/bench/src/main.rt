@@ -1,4 +1,4 @@
-//! The speed of `aes_block`, `aes_modes`, `aes_cmac`, `hmac_sha2`, `token` and `line`, printed as a table. It is measured, and
+//! The speed of `aes_vector`, `aes_modes`, `aes_cmac`, `hmac_sha2`, `token` and `line`, printed as a table. It is measured, and
 //! nothing of it is proved but that the program is safe and ends.
 //!
 //! With no argument it works, for each key length, on 64 MiB or a million keys a row. It prints nanoseconds of processor time for

@@ -6,7 +6,7 @@ ghost use Rattle.attrs.specs.Masking.{is_secret_key};
 ghost use Rattle.attrs.specs.Objects.{attribute_of, class_of, key_type_of};
 ghost use Rattle.model_views.specs.Checked.{is_aes, is_of_type};
 
-use aes_block::Key;
+use aes_vector::Key;
 use attrs::Object;
 use ck_types::{KeyType, ObjectClass};
 

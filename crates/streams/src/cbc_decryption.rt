@@ -8,7 +8,7 @@ ghost use Rattle.streams_model.specs.CbcFlows.{IsCbcDecrypted};
 
 use crate::kept::Kept;
 use crate::passed::Passed;
-use aes_block::{BLOCK_SIZE, Block, Key, are_bytes, xor_blocks};
+use aes_vector::{BLOCK_SIZE, Block, Key, are_bytes, xor_blocks};
 use aes_modes::{ModeFault, unpadded_len};
 use lists::GhostBytes;
 use std::alloc::{AllocError, Global};

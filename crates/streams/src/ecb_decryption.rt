@@ -8,7 +8,7 @@ ghost use Rattle.streams_model.specs.EcbFlows.{IsEcbDecrypted};
 
 use crate::kept::Kept;
 use crate::passed::Passed;
-use aes_block::{BLOCK_SIZE, Key, are_bytes};
+use aes_vector::{BLOCK_SIZE, Key, are_bytes};
 use std::alloc::{AllocError, Global};
 use std::marker::Model;
 

@@ -7,7 +7,7 @@ ghost use Rattle.streams_model.specs.EcbFlows.{IsEcbEncrypted};
 
 use crate::kept::Kept;
 use crate::passed::Passed;
-use aes_block::{BLOCK_SIZE, Key};
+use aes_vector::{BLOCK_SIZE, Key};
 use std::alloc::{AllocError, Global};
 use std::marker::Model;
 

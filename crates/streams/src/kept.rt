@@ -3,7 +3,7 @@
 ghost use Rattle.std.specs.Prelude.{◌≡◌, ◌+◌, ◌*◌, ◌≤◌, ◌++◌, [], length, drop};
 ghost use Rattle.fips_197.specs.Texts.{block_of};
 
-use aes_block::{BLOCK_SIZE, Block};
+use aes_vector::{BLOCK_SIZE, Block};
 use std::marker::Model;
 
 /// At most a block of bytes. Contracts see them as a list.

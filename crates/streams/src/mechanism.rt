@@ -1,6 +1,6 @@
 //! The mechanisms.
 
-use aes_block::Block;
+use aes_vector::Block;
 use aes_modes::CounterBits;
 
 /// A mechanism with its parameter (PKCS #11 v3.1, 6.10 and 6.11).

@@ -6,7 +6,7 @@ ghost use Rattle.aes_modes.specs.Blocks.{blocks_begun};
 ghost use Rattle.aes_modes.specs.Counter.{counter_start};
 
 use crate::ctr_stream::CtrStream;
-use aes_block::BLOCK_SIZE;
+use aes_vector::BLOCK_SIZE;
 use aes_modes::ModeFault;
 use std::alloc::Global;
 

@@ -1,5 +1,5 @@
-use crate::tests::given::key_of;
-use aes_block::{Key, xor_blocks};
+use crate::tests::given::{bytes_of, key_of};
+use aes_vector::{Key, xor_blocks};
 use std::test::Fail;
 use vectors::{VECTORS, Vector};
 
@@ -26,6 +26,63 @@ fn is_example(vector: &Vector, key: &Key) -> bool {
         && key.encipher(plain) == encrypted
         && key.decipher(encrypted) == plain
         && key.encrypt_number(vector.plain) == vector.encrypted
+}
+
+#[test]
+fn enciphers_and_decrypts_the_standards_examples_by_tables(rt: HostRuntime) -> Result<(), Fail> {
+    for vector in &VECTORS {
+        let bytes = bytes_of(rt.alloc(), vector.key)?;
+        let key = aes_block::Key::new(&bytes).ok_or("no key of this length")?;
+        assert!(rt; is_example_by_tables(vector, &key), "{}", vector.source);
+        assert!(rt;
+            is_example_by_tables(vector, &key.copied()),
+            "a copied key of {}",
+            vector.source
+        );
+    }
+    Ok(())
+}
+
+fn is_example_by_tables(vector: &Vector, key: &aes_block::Key) -> bool {
+    let plain = vector.plain.to_be_bytes();
+    let encrypted = vector.encrypted.to_be_bytes();
+    key.size() == 8 * vector.key.len()
+        && key.encipher(plain) == encrypted
+        && key.decipher(encrypted) == plain
+        && key.encrypt_number(vector.plain) == vector.encrypted
+}
+
+// How many keys of each length are tried, each made of what the one before it encrypts and decrypts.
+const TURNS: usize = 64;
+
+#[test]
+fn both_programs_give_the_same(rt: HostRuntime) -> Result<(), Fail> {
+    for size in [16, 24, 32] {
+        assert!(rt; agree_on_keys_of(size)?, "keys of {} bytes", size);
+    }
+    Ok(())
+}
+
+fn agree_on_keys_of(size: usize) -> Result<bool, Fail> {
+    let mut bytes = [0; 32];
+    let mut block = [0; 16];
+    for _ in 0..TURNS {
+        let key = Key::new(&bytes[..size.min(32)]).ok_or("no key of this length")?;
+        let plain_key = aes_block::Key::new(&bytes[..size.min(32)]).ok_or("no key of this length")?;
+        let encrypted = plain_key.encipher(block);
+        let decrypted = plain_key.decipher(block);
+        let number = u128::from_be_bytes(block);
+        if key.encipher(block) != encrypted
+            || key.decipher(block) != decrypted
+            || key.encrypt_number(number) != plain_key.encrypt_number(number)
+        {
+            return Ok(false);
+        }
+        bytes[..16].copy_from_slice(&encrypted);
+        bytes[16..].copy_from_slice(&decrypted);
+        block = xor_blocks(encrypted, decrypted);
+    }
+    Ok(true)
 }
 
 // SP 800-38A, F.2.1, block 1: the plain text, the start vector, and the input block that they make.

@@ -1,5 +1,5 @@
 use crate::tests::given::{bytes_of, key_of};
-use aes_block::Key;
+use aes_vector::Key;
 use aes_kw::{KwFault, unwrap, wrap};
 use std::alloc::Global;
 use std::test::Fail;

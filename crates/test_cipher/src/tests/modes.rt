@@ -1,5 +1,5 @@
 use crate::tests::given::{TEXT, bytes_of, key_of};
-use aes_block::Key;
+use aes_vector::Key;
 use aes_modes::{CounterBits, Direction, ModeFault, cbc, cbc_pad, ctr, ecb};
 use std::alloc::Global;
 use std::test::Fail;

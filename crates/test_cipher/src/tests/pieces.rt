@@ -1,5 +1,5 @@
 use crate::tests::given::{TEXT, bytes_of, key_of};
-use aes_block::{Block, Key};
+use aes_vector::{Block, Key};
 use aes_modes::{CounterBits, Direction, ModeFault, cbc, cbc_pad, ctr, ecb};
 use lists::GhostBytes;
 use std::alloc::Global;
