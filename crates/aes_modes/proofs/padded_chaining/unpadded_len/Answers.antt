@@ -20,7 +20,7 @@ pad-preserved c =
     let end = length text - 1 in
     let count = get_or text end 0 in
     let before = c.pad.invariant in
-    let wrong = c.wrong_byte.ensures in
+    let wrong = c.wrong_byte-wrong.ensures in
     record {
       within = omega (arith, before.within, wrong.within);
       count = λ none. before.count (omega (arith, none));
