@@ -1,10 +1,6 @@
-use Rattle.std.proofs.Common.{◌≡◌, ℕ, ◌+◌, ◌-◌, ◌*◌, ◌/◌, List, true, false, not, ◌∙◌, ap, refl, sym, arith, length, take, suc, Decides}
-use Rattle.std.specs.Cmp.Lexicographic.{pointwise}
-use Rattle.std.proofs.Math.Dec.{eqb}
-use Rattle.std.proofs.lemmas.Bool.{not-true, not-false, false≢true}
-use Rattle.std.proofs.lemmas.Bool.Decides.{Decides-eqb}
-use Rattle.std.proofs.lemmas.Slice.Eq.{slice_eq-Decides}
-use Rattle.aes_kw.specs.KeyWrap.{half, after_steps, initial_value, wrapped}
+use Rattle.std.proofs.Common.{◌≡◌, ◌+◌, ◌-◌, ◌*◌, ◌/◌, ◌∙◌, ap, sym, arith, length, take, suc}
+use Rattle.std.proofs.lemmas.Bool.{false≢true}
+use Rattle.aes_kw.specs.KeyWrap.{half, after_steps, wrapped}
 use Rattle.aes_kw.proofs.Rows.{written-back, first-dropped}
 use Rattle.aes_kw.proofs.Only.{start, back-more, only-more, wrapped-row, row-from-wrapped, first-from-start, rest-from-start}
 use Rattle.aes_kw.proofs.wrapping.unwrap.Goals as goal
@@ -29,8 +25,8 @@ steps-preserved c =
           ∙ sym row;
     }
 
-pub returns-then-ne-clause-bad_check : goal.returns-then-ne-clause-bad_check
-returns-then-ne-clause-bad_check c = λ _ x value is.
+pub returns-then-not-same_bytes-clause-bad_check : goal.returns-then-not-same_bytes-clause-bad_check
+returns-then-not-same_bytes-clause-bad_check c = λ _ x value is.
     let key = c.args.key.now in
     let bytes = c.args.bytes.now in
     let n = length bytes / 8 - 1 in
@@ -39,7 +35,7 @@ returns-then-ne-clause-bad_check c = λ _ x value is.
     let first = c.half_at.ensures ∙ ap (λ r. half r 0) c.deref.ensures.value in
     let start_is = row-from-wrapped key row bytes x n c.is_key.ensures (omega arith) value
     (λ y hb hs e. sym (start key n y) ∙ ap (after_steps key n y) (sym end) ∙ c.steps.invariant.only y hb hs e) is in
-    false≢true (sym c.if-same_bytes.false ∙ c.same_bytes.ensures.1 (first ∙ first-from-start row x start_is))
+    false≢true (sym c.if-not-same_bytes.true ∙ c.same_bytes.ensures.1 (first ∙ first-from-start row x start_is))
 
 pub returns-clause-value : goal.returns-clause-value
 returns-clause-value c =
@@ -51,7 +47,7 @@ returns-clause-value c =
     let first = c.half_at.ensures ∙ ap (λ r. half r 0) c.deref.ensures.value in
     let cut = c.truncate.ensures.items ∙ ap (take (8 * n)) c.rotate_left.ensures.items ∙ first-dropped row n c.steps.invariant.size in
     ap (wrapped key) cut
-    ∙ wrapped-row key row bytes n c.steps.invariant.size (sym first ∙ c.same_bytes.ensures.0 c.if-same_bytes.true)
+    ∙ wrapped-row key row bytes n c.steps.invariant.size (sym first ∙ c.same_bytes.ensures.0 c.if-not-same_bytes.false)
     (c.steps.invariant.back row (ap (after_steps key n row) end ∙ start key n row))
 
 pub returns-clause-only : goal.returns-clause-only
