@@ -8,8 +8,8 @@ ghost use Rattle.streams_model.specs.CbcFlows.{IsCbcDecrypted};
 
 use crate::kept::Kept;
 use crate::passed::Passed;
-use aes_vector::{BLOCK_SIZE, Block, Key, are_bytes, xor_blocks};
 use aes_modes::{ModeFault, unpadded_len};
+use aes_vector::{BLOCK_SIZE, Block, Key, are_bytes, xor_blocks};
 use lists::GhostBytes;
 use std::alloc::{AllocError, Global};
 use std::marker::Model;

@@ -8,8 +8,8 @@ ghost use Rattle.aes_modes.specs.Counter.{counter_start};
 ghost use Rattle.streams_model.specs.Countings.{begun_counting, counted_further, ctr_output, numbered};
 
 use crate::kept::Kept;
-use aes_vector::{BLOCK_SIZE, Block, Key, are_bytes};
 use aes_modes::{CounterBits, ModeFault, filled_block, push_number, xor_number};
+use aes_vector::{BLOCK_SIZE, Block, Key, are_bytes};
 use lists::GhostBytes;
 use std::alloc::{AllocError, Global};
 use std::marker::Model;

@@ -1,4 +1,4 @@
-use Rattle.std.proofs.Common.{◌≡◌, ◌-◌, ◌<◌, ℕ, length, get_or, ap, sym, ◌∙◌, arith, inl, inr, below_more}
+use Rattle.std.proofs.Common.{◌≡◌, ◌-◌, ◌<◌, length, get_or, ap, sym, ◌∙◌, arith, inl, inr, below_more}
 use Rattle.std.proofs.lemmas.Bool.{cases_eq}
 use Rattle.aes_modes.proofs.Paddings.{last-padded, each-padded, padded-from}
 use Rattle.aes_modes.proofs.padded_chaining.unpadded_len.Goals as goal

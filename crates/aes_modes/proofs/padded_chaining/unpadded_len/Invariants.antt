@@ -1,4 +1,4 @@
-use Rattle.std.proofs.Common.{◌≡◌, ◌≢◌, ◌+◌, ◌-◌, ◌≤◌, ◌<◌, ℕ, List, length, get_or}
+use Rattle.std.proofs.Common.{◌≡◌, ◌≢◌, ◌+◌, ◌-◌, ◌≤◌, ◌<◌, ℕ, List, get_or}
 use Rattle.aes_modes.specs.Padding.{padded}
 use Rattle.aes_modes.proofs.padded_chaining.unpadded_len.Given as goal
 

@@ -1,4 +1,4 @@
-use Rattle.std.proofs.Common.{[], ◌∷◌, map, bit_xor, ap, sym, ◌∙◌}
+use Rattle.std.proofs.Common.{map, bit_xor, ap, sym, ◌∙◌}
 use lib.Lanes.{zip2}
 use Rattle.fips_197.specs.Field.{product}
 use Rattle.fips_197.specs.SBox.{s_box}
