@@ -7,7 +7,6 @@ ghost use Rattle.mech.specs.Works.{outcome_of};
 
 use crate::outcome::Outcome;
 use crate::work::Work;
-use aes_vector::same_bytes;
 use ck_types::Bytes;
 use macs::Mac;
 use ops::MacPlace;
@@ -40,7 +39,7 @@ pub(crate) fn verified(mut mac: Mac, input: &[u8], signature: &[u8]) -> Outcome
     ensures { result ≡ outcome_of (Verify mac input.now signature.now) }
 {
     mac.update(input);
-    if same_bytes(signature, mac.tag().as_slice()) {
+    if signature == mac.tag().as_slice() {
         Outcome::RightSignature
     } else {
         Outcome::WrongSignature
