@@ -4,9 +4,9 @@ ghost use Rattle.std.specs.Prelude.{◌≡◌, ◌+◌, ◌-◌, ◌*◌, ◌/�
 ghost use Rattle.std.specs.Int.{w64, w128, to_be_bytes};
 ghost use Rattle.fips_197.specs.Bytes.{xor_bytes};
 ghost use Rattle.fips_197.specs.KeyExpansion.{IsKey};
-ghost use Rattle.aes_block.specs.Texts.{block_of};
+ghost use Rattle.fips_197.specs.Texts.{block_of};
 
-use aes_block::{BLOCK_SIZE, Block, Key, are_bytes};
+use aes_vector::{BLOCK_SIZE, Block, Key, are_bytes};
 use std::alloc::AllocError;
 
 /// What a text has behind its whole blocks.

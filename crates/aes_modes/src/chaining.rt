@@ -6,9 +6,10 @@ ghost use Rattle.aes_modes.specs.Blocks.{IsWhole};
 ghost use Rattle.aes_modes.specs.Modes.{chained, cbc_blocks, cbc_encrypted};
 ghost use Rattle.aes_modes.specs.Directions.{IsTurned};
 
+use crate::batches::push_unchained;
 use crate::blocks::{is_key, push_number, xor_number};
 use crate::{Direction, ModeFault};
-use aes_block::{BLOCK_SIZE, Block, Key, are_bytes, block_at, xor_blocks};
+use aes_vector::{BLOCK_SIZE, Block, Key, are_bytes, block_at};
 use std::alloc::{AllocError, Global};
 
 /// Adds the text's whole blocks, encrypted, to `out`, and gives what the next block is added to.
@@ -58,13 +59,9 @@ pub(crate) fn decrypted(
 {
     is_key(key);
     are_bytes(&iv);
+    are_bytes(text);
     let mut out = Vec::with_capacity(alloc, text.len())?;
-    let mut before = iv;
-    'turns: for i in 0..text.len() / BLOCK_SIZE {
-        let block = block_at(text, i);
-        out.extend_from_slice(&xor_blocks(key.decipher(block), before))?;
-        before = block;
-    }
+    push_unchained(&mut out, key, iv, b"", text, text.len() / BLOCK_SIZE)?;
     are_bytes(&out);
     Ok(out)
 }

@@ -1,9 +1,9 @@
 // The runs over texts of 64,000 bytes, and of PBKDF2.
 
 use crate::run::{KEY, Run, Unit, key_of};
-use aes_block::{Block, Key};
 use aes_cmac::cmac;
 use aes_modes::{CounterBits, Direction, ModeFault, cbc, ctr, ecb};
+use aes_vector::{Block, Key};
 use hmac_sha2::{hmac256, pbkdf2};
 use std::alloc::Global;
 use std::io;

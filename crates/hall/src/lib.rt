@@ -31,6 +31,7 @@
 #![tactic(auto)]
 
 mod closing;
+mod expected;
 mod fault;
 mod holding;
 pub mod laws;

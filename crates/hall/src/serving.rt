@@ -7,6 +7,7 @@ ghost use Rattle.hall_channels.specs.Inward.{seats_of, taken_of, ended_of};
 ghost use Rattle.hall.specs.Given.{HasGiven, HasTaken, IsLed, MayGive};
 ghost use Rattle.hall.specs.Outboxes.{OutboxesGave, SameOutboxes};
 
+use crate::expected::Expected;
 use crate::machine::Machine;
 use hall_channels::inbox::Inbox;
 use hall_channels::licence::Licence;
@@ -52,13 +53,15 @@ fn give<M: Machine, R: Wait>(
     outboxes[seat].answer(rt, serving, message, out)
 }
 
-/// Takes the event out of its message, and gives its answer in it. False where the channel has ended.
+/// Takes the event out of its message, and gives its answer in it. False where the channel has ended. It notes whether the seat's
+/// next event may come soon.
 fn serve<M: Machine, R: Wait>(
     rt: &R,
     alloc: Global,
     serving: &mut Serving<M>,
     inbox: &Inbox,
     outboxes: &mut [Outbox],
+    expected: &mut Expected,
     seat: usize,
     mut message: Box<Message>,
 ) -> bool
@@ -74,21 +77,24 @@ fn serve<M: Machine, R: Wait>(
     match message.take_event() {
         Event::Call(call) => {
             let out = serving.machine.call(alloc, call);
+            expected.answered(seat, &out);
             give(rt, serving, inbox, outboxes, seat, message, out)
         }
         Event::Finish { app, done } => {
             let reply = serving.machine.finish(alloc, app, done);
             let out = Out::Reply(reply);
+            expected.answered(seat, &out);
             give(rt, serving, inbox, outboxes, seat, message, out)
         }
         Event::Gone { app } => {
             serving.machine.gone(app);
+            expected.gone(seat);
             outboxes[seat].give_back(rt, message)
         }
     }
 }
 
-/// Takes events until four seats have ended. False where a seat could not go on, or a channel has ended before.
+/// Takes events until four seats have ended. It sleeps at once between two events where none may come soon. False where a seat could not go on, or a channel has ended before.
 #[inline(never)]
 pub(crate) fn serve_seats<M: Machine, R: Wait>(
     rt: &R,
@@ -110,11 +116,12 @@ pub(crate) fn serve_seats<M: Machine, R: Wait>(
     ensures led { IsLed M.doubt M.failures M.shows M.leaves serving.new.began.value serving.new.machine }
 {
     let mut ended: u64 = 0;
+    let mut expected = Expected::new();
     for _ in rt.forever() {
         if ended >= 4 {
             return true;
         }
-        match inbox.take(rt) {
+        match inbox.take(rt, expected.any()) {
             None => return false,
             Some(Inward::End { whole, .. }) => {
                 if !whole {
@@ -128,7 +135,16 @@ pub(crate) fn serve_seats<M: Machine, R: Wait>(
                     drop(message);
                     return false;
                 }
-                if !serve(rt, alloc, serving, inbox, outboxes, at, message) {
+                if !serve(
+                    rt,
+                    alloc,
+                    serving,
+                    inbox,
+                    outboxes,
+                    &mut expected,
+                    at,
+                    message,
+                ) {
                     return false;
                 }
             }

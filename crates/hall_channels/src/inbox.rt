@@ -76,12 +76,15 @@ impl Inbox {
         Ok((sender, pass))
     }
 
-    /// Takes the next message, and waits for it: first it yields, and then it sleeps. None where the channel has ended, and then
-    /// nothing was taken.
-    pub fn take<R: Wait>(&mut self, rt: &R) -> Option<Inward>
+    /// Takes the next message, and waits for it: first it yields, if it is patient, and then it sleeps. None where the channel has
+    /// ended, and then nothing was taken.
+    pub fn take<R: Wait>(&mut self, rt: &R, is_patient: bool) -> Option<Inward>
         ensures same { sends_on self.new.sender ≡ sends_on self.old.sender }
         ensures took { Took (view self.old.inward_pass) result (view self.new.inward_pass) }
     {
+        if !is_patient {
+            return self.wait(rt);
+        }
         match self.take_patiently(rt) {
             Some(x) => Some(x),
             None => self.wait(rt),

@@ -8,8 +8,8 @@ ghost use Rattle.streams_model.specs.CbcFlows.{IsCbcDecrypted};
 
 use crate::kept::Kept;
 use crate::passed::Passed;
-use aes_block::{BLOCK_SIZE, Block, Key, are_bytes, xor_blocks};
-use aes_modes::{ModeFault, unpadded_len};
+use aes_modes::{ModeFault, push_unchained, unpadded_len};
+use aes_vector::{BLOCK_SIZE, Block, Key, are_bytes, xor_blocks};
 use lists::GhostBytes;
 use std::alloc::{AllocError, Global};
 use std::marker::Model;
@@ -54,15 +54,17 @@ fn decrypted_blocks(
     ensures chain { IfOk result (λ r. r.1 ≡ chained key.now start r.0.items blocks) }
     ensures bytes { IfOk result (λ r. AreBytes r.0.items) }
 {
+    let _size = key.size();
+    let front = kept.as_slice();
+    are_bytes(front);
+    are_bytes(piece);
     let mut out = Vec::with_capacity(alloc, kept.len() + piece.len())?;
-    let mut chain = start;
-    'turns: for i in 0..blocks {
-        let block = kept.block(piece, i);
-        out.extend_from_slice(&xor_blocks(key.decipher(block), chain))?;
-        chain = block;
-    }
+    push_unchained(&mut out, key, start, front, piece, blocks)?;
     are_bytes(&out);
-    Ok((out, chain))
+    if blocks == 0 {
+        return Ok((out, start));
+    }
+    Ok((out, kept.block(piece, blocks - 1)))
 }
 
 impl CbcDecryption {

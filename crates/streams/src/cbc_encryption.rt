@@ -7,8 +7,8 @@ ghost use Rattle.streams_model.specs.CbcFlows.{IsCbcEncrypted};
 
 use crate::kept::Kept;
 use crate::passed::Passed;
-use aes_block::{BLOCK_SIZE, Block, Key, are_bytes, xor_blocks};
 use aes_modes::{filled_block, push_number, xor_number};
+use aes_vector::{BLOCK_SIZE, Block, Key, are_bytes, xor_blocks};
 use lists::GhostBytes;
 use std::alloc::{AllocError, Global};
 use std::marker::Model;

@@ -3,7 +3,7 @@ use Rattle.std.proofs.lemmas.List.{append-nil, append_assoc, length-append}
 use Rattle.std.specs.Int.{w128, to_be_bytes}
 use Rattle.fips_197.specs.Bytes.{xor_bytes}
 use Rattle.fips_197.specs.Encrypt.{encrypted_block}
-use Rattle.aes_block.proofs.Numbers.{to_be_bytes-block}
+use Rattle.fips_197.proofs.Numbers.{to_be_bytes-block}
 use Rattle.aes_modes.specs.Blocks.{first_blocks}
 use Rattle.aes_modes.specs.Modes.{chained, cbc_blocks}
 use Rattle.aes_modes.proofs.Chains.{chained-more, cbc_blocks-more}

@@ -1,24 +1,40 @@
-use Rattle.std.proofs.Common.{◌∙◌, ap, arith, refl, ◌+◌, ◌++◌, length}
+use Rattle.std.proofs.Common.{◌≡◌, ℕ, ◌*◌, ◌≤◌, ◌∙◌, ◌++◌, List, ap, subst, arith, length}
 use Rattle.std.proofs.lemmas.List.{length-append}
+use Rattle.fips_197.specs.Bytes.{AreBytes}
+use Rattle.fips_197.specs.Texts.{block_of}
+use Rattle.fips_197.proofs.Blocks.{AreBytes-append}
+use Rattle.aes_slices.specs.Decrypt.{decrypted_block}
 use Rattle.aes_modes.specs.Blocks.{first_blocks}
 use Rattle.aes_modes.specs.Modes.{ecb_blocks}
-use Rattle.aes_modes.proofs.Chains.{ecb_blocks-back}
+use Rattle.aes_modes.proofs.DecryptedTexts.{ecb-size, ecb-back}
 use Rattle.streams.proofs.ecb_decryption.decrypted_blocks.Goals as goal
 
-pub turns-init : goal.turns-init
-unfolding first_blocks
-turns-init c = record { size = ap length c.in_ok-out.ensures.items; back = refl }
-
-pub turns-preserved : goal.turns-preserved
-turns-preserved c =
+pub returns-clause-size : goal.returns-clause-size
+returns-clause-size c =
     let key = c.args.key.now in
-    let text = c.args.kept.now ++ c.args.piece.now in
-    let p = c.decipher.result in
-    let out = c.turns.out.items in
-    let is = c.in_ok-extend_from_slice.ensures.items in
-    let n = c.decipher.ensures.blocks.1.size in
-    record {
-      size = ap length is ∙ length-append out p ∙ omega (arith, n, c.turns.invariant.size);
-      back = ap (λ o. ecb_blocks key o (c.turns.i + 1)) is
-          ∙ ecb_blocks-back key text out p c.turns.i c.turns.invariant.size n c.turns.invariant.back (c.decipher.ensures.back ∙ c.block.ensures);
-    }
+    let kept : List ℕ = c.args.kept.now in
+    let piece : List ℕ = c.args.piece.now in
+    let n : ℕ = c.args.blocks in
+    let text : List ℕ = kept ++ piece in
+    let out : List ℕ = c.push_decrypted.new.out.items in
+    let bytes : AreBytes text = AreBytes-append kept piece (subst AreBytes c.as_slice-front.ensures c.are_bytes.ensures) c.are_bytes-2.ensures in
+    let within : 16 * n ≤ length text = omega (arith, c.requires, length-append kept piece) in
+    let f : ℕ → List ℕ = λ i. decrypted_block key (block_of text i) in
+    let is : out ≡ first_blocks f n =
+    c.in_ok-push_decrypted.ensures ∙ (λ t. c.in_ok-out.ensures.items t ++ first_blocks (λ i. decrypted_block key (block_of (c.as_slice-front.ensures t ++ piece) i)) n) in
+    ap length is ∙ ecb-size key c.size-size.ensures.key text bytes n within
+
+pub returns-clause-back : goal.returns-clause-back
+returns-clause-back c =
+    let key = c.args.key.now in
+    let kept : List ℕ = c.args.kept.now in
+    let piece : List ℕ = c.args.piece.now in
+    let n : ℕ = c.args.blocks in
+    let text : List ℕ = kept ++ piece in
+    let out : List ℕ = c.push_decrypted.new.out.items in
+    let bytes : AreBytes text = AreBytes-append kept piece (subst AreBytes c.as_slice-front.ensures c.are_bytes.ensures) c.are_bytes-2.ensures in
+    let within : 16 * n ≤ length text = omega (arith, c.requires, length-append kept piece) in
+    let f : ℕ → List ℕ = λ i. decrypted_block key (block_of text i) in
+    let is : out ≡ first_blocks f n =
+    c.in_ok-push_decrypted.ensures ∙ (λ t. c.in_ok-out.ensures.items t ++ first_blocks (λ i. decrypted_block key (block_of (c.as_slice-front.ensures t ++ piece) i)) n) in
+    ap (λ o. ecb_blocks key o n) is ∙ ecb-back key c.size-size.ensures.key text bytes n within
