@@ -3,10 +3,13 @@
 
 Takes the program's path, and prints as `daemon.py` does, whose client and daemon it uses.
 """
+import contextlib
+import os
 import re
 import select
 import socket
 import struct
+import subprocess
 import sys
 import time
 
@@ -74,6 +77,33 @@ def a_connection_that_ends_behind_its_call_is_answered_and_ended(folder):
                 see(client.hear() == (OK, SESSION), "another reply")
                 see(client.stream.recv(1) == b"", "more than a reply")
                 client.close()
+
+
+@contextlib.contextmanager
+def busy_processors():
+    """Meanwhile each processor has a process that only computes."""
+    others = [subprocess.Popen([sys.executable, "-c", "while True: pass"]) for _ in os.sched_getaffinity(0)]
+    try:
+        yield
+    finally:
+        for it in others:
+            it.kill()
+            it.wait()
+
+
+@check
+def calls_stay_quick_beside_processes_that_only_compute(folder):
+    # A daemon that gave away its turn at each call would take five milliseconds or more for it.
+    with Daemon(folder, store=":memory:") as daemon:
+        client = daemon.client()
+        play_all([client], FIRST_RUN)
+        with busy_processors():
+            time.sleep(0.2)
+            begun = time.monotonic()
+            for _ in range(1000):
+                play_all([client], ENCRYPTING)
+            took = time.monotonic() - begun
+        see(took < 2, "two thousand calls take", took, "seconds")
 
 
 @check

@@ -1,15 +1,7 @@
 pub mod SBoxEntries
-pub mod WordTests
 pub mod MixEntries
 pub mod RoundConstants
-pub mod TextBlocks
-pub mod WordProducts
-pub mod Steps
-pub mod Inverses
 pub mod RoundWords
-pub mod Numbers
 pub mod WordsInRow
-pub mod ExpansionTerms
-pub mod KeySchedules
 pub mod ScheduleWords
 pub mod StoredKeys

@@ -5,9 +5,10 @@ use Rattle.fips_197.specs.Field.{bit, terms_product, remainder, product}
 use Rattle.fips_197.specs.SBox.{s_box, inverse_s_box}
 use Rattle.fips_197.specs.Cipher.{mix_polynomial}
 use Rattle.fips_197.specs.InverseCipher.{inverse_mix_polynomial}
-use Rattle.aes_block.specs.Words.{word_bytes, matrix_column, multiples}
+use Rattle.fips_197.specs.WordPolynomial.{matrix_column, multiples}
+use Rattle.aes_block.specs.Words.{word_bytes}
 use Rattle.aes_block.specs.declared.tables.TheConstants.{S_BOX, INVERSE_S_BOX, MIXED_ROWS, INVERSE_MIXED_ROWS}
-use Rattle.aes_block.proofs.WordTests.{same_word, same_word-tells}
+use Rattle.fips_197.proofs.WordTests.{same_word, same_word-tells}
 use Rattle.aes_block.proofs.SBoxEntries.{S_BOX-at, INVERSE_S_BOX-at}
 
 -- whether each entry of the table t is the column j of the matrix of a times the box's byte

@@ -5,7 +5,7 @@ use Rattle.fips_197.specs.Field.{bit, terms_product, remainder, product}
 use Rattle.fips_197.specs.KeyExpansion.{power_of_x, round_constant}
 use Rattle.aes_block.specs.Words.{word_bytes}
 use Rattle.aes_block.specs.declared.key_expansion.TheConstants.{ROUND_CONSTANTS}
-use Rattle.aes_block.proofs.WordTests.{same_word, same_word-tells}
+use Rattle.fips_197.proofs.WordTests.{same_word, same_word-tells}
 
 ROUND_CONSTANTS-checked : agree_below
     (λ k. same_word (word_bytes (get_or ROUND_CONSTANTS k 0)) (round_constant (k + 1))) (λ _. true) 10 ≡ true

@@ -4,14 +4,14 @@ use Rattle.std.proofs.lemmas.Nat.{xor_shr, xor_mod}
 use Rattle.fips_197.specs.Bytes.{AreBytes, IsBlock, xor_bytes}
 use Rattle.fips_197.specs.SBox.{s_box, inverse_s_box}
 use Rattle.fips_197.specs.State.{byte_at, state, column, columns}
-use Rattle.fips_197.specs.WordPolynomial.{word_product}
+use Rattle.fips_197.specs.WordPolynomial.{word_product, matrix_column, multiples}
 use Rattle.fips_197.specs.Cipher.{substitute_bytes, shift_rows, multiply_columns, mix_polynomial, mix_columns}
 use Rattle.fips_197.specs.InverseCipher.{inverse_substitute_bytes, inverse_shift_rows, inverse_mix_polynomial, inverse_mix_columns}
-use Rattle.aes_block.specs.Words.{word_bytes, state_bytes, diagonal, matrix_column, multiples}
+use Rattle.aes_block.specs.Words.{word_bytes, state_bytes, diagonal}
 use Rattle.aes_block.specs.declared.state.State.{State}
-use Rattle.aes_block.proofs.SBoxEntries.{inverse_s_box-s_box}
+use Rattle.fips_197.proofs.SBoxLaws.{inverse_s_box-s_box}
 use Rattle.fips_197.proofs.Blocks.{AreBytes-four, AreBytes-append}
-use Rattle.aes_block.proofs.WordProducts.{word_product-columns}
+use Rattle.fips_197.proofs.WordProducts.{word_product-columns}
 
 -- the bytes of the exclusive or of two words
 pub word_bytes-xor : (x y : ℕ) → word_bytes (bit_xor x y) ≡ xor_bytes (word_bytes x) (word_bytes y)

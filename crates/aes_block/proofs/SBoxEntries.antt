@@ -1,10 +1,10 @@
--- The entries of the S-box and of its inverse, and that each undoes the other.
-use Rattle.std.proofs.Common.{◌≡◌, ℕ, ◌<◌, ◌∙◌, ◌==◌, ap, sym, true, get_or, refl}
+-- The entries of the S-box and of its inverse.
+use Rattle.std.proofs.Common.{◌≡◌, ℕ, ◌<◌, ◌==◌, true, get_or, refl}
 use Rattle.std.proofs.lemmas.Bool.{agree_below}
 use Rattle.fips_197.specs.Field.{bit, terms_product, remainder, product, inverse_below, inverse}
 use Rattle.fips_197.specs.SBox.{from_bits, affine, s_box, inverse_affine, inverse_s_box}
 use Rattle.aes_block.specs.declared.tables.TheConstants.{S_BOX, INVERSE_S_BOX}
-use Rattle.fips_197.proofs.Checks.{same_below, bounded_below}
+use Rattle.fips_197.proofs.Checks.{same_below}
 
 S_BOX-checked : agree_below (λ k. get_or S_BOX k 0 == s_box k) (λ _. true) 256 ≡ true
 unfolding bit terms_product remainder product inverse_below inverse from_bits affine s_box
@@ -19,21 +19,3 @@ INVERSE_S_BOX-checked = refl
 
 pub INVERSE_S_BOX-at : (x : ℕ) → x < 256 → get_or INVERSE_S_BOX x 0 ≡ inverse_s_box x
 INVERSE_S_BOX-at x lt = same_below (λ k. get_or INVERSE_S_BOX k 0) inverse_s_box 256 x INVERSE_S_BOX-checked lt
-
-pub s_box-lt : (x : ℕ) → x < 256 → s_box x < 256
-s_box-lt x lt = rw (S_BOX-at x lt) at (bounded_below (λ k. get_or S_BOX k 0) 256 256 x refl lt)
-
-pub inverse_s_box-lt : (x : ℕ) → x < 256 → inverse_s_box x < 256
-inverse_s_box-lt x lt = rw (INVERSE_S_BOX-at x lt) at (bounded_below (λ k. get_or INVERSE_S_BOX k 0) 256 256 x refl lt)
-
-pub s_box-inverse_s_box : (x : ℕ) → x < 256 → s_box (inverse_s_box x) ≡ x
-s_box-inverse_s_box x lt =
-    sym (S_BOX-at (inverse_s_box x) (inverse_s_box-lt x lt))
-    ∙ ap (λ k. get_or S_BOX k 0) (sym (INVERSE_S_BOX-at x lt))
-    ∙ same_below (λ k. get_or S_BOX (get_or INVERSE_S_BOX k 0) 0) (λ k. k) 256 x refl lt
-
-pub inverse_s_box-s_box : (x : ℕ) → x < 256 → inverse_s_box (s_box x) ≡ x
-inverse_s_box-s_box x lt =
-    sym (INVERSE_S_BOX-at (s_box x) (s_box-lt x lt))
-    ∙ ap (λ k. get_or INVERSE_S_BOX k 0) (sym (S_BOX-at x lt))
-    ∙ same_below (λ k. get_or INVERSE_S_BOX (get_or S_BOX k 0) 0) (λ k. k) 256 x refl lt

@@ -1,37 +1,18 @@
 -- A stored key against the definition's.
-use Rattle.std.proofs.Common.{◌≡◌, ℕ, zero, suc, ◌+◌, ◌-◌, ◌*◌, ◌/◌, ◌<◌, ◌≤◌, List, length, take, drop, ap, refl, sym, subst, ◌∙◌, arith}
-use Rattle.std.proofs.lemmas.List.{take-take, drop-take}
+use Rattle.std.proofs.Common.{◌≡◌, ℕ, ◌+◌, ◌-◌, ◌*◌, ◌/◌, ◌<◌, ◌≤◌, List, length, take, ap, refl, sym, subst, ◌∙◌, arith}
+use Rattle.std.proofs.lemmas.List.{take-take}
 use Rattle.std.proofs.lemmas.List.Elements.{All-take}
 use Rattle.fips_197.specs.Bytes.{IsBlock}
-use Rattle.fips_197.specs.Cipher.{add_round_key, round, last_round, round_key, state_after, cipher}
+use Rattle.fips_197.specs.Cipher.{round_key, cipher}
 use Rattle.fips_197.specs.KeyExpansion.{IsKeyLength, IsKey, word_count, round_count, key_expansion}
 use Rattle.fips_197.specs.InverseCipher.{inverse_mix_columns}
 use Rattle.fips_197.specs.Encrypt.{encrypted_block}
 use Rattle.aes_block.specs.Words.{words_bytes}
 use Rattle.aes_block.specs.StoredKey.{key_bytes, IsExpanded}
 use Rattle.aes_block.specs.declared.Key.TheInside.{Inside}
-use Rattle.aes_block.proofs.KeySchedules.{round_count-bounds, IsBlock-round_key}
-use Rattle.aes_block.proofs.ScheduleWords.{expanded_words-front}
+use Rattle.fips_197.proofs.KeySchedules.{round_count-bounds, IsBlock-round_key}
+use Rattle.fips_197.proofs.ScheduleParts.{same_round_key, same_cipher, expanded_words-front}
 use Rattle.aes_block.proofs.WordsInRow.{AreBytes-words_bytes}
-
--- ---- a schedule of n rounds, and whatever stands after it
-
-same_round_key : (w s : List ℕ) (n r : ℕ) → take (16 * (n + 1)) w ≡ s → r ≤ n → round_key w r ≡ round_key s r
-unfolding round_key
-same_round_key w s n r e le =
-    let m : ℕ = 16 * (n + 1) - 16 * r in
-    let sum : 16 * (n + 1) ≡ 16 * r + m = omega arith in
-    sym (ap (λ l. take 16 (drop (16 * r) l)) (sym e) ∙ ap (λ k. take 16 (drop (16 * r) (take k w))) sum
-    ∙ ap (take 16) (drop-take (16 * r) m w) ∙ take-take 16 m (drop (16 * r) w) (omega arith))
-
-same_state : (w s b : List ℕ) (n r : ℕ) → take (16 * (n + 1)) w ≡ s → r ≤ n → state_after w b r ≡ state_after s b r
-unfolding state_after
-same_state w s b n zero e le = ap (λ k. add_round_key b k) (same_round_key w s n 0 e le)
-same_state w s b n (suc r) e le = λ i. round (same_round_key w s n (suc r) e le i) (same_state w s b n r e (omega arith) i)
-
-same_cipher : (w s b : List ℕ) (n : ℕ) → take (16 * (n + 1)) w ≡ s → cipher w n b ≡ cipher s n b
-unfolding cipher
-same_cipher w s b n e = λ i. last_round (same_round_key w s n n e (omega arith) i) (same_state w s b n (n - 1) e (omega arith) i)
 
 -- ---- what a stored key is and does
 

@@ -1,6 +1,5 @@
 -- Bytes in words of 32 bits, as the code keeps them: the first byte highest.
-use Rattle.std.specs.Prelude.{ℕ, ◌-◌, ◌/◌, ◌%◌, ◌^◌, List, [], ◌∷◌, ◌++◌, map, slice_index}
-use Rattle.fips_197.specs.Field.{product}
+use Rattle.std.specs.Prelude.{ℕ, ◌/◌, ◌%◌, ◌^◌, List, [], ◌∷◌, ◌++◌}
 use Rattle.aes_block.specs.declared.state.State.{State}
 
 -- the four bytes of a word
@@ -21,14 +20,3 @@ state_bytes s = word_bytes s.0 ++ (word_bytes s.1 ++ (word_bytes s.2 ++ word_byt
 unfoldable pub diagonal : ℕ → ℕ → ℕ → ℕ → List ℕ
 diagonal a b c d =
     (a / 2 ^ 24 % 2 ^ 8) ∷ (b / 2 ^ 16 % 2 ^ 8) ∷ (c / 2 ^ 8 % 2 ^ 8) ∷ (d % 2 ^ 8) ∷ []
-
--- column j of the matrix that multiplies by the polynomial a modulo x^4 + 1 (FIPS 197, 4.3): a
--- times x^j
-unfoldable pub matrix_column : List ℕ → ℕ → List ℕ
-matrix_column a j =
-    slice_index a ((4 - j) % 4) ∷ slice_index a ((5 - j) % 4)
-    ∷ slice_index a ((6 - j) % 4) ∷ slice_index a ((7 - j) % 4) ∷ []
-
--- each of these coefficients times a byte
-unfoldable pub multiples : List ℕ → ℕ → List ℕ
-multiples a b = map (λ x. product x b) a

@@ -3,9 +3,9 @@
 
 ghost use Rattle.std.specs.Prelude.{◌≡◌, ◌<◌};
 ghost use Rattle.fips_197.specs.SBox.{inverse_s_box};
-ghost use Rattle.fips_197.specs.WordPolynomial.{word_product};
+ghost use Rattle.fips_197.specs.WordPolynomial.{word_product, matrix_column, multiples};
 ghost use Rattle.fips_197.specs.InverseCipher.{inverse_substitute_bytes, inverse_mix_polynomial, inverse_round, inverse_last_round};
-ghost use Rattle.aes_block.specs.Words.{word_bytes, state_bytes, diagonal, matrix_column, multiples};
+ghost use Rattle.aes_block.specs.Words.{word_bytes, state_bytes, diagonal};
 
 use crate::round::s_box;
 use crate::state::State;

@@ -7,15 +7,13 @@
 //! - `encipher` is the cipher as `fips_197` writes it down from FIPS 197. Each entry of each table is the
 //!   definition's. `encrypt_number` is the same cipher on the bytes of a number, the highest first.
 //! - `decipher` gives the block that is encrypted to the one given, and no other block is.
-//! - `xor_blocks` is the exclusive or, byte by byte, and `block_at` a whole block of a text.
 //! - No call takes memory, and none can fail but `Key::new`, for the length.
 //!
-//! `proofs/` shows besides that each word of the key schedule is the standard's sum of earlier ones (`KeySchedules`). A
-//! proof above may cite `IsBlock-encrypted_block` (`KeySchedules`) and what is known of a text's blocks (`TextBlocks`).
+//! Blocks, and texts by their blocks, are those of `aes_base`.
 //!
 //! The time that a call takes depends on secrets: the cipher reads tables at indexes that depend
-//! on the key and the block, and so whoever shares the processor's cache may learn of both. A key
-//! is not overwritten when it is dropped.
+//! on the key and the block, and so whoever shares the processor's cache may learn of both. `aes_vector`
+//! is the same cipher without such reads. A key is not overwritten when it is dropped.
 #![tactic(auto)]
 
 mod cipher;
@@ -24,25 +22,19 @@ mod key_expansion;
 mod round;
 mod state;
 mod tables;
-mod texts;
 mod word;
 
-ghost use Rattle.std.specs.Prelude.{◌≡◌, ℕ, ◌+◌, ◌/◌, ◌↔◌, List, length, IsSome, IfSome};
+ghost use Rattle.std.specs.Prelude.{◌≡◌, ℕ, ◌↔◌, List, length, IsSome, IfSome};
 ghost use Rattle.std.specs.Int.{w128, to_be_bytes};
-ghost use Rattle.fips_197.specs.Bytes.{IsBlock, xor_bytes};
+ghost use Rattle.fips_197.specs.Bytes.{IsBlock};
 ghost use Rattle.fips_197.specs.KeyExpansion.{IsKey, IsKeyLength};
 ghost use Rattle.fips_197.specs.Encrypt.{encrypted_block};
 
+use aes_base::rounds_of;
+pub use aes_base::{BLOCK_SIZE, Block, are_bytes, block_at, xor_blocks};
 use key_expansion::Schedule;
 use state::State;
 use std::marker::Model;
-pub use texts::{are_bytes, block_at};
-
-/// The length of a block in bytes (FIPS 197, 3.1).
-pub const BLOCK_SIZE: usize = 16;
-
-/// A block: the 16 bytes that the cipher takes and gives (FIPS 197, 3.1).
-pub type Block = [u8; BLOCK_SIZE];
 
 /// A key of 128, 192 or 256 bits, expanded for encrypting and decrypting. Contracts see it as the
 /// list of its bytes.
@@ -129,34 +121,4 @@ impl Key {
     {
         cipher::decrypt(&self.schedule, &self.inverse_schedule, self.rounds, block)
     }
-}
-
-// The number of rounds for a key of so many bytes (FIPS 197, 5, figure 4).
-fn rounds_of(size: usize) -> Option<usize>
-    ensures some { IsSome result ↔ IsKeyLength size }
-    ensures value { IfSome result (λ rounds. rounds ≡ size / 4 + 6) }
-{
-    match size {
-        16 => Some(10),
-        24 => Some(12),
-        32 => Some(14),
-        _ => None,
-    }
-}
-
-/// The exclusive or of two blocks, byte by byte.
-#[inline(always)]
-pub fn xor_blocks(x: Block, y: Block) -> Block
-    ensures value { result ≡ xor_bytes x y }
-
-    // What the types say, as facts on lists.
-    ensures blocks { IsBlock x × IsBlock y × IsBlock result }
-{
-    are_bytes(&x);
-    are_bytes(&y);
-    let mut sum = x;
-    for i in 0..16 {
-        sum[i] ^= y[i];
-    }
-    sum
 }

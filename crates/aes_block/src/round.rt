@@ -3,9 +3,9 @@
 
 ghost use Rattle.std.specs.Prelude.{◌≡◌, ◌<◌};
 ghost use Rattle.fips_197.specs.SBox.{s_box};
-ghost use Rattle.fips_197.specs.WordPolynomial.{word_product};
+ghost use Rattle.fips_197.specs.WordPolynomial.{word_product, matrix_column, multiples};
 ghost use Rattle.fips_197.specs.Cipher.{substitute_bytes, mix_polynomial, round, last_round};
-ghost use Rattle.aes_block.specs.Words.{word_bytes, state_bytes, diagonal, matrix_column, multiples};
+ghost use Rattle.aes_block.specs.Words.{word_bytes, state_bytes, diagonal};
 
 use crate::state::State;
 use crate::tables::{MIXED_ROWS, S_BOX};

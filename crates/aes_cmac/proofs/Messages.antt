@@ -3,7 +3,7 @@ use Rattle.std.proofs.Common.{◌≡◌, ℕ, zero, suc, ◌+◌, ◌-◌, ◌*�
 use Rattle.std.proofs.lemmas.Bool.{ne_eqb, cases_eq}
 use Rattle.std.proofs.lemmas.List.{append_assoc, take_all, take_more, take-append-le, drop_more, drop-append-le, drop-drop, drop-set, drop-replicate, length-drop, length-take-le, set_at}
 use Rattle.fips_197.specs.Bytes.{xor_bytes}
-use Rattle.aes_block.specs.Texts.{block_of}
+use Rattle.fips_197.specs.Texts.{block_of}
 use Rattle.fips_197.specs.Encrypt.{encrypted_block}
 use Rattle.aes_cmac.specs.Cmac.{first_subkey, second_subkey, count_before_last, last_block, chained}
 

@@ -4,7 +4,7 @@ ghost use Rattle.std.specs.Prelude.{◌≡◌, ◌-◌, ◌<◌, ◌≤◌, ◌�
 ghost use Rattle.aes_cmac.specs.Cmac.{last_block};
 
 use crate::subkeys::{first_subkey, second_subkey};
-use aes_block::{BLOCK_SIZE, Block, Key, block_at, xor_blocks};
+use aes_vector::{BLOCK_SIZE, Block, Key, block_at, xor_blocks};
 
 /// Bytes that are no whole block, a bit 1, and bits 0 up to a block.
 fn bit_padded(bytes: &[u8]) -> Block

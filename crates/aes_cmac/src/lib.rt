@@ -2,12 +2,12 @@
 //! 16 bytes.
 //!
 //! Proved, for every key and every message: the tag is that of `specs/Cmac.antt`, which writes the
-//! standard down, over the block cipher of `aes_block`. `cmac` takes no memory and cannot fail.
+//! standard down, over the block cipher of `aes_vector`. `cmac` takes no memory and cannot fail.
 //!
 //! `chained_on` and `tag_of_end` are its two parts, for a message that comes in parts: the blocks
 //! before the last, as many at a time as there are, and then the last one.
 //!
-//! The time that it takes depends on secrets, as that of `aes_block`.
+//! No read and no branch depends on the key or the message, but on its length, as in `aes_vector`.
 #![tactic(auto)]
 
 mod last_block;
@@ -16,7 +16,7 @@ mod subkeys;
 ghost use Rattle.std.specs.Prelude.{◌≡◌, ℕ, ◌+◌, ◌*◌, ◌≤◌, List, length, drop};
 ghost use Rattle.aes_cmac.specs.Cmac.{count_before_last, chained, cmac};
 
-use aes_block::{BLOCK_SIZE, Block, Key, block_at, xor_blocks};
+use aes_vector::{BLOCK_SIZE, Block, Key, block_at, xor_blocks};
 use last_block::last_block;
 
 /// The tag of a message of any length (SP 800-38B, 6.2), in 16 bytes.

@@ -3,20 +3,17 @@
 ghost use Rattle.std.specs.Prelude.{◌≡◌};
 ghost use Rattle.aes_cmac.specs.Cmac.{doubled, first_subkey, second_subkey};
 
-use aes_block::{Block, Key};
+use aes_vector::{Block, Key};
 
 // R_128 (5.3).
 const REDUCTION: u128 = 0x87;
 
-/// A block doubled (6.1, steps 2 and 3).
+/// A block doubled (6.1, steps 2 and 3), with no branch on its first bit.
 fn doubled(block: Block) -> Block
     ensures { result ≡ doubled block }
 {
     let number = u128::from_be_bytes(block);
-    if number >> 127 == 0 {
-        return (number << 1).to_be_bytes();
-    }
-    ((number << 1) ^ REDUCTION).to_be_bytes()
+    ((number << 1) ^ (number >> 127) * REDUCTION).to_be_bytes()
 }
 
 /// K1, which a whole last block is added to.

@@ -4,7 +4,7 @@ use Rattle.std.specs.Int.{w64, from_be_bytes, to_be_bytes}
 use Rattle.std.proofs.lemmas.Nat.{xor_shr, xor_mod, be_bytes_8}
 use Rattle.fips_197.specs.Bytes.{AreBytes, xor_bytes}
 use Rattle.fips_197.proofs.Blocks.{AreBytes-at}
-use Rattle.aes_block.proofs.TextBlocks.{AreBytes-bytes_high_first}
+use Rattle.fips_197.proofs.TextBlocks.{AreBytes-bytes_high_first}
 
 pub AreBytes-to_be_bytes : (n : ℕ) → AreBytes (to_be_bytes w64 n)
 AreBytes-to_be_bytes n = AreBytes-bytes_high_first 8 n

@@ -6,7 +6,7 @@ use Rattle.fips_197.specs.Bytes.{AreBytes, IsBlock, xor_bytes}
 use Rattle.fips_197.specs.Encrypt.{encrypted_block}
 use Rattle.fips_197.specs.KeyExpansion.{IsKey}
 use Rattle.fips_197.proofs.Blocks.{length-xor_bytes, xor_bytes-twice, AreBytes-xor_bytes}
-use Rattle.aes_block.proofs.KeySchedules.{IsBlock-encrypted_block}
+use Rattle.fips_197.proofs.KeySchedules.{IsBlock-encrypted_block}
 use Rattle.aes_kw.specs.KeyWrap.{half, with_half, step}
 use Rattle.aes_kw.proofs.Rows.{length-half, AreBytes-half, half-first, half-second, halves-block, IsBlock-halves, length-with_half, AreBytes-with_half, half-with_same, half-with_other, same_rows}
 use Rattle.aes_kw.proofs.Numbers.{AreBytes-to_be_bytes}

@@ -10,7 +10,8 @@
 //!
 //! `proofs/Only.antt` proves that no two values have one wrapping.
 //!
-//! Each call makes one allocation. The time that it takes depends on secrets, as that of `aes_block`.
+//! Each call makes one allocation. No read and no branch depends on the key or the value, as in `aes_vector`, but on their
+//! lengths and on whether a wrapping is right.
 #![tactic(auto)]
 
 mod fault;

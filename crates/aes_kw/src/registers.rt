@@ -6,7 +6,7 @@ ghost use Rattle.fips_197.specs.Bytes.{AreBytes, xor_bytes};
 ghost use Rattle.fips_197.specs.KeyExpansion.{IsKey};
 ghost use Rattle.aes_kw.specs.KeyWrap.{half, with_half, step};
 
-use aes_block::{Block, Key, are_bytes};
+use aes_vector::{Block, Key, are_bytes};
 
 /// The length of half a block in bytes.
 pub(crate) const HALF_SIZE: usize = 8;

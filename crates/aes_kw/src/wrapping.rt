@@ -6,7 +6,8 @@ ghost use Rattle.aes_kw.specs.KeyWrap.{IsValue, wrapped};
 
 use crate::KwFault;
 use crate::registers::{HALF_SIZE, Half, half_at, is_key, step, step_back};
-use aes_block::Key;
+use aes_vector::Key;
+use lists::same_bytes;
 use std::alloc::Global;
 
 /// The initial value of A (2.2.3.1).
@@ -62,7 +63,7 @@ pub fn unwrap(alloc: Global, key: &Key, bytes: &[u8]) -> Result<Vec<u8>, KwFault
     'steps: for undone in 0..6 * n {
         step_back(key, &mut registers, n, 6 * n - undone);
     }
-    if half_at(&registers, 0) != INITIAL_VALUE {
+    if !same_bytes(&half_at(&registers, 0), &INITIAL_VALUE) {
         return Err(KwFault::BadCheck);
     }
     registers.rotate_left(HALF_SIZE);

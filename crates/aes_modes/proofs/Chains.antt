@@ -4,7 +4,7 @@ use Rattle.std.proofs.lemmas.List.{take_all}
 use Rattle.fips_197.specs.Bytes.{xor_bytes}
 use Rattle.fips_197.specs.Encrypt.{encrypted_block}
 use Rattle.fips_197.proofs.Blocks.{xor_bytes-twice}
-use Rattle.aes_block.specs.Texts.{block_of}
+use Rattle.fips_197.specs.Texts.{block_of}
 use Rattle.aes_modes.specs.Blocks.{IsWhole}
 use Rattle.aes_modes.specs.Modes.{ecb_block, ecb_blocks, ecb_encrypted, chained, cbc_block, cbc_blocks, cbc_encrypted}
 use Rattle.aes_modes.proofs.Texts.{block_of-append, block_of-last, first_blocks-more, back-more, block_of-drop, first_blocks-add, first_blocks-alike}

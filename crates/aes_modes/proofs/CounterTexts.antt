@@ -4,12 +4,12 @@ use Rattle.std.specs.Int.Bits.{xor_assoc, xor_zero_r, xor_self}
 use Rattle.std.proofs.lemmas.List.{take_all, length-take}
 use Rattle.fips_197.specs.Bytes.{IsBlock, xor_bytes}
 use Rattle.fips_197.specs.KeyExpansion.{IsKey}
-use Rattle.aes_block.proofs.KeySchedules.{IsBlock-encrypted_block}
-use Rattle.aes_block.specs.Texts.{block_of}
+use Rattle.fips_197.proofs.KeySchedules.{IsBlock-encrypted_block}
+use Rattle.fips_197.specs.Texts.{block_of}
 use Rattle.aes_modes.specs.Blocks.{first_blocks, blocks_begun}
 use Rattle.aes_modes.specs.Counter.{counter_block}
 use Rattle.aes_modes.specs.Modes.{output_block, ctr_block, ctr_blocks, ctr_encrypted}
-use Rattle.aes_block.proofs.TextBlocks.{AreBytes-bytes_high_first}
+use Rattle.fips_197.proofs.TextBlocks.{AreBytes-bytes_high_first}
 use Rattle.aes_modes.proofs.Texts.{length-block_of, first_blocks-more, first_blocks-alike, first_blocks-text, block_of-first_blocks, length-first_blocks-alike, block_of-append}
 
 -- ---- a sum with as many bytes of a longer list

@@ -1,8 +1,10 @@
 pub mod Texts
+pub mod BatchTexts
 pub mod Chains
 pub mod Only
+pub mod DecryptedTexts
 pub mod Paddings
-pub mod NumberBytes
 pub mod CounterNumbers
 pub mod CounterTexts
+pub mod CountedTexts
 pub mod Turned

@@ -8,9 +8,9 @@ use Rattle.fips_197.specs.InverseCipher.{inverse_cipher}
 use Rattle.fips_197.specs.KeyExpansion.{IsKey, key_expansion, round_count}
 use Rattle.fips_197.specs.Encrypt.{encrypted_block}
 use Rattle.fips_197.proofs.Blocks.{xor_bytes-twice, IsBlock-xor_bytes}
-use Rattle.aes_block.proofs.KeySchedules.{round_count-bounds, IsBlock-round_key, IsBlock-encrypted_block}
-use Rattle.aes_block.proofs.Inverses.{inverse_cipher-cipher}
-use Rattle.aes_block.specs.Texts.{block_of}
+use Rattle.fips_197.proofs.KeySchedules.{round_count-bounds, IsBlock-round_key, IsBlock-encrypted_block}
+use Rattle.fips_197.proofs.Inverses.{inverse_cipher-cipher}
+use Rattle.fips_197.specs.Texts.{block_of}
 use Rattle.aes_modes.specs.Blocks.{first_blocks, IsWhole}
 use Rattle.aes_modes.specs.Modes.{ecb_block, ecb_encrypted, chained, cbc_block, cbc_encrypted, cbc_pad_encrypted}
 use Rattle.aes_modes.specs.Padding.{padded}

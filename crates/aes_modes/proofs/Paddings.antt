@@ -4,7 +4,7 @@ use Rattle.std.proofs.lemmas.List.{take_at, get_or-append_right, get_or-replicat
 use Rattle.std.proofs.lemmas.List.Elements.{All-append, All-from_get_or}
 use Rattle.fips_197.specs.Bytes.{AreBytes, xor_bytes}
 use Rattle.fips_197.specs.Encrypt.{encrypted_block}
-use Rattle.aes_block.specs.Texts.{block_of}
+use Rattle.fips_197.specs.Texts.{block_of}
 use Rattle.aes_modes.specs.Blocks.{IsWhole}
 use Rattle.aes_modes.specs.Modes.{chained, cbc_block, cbc_blocks, cbc_pad_encrypted}
 use Rattle.aes_modes.specs.Padding.{pad_count, padded}

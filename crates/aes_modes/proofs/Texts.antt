@@ -2,7 +2,7 @@
 use Rattle.std.proofs.Common.{◌≡◌, ℕ, zero, suc, ◌+◌, ◌-◌, ◌*◌, ◌/◌, ◌<◌, ◌≤◌, List, [], ◌∷◌, ◌++◌, length, take, drop, set, get_or, replicate, ap, refl, sym, ◌∙◌, arith, add-one, inl, inr}
 use Rattle.std.proofs.lemmas.Bool.{cases_lt}
 use Rattle.std.proofs.lemmas.List.{append-nil, drop-drop, append_assoc, drop-append-le, take-append-le, length-append, length-drop, drop_at, take_all, take-append-drop, take-take, drop-take, length-take-le, set_at, take_more}
-use Rattle.aes_block.specs.Texts.{block_of}
+use Rattle.fips_197.specs.Texts.{block_of}
 use Rattle.aes_modes.specs.Blocks.{first_blocks}
 
 pub length-block_of : (text : List ℕ) (i : ℕ) → 16 * i + 16 ≤ length text → length (block_of text i) ≡ 16

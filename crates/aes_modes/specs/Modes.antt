@@ -2,7 +2,7 @@
 use Rattle.std.specs.Prelude.{ℕ, zero, suc, ◌/◌, List, length}
 use Rattle.fips_197.specs.Bytes.{xor_bytes}
 use Rattle.fips_197.specs.Encrypt.{encrypted_block}
-use Rattle.aes_block.specs.Texts.{block_of}
+use Rattle.fips_197.specs.Texts.{block_of}
 use Rattle.aes_modes.specs.Blocks.{first_blocks, blocks_begun}
 use Rattle.aes_modes.specs.Counter.{counter_block}
 use Rattle.aes_modes.specs.Padding.{padded}

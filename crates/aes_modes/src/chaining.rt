@@ -6,9 +6,10 @@ ghost use Rattle.aes_modes.specs.Blocks.{IsWhole};
 ghost use Rattle.aes_modes.specs.Modes.{chained, cbc_blocks, cbc_encrypted};
 ghost use Rattle.aes_modes.specs.Directions.{IsTurned};
 
-use crate::blocks::{is_key, push_number, xor_number};
+use crate::batches::push_unchained;
+use crate::blocks::is_key;
 use crate::{Direction, ModeFault};
-use aes_block::{BLOCK_SIZE, Block, Key, are_bytes, block_at, xor_blocks};
+use aes_vector::{BLOCK_SIZE, Block, Key, are_bytes, block_at, xor_blocks};
 use std::alloc::{AllocError, Global};
 
 /// Adds the text's whole blocks, encrypted, to `out`, and gives what the next block is added to.
@@ -24,13 +25,12 @@ pub(crate) fn encrypt_blocks(
         out.new.items ≡ out.old.items ++ cbc_blocks key.now iv text.now (length text.now / 16)) }
     ensures chained { IfOk result (λ next. next ≡ chained key.now iv text.now (length text.now / 16)) }
 {
-    are_bytes(&iv);
-    let mut before = u128::from_be_bytes(iv);
+    let mut before = iv;
     'turns: for i in 0..text.len() / BLOCK_SIZE {
-        before = key.encrypt_number(xor_number(block_at(text, i), before));
-        push_number(out, before)?;
+        before = key.encipher(xor_blocks(block_at(text, i), before));
+        out.extend_from_slice(&before)?;
     }
-    Ok(before.to_be_bytes())
+    Ok(before)
 }
 
 fn encrypted(alloc: Global, key: &Key, iv: Block, text: &[u8]) -> Result<Vec<u8>, AllocError>
@@ -58,13 +58,9 @@ pub(crate) fn decrypted(
 {
     is_key(key);
     are_bytes(&iv);
+    are_bytes(text);
     let mut out = Vec::with_capacity(alloc, text.len())?;
-    let mut before = iv;
-    'turns: for i in 0..text.len() / BLOCK_SIZE {
-        let block = block_at(text, i);
-        out.extend_from_slice(&xor_blocks(key.decipher(block), before))?;
-        before = block;
-    }
+    push_unchained(alloc, &mut out, key, iv, b"", text, text.len() / BLOCK_SIZE)?;
     are_bytes(&out);
     Ok(out)
 }

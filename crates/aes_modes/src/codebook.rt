@@ -6,9 +6,10 @@ ghost use Rattle.aes_modes.specs.Blocks.{IsWhole};
 ghost use Rattle.aes_modes.specs.Modes.{ecb_encrypted};
 ghost use Rattle.aes_modes.specs.Directions.{IsTurned};
 
+use crate::batches::{push_decrypted, push_encrypted};
 use crate::blocks::is_key;
 use crate::{Direction, ModeFault};
-use aes_block::{BLOCK_SIZE, Key, are_bytes, block_at};
+use aes_vector::{BLOCK_SIZE, Key, are_bytes};
 use std::alloc::{AllocError, Global};
 
 fn encrypted(alloc: Global, key: &Key, text: &[u8]) -> Result<Vec<u8>, AllocError>
@@ -16,10 +17,10 @@ fn encrypted(alloc: Global, key: &Key, text: &[u8]) -> Result<Vec<u8>, AllocErro
     ensures length { IfOk result (λ out. length out.items ≡ length text.now) }
     ensures value { IfOk result (λ out. out.items ≡ ecb_encrypted key.now text.now) }
 {
+    is_key(key);
+    are_bytes(text);
     let mut out = Vec::with_capacity(alloc, text.len())?;
-    'turns: for i in 0..text.len() / BLOCK_SIZE {
-        out.extend_from_slice(&key.encipher(block_at(text, i)))?;
-    }
+    push_encrypted(alloc, &mut out, key, b"", text, text.len() / BLOCK_SIZE)?;
     Ok(out)
 }
 
@@ -31,10 +32,9 @@ fn decrypted(alloc: Global, key: &Key, text: &[u8]) -> Result<Vec<u8>, AllocErro
         → ecb_encrypted key.now x ≡ text.now → x ≡ out.items) }
 {
     is_key(key);
+    are_bytes(text);
     let mut out = Vec::with_capacity(alloc, text.len())?;
-    'turns: for i in 0..text.len() / BLOCK_SIZE {
-        out.extend_from_slice(&key.decipher(block_at(text, i)))?;
-    }
+    push_decrypted(alloc, &mut out, key, b"", text, text.len() / BLOCK_SIZE)?;
     are_bytes(&out);
     Ok(out)
 }

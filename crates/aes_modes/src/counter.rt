@@ -3,7 +3,7 @@
 ghost use Rattle.std.specs.Prelude.{◌≡◌, ℕ, ◌+◌, ◌^◌, ◌≤◌, ◌↔◌, IsSome, IfSome, IsTrue};
 ghost use Rattle.aes_modes.specs.Counter.{counter_start};
 
-use aes_block::Block;
+use aes_vector::Block;
 use std::marker::Model;
 
 /// How many low bits of a block count, the m of SP 800-38A, appendix B.1: 1 to 128.

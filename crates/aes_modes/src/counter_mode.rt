@@ -6,10 +6,11 @@ ghost use Rattle.aes_modes.specs.Counter.{counter_start};
 ghost use Rattle.aes_modes.specs.Modes.{ctr_encrypted};
 ghost use Rattle.aes_modes.specs.Directions.{IsTurned};
 
-use crate::blocks::{filled_block, is_key, push_number, rest_of, xor_number};
+use crate::batches::push_counted;
+use crate::blocks::{filled_block, is_key, rest_of, xor_number};
 use crate::counter::has_counters;
 use crate::{CounterBits, Direction, ModeFault};
-use aes_block::{BLOCK_SIZE, Block, Key, block_at};
+use aes_vector::{BLOCK_SIZE, Block, Key};
 use std::alloc::{AllocError, Global};
 
 /// The text encrypted, where each of its blocks has a counter.
@@ -27,10 +28,7 @@ fn encrypted(
     let first = u128::from_be_bytes(start);
     let whole = text.len() / BLOCK_SIZE;
     let mut out = Vec::with_capacity(alloc, text.len())?;
-    'turns: for i in 0..whole {
-        let output = key.encrypt_number(first + i as u128);
-        push_number(&mut out, xor_number(block_at(text, i), output))?;
-    }
+    push_counted(alloc, &mut out, key, first, b"", text, whole)?;
     let rest = rest_of(text);
     if rest.is_empty() {
         return Ok(out);

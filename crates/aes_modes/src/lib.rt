@@ -16,12 +16,16 @@
 //! - The first blocks of a text are encrypted alike whatever follows, and the further ones from the block
 //!   before (`Texts`, `Chains`).
 //!
-//! `filled_block`, `xor_number`, `push_number` and `unpadded_len` are for `streams`, which works in parts.
+//! `filled_block`, `xor_number`, `unpadded_len`, and the functions that take a text in two parts, are for
+//! `streams`, which works in parts.
 //!
-//! Each call makes one allocation, of the length that it gives. The time that it takes depends on
-//! secrets, as that of `aes_block`. Nothing here is authenticated.
+//! Blocks that don't depend on one another are done eight at once where the text is long: all but CBC encryption.
+//!
+//! Each call makes one allocation, of the length that it gives. No read and no branch depends on the key or the text, as in
+//! `aes_vector`, but on their lengths and on whether a padding is right. Nothing here is authenticated.
 #![tactic(auto)]
 
+mod batches;
 mod blocks;
 mod chaining;
 mod codebook;
@@ -31,7 +35,8 @@ mod direction;
 mod fault;
 mod padded_chaining;
 
-pub use blocks::{filled_block, push_number, xor_number};
+pub use batches::{push_counted, push_decrypted, push_encrypted, push_unchained};
+pub use blocks::{filled_block, xor_number};
 pub use chaining::cbc;
 pub use codebook::ecb;
 pub use counter::CounterBits;

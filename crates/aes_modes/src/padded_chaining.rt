@@ -1,6 +1,6 @@
 //! CBC with the padding of PKCS #7 (SP 800-38A, 6.2; RFC 5652, 6.3).
 
-ghost use Rattle.std.specs.Prelude.{◌≡◌, ◌≢◌, ℕ, ◌⊎◌, ◌%◌, ◌<◌, ◌↔◌, List, length, take, IfOk, IfErr, IfSome, IsNone, IsErrOf};
+ghost use Rattle.std.specs.Prelude.{◌≡◌, ◌≢◌, ℕ, ◌⊎◌, ◌%◌, ◌<◌, ◌≤◌, ◌↔◌, List, length, take, IfOk, IfErr, IfSome, IsNone, IsErrOf};
 ghost use Rattle.fips_197.specs.Bytes.{AreBytes};
 ghost use Rattle.aes_modes.specs.Blocks.{IsWhole};
 ghost use Rattle.aes_modes.specs.Modes.{cbc_pad_encrypted};
@@ -9,11 +9,32 @@ ghost use Rattle.aes_modes.specs.Directions.{IsTurned};
 
 use crate::blocks::{filled_block, rest_of};
 use crate::{Direction, ModeFault, chaining};
-use aes_block::{BLOCK_SIZE, Block, Key, xor_blocks};
+use aes_vector::{BLOCK_SIZE, Block, Key, xor_blocks};
 use std::alloc::{AllocError, Global};
 
+// How much is wrong with a count of padding bytes: 0 for 1 to 16 (RFC 5652, 6.3).
+#[inline(always)]
+fn wrong_count(count: u8) -> usize
+    ensures within { result ≤ 2 }
+    ensures right { result ≡ 0 → (1 ≤ count) × (count ≤ 16) }
+    ensures wrong { result ≢ 0 → (count ≡ 0) ⊎ (16 < count) }
+{
+    (count == 0) as usize + (count as usize > BLOCK_SIZE) as usize
+}
+
+// How much is wrong with the byte that has `i` bytes behind it, under a count of padding bytes: 0 or 1.
+#[inline(always)]
+fn wrong_byte(byte: u8, count: u8, i: usize) -> usize
+    ensures within { result ≤ 1 }
+    ensures right { result ≡ 0 → i < count → byte ≡ count }
+    ensures wrong { result ≢ 0 → (i < count) × (byte ≢ count) }
+{
+    (i < count as usize) as usize * (byte != count) as usize
+}
+
 /// The length of the text that has `text` as its padded text (RFC 5652, 6.3), if one has. `text` is
-/// whole blocks, one at least.
+/// whole blocks, one at least. All bytes of its last block are looked at, so no read and no branch depends on a byte,
+/// but for whether there is such a text.
 pub fn unpadded_len(text: &[u8]) -> Option<usize>
     requires whole { IsWhole text.now }
     requires some { 0 < length text.now }
@@ -21,17 +42,16 @@ pub fn unpadded_len(text: &[u8]) -> Option<usize>
     ensures found { IfSome result (λ n. padded (take n text.now) ≡ text.now) }
     ensures none { IsNone result → (x : List ℕ) → padded x ≢ text.now }
 {
-    let count = text[text.len() - 1] as usize;
-    if count == 0 || count > BLOCK_SIZE {
+    let end = text.len() - 1;
+    let count = text[end];
+    let mut wrong = wrong_count(count);
+    'pad: for i in 0..BLOCK_SIZE {
+        wrong += wrong_byte(text[end - i], count, i);
+    }
+    if wrong != 0 {
         return None;
     }
-    let start = text.len() - count;
-    'pad: for i in start..text.len() {
-        if text[i] as usize != count {
-            return None;
-        }
-    }
-    Some(start)
+    Some(text.len() - count as usize)
 }
 
 fn encrypted(alloc: Global, key: &Key, iv: Block, text: &[u8]) -> Result<Vec<u8>, AllocError>

@@ -1,19 +1,20 @@
 //! Objects.
 
-ghost use Rattle.std.specs.Prelude.{◌≡◌, IfSome, IfNone, Some, true, false};
+ghost use Rattle.std.specs.Prelude.{◌≡◌, IfOk, IfSome, IfNone, Some, true, false};
 ghost use Rattle.std.specs.Option.{option_copied};
 ghost use Rattle.ck_types.specs.declared.attr_type.AttrType.TheVariants as attr;
 ghost use Rattle.attrs.specs.Objects.{IsObject, attribute_of, class_of, flag, is_object, key_type_of, number_of};
 
 use crate::check::{attribute_in, class_in, is_object_in, key_type_in, number_in};
 use ck_types::{AttrType, Entry, Items, KeyType, ObjectClass};
-use std::alloc::AllocError;
+use std::alloc::{AllocError, Global};
 use std::marker::Model;
+use std::sync::Arc;
 
-/// A data object or a secret key: all the attributes of its class, each in its form.
-#[derive(Debug, Drop)]
+/// A data object or a secret key: all the attributes of its class, each in its form. They never change, so copies share them.
+#[derive(Drop)]
 pub struct Object {
-    entries: Items<Entry>,
+    entries: Arc<Items<Entry>, Global>,
 }
 
 impl Model for Object {
@@ -23,9 +24,9 @@ impl Model for Object {
 
     ghost Value = { List Entry };
 
-    ghost view = { λ o. o.entries };
+    ghost view = { λ o. o.entries.value };
 
-    ghost invariant = { λ o. is_object o.entries ≡ true };
+    ghost invariant = { λ o. is_object o.entries.value ≡ true };
 }
 
 impl Clone for Object {
@@ -33,29 +34,32 @@ impl Clone for Object {
 
     fn clone(&self) -> Result<Object, AllocError> {
         Ok(Object {
-            entries: self.entries.clone()?,
+            entries: Arc::try_clone(&self.entries)?,
         })
     }
 }
 
 impl Object {
-    /// The object with these attributes, by rising number.
-    pub fn new(entries: Items<Entry>) -> Object
+    /// The object with these attributes, by rising number. It fails only where an allocation does.
+    pub fn new(alloc: Global, entries: Items<Entry>) -> Result<Object, AllocError>
         requires { IsObject entries }
-        ensures { result ≡ entries }
+        ensures { IfOk result (λ object. object ≡ entries) }
     {
-        Object { entries }
+        Ok(Object {
+            entries: Arc::new(alloc, entries)?,
+        })
     }
 
-    /// The object with these attributes, where they are those of one and by rising number.
-    pub fn from_entries(entries: Items<Entry>) -> Option<Object>
-        ensures some { IfSome result (λ object. object ≡ entries) }
-        ensures none { IfNone result (is_object entries ≡ false) }
+    /// The object with these attributes, or `None` where they are not those of one or not by rising number. It fails only where an
+    /// allocation does.
+    pub fn from_entries(alloc: Global, entries: Items<Entry>) -> Result<Option<Object>, AllocError>
+        ensures some { IfOk result (λ found. IfSome found (λ object. object ≡ entries)) }
+        ensures none { IfOk result (λ found. IfNone found (is_object entries ≡ false)) }
     {
         if is_object_in(entries.as_slice()) {
-            Some(Object { entries })
+            Ok(Some(Object::new(alloc, entries)?))
         } else {
-            None
+            Ok(None)
         }
     }
 

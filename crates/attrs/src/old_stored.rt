@@ -78,9 +78,10 @@ fn decoded(alloc: Global, bytes: &[u8]) -> Result<Object, DecodeFault>
         Err(CodecFault::Malformed) => Err(DecodeFault::Form),
         Ok(entries) => match renewed(alloc, entries) {
             Err(_) => Err(DecodeFault::Memory),
-            Ok(entries) => match Object::from_entries(Items::from_vec(entries)) {
-                Some(object) => Ok(object),
-                None => Err(DecodeFault::Form),
+            Ok(entries) => match Object::from_entries(alloc, Items::from_vec(entries)) {
+                Err(_) => Err(DecodeFault::Memory),
+                Ok(Some(object)) => Ok(object),
+                Ok(None) => Err(DecodeFault::Form),
             },
         },
     }

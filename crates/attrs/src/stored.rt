@@ -67,9 +67,10 @@ fn decoded(alloc: Global, bytes: &[u8]) -> Result<Object, DecodeFault>
     match decode_all(alloc, bytes) {
         Err(CodecFault::Memory) => Err(DecodeFault::Memory),
         Err(CodecFault::Malformed) => Err(DecodeFault::Form),
-        Ok(entries) => match Object::from_entries(Items::from_vec(entries)) {
-            Some(object) => Ok(object),
-            None => Err(DecodeFault::Form),
+        Ok(entries) => match Object::from_entries(alloc, Items::from_vec(entries)) {
+            Err(_) => Err(DecodeFault::Memory),
+            Ok(Some(object)) => Ok(object),
+            Ok(None) => Err(DecodeFault::Form),
         },
     }
 }

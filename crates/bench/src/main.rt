@@ -1,4 +1,4 @@
-//! The speed of `aes_block`, `aes_modes`, `aes_cmac`, `hmac_sha2`, `token` and `line`, printed as a table. It is measured, and
+//! The speed of `aes_vector`, `aes_modes`, `aes_cmac`, `hmac_sha2`, `token` and `line`, printed as a table. It is measured, and
 //! nothing of it is proved but that the program is safe and ends.
 //!
 //! With no argument it works, for each key length, on 64 MiB or a million keys a row. It prints nanoseconds of processor time for
@@ -30,16 +30,30 @@
 //! before, amid and after.
 //!
 //! With the arguments `calls SOCKET` it calls a daemon (`tokend serve`) that listens there. The daemon's token may be new, and it
-//! should serve nobody else meanwhile. It prints round trips a second, and each as a part of a plain echo's:
+//! should serve nobody else meanwhile. Each line has what is measured and its floor, as medians of eleven rounds by turns:
 //!
-//! - an echo of 32 bytes, by a thread of this program on a socket `SOCKET.echo`;
-//! - C_GetSessionInfo;
-//! - C_EncryptInit by CKM_AES_ECB and C_Encrypt of 16 bytes, counted as one;
-//! - C_EncryptInit by CKM_AES_CBC_PAD and C_Encrypt of 16 KiB, counted as one;
-//! - C_GetSessionInfo by four clients together, each in a thread of its own, beside one.
+//! - C_GetSessionInfo, whose floor is an echo of frames of the same lengths, by a thread of this program on a socket `SOCKET.echo`;
+//! - C_EncryptInit and C_Encrypt, counted as one, of 16 bytes under ECB, whose floor is two echoes;
+//! - the same of 16,384, 64,000 and 1,048,528 bytes under CBC_PAD, whose floor also has the cipher alone over the same text;
+//! - C_DecryptInit and C_Decrypt of 64,000 bytes under CBC_PAD and CTR, with such a floor;
+//! - C_GetSessionInfo and CBC_PAD of 16,384 bytes by four clients, each in a thread of its own. Their floor is as many echoes and
+//!   ciphers in as many threads.
 //!
-//! With the arguments `objects SOCKET` it makes 10,000 keys of the daemon's token, which stay, and prints how many of them a second.
-//! Then it prints how many reads a second of a hundred of them, which the cache holds, and of each in turn, which the store reads.
+//! With a number behind it, as in `calls SOCKET 64`, C_GetSessionInfo is measured by so many clients, too. The daemon has to have
+//! as many places (`--clients`). The columns are microseconds: what each takes, its echo, what else its floor has, and the floor.
+//! Behind them stand how many floors each takes, how many are done a second, and how many times as many as by one client.
+//!
+//! With the arguments `objects SOCKET` it makes 10,000 keys of the daemon's token, or as many as a number behind it says, at least
+//! 100. They stay, but for some that are destroyed at the end. Its lines are as those of `calls`:
+//!
+//! - C_CreateObject, whose floor is an echo, and a write and a sync of as many bytes to a file `SOCKET.file`;
+//! - C_GetObjectSize of a hundred keys, which the cache holds, and of each in turn, which the store reads;
+//! - searches by label, which finds one key in a hundred, by CKA_ID, by class, and by an attribute that has no mark. Each is
+//!   C_FindObjectsInit, C_FindObjects and C_FindObjectsFinal, whose floor is three echoes. The first of each stands apart;
+//! - C_DestroyObject of keys from the beginning, the middle and the end, with a floor as C_CreateObject has.
+//!
+//! With the arguments `searches SOCKET` it does those searches alone, as after a new start of the daemon: its first search reads
+//! all keys and learns their marks.
 //!
 //! OpenSSL measures the same ciphers, in processor time too. It doesn't use the AES instructions of the processor where the bits
 //! that announce these and the carry-less product are masked. Its ECB is blocks that don't depend on one another, its CBC a
@@ -61,16 +75,19 @@ mod measures;
 mod objects;
 mod pieces;
 mod reading;
+mod requests;
+mod rounds;
 mod run;
 mod searching;
 mod texts;
+mod work;
 
 use aes_modes::Direction;
 use events::events;
 use frames::{cipher, frames};
 use logins::{derivations, logins};
-use measures::{print_calls, print_echo};
-use objects::print_objects;
+use measures::{FOUR, print_calls, print_echo};
+use objects::{KEYS, print_key_searches, print_objects};
 use pieces::{print_memory, print_pieces};
 use reading::reading;
 use run::{Report, blocks_apart, chain, chain_back, keys_for_a_block, keys_kept};
@@ -250,26 +267,49 @@ fn print_all(rt: &HostRuntime, scale: Scale) -> io::Result<()> {
 }
 
 fn print_usage(rt: &impl Print) -> io::Result<()> {
-    println!(rt; "bench: nothing, or small, pieces, memory, calls SOCKET, objects SOCKET")?;
+    println!(rt;
+        "bench: nothing, or small, pieces, memory, calls SOCKET [CLIENTS], objects SOCKET [KEYS], searches SOCKET"
+    )?;
     Err(io::Error::from(io::ErrorKind::InvalidInput))
 }
 
+/// Measures a daemon: what, and perhaps a number.
+fn measure_daemon<T: Threads>(
+    rt: &HostRuntime,
+    threads: &T,
+    what: &str,
+    socket: &str,
+    number: Option<u64>,
+) -> io::Result<()> {
+    match (what, number) {
+        ("calls", number) => print_calls(rt, threads, socket, number.unwrap_or(FOUR)),
+        ("objects", number) => print_objects(rt, threads, socket, number.unwrap_or(KEYS)),
+        ("searches", None) => print_key_searches(rt, threads, socket),
+        _ => print_usage(rt),
+    }
+}
+
 /// Does what the words say, after the program's name.
-fn measure<T: Threads>(rt: HostRuntime, threads: &T, words: &[String]) -> io::Result<()> {
+fn measure<T: Threads>(rt: &HostRuntime, threads: &T, words: &[String]) -> io::Result<()> {
     match words {
-        [_] => print_all(&rt, FULL),
+        [_] => print_all(rt, FULL),
         [_, what] if what.as_str() == "small" => {
-            print_all(&rt, SMALL)?;
+            print_all(rt, SMALL)?;
             print_echo(rt, threads, "bench.sock")
         }
         [_, what] if what.as_str() == "pieces" => {
-            print_head(&rt, Report::Times)?;
-            print_pieces(&rt, rt.alloc(), Report::Times)
+            print_head(rt, Report::Times)?;
+            print_pieces(rt, rt.alloc(), Report::Times)
         }
-        [_, what] if what.as_str() == "memory" => print_memory(&rt, rt.alloc()),
-        [_, what, socket] if what.as_str() == "calls" => print_calls(rt, threads, socket.as_str()),
-        [_, what, socket] if what.as_str() == "objects" => print_objects(&rt, socket.as_str()),
-        _ => print_usage(&rt),
+        [_, what] if what.as_str() == "memory" => print_memory(rt, rt.alloc()),
+        [_, what, socket] => measure_daemon(rt, threads, what.as_str(), socket.as_str(), None),
+        [_, what, socket, number] => match number.as_str().parse::<u64>() {
+            Ok(number) => {
+                measure_daemon(rt, threads, what.as_str(), socket.as_str(), Some(number))
+            }
+            Err(_) => print_usage(rt),
+        },
+        _ => print_usage(rt),
     }
 }
 
@@ -278,5 +318,5 @@ fn main(rt: HostRuntime) -> io::Result<()> {
     for word in env::args(&rt)? {
         words.push(word)?;
     }
-    measure(rt, &rt, &words)
+    measure(&rt, &rt, &words)
 }

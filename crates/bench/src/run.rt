@@ -1,6 +1,6 @@
 // The runs that are measured, and a line for each.
 
-use aes_block::{Block, Key, xor_blocks};
+use aes_vector::{Block, Key, xor_blocks};
 use std::alloc::Global;
 use std::io;
 use std::time::{CpuClock, Duration};

@@ -1,9 +1,9 @@
 // The runs over texts of 64,000 bytes, and of PBKDF2.
 
 use crate::run::{KEY, Run, Unit, key_of};
-use aes_block::{Block, Key};
 use aes_cmac::cmac;
 use aes_modes::{CounterBits, Direction, ModeFault, cbc, ctr, ecb};
+use aes_vector::{Block, Key};
 use hmac_sha2::{hmac256, pbkdf2};
 use std::alloc::Global;
 use std::io;
@@ -88,11 +88,15 @@ pub(crate) fn over_texts(
 ) -> io::Result<Run> {
     let key = key_of(&KEY, size)?;
     let bits = CounterBits::new(128).ok_or(io::Error::from(io::ErrorKind::InvalidInput))?;
-    let text = vec![in alloc; 0x5a_u8; TEXT_SIZE]?;
+    let mut text = vec![in alloc; 0x5a_u8; TEXT_SIZE]?;
     let mut sum = [0; 16];
     let start = rt.thread_cpu_time()?;
     for _ in 0..count {
         sum = done(alloc, work, &key, bits, &text)?;
+        // (no text is the one before, so that none is done once for all)
+        if let Some(first) = text.first_mut() {
+            *first = sum[0];
+        }
     }
     Ok(Run {
         what: work.name(),

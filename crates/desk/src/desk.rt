@@ -1,6 +1,7 @@
 //! Desks.
 
-ghost use Rattle.std.specs.Prelude.{◌≡◌, ℕ, ◌+◌, ◌<◌, ◌^◌, ◌++◌, ◌∷◌, [], ◌==◌, not, drop, filter, map, length, nat_lt, nat_le, is_some, Some, None, option_map, count_by, vec_capacity, IfOk, OnOk, OnErr, IsTrue, IsFalse, true};
+ghost use Rattle.std.specs.Prelude.{◌≡◌, ℕ, ◌+◌, ◌<◌, ◌^◌, ◌++◌, ◌∷◌, [], ◌==◌, not, drop, filter, map, length, nat_lt, nat_le, is_some, Some, None, option_map, count_by, vec_capacity, ◌↔◌, IfOk, IfSome, IsSome, OnOk, OnErr, IsTrue, IsFalse, true};
+ghost use Rattle.fips_197.specs.KeyExpansion.{IsKey, IsKeyLength};
 ghost use Rattle.std.specs.Option.{option_copied};
 ghost use Rattle.std.specs.List.{position};
 ghost use Rattle.ck_types.specs.declared.user_type.UserType.TheVariants.{So};
@@ -13,8 +14,10 @@ ghost use Rattle.desk.specs.Desks.{DeskState, SameDesk, IsDiscreet, empty_desk, 
 ghost use Rattle.attrs.specs.Objects.{flag};
 ghost use Rattle.ck_types.specs.declared.attr_type.AttrType.TheVariants.{Private};
 
+use crate::last_key::LastKey;
 use crate::own_object::OwnObject;
 use crate::question::Question;
+use aes_vector::Key;
 use attrs::Object;
 use ck_calls::Call;
 use ck_types::{AttrType, MAX_SESSION_OBJECTS, SessionState, UserType};
@@ -38,6 +41,8 @@ pub struct Desk {
     call: Option<Snapshot<Call>>,
     question: Option<Question>,
     next_question: u64,
+    /// The key of the last operation that encrypts or decrypts. No contract sees it.
+    last_key: Option<LastKey>,
 }
 
 impl Model for Desk {
@@ -63,6 +68,7 @@ impl Desk {
             call: None,
             question: None,
             next_question: 1,
+            last_key: None,
         }
     }
 
@@ -153,6 +159,7 @@ impl Desk {
         self.sessions.close(session);
         retain_others(&mut self.own, session);
         if self.sessions.logged_in().is_none() {
+            self.last_key = None;
             self.handles.retire_private();
         }
     }
@@ -161,6 +168,7 @@ impl Desk {
     pub fn close_all(&mut self)
         ensures { self.new ≡ all_closed self.old }
     {
+        self.last_key = None;
         self.sessions.close_all();
         self.own.clear();
         self.handles.retire_private();
@@ -180,9 +188,33 @@ impl Desk {
     pub fn logout(&mut self)
         ensures { self.new ≡ logged_out_desk self.old }
     {
+        self.last_key = None;
         self.sessions.logout();
         retain_public(&mut self.own);
         self.handles.retire_private();
+    }
+
+    /// The key of these bytes, or none where they are not 16, 24 or 32. That of the application's last operation is kept, and is not
+    /// expanded again. Nothing that the application sees changes.
+    pub fn key_of(&mut self, alloc: Global, value: &[u8]) -> Option<Key>
+        ensures length { IsSome result ↔ IsKeyLength (length value.now) }
+        ensures value { IfSome result (λ key. key ≡ value.now) }
+        ensures same { self.new ≡ self.old }
+    {
+        if let Some(key) = self.known_key(value) {
+            return Some(key);
+        }
+        let key = Key::new(value)?;
+        self.last_key = LastKey::new(alloc, &key, value).ok();
+        Some(key)
+    }
+
+    /// The key of these bytes, where it is the last operation's.
+    fn known_key(&self, value: &[u8]) -> Option<Key>
+        ensures value { IfSome result (λ key. key ≡ value.now) }
+        ensures key { IfSome result IsKey }
+    {
+        self.last_key.as_ref()?.key_of(value)
     }
 
     /// The operation at a place of a session that encrypts or decrypts.

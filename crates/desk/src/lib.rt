@@ -9,6 +9,7 @@
 #![tactic(auto)]
 
 mod desk;
+mod last_key;
 mod own_object;
 mod question;
 

@@ -1,2 +1,4 @@
 pub mod Matching
 pub mod MatchingLaws
+pub mod Marks
+pub mod MarkLaws

@@ -9,8 +9,12 @@
 //! `search` reads one object at a time, and keeps no more of it than a note.
 #![tactic(auto)]
 
+mod laws;
+mod marks;
 mod matching;
 mod searching;
 
+pub use laws::{marks_are_blind, marks_pass_over, marks_tell_privacy};
+pub use marks::{Mark, Wanted};
 pub use matching::matches;
 pub use searching::search;

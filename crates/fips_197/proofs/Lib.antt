@@ -1,4 +1,14 @@
 pub mod Checks
 pub mod FieldLaws
 pub mod Blocks
+pub mod TextBlocks
+pub mod Numbers
+pub mod SBoxLaws
+pub mod WordTests
+pub mod WordProducts
+pub mod Steps
+pub mod Inverses
+pub mod ExpansionTerms
+pub mod KeySchedules
+pub mod ScheduleParts
 pub mod StandardFacts

@@ -7,3 +7,4 @@ pub mod Cipher
 pub mod KeyExpansion
 pub mod InverseCipher
 pub mod Encrypt
+pub mod Texts

@@ -25,6 +25,7 @@ use std::alloc::Global;
 use std::snapshot::Snapshot;
 use std::sync::{Arc, Wait};
 use std::thread::Threads;
+use std::time::Clock;
 use token::Token;
 
 /// The token and the seats, seat 0 first, once all seats have ended, with what the passes of the channels know.
@@ -65,7 +66,7 @@ fn worker<S: Seat + Drop + Send + 'static>(outbox: Outbox, thread: SeatThread<S>
 
 /// Permits the four threads to begin, serves them, and joins them. Where a channel has ended early, the threads are left to
 /// themselves: without the token's ends they end once their seats return.
-fn serve_all<M: Machine + Drop, S: Seat + Drop + Send + 'static, R: Threads + Wait>(
+fn serve_all<M: Machine + Drop, S: Seat + Drop + Send + 'static, R: Threads + Wait + Clock>(
     rt: &R,
     alloc: Global,
     machine: M,
@@ -140,7 +141,7 @@ pub(crate) fn hold_machine<
     M: Machine + Drop,
     S: Seat + Drop + Send + 'static,
     G: Gate + Send + Sync + Drop + 'static,
-    R: Threads + Wait + Copy + Send + Drop + 'static,
+    R: Threads + Wait + Clock + Copy + Send + Drop + 'static,
 >(
     rt: R,
     alloc: Global,
@@ -179,7 +180,7 @@ pub fn hold<
     K: Keep,
     S: Seat + Drop + Send + 'static,
     G: Gate + Send + Sync + Drop + 'static,
-    R: Threads + Wait + Copy + Send + Drop + 'static,
+    R: Threads + Wait + Clock + Copy + Send + Drop + 'static,
 >(
     rt: R,
     alloc: Global,
@@ -213,7 +214,7 @@ pub fn hold_with<
     K: Keep,
     S: Seat + Drop + Send + 'static,
     G: Gate + Send + Sync + Drop + 'static,
-    R: Threads + Wait + Copy + Send + Drop + 'static,
+    R: Threads + Wait + Clock + Copy + Send + Drop + 'static,
 >(
     rt: R,
     alloc: Global,

@@ -20,11 +20,12 @@ use hall_channels::messages::{AppCall, Event};
 use hall_channels::port::Port;
 use std::alloc::Global;
 use std::sync::Wait;
+use std::time::Clock;
 use token::{Job, Out};
 
 /// Puts a disconnect of an application, which isn't answered. False where a channel has ended.
 #[inline(never)]
-fn tell_gone<R: Wait>(rt: &R, port: &mut Port, app: u64) -> bool
+fn tell_gone<R: Wait + Clock>(rt: &R, port: &mut Port, app: u64) -> bool
     requires message { IsSome port.old.message }
     ensures message { IsTrue result → IsSome port.new.message }
     ensures same { SamePort port.old port.new }
@@ -36,7 +37,7 @@ fn tell_gone<R: Wait>(rt: &R, port: &mut Port, app: u64) -> bool
 
 /// Runs the job of a call, puts its result, and gets the reply.
 #[inline(never)]
-fn work<G: Gate, R: Wait>(
+fn work<G: Gate, R: Wait + Clock>(
     rt: &R,
     alloc: Global,
     port: &mut Port,
@@ -64,7 +65,7 @@ fn work<G: Gate, R: Wait>(
 }
 
 /// Makes a call, and gets its reply.
-fn ask<G: Gate, R: Wait>(
+fn ask<G: Gate, R: Wait + Clock>(
     rt: &R,
     alloc: Global,
     port: &mut Port,
@@ -88,7 +89,7 @@ fn ask<G: Gate, R: Wait>(
 }
 
 /// Does an event of the seat. False where a channel has ended.
-fn turn<S: Seat, G: Gate, R: Wait>(
+fn turn<S: Seat, G: Gate, R: Wait + Clock>(
     rt: &R,
     alloc: Global,
     seat: &mut S,
@@ -122,7 +123,7 @@ fn turn<S: Seat, G: Gate, R: Wait>(
 /// Does the seat's events, one after the other, until it has no more. False where a channel has ended. It is required that the
 /// seat has its message, which is the permission to begin.
 #[inline(never)]
-fn run_seat<S: Seat, G: Gate, R: Wait>(
+fn run_seat<S: Seat, G: Gate, R: Wait + Clock>(
     rt: &R,
     alloc: Global,
     seat: &mut S,
@@ -149,7 +150,7 @@ fn run_seat<S: Seat, G: Gate, R: Wait>(
 
 /// Waits for the permission to begin, and runs the seat. False where it is to stop, and then the seat was not called, or where a
 /// channel has ended; the token then knows.
-pub(crate) fn run_permitted<S: Seat, G: Gate, R: Wait>(
+pub(crate) fn run_permitted<S: Seat, G: Gate, R: Wait + Clock>(
     rt: &R,
     alloc: Global,
     seat: &mut S,

@@ -23,6 +23,7 @@ use std::snapshot::Snapshot;
 use std::sync::{Arc, Wait};
 use std::thread;
 use std::thread::{Promise, PromisedHandle, Threads};
+use std::time::Clock;
 
 /// What a seat's thread returns, and whether it went on until the seat had no more.
 #[derive(Drop)]
@@ -41,7 +42,13 @@ pub(crate) trait Runs<S> {
     ghost ran: { Self → S → Self → S → Bool → Type 0 };
 
     /// Waits for the permission to begin, and runs the seat.
-    fn run<G: Gate, R: Wait>(self, rt: &R, alloc: Global, gate: &G, seat: S) -> Ended<S, Self>
+    fn run<G: Gate, R: Wait + Clock>(
+        self,
+        rt: &R,
+        alloc: Global,
+        gate: &G,
+        seat: S,
+    ) -> Ended<S, Self>
         requires { ready self seat }
         ensures { ran self seat result.ends result.seat result.whole };
 }
@@ -52,7 +59,13 @@ impl<S: Seat> Runs<S> for SeatEnds {
     ghost ran = { λ old seat ends seat' whole. SameEnds old ends × AreSound ends
         × (whole ≡ true → EndsDid old ends (S.asked seat) (S.asked seat') (S.heard seat) (S.heard seat') × S.over seat' × (S.fixed seat' ≡ S.fixed seat)) };
 
-    fn run<G: Gate, R: Wait>(self, rt: &R, alloc: Global, gate: &G, seat: S) -> Ended<S, SeatEnds> {
+    fn run<G: Gate, R: Wait + Clock>(
+        self,
+        rt: &R,
+        alloc: Global,
+        gate: &G,
+        seat: S,
+    ) -> Ended<S, SeatEnds> {
         begin(rt, alloc, gate, seat, self)
     }
 }
@@ -73,7 +86,7 @@ type Running<S, E> = PromisedHandle<Ended<S, E>, SeatPromise<S, E>>;
 pub(crate) type SeatThread<S> = Running<S, SeatEnds>;
 
 /// Waits for the permission to begin, and runs the seat. Without it the seat is not called.
-fn begin<S: Seat, G: Gate, R: Wait>(
+fn begin<S: Seat, G: Gate, R: Wait + Clock>(
     rt: &R,
     alloc: Global,
     gate: &G,
@@ -101,7 +114,7 @@ fn begin<S: Seat, G: Gate, R: Wait>(
 pub(crate) fn start<
     S: Seat + Drop + Send + 'static,
     G: Gate + Send + Sync + Drop + 'static,
-    R: Threads + Wait + Copy + Send + Drop + 'static,
+    R: Threads + Wait + Clock + Copy + Send + Drop + 'static,
 >(
     rt: R,
     alloc: Global,
@@ -127,7 +140,7 @@ fn spawn_seat<
     S: Seat + Drop + Send + 'static,
     E: Runs<S> + Drop + Send + 'static,
     G: Gate + Send + Sync + Drop + 'static,
-    R: Threads + Wait + Copy + Send + Drop + 'static,
+    R: Threads + Wait + Clock + Copy + Send + Drop + 'static,
 >(
     rt: R,
     alloc: Global,

@@ -15,6 +15,7 @@ use hall_channels::outbox::Outbox;
 use std::alloc::Global;
 use std::snapshot::Snapshot;
 use std::sync::Wait;
+use std::time::Clock;
 use token::Out;
 
 /// The machine that serves, and how it was before. That has no bytes, and is for contracts alone.
@@ -90,7 +91,7 @@ fn serve<M: Machine, R: Wait>(
 
 /// Takes events until four seats have ended. False where a seat could not go on, or a channel has ended before.
 #[inline(never)]
-pub(crate) fn serve_seats<M: Machine, R: Wait>(
+pub(crate) fn serve_seats<M: Machine, R: Wait + Clock>(
     rt: &R,
     alloc: Global,
     serving: &mut Serving<M>,

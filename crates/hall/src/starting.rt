@@ -12,6 +12,7 @@ use crate::worker::{Started, Worker};
 use std::alloc::Global;
 use std::sync::{Arc, Wait};
 use std::thread::Threads;
+use std::time::Clock;
 
 /// Stops a thread that waits to begin, and joins it. Its seat was not called.
 fn stop<S: Seat + Drop + Send + 'static, R: Threads + Wait>(rt: &R, worker: Worker<S>) {
@@ -24,7 +25,7 @@ fn stop<S: Seat + Drop + Send + 'static, R: Threads + Wait>(rt: &R, worker: Work
 fn start_worker<
     S: Seat + Drop + Send + 'static,
     G: Gate + Send + Sync + Drop + 'static,
-    R: Threads + Wait + Copy + Send + Drop + 'static,
+    R: Threads + Wait + Clock + Copy + Send + Drop + 'static,
 >(
     rt: R,
     alloc: Global,
@@ -48,7 +49,7 @@ fn start_worker<
 pub(crate) fn start_all<
     S: Seat + Drop + Send + 'static,
     G: Gate + Send + Sync + Drop + 'static,
-    R: Threads + Wait + Copy + Send + Drop + 'static,
+    R: Threads + Wait + Clock + Copy + Send + Drop + 'static,
 >(
     rt: R,
     alloc: Global,

@@ -45,7 +45,7 @@ use Rattle.hall_channels.specs.contracts.messages.Inward as Inward
 use Rattle.hall_channels.specs.contracts.messages.Outward as Outward
 use Rattle.lists.specs.contracts.ghost_bytes.GhostBytes as GhostBytes
 use Rattle.streams.specs.contracts.stream.Stream.TheInside as Inside
-use Rattle.aes_block.specs.contracts.Key as Key
+use Rattle.aes_vector.specs.contracts.Key as Key
 use Rattle.hall_channels.specs.contracts.messages.AppCall as AppCall
 
 kept_send : IsSend Kept.the_row
@@ -109,7 +109,7 @@ items_send : (R : RattleType) → IsSend R → IsSend (Items.the_row R)
 items_send R s = search (sendable, crosses) depth 30 fits 20000
 
 object_send : IsSend Object.the_row
-object_send = search (sendable, crosses) depth 30 fits 20000
+object_send = search (sendable, crosses) depth 40 fits 40000
 
 verifier_send : IsSend Verifier.the_row
 verifier_send = search (sendable, crosses) depth 30 fits 20000

@@ -10,13 +10,14 @@ ghost use Rattle.hall_channels.specs.declared.messages.Inward.{Inward};
 
 use crate::inward::{AddsSeat, Ends, InwardRule, InwardView, Takes};
 use crate::messages::Inward;
+use crate::patience::Patience;
 use crossbeam_channel::{Pass, RuledReceiver, RuledSender, bounded_with};
 use std::alloc::{AllocError, Global};
 use std::sync::Wait;
-use std::thread;
+use std::time::Clock;
 
-/// How often the token yields to the other threads before it sleeps: for longer than a client takes from a reply to its next
-/// call, since a thread that sleeps is dear to wake.
+/// How often the token yields to the other threads before it sleeps, where that is cheap: for longer than a client takes from a
+/// reply to its next call, since a thread that sleeps is dear to wake.
 const TURNS: u32 = 200;
 
 /// The token's end of the one inward channel, on which it takes what the seats put. Its pass knows how many seats were made,
@@ -26,6 +27,7 @@ pub struct Inbox {
     pub sender: RuledSender<Inward, InwardView, InwardRule>,
     pub receiver: RuledReceiver<Inward, InwardView, InwardRule>,
     pub inward_pass: Pass<Inward, InwardView>,
+    pub(crate) patience: Patience,
     pub ghost inward_pass_is: { IsSeatAt (sends_on sender) inward_pass },
     pub ghost one: { receives_on receiver ≡ sends_on sender },
     pub ghost takes: { IsTaking (view inward_pass) },
@@ -48,6 +50,7 @@ impl Inbox {
             sender,
             receiver,
             inward_pass,
+            patience: Patience::new(),
         })
     }
 
@@ -78,7 +81,7 @@ impl Inbox {
 
     /// Takes the next message, and waits for it: first it yields, and then it sleeps. None where the channel has ended, and then
     /// nothing was taken.
-    pub fn take<R: Wait>(&mut self, rt: &R) -> Option<Inward>
+    pub fn take<R: Wait + Clock>(&mut self, rt: &R) -> Option<Inward>
         ensures same { sends_on self.new.sender ≡ sends_on self.old.sender }
         ensures took { Took (view self.old.inward_pass) result (view self.new.inward_pass) }
     {
@@ -99,16 +102,21 @@ impl Inbox {
             .ok()
     }
 
-    /// Takes the next message, where it comes while this thread yields `TURNS` times.
-    fn take_patiently<R: Wait>(&mut self, rt: &R) -> Option<Inward>
+    /// Takes the next message, where it comes while this thread yields, at most `TURNS` times.
+    fn take_patiently<R: Wait + Clock>(&mut self, rt: &R) -> Option<Inward>
         ensures same { sends_on self.new.sender ≡ sends_on self.old.sender }
         ensures took { Took (view self.old.inward_pass) result (view self.new.inward_pass) }
     {
-        'turns: for _ in 0..TURNS {
+        'turns: for turn in 0..TURNS {
             if let Some(x) = self.try_take(rt) {
+                if turn > 0 {
+                    self.patience.came_soon();
+                }
                 return Some(x);
             }
-            thread::yield_now();
+            if !self.patience.turn(rt, turn == 0) {
+                return None;
+            }
         }
         None
     }

@@ -14,7 +14,8 @@
 //! - `Inbox` is the token's end of the inward channel, `Outbox` its end of one outward channel, and `Port` a seat's two ends.
 //!
 //! Where a call returns that a channel has ended, nothing was put or taken. No clause says that a message comes, or that a call
-//! returns. A receive first yields to the other threads, the token 200 times and a seat 40, and then sleeps.
+//! returns. A receive first yields to the other threads, the token at most 200 times and a seat 40, and then sleeps. Where
+//! turns take long it sleeps at once (`patience`).
 #![tactic(auto)]
 
 pub mod inbox;
@@ -24,4 +25,5 @@ pub mod messages;
 pub mod outbox;
 pub mod outward;
 mod passing;
+mod patience;
 pub mod port;

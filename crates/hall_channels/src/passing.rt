@@ -11,12 +11,14 @@ ghost use Rattle.hall_channels.specs.Takings.{Got};
 use crate::inward::Puts;
 use crate::messages::{Answered, Event, Inward, Outward};
 use crate::outward::Gets;
+use crate::patience::Patience;
 use crate::port::{Ends, Port, SeatEnds};
 use serve_base::Out;
 use std::sync::Wait;
-use std::thread;
+use std::time::Clock;
 
-/// How often a seat yields to the other threads before it sleeps: the token answers meanwhile, or works for others.
+/// How often a seat yields to the other threads before it sleeps, where that is cheap: the token answers meanwhile, or works for
+/// others.
 const TURNS: u32 = 40;
 
 impl Port {
@@ -40,6 +42,7 @@ impl Port {
             inward_pass,
             outward,
             outward_pass,
+            patience: Patience::new(),
         }
     }
 
@@ -56,6 +59,7 @@ impl Port {
             inward_pass,
             outward,
             outward_pass,
+            ..
         } = self;
         drop(message);
         Ends {
@@ -110,7 +114,7 @@ impl Port {
 
     /// Gets the message back with an answer, which is taken out. It waits: first it yields, and then it sleeps. None where the
     /// message has no answer, the seat is to stop, or the channel has ended.
-    pub fn get<R: Wait>(&mut self, rt: &R) -> Option<Out>
+    pub fn get<R: Wait + Clock>(&mut self, rt: &R) -> Option<Out>
         ensures same { SamePort self.old self.new }
         ensures sent { sent_of (view self.new.inward_pass) ≡ sent_of (view self.old.inward_pass) }
         ensures got { IfSome result (λ o. got_of (view self.new.outward_pass) ≡ got_of (view self.old.outward_pass) ++ o ∷ []) }
@@ -133,7 +137,7 @@ impl Port {
 
     /// Gets the message with nothing for this seat: it may begin, or its disconnect was taken. False where the message has an
     /// answer, the seat is to stop, or the channel has ended.
-    pub fn get_back<R: Wait>(&mut self, rt: &R) -> bool
+    pub fn get_back<R: Wait + Clock>(&mut self, rt: &R) -> bool
         ensures same { SamePort self.old self.new }
         ensures sent { sent_of (view self.new.inward_pass) ≡ sent_of (view self.old.inward_pass) }
         ensures got { IsTrue result → got_of (view self.new.outward_pass) ≡ got_of (view self.old.outward_pass) }
@@ -154,7 +158,7 @@ impl Port {
 
     /// Gets the next message for this seat, and waits for it: first it yields, and then it sleeps. None where the channel has
     /// ended, and then nothing was got.
-    fn receive<R: Wait>(&mut self, rt: &R) -> Option<Outward>
+    fn receive<R: Wait + Clock>(&mut self, rt: &R) -> Option<Outward>
         ensures same { SamePort self.old self.new }
         ensures sent { sent_of (view self.new.inward_pass) ≡ sent_of (view self.old.inward_pass) }
         ensures got { Got (view self.old.outward_pass) result (view self.new.outward_pass) }
@@ -177,17 +181,22 @@ impl Port {
             .ok()
     }
 
-    /// Gets the next message, where it comes while this thread yields `TURNS` times.
-    fn get_patiently<R: Wait>(&mut self, rt: &R) -> Option<Outward>
+    /// Gets the next message, where it comes while this thread yields, at most `TURNS` times.
+    fn get_patiently<R: Wait + Clock>(&mut self, rt: &R) -> Option<Outward>
         ensures same { SamePort self.old self.new }
         ensures sent { sent_of (view self.new.inward_pass) ≡ sent_of (view self.old.inward_pass) }
         ensures got { Got (view self.old.outward_pass) result (view self.new.outward_pass) }
     {
-        'turns: for _ in 0..TURNS {
+        'turns: for turn in 0..TURNS {
             if let Some(x) = self.try_get(rt) {
+                if turn > 0 {
+                    self.patience.came_soon();
+                }
                 return Some(x);
             }
-            thread::yield_now();
+            if !self.patience.turn(rt, turn == 0) {
+                return None;
+            }
         }
         None
     }

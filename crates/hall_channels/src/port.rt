@@ -11,6 +11,7 @@ ghost use Rattle.hall_channels.specs.declared.outward.OutwardView.TheVariants.{G
 use crate::inward::{InwardRule, InwardView};
 use crate::messages::{Inward, Message, Outward};
 use crate::outward::{OutwardRule, OutwardView};
+use crate::patience::Patience;
 use crossbeam_channel::{Pass, RuledReceiver, RuledSender};
 
 /// The ends of one seat: it puts events before the token, and gets answers. Its passes know what it put and what it got. It has
@@ -23,6 +24,7 @@ pub struct Port {
     pub inward_pass: Pass<Inward, InwardView>,
     pub outward: RuledReceiver<Outward, OutwardView, OutwardRule>,
     pub outward_pass: Pass<Outward, OutwardView>,
+    pub(crate) patience: Patience,
     pub ghost inward_pass_is: { IsSeatAt (sends_on inward) inward_pass },
     pub ghost outward_pass_is: { IsSeatAt (receives_on outward) outward_pass },
     pub ghost tells: { view inward_pass ≡ Sending seat (sent_of (view inward_pass)) },

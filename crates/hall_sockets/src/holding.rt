@@ -42,7 +42,7 @@ pub fn hold_sockets<
     L: Log + Drop + Send + 'static,
     C: Clock + Drop + Send + 'static,
     G: Gate + Send + Sync + Drop + 'static,
-    R: Threads + Wait + Copy + Send + Drop + 'static,
+    R: Threads + Wait + Clock + Copy + Send + Drop + 'static,
 >(
     rt: R,
     alloc: Global,

@@ -10,9 +10,9 @@ use Rattle.handles.specs.Handles.{object_of, number_of, AreDistinct, IsTable}
 use Rattle.lists.proofs.InOrderLemmas.{All-filter, All-weaken, PassesOnce, find-none, NumbersRise-above, NumbersRise-filter, NumbersRise-push}
 
 -- ---- numbers
-NumbersRise-next : (low next : ℕ) (hs : List Handle) → NumbersRise (λ h. h.handle) low hs next → NumbersRise (λ h. h.handle) low hs (next + 1)
-NumbersRise-next low next [] rising = omega (arith, rising)
-NumbersRise-next low next (h ∷ hs) rising = (rising.0, NumbersRise-next (h.handle + 1) next hs rising.1)
+pub NumbersRise-next : {E : Type 0} (number : E → ℕ) (low next : ℕ) (xs : List E) → NumbersRise number low xs next → NumbersRise number low xs (next + 1)
+NumbersRise-next number low next [] rising = omega (arith, rising)
+NumbersRise-next number low next (x ∷ xs) rising = (rising.0, NumbersRise-next number (number x + 1) next xs rising.1)
 
 -- ---- objects
 AreDistinct-filter : (test : Handle → Bool) (hs : List Handle) → AreDistinct hs → AreDistinct (filter test hs)
@@ -57,7 +57,7 @@ IsTable-push next id private hs none table = record {
 
 pub IsTable-next : (next : ℕ) (hs : List Handle) → IsTable next hs → IsTable (next + 1) hs
 IsTable-next next hs table = record {
-  rising = NumbersRise-next 1 next hs table.rising;
+  rising = NumbersRise-next (λ h. h.handle) 1 next hs table.rising;
   distinct = table.distinct;
 }
 

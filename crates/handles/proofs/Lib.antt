@@ -1,2 +1,4 @@
+pub mod EntryLemmas
 pub mod HandleLemmas
+pub mod LiveLemmas
 pub mod StoredLemmas

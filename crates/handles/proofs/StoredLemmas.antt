@@ -1,16 +1,20 @@
 -- What keeps the handles by rising id beside those by rising number.
-use Rattle.std.proofs.Common.{◌≡◌, ℕ, ◌+◌, ◌<◌, Bool, true, false, cond, eqb, List, [], ◌∷◌, ◌++◌, length, get_or, map, Some, None, is_some, count_by, refl, sym, ap, subst, ◌∙◌, inl, inr, arith}
+use Rattle.std.proofs.Common.{◌≡◌, ℕ, ◌+◌, ◌<◌, ◌≤◌, Bool, true, false, cond, eqb, not, List, [], ◌∷◌, ◌++◌, length, map, Option, Some, None, is_some, count_by, refl, sym, ap, subst, ◌∙◌, inl, inr, arith}
 use Rattle.std.specs.Prelude.{find, filter}
 use Rattle.std.specs.Option.{option_map}
 use Rattle.std.specs.List.{AllByRecursion}
-use Rattle.std.proofs.lemmas.Bool.{cases_lt, cases_Bool, lt-ltb, le-ltb, eq-eqb, true≢false}
+use Rattle.std.proofs.lemmas.Bool.{cases_lt, cases_Bool, lt-ltb, le-ltb, eq-eqb, eqb-true, ne_eqb, true≢false}
 use Rattle.std.proofs.lemmas.List.Sums.{sum_by-cons}
 use Rattle.handles.specs.declared.Handle.{Handle}
+use Rattle.handles.specs.declared.Entry.{Entry}
 use Rattle.lists.specs.Bisection.{KeysRise}
-use Rattle.handles.specs.Handles.{number_of, AreDistinct, by_rising_id, IsStored}
-use Rattle.lists.specs.InOrder.{placed}
-use Rattle.lists.proofs.InOrderLemmas.{All-weaken, PassesOnce, placed-cases, length-in_order, IsOrdered-in_order, filter-placed}
-use Rattle.handles.proofs.HandleLemmas.{not_there, PassesOnce-object, IsTable-filter, IsTable-next, IsTable-push}
+use Rattle.lists.specs.InOrder.{placed, NumbersRise}
+use Rattle.handles.specs.Handles.{number_of, public_handles, without_object, AreDistinct, IsTable, by_rising_id}
+use Rattle.handles.specs.Stored.{handles_in, id_in, number_in, IsStored, IsTaken}
+use Rattle.lists.proofs.BisectionLemmas.{KeysRise-numbers}
+use Rattle.lists.proofs.InOrderLemmas.{All-weaken, PassesOnce, placed-cases, length-in_order, IsOrdered-in_order, filter-placed, NumbersRise-above, NumbersRise-filter, NumbersRise-push}
+use Rattle.handles.proofs.HandleLemmas.{not_there, NumbersRise-next, PassesOnce-object, IsTable-filter, IsTable-next, IsTable-push}
+use Rattle.handles.proofs.LiveLemmas.{absent-kept, KeysRise-filter, live-push, live-taken}
 
 -- ---- a handle among others
 module _ (key : Handle → ℕ) where
@@ -19,18 +23,6 @@ module _ (key : Handle → ℕ) where
   placed-All P e (x ∷ xs) one all = elim (placed-cases key e x xs) [
     | inl here ↦ rw here.1 (one, all)
     | inr later ↦ rw later.1 (all.0, placed-All P e xs one all.1)
-  ]
-
-  placed-KeysRise : (e : Handle) (xs : List Handle) → AllByRecursion (λ x. eqb (key x) (key e) ≡ false) xs → KeysRise key xs → KeysRise key (placed key e xs)
-  placed-KeysRise e [] new rise = (tt, tt)
-  placed-KeysRise e (x ∷ xs) new rise = elim (placed-cases key e x xs) [
-    | inl here ↦ rw here.1 ((here.0, All-weaken (λ y. key x < key y) (λ y. key e < key y) (λ y lt. omega (arith, lt, here.0)) xs rise.0), rise)
-    | inr later ↦
-        let below : key x < key e = elim (cases_lt (key x) (key e)) [
-          | inl lt ↦ lt
-          | inr le ↦ absurd (true≢false (sym (eq-eqb (key x) (key e) (omega (arith, le, later.0))) ∙ new.0))
-        ] in
-        rw later.1 (placed-All (λ y. key x < key y) e xs below rise.0, placed-KeysRise e xs new.1 rise.1)
   ]
 
   find-placed : (test : Handle → Bool) (e : Handle) (xs : List Handle) → (test e ≡ true → AllByRecursion (λ x. test x ≡ false) xs) → find test (placed key e xs) ≡ cond (test e) (Some e) (find test xs)
@@ -68,11 +60,6 @@ by_rising_id-All : (P : Handle → Type 0) (hs : List Handle) → AllByRecursion
 by_rising_id-All P [] all = tt
 by_rising_id-All P (h ∷ hs) all = placed-All (λ x. x.id) P h (by_rising_id hs) all.0 (by_rising_id-All P hs all.1)
 
-pub by_rising_id-KeysRise : (hs : List Handle) → AreDistinct hs → KeysRise (λ h. h.id) (by_rising_id hs)
-by_rising_id-KeysRise [] distinct = tt
-by_rising_id-KeysRise (h ∷ hs) distinct =
-    placed-KeysRise (λ x. x.id) h (by_rising_id hs) (by_rising_id-All (λ x. eqb x.id h.id ≡ false) hs distinct.0) (by_rising_id-KeysRise hs distinct.1)
-
 pub by_rising_id-length : (hs : List Handle) → length (by_rising_id hs) ≡ length hs
 by_rising_id-length hs = length-in_order (λ h. h.id) (map Some hs) ∙ all_there hs
   where
@@ -101,37 +88,126 @@ by_rising_id-push e [] new = refl
 by_rising_id-push e (h ∷ hs) new =
     ap (placed (λ x. x.id) h) (by_rising_id-push e hs new.1) ∙ placed-other (λ x. x.id) h e (by_rising_id hs) new.0
 
+-- ---- an object's handle is retired by its number
+
+-- an object's number is one of those that were given
+number-above : (low next id n : ℕ) (hs : List Handle) → NumbersRise (λ h. h.handle) low hs next → number_of hs id ≡ Some n → low ≤ n
+number-above low next id n [] rising found = absurd (cc)
+number-above low next id n (h ∷ hs) rising found =
+    let first : low ≤ h.handle = rising.0 in
+    elim (cases_Bool (eqb h.id id)) [
+      | inl here ↦ let same : Some h.handle ≡ Some n = rw here at found in let is : h.handle ≡ n = cc in omega (arith, first, is)
+      | inr other ↦ let later : h.handle + 1 ≤ n = number-above (h.handle + 1) next id n hs rising.1 (rw other at found) in omega (arith, first, later)
+    ]
+
+all-pass : (test : Handle → Bool) (hs : List Handle) → AllByRecursion (λ h. test h ≡ true) hs → filter test hs ≡ hs
+all-pass test [] all = refl
+all-pass test (h ∷ hs) all = rw all.0 (ap (λ xs. h ∷ xs) (all-pass test hs all.1))
+
+without-number : (low next id n : ℕ) (hs : List Handle) → NumbersRise (λ h. h.handle) low hs next → AreDistinct hs → number_of hs id ≡ Some n → filter (λ h. not (eqb h.handle n)) hs ≡ filter (λ h. not (eqb h.id id)) hs
+without-number low next id n [] rising distinct found = refl
+without-number low next id n (h ∷ hs) rising distinct found = elim (cases_Bool (eqb h.id id)) [
+  | inl here ↦
+      let some : Some h.handle ≡ Some n = rw here at found in
+      let is : h.handle ≡ n = cc in
+      let above = NumbersRise-above (λ x. x.handle) (h.handle + 1) next hs rising.1 in
+      let numbers = all-pass (λ x. not (eqb x.handle n)) hs (All-weaken (λ x. h.handle + 1 ≤ x.handle) (λ x. not (eqb x.handle n) ≡ true) (λ x high. rw (ne_eqb x.handle n (λ same. omega (arith, high, same, is))) refl) hs above) in
+      let objects = all-pass (λ x. not (eqb x.id id)) hs (All-weaken (λ x. eqb x.id h.id ≡ false) (λ x. not (eqb x.id id) ≡ true) (λ x differs. let d : eqb x.id id ≡ false = ap (eqb x.id) (sym (eqb-true h.id id here)) ∙ differs in rw d refl) hs distinct.0) in
+      rw (here, eq-eqb h.handle n is) (numbers ∙ sym objects)
+  | inr other ↦
+      let later = rw other at found in
+      let high : h.handle + 1 ≤ n = number-above (h.handle + 1) next id n hs rising.1 later in
+      rw (other, ne_eqb h.handle n (λ same. omega (arith, high, same))) (ap (λ xs. h ∷ xs) (without-number (h.handle + 1) next id n hs rising.1 distinct.1 later))
+]
+
 -- ---- tables as they are stored
-pub IsStored-KeysRise : (next : ℕ) (hs by_id : List Handle) → IsStored next hs by_id → KeysRise (λ h. h.id) by_id
-IsStored-KeysRise next hs by_id stored = subst (KeysRise (λ h. h.id)) (sym stored.same) (by_rising_id-KeysRise hs stored.table.distinct)
 
-pub IsStored-length : (next : ℕ) (hs by_id : List Handle) → IsStored next hs by_id → length by_id ≡ length hs
-IsStored-length next hs by_id stored = ap length stored.same ∙ by_rising_id-length hs
+module _ (next : ℕ) (entries by_id : List Entry) (stored : IsStored next entries by_id) where
+  pub IsStored-numbers : KeysRise number_in entries
+  IsStored-numbers = KeysRise-numbers number_in 1 next entries stored.numbers
 
--- an object's handle is the same in both orders
-IsStored-number_of : (next id : ℕ) (hs by_id : List Handle) → IsStored next hs by_id → number_of by_id id ≡ number_of hs id
-IsStored-number_of next id hs by_id stored =
-    ap (λ xs. number_of xs id) stored.same ∙ ap (option_map (λ h. h.handle)) (by_rising_id-find (λ h. eqb h.id id) hs (PassesOnce-object id hs stored.table.distinct))
+  pub IsStored-length : length (handles_in by_id) ≡ length (handles_in entries)
+  IsStored-length = ap length stored.same ∙ by_rising_id-length (handles_in entries)
 
-pub IsStored-found : (next id at : ℕ) (hs by_id : List Handle) (h : Handle) → IsStored next hs by_id → find (λ x. eqb x.id id) by_id ≡ Some (get_or by_id at h) → h ≡ get_or by_id at h → number_of hs id ≡ Some h.handle
-IsStored-found next id at hs by_id h stored found is =
-    sym (IsStored-number_of next id hs by_id stored) ∙ ap (option_map (λ x. x.handle)) (found ∙ ap Some (sym is))
+  -- an object's handle is the same in both orders
+  pub IsStored-find : (id : ℕ) → find (λ h. eqb h.id id) (handles_in by_id) ≡ find (λ h. eqb h.id id) (handles_in entries)
+  IsStored-find id =
+      ap (find (λ h. eqb h.id id)) stored.same ∙ by_rising_id-find (λ h. eqb h.id id) (handles_in entries) (PassesOnce-object id (handles_in entries) stored.table.distinct)
 
-pub IsStored-absent : (next id : ℕ) (hs by_id : List Handle) → IsStored next hs by_id → find (λ x. eqb x.id id) by_id ≡ None → number_of hs id ≡ None
-IsStored-absent next id hs by_id stored absent =
-    sym (IsStored-number_of next id hs by_id stored) ∙ ap (option_map (λ x. x.handle)) absent
+  pub IsStored-number_of : (id : ℕ) (r : Option Handle) → r ≡ find (λ h. eqb h.id id) (handles_in by_id) → number_of (handles_in entries) id ≡ option_map (λ h. h.handle) r
+  IsStored-number_of id r is = ap (option_map (λ h. h.handle)) (sym (is ∙ IsStored-find id))
 
-pub IsStored-next : (next : ℕ) (hs by_id : List Handle) → IsStored next hs by_id → IsStored (next + 1) hs by_id
-IsStored-next next hs by_id stored = record { table = IsTable-next next hs stored.table; same = stored.same }
+  pub IsStored-next : IsStored (next + 1) entries by_id
+  IsStored-next = record {
+    table = IsTable-next next (handles_in entries) stored.table;
+    numbers = NumbersRise-next number_in 1 next entries stored.numbers;
+    ids = stored.ids;
+    same = stored.same;
+  }
 
-pub IsStored-filter : (next : ℕ) (test : Handle → Bool) (hs by_id : List Handle) → IsStored next hs by_id → IsStored next (filter test hs) (filter test by_id)
-IsStored-filter next test hs by_id stored = record {
-  table = IsTable-filter next test hs stored.table;
-  same = ap (filter test) stored.same ∙ sym (by_rising_id-filter test hs);
+  -- in both orders the handles are left that pass a test
+  IsStored-left : (test : Handle → Bool) (entries' by_id' : List Entry) → handles_in entries' ≡ filter test (handles_in entries) → handles_in by_id' ≡ filter test (handles_in by_id) → NumbersRise number_in 1 entries' next → KeysRise id_in by_id' → IsStored next entries' by_id'
+  IsStored-left test entries' by_id' left left' numbers ids = record {
+    table = subst (IsTable next) (sym left) (IsTable-filter next test (handles_in entries) stored.table);
+    numbers = numbers;
+    ids = ids;
+    same = left' ∙ ap (filter test) stored.same ∙ sym (by_rising_id-filter test (handles_in entries)) ∙ ap by_rising_id (sym left);
+  }
+
+  pub IsStored-private : (entries' by_id' : List Entry) → handles_in entries' ≡ public_handles (handles_in entries) → handles_in by_id' ≡ public_handles (handles_in by_id) → NumbersRise number_in 1 entries' next → KeysRise id_in by_id' → IsStored next entries' by_id'
+  IsStored-private entries' by_id' left left' numbers ids = IsStored-left (λ h. not h.private) entries' by_id' left left' numbers ids
+
+  module _ (id : ℕ) where
+    -- the handle of an object is retired by its number
+    pub left-by-number : (h : Handle) → Some h ≡ find (λ x. eqb x.id id) (handles_in by_id) → filter (λ x. not (eqb x.handle h.handle)) (handles_in entries) ≡ without_object (handles_in entries) id
+    left-by-number h found = without-number 1 next id h.handle (handles_in entries) stored.table.rising stored.table.distinct (IsStored-number_of id (Some h) found)
+
+    pub IsStored-retired : (entries' by_id' : List Entry) (h : Handle) → Some h ≡ find (λ x. eqb x.id id) (handles_in by_id) → handles_in entries' ≡ filter (λ x. not (eqb x.handle h.handle)) (handles_in entries) → handles_in by_id' ≡ without_object (handles_in by_id) id → NumbersRise number_in 1 entries' next → KeysRise id_in by_id' → IsStored next entries' by_id'
+    IsStored-retired entries' by_id' h found left left' numbers ids = IsStored-left (λ x. not (eqb x.id id)) entries' by_id' (left ∙ left-by-number h found) left' numbers ids
+
+    -- there is none of the object
+    pub none-left : None ≡ find (λ x. eqb x.id id) (handles_in by_id) → handles_in entries ≡ without_object (handles_in entries) id
+    none-left none = absent-kept (λ x. x.id) id (handles_in entries) (sym (none ∙ IsStored-find id))
+
+    pub IsStored-none : (by_id' : List Entry) → None ≡ find (λ x. eqb x.id id) (handles_in by_id) → handles_in by_id' ≡ without_object (handles_in by_id) id → KeysRise id_in by_id' → IsStored next entries by_id'
+    IsStored-none by_id' none left' ids = IsStored-left (λ x. not (eqb x.id id)) entries by_id' (none-left none) left' stored.numbers ids
+
+-- ---- retired entries are taken out
+
+pub taken-same : (old new : List Entry) → IsTaken old new → handles_in new ≡ handles_in old
+taken-same old new (inl is) = ap handles_in is
+taken-same old new (inr is) = ap handles_in is ∙ live-taken (λ e. e.retired) (λ e. e.handle) old
+
+pub taken-numbers : (next : ℕ) (old new : List Entry) → IsTaken old new → NumbersRise number_in 1 old next → NumbersRise number_in 1 new next
+taken-numbers next old new (inl is) rise = subst (λ xs. NumbersRise number_in 1 xs next) (sym is) rise
+taken-numbers next old new (inr is) rise = subst (λ xs. NumbersRise number_in 1 xs next) (sym is) (NumbersRise-filter number_in 1 next (λ e. not e.retired) old rise)
+
+pub taken-ids : (old new : List Entry) → IsTaken old new → KeysRise id_in old → KeysRise id_in new
+taken-ids old new (inl is) rise = subst (KeysRise id_in) (sym is) rise
+taken-ids old new (inr is) rise = subst (KeysRise id_in) (sym is) (KeysRise-filter id_in (λ e. not e.retired) old rise)
+
+pub IsStored-taken : (next : ℕ) (entries by_id entries' by_id' : List Entry) → IsStored next entries by_id → IsTaken entries entries' → IsTaken by_id by_id' → IsStored next entries' by_id'
+IsStored-taken next entries by_id entries' by_id' stored taken taken' = record {
+  table = subst (IsTable next) (sym (taken-same entries entries' taken)) stored.table;
+  numbers = taken-numbers next entries entries' taken stored.numbers;
+  ids = taken-ids by_id by_id' taken' stored.ids;
+  same = taken-same by_id by_id' taken' ∙ stored.same ∙ ap by_rising_id (sym (taken-same entries entries' taken));
 }
 
-pub IsStored-push : (next id : ℕ) (private : Bool) (hs by_id : List Handle) → number_of hs id ≡ None → IsStored next hs by_id → IsStored (next + 1) (hs ++ record { handle = next; id = id; private = private } ∷ []) (placed (λ h. h.id) (record { handle = next; id = id; private = private }) by_id)
-IsStored-push next id private hs by_id none stored = record {
-  table = IsTable-push next id private hs none stored.table;
-  same = ap (placed (λ h. h.id) (record { handle = next; id = id; private = private })) stored.same ∙ sym (by_rising_id-push (record { handle = next; id = id; private = private }) hs (not_there id hs none));
-}
+-- ---- a handle is given
+
+pub pushed-same : (entries : List Entry) (h : Handle) → handles_in (entries ++ record { handle = h; retired = false } ∷ []) ≡ handles_in entries ++ h ∷ []
+pushed-same entries h = live-push (λ e. e.retired) (λ e. e.handle) (record { handle = h; retired = false }) entries refl
+
+pub IsStored-given : (next id : ℕ) (private : Bool) (entries by_id by_id' : List Entry) → None ≡ find (λ x. eqb x.id id) (handles_in by_id) → handles_in by_id' ≡ placed (λ h. h.id) (record { handle = next; id = id; private = private }) (handles_in by_id) → KeysRise id_in by_id' → IsStored next entries by_id
+    → IsStored (next + 1) (entries ++ record { handle = record { handle = next; id = id; private = private }; retired = false } ∷ []) by_id'
+IsStored-given next id private entries by_id by_id' none put ids stored =
+    let h : Handle = record { handle = next; id = id; private = private } in
+    let absent = IsStored-number_of next entries by_id stored id None none in
+    let pushed = pushed-same entries h in
+    record {
+      table = subst (IsTable (next + 1)) (sym pushed) (IsTable-push next id private (handles_in entries) absent stored.table);
+      numbers = NumbersRise-push number_in 1 next (record { handle = h; retired = false }) entries refl stored.numbers;
+      ids = ids;
+      same = put ∙ ap (placed (λ x. x.id) h) stored.same ∙ sym (by_rising_id-push h (handles_in entries) (not_there id (handles_in entries) absent)) ∙ ap by_rising_id (sym pushed);
+    }

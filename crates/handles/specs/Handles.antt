@@ -54,8 +54,3 @@ pub record IsTable (next_number : ℕ) (hs : List Handle) : Type 0 where
 -- these handles by rising id
 abbrev pub by_rising_id : List Handle → List Handle
 by_rising_id hs = in_order (λ h. h.id) (map Some hs)
-
--- how a table is stored: its handles, and the same ones by rising id
-pub record IsStored (next_number : ℕ) (hs by_id : List Handle) : Type 0 where
-  pub table : IsTable next_number hs
-  pub same : by_id ≡ by_rising_id hs

@@ -1,1 +1,3 @@
 pub mod Handles
+pub mod Live
+pub mod Stored

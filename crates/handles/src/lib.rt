@@ -9,13 +9,19 @@
 //! the next one. They are stored twice, by rising number and by rising id, so that a handle is found
 //! by bisection either way. A new handle comes last by its number, and mostly by its id too, since the
 //! ids of new objects rise.
+//!
+//! An entry that is retired is marked and keeps its place, so that no entry behind it moves. Contracts
+//! don't see it. Retired entries are taken out only where a list is full. At least as many handles are
+//! then given before the next such walk as are left by it, unless an allocation fails.
 #![tactic(auto)]
 
-ghost use Rattle.std.specs.Prelude.{◌≡◌, ◌+◌, ◌^◌, ◌<◌, ◌≤◌, nat_lt, Some, IsOk, IfSome, OnOk, vec_len};
+ghost use Rattle.std.specs.Prelude.{◌≡◌, ℕ, ◌+◌, ◌^◌, ◌<◌, ◌≤◌, ◌==◌, nat_lt, filter, find, length, not, None, Some, if◌then◌else◌, IsOk, IfSome, OnOk, vec_len};
 ghost use Rattle.std.specs.List.{insert};
 ghost use Rattle.std.specs.Vec.{vec_capacity};
 ghost use Rattle.handles.specs.Handles.{no_handles, object_of, number_of, with_handle, without_object, public_handles, HasRoomFor, IsTable};
+ghost use Rattle.handles.specs.Stored.{handles_in, id_in, number_in, without_retired, IsTaken};
 ghost use Rattle.lists.specs.Bisection.{KeysRise, IsIndexOf};
+ghost use Rattle.lists.specs.InOrder.{NumbersRise, placed};
 
 use lists::NUMBER_LIMIT;
 use std::alloc::{AllocError, Global};
@@ -29,24 +35,48 @@ pub struct Handle {
     pub private: bool,
 }
 
+/// A handle as it is stored, and whether it was retired.
+#[derive(Clone, Copy)]
+struct Entry {
+    handle: Handle,
+    retired: bool,
+}
+
+impl Entry {
+    /// The handle, if it isn't retired.
+    fn live(self) -> Option<Handle>
+        ensures { result ≡ (if self.retired then None else Some self.handle) }
+    {
+        if self.retired {
+            return None;
+        }
+        Some(self.handle)
+    }
+}
+
 /// One application's handles of token objects.
 #[derive(Drop)]
 pub struct Handles {
     /// By rising number.
-    entries: Vec<Handle>,
+    entries: Vec<Entry>,
     /// The same handles by rising id.
-    by_id: Vec<Handle>,
+    by_id: Vec<Entry>,
     next_number: u64,
 }
 
 impl Model for Handles {
     ghost use Rattle.std.specs.Prelude.{min};
     ghost use Rattle.std.specs.Vec.{vec_capacity};
-    ghost use Rattle.handles.specs.Handles.{HandleTable, IsStored};
+    ghost use Rattle.handles.specs.Handles.{HandleTable};
+    ghost use Rattle.handles.specs.Stored.{handles_in, IsStored};
 
     ghost Value = { HandleTable };
 
-    ghost view = { λ h. record { entries = h.entries.items; next_number = h.next_number; capacity = min (vec_capacity h.entries) (vec_capacity h.by_id) } };
+    ghost view = { λ h. record {
+      entries = handles_in h.entries.items;
+      next_number = h.next_number;
+      capacity = min (vec_capacity h.entries) (vec_capacity h.by_id);
+    } };
 
     ghost invariant = { λ h. IsStored h.next_number h.entries.items h.by_id.items };
 }
@@ -84,9 +114,9 @@ impl Handles {
         ensures matched { IfSome result (λ id. number_of self.now.entries id ≡ Some handle) }
         ensures table { IsTable self.now.next_number self.now.entries }
     {
-        match index_of_handle(&self.entries, handle) {
-            Ok(at) => Some(self.entries[at].id),
-            Err(_) => None,
+        match find_handle(&self.entries, handle) {
+            Some(found) => Some(found.id),
+            None => None,
         }
     }
 
@@ -96,9 +126,9 @@ impl Handles {
         ensures matched { IfSome result (λ handle. object_of self.now.entries handle ≡ Some id) }
         ensures table { IsTable self.now.next_number self.now.entries }
     {
-        match index_of_id(&self.by_id, id) {
-            Ok(at) => Some(self.by_id[at].handle),
-            Err(_) => None,
+        match find_id(&self.by_id, id) {
+            Some(found) => Some(found.handle),
+            None => None,
         }
     }
 
@@ -110,8 +140,8 @@ impl Handles {
         ensures same { self.new ≡ record self.old { capacity = self.new.capacity } }
         ensures grows { self.old.capacity ≤ self.new.capacity }
     {
-        self.entries.reserve(additional)?;
-        self.by_id.reserve(additional)
+        reserve_entries(&mut self.entries, additional)?;
+        reserve_entries(&mut self.by_id, additional)
     }
 
     /// The handle of an object: the one that it has, or else the next one, which records whether the
@@ -122,18 +152,22 @@ impl Handles {
         ensures given { self.new ≡ with_handle self.old id private }
         ensures handle { number_of self.new.entries id ≡ Some result }
     {
-        let at = match index_of_id(&self.by_id, id) {
-            Ok(at) => return self.by_id[at].handle,
-            Err(at) => at,
-        };
+        if let Some(found) = find_id(&self.by_id, id) {
+            return found.handle;
+        }
         let handle = self.next_number;
         let given = Handle {
             handle,
             id,
             private,
         };
-        self.entries.push_reserved(given);
-        insert_reserved(&mut self.by_id, at, given);
+        make_room(&mut self.entries);
+        self.entries.push_reserved(Entry {
+            handle: given,
+            retired: false,
+        });
+        make_room(&mut self.by_id);
+        put_by_id(&mut self.by_id, given);
         self.next_number += 1;
         handle
     }
@@ -153,55 +187,161 @@ impl Handles {
     pub fn retire(&mut self, id: u64)
         ensures { self.new ≡ record self.old { entries = without_object self.old.entries id } }
     {
-        remove_object(&mut self.entries, id);
-        remove_object(&mut self.by_id, id);
+        if let Some(found) = retire_id(&mut self.by_id, id) {
+            retire_handle(&mut self.entries, found.handle);
+        }
     }
 
     /// Retires the handles of private objects. No memory is taken.
     pub fn retire_private(&mut self)
         ensures { self.new ≡ record self.old { entries = public_handles self.old.entries } }
     {
-        remove_private(&mut self.entries);
-        remove_private(&mut self.by_id);
+        take_out_private(&mut self.entries);
+        take_out_private(&mut self.by_id);
     }
 }
 
-/// Where the handle with this number stands among handles by rising number, or where it would go.
-fn index_of_handle(handles: &[Handle], handle: u64) -> Result<usize, usize>
-    requires { KeysRise (λ h. h.handle) handles.now }
-    ensures { IsIndexOf (λ h. h.handle) handles.now handle result }
+/// Where the handle with this number stands among entries by rising number, or where it would go.
+fn index_of_handle(entries: &[Entry], handle: u64) -> Result<usize, usize>
+    requires { KeysRise number_in entries.now }
+    ensures { IsIndexOf number_in entries.now handle result }
 {
-    handles.binary_search_by_key(&handle, |handle| handle.handle)
+    entries.binary_search_by_key(&handle, |entry| entry.handle.handle)
 }
 
-/// Where the handle of this object stands among handles by rising id, or where it would go.
-fn index_of_id(handles: &[Handle], id: u64) -> Result<usize, usize>
-    requires { KeysRise (λ h. h.id) handles.now }
-    ensures { IsIndexOf (λ h. h.id) handles.now id result }
+/// Where the handle of this object stands among entries by rising id, or where it would go.
+fn index_of_id(entries: &[Entry], id: u64) -> Result<usize, usize>
+    requires { KeysRise id_in entries.now }
+    ensures { IsIndexOf id_in entries.now id result }
 {
-    handles.binary_search_by_key(&id, |handle| handle.id)
+    entries.binary_search_by_key(&id, |entry| entry.handle.id)
 }
 
-/// Inserts a handle at the index where it goes; memory for it is reserved.
-fn insert_reserved(handles: &mut Vec<Handle>, at: usize, handle: Handle)
-    requires place { at ≤ vec_len handles.old }
-    requires room { vec_len handles.old < vec_capacity handles.old }
-    ensures items { handles.new.items ≡ insert handles.old.items at handle }
-    ensures capacity { vec_capacity handles.new ≡ vec_capacity handles.old }
+/// The handle with this number, if it isn't retired.
+fn find_handle(entries: &[Entry], handle: u64) -> Option<Handle>
+    requires { KeysRise number_in entries.now }
+    ensures { result ≡ find (λ h. h.handle == handle) (handles_in entries.now) }
 {
-    let _inserted = handles.insert(at, handle);
+    match index_of_handle(entries, handle) {
+        Ok(at) => entries[at].live(),
+        Err(_) => None,
+    }
 }
 
-fn remove_object(handles: &mut Vec<Handle>, id: u64)
-    ensures left { handles.new.items ≡ without_object handles.old.items id }
-    ensures capacity { vec_capacity handles.new ≡ vec_capacity handles.old }
+/// The handle of this object, if it isn't retired.
+fn find_id(entries: &[Entry], id: u64) -> Option<Handle>
+    requires { KeysRise id_in entries.now }
+    ensures { result ≡ find (λ h. h.id == id) (handles_in entries.now) }
 {
-    handles.retain(|handle| handle.id != id);
+    match index_of_id(entries, id) {
+        Ok(at) => entries[at].live(),
+        Err(_) => None,
+    }
 }
 
-fn remove_private(handles: &mut Vec<Handle>)
-    ensures left { handles.new.items ≡ public_handles handles.old.items }
-    ensures capacity { vec_capacity handles.new ≡ vec_capacity handles.old }
+/// Retires the handle with this number.
+fn retire_handle(entries: &mut Vec<Entry>, handle: u64)
+    requires { KeysRise number_in entries.old.items }
+    ensures left { handles_in entries.new.items ≡ filter (λ h. not (h.handle == handle)) (handles_in entries.old.items) }
+    ensures numbers { (next : ℕ) → NumbersRise number_in 1 entries.old.items next → NumbersRise number_in 1 entries.new.items next }
+    ensures capacity { vec_capacity entries.new ≡ vec_capacity entries.old }
 {
-    handles.retain(|handle| !handle.private);
+    if let Ok(at) = index_of_handle(entries, handle) {
+        entries[at].retired = true;
+    }
+}
+
+/// Retires the handle of this object, and returns it.
+fn retire_id(entries: &mut Vec<Entry>, id: u64) -> Option<Handle>
+    requires { KeysRise id_in entries.old.items }
+    ensures found { result ≡ find (λ h. h.id == id) (handles_in entries.old.items) }
+    ensures left { handles_in entries.new.items ≡ without_object (handles_in entries.old.items) id }
+    ensures rise { KeysRise id_in entries.new.items }
+    ensures capacity { vec_capacity entries.new ≡ vec_capacity entries.old }
+{
+    match index_of_id(entries, id) {
+        Ok(at) => {
+            let found = entries[at].live();
+            entries[at].retired = true;
+            found
+        }
+        Err(_) => None,
+    }
+}
+
+/// Puts a handle among entries by rising id, where no live one is of its object. Memory is reserved for it.
+fn put_by_id(entries: &mut Vec<Entry>, handle: Handle)
+    requires rise { KeysRise id_in entries.old.items }
+    requires new { find (λ h. h.id == handle.id) (handles_in entries.old.items) ≡ None }
+    requires room { vec_len entries.old < vec_capacity entries.old }
+    ensures put { handles_in entries.new.items ≡ placed (λ h. h.id) handle (handles_in entries.old.items) }
+    ensures rise { KeysRise id_in entries.new.items }
+    ensures capacity { vec_capacity entries.new ≡ vec_capacity entries.old }
+{
+    let entry = Entry {
+        handle,
+        retired: false,
+    };
+    match index_of_id(entries, handle.id) {
+        Ok(at) => entries[at] = entry,
+        Err(at) => insert_reserved(entries, at, entry),
+    }
+}
+
+/// Inserts an entry at the index where it goes; memory for it is reserved.
+fn insert_reserved(entries: &mut Vec<Entry>, at: usize, entry: Entry)
+    requires place { at ≤ vec_len entries.old }
+    requires room { vec_len entries.old < vec_capacity entries.old }
+    ensures items { entries.new.items ≡ insert entries.old.items at entry }
+    ensures capacity { vec_capacity entries.new ≡ vec_capacity entries.old }
+{
+    let _inserted = entries.insert(at, entry);
+}
+
+/// Takes the retired entries out.
+fn take_out(entries: &mut Vec<Entry>)
+    ensures left { entries.new.items ≡ without_retired entries.old.items }
+    ensures len { vec_len entries.new ≡ length (handles_in entries.old.items) }
+    ensures capacity { vec_capacity entries.new ≡ vec_capacity entries.old }
+{
+    entries.retain(|entry| !entry.retired);
+}
+
+/// Takes the retired entries out of a full list.
+fn make_room(entries: &mut Vec<Entry>)
+    ensures left { IsTaken entries.old.items entries.new.items }
+    ensures room { length (handles_in entries.old.items) < vec_capacity entries.old → vec_len entries.new < vec_capacity entries.new }
+    ensures capacity { vec_capacity entries.new ≡ vec_capacity entries.old }
+{
+    if entries.len() == entries.capacity() {
+        take_out(entries);
+    }
+}
+
+/// Reserves memory for so many more entries. In a full list the retired ones are taken out first, and then memory for as many
+/// more as are left is asked for. So these walks take a bounded time for each handle that is given.
+fn reserve_entries(entries: &mut Vec<Entry>, additional: usize) -> Result<(), AllocError>
+    ensures left { IsTaken entries.old.items entries.new.items }
+    ensures room { OnOk result (vec_len entries.new + additional ≤ vec_capacity entries.new) }
+    ensures succeeds { length (handles_in entries.old.items) + additional ≤ vec_capacity entries.old → IsOk result }
+    ensures grows { vec_capacity entries.old ≤ vec_capacity entries.new }
+{
+    if additional <= entries.capacity() - entries.len() {
+        return Ok(());
+    }
+    take_out(entries);
+    if entries.reserve(additional.max(entries.len())).is_ok() {
+        return Ok(());
+    }
+    entries.reserve(additional)
+}
+
+/// Takes out the retired handles, and those of private objects.
+fn take_out_private(entries: &mut Vec<Entry>)
+    ensures left { handles_in entries.new.items ≡ public_handles (handles_in entries.old.items) }
+    ensures numbers { (next : ℕ) → NumbersRise number_in 1 entries.old.items next → NumbersRise number_in 1 entries.new.items next }
+    ensures rise { KeysRise id_in entries.old.items → KeysRise id_in entries.new.items }
+    ensures capacity { vec_capacity entries.new ≡ vec_capacity entries.old }
+{
+    entries.retain(|entry| !entry.retired && !entry.handle.private);
 }

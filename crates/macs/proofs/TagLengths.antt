@@ -7,7 +7,7 @@ use Rattle.fips_197.specs.Cipher.{shift_rows, add_round_key, round_key, substitu
 use Rattle.fips_197.specs.KeyExpansion.{IsKey, key_expansion, round_count}
 use Rattle.fips_197.specs.Encrypt.{encrypted_block}
 use Rattle.fips_197.proofs.Blocks.{length-xor_bytes}
-use Rattle.aes_block.proofs.KeySchedules.{IsBlock-round_key}
+use Rattle.fips_197.proofs.KeySchedules.{IsBlock-round_key}
 use Rattle.aes_cmac.specs.Cmac.{cmac}
 use Rattle.hmac_sha2.specs.Hmac.{hmac}
 use Rattle.macs.specs.declared.mechanism.Mechanism.{Mechanism}

@@ -5,8 +5,8 @@ ghost use Rattle.fips_197.specs.KeyExpansion.{IsKey};
 ghost use Rattle.aes_cmac.specs.Cmac.{count_before_last, cmac};
 ghost use Rattle.macs.specs.KeyedMessage.{empty_message, longer_message};
 
-use aes_block::{BLOCK_SIZE, Block, Key};
 use aes_cmac::{chained_on, tag_of_end};
+use aes_vector::{BLOCK_SIZE, Block, Key};
 use lists::GhostBytes;
 use std::marker::Model;
 

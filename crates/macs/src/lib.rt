@@ -15,7 +15,7 @@
 //! - A copy stands where the `Mac` stands, and `has_taken` is whether it has taken a byte.
 //! - No call takes memory, and none can fail but `Mac::new`, for the key's length.
 //!
-//! The time that CMAC takes depends on secrets, as that of `aes_block`. Keys and states are not
+//! In CMAC no read and no branch depends on the key or the message, but on their lengths. Keys and states are not
 //! overwritten when they are dropped.
 #![tactic(auto)]
 

@@ -9,7 +9,7 @@ use crate::Mechanism;
 use crate::cmac_stream::CmacStream;
 use crate::hmac_stream::HmacStream;
 use crate::tag::Tag;
-use aes_block::Key;
+use aes_vector::Key;
 use sha2::{Sha224, Sha256, Sha384, Sha512};
 
 /// A mechanism with what it keeps of a key and a message.

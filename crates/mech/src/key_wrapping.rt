@@ -9,8 +9,8 @@ ghost use Rattle.mech.specs.Wrappings.{value_wrapped_in};
 
 use crate::outcome::Outcome;
 use crate::work::Work;
-use aes_block::{Key, are_bytes};
 use aes_kw::{KwFault, unwrap, wrap};
+use aes_vector::{Key, are_bytes};
 use ck_types::{Bytes, SessionState, Template};
 use std::alloc::Global;
 use templates::unwrapped;

@@ -8,6 +8,7 @@ ghost use Rattle.mech.specs.Works.{outcome_of};
 use crate::outcome::Outcome;
 use crate::work::Work;
 use ck_types::Bytes;
+use lists::same_bytes;
 use macs::Mac;
 use ops::MacPlace;
 use std::alloc::Global;
@@ -39,7 +40,7 @@ pub(crate) fn verified(mut mac: Mac, input: &[u8], signature: &[u8]) -> Outcome
     ensures { result ≡ outcome_of (Verify mac input.now signature.now) }
 {
     mac.update(input);
-    if signature == mac.tag().as_slice() {
+    if same_bytes(signature, mac.tag().as_slice()) {
         Outcome::RightSignature
     } else {
         Outcome::WrongSignature

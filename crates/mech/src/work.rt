@@ -1,6 +1,6 @@
 //! What is to be done.
 
-use aes_block::Key;
+use aes_vector::Key;
 use ck_types::{Bytes, Label, SessionState, Template, UserType};
 use macs::Mac;
 use ops::MacPlace;

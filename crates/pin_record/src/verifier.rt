@@ -5,6 +5,7 @@ ghost use Rattle.hmac_sha2.specs.Pbkdf2.{pbkdf2};
 ghost use Rattle.pin_record.specs.Verifiers.{PinVerifier, accepts, is_rounds, new_rounds, verifier_for};
 
 use hmac_sha2::pbkdf2;
+use lists::same_bytes;
 use std::marker::Model;
 
 /// The rounds of a new verifier.
@@ -82,10 +83,10 @@ impl Verifier {
     }
 
     /// Whether the PIN is the verifier's: whether PBKDF2, with the verifier's salt and rounds, makes
-    /// its key of the PIN. No memory is taken.
+    /// its key of the PIN. All bytes are compared. No memory is taken.
     pub fn accepts(&self, pin: &[u8]) -> bool
         ensures { result ≡ accepts self.now pin.now }
     {
-        pbkdf2(pin, &self.salt, self.rounds) == self.key
+        same_bytes(&self.key, &pbkdf2(pin, &self.salt, self.rounds))
     }
 }

@@ -21,6 +21,7 @@ use std::io::{Read, Write};
 use std::os::unix::net::UnixStream;
 use std::sync::Wait;
 use std::thread::Threads;
+use std::time::Clock;
 use token::Token;
 use watched::Watched;
 
@@ -63,7 +64,7 @@ fn p11call<I: Read, O: Write>(
     }
 }
 
-fn run<R: Threads + Wait + Copy + Send + Drop + 'static, I: Read, O: Write, E: Write>(
+fn run<R: Threads + Wait + Clock + Copy + Send + Drop + 'static, I: Read, O: Write, E: Write>(
     rt: &HostRuntime,
     threads: R,
     matches: &ArgMatches<'_>,
@@ -106,7 +107,7 @@ fn tell<O: Write, E: Write>(error: &Error, output: &mut O, errors: &mut E) -> u8
 /// which the daemon starts threads.
 pub fn tokend_with<
     'a,
-    R: Threads + Wait + Copy + Send + Drop + 'static,
+    R: Threads + Wait + Clock + Copy + Send + Drop + 'static,
     I: Read,
     O: Write,
     E: Write,

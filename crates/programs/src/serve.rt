@@ -62,7 +62,7 @@ struct Served<'a> {
 
 /// Serves as the command line asks, until each seat has had its connections. `threads` is a handle on which the seats' threads
 /// are started.
-pub(crate) fn serve<R: Threads + Wait + Copy + Send + Drop + 'static, O: Write, E: Write>(
+pub(crate) fn serve<R: Threads + Wait + Clock + Copy + Send + Drop + 'static, O: Write, E: Write>(
     rt: &HostRuntime,
     threads: R,
     matches: &ArgMatches<'_>,
@@ -186,7 +186,12 @@ fn token_over<K: Keep>(alloc: Global, keep: K) -> Result<Token<K>, Fault> {
 }
 
 /// Serves a token over a keeper behind a cache, and returns the keeper at a clean end.
-fn serve_cached<K: Keep, R: Threads + Wait + Copy + Send + Drop + 'static, O: Write, E: Write>(
+fn serve_cached<
+    K: Keep,
+    R: Threads + Wait + Clock + Copy + Send + Drop + 'static,
+    O: Write,
+    E: Write,
+>(
     rt: &HostRuntime,
     threads: R,
     keep: K,
@@ -205,7 +210,12 @@ fn serve_cached<K: Keep, R: Threads + Wait + Copy + Send + Drop + 'static, O: Wr
 }
 
 /// Serves a token over a keeper, and returns the keeper at a clean end.
-fn serve_over<K: Keep, R: Threads + Wait + Copy + Send + Drop + 'static, O: Write, E: Write>(
+fn serve_over<
+    K: Keep,
+    R: Threads + Wait + Clock + Copy + Send + Drop + 'static,
+    O: Write,
+    E: Write,
+>(
     rt: &HostRuntime,
     threads: R,
     mut keep: K,

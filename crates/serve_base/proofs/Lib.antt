@@ -1,4 +1,6 @@
 pub mod Changing
+mod Edits
+mod Marking
 pub mod Storing
 pub mod Gaves
 pub mod Refusals

@@ -16,10 +16,10 @@ use Rattle.serve_base.specs.declared.refusal.Refusal.{Refusal}
 use Rattle.serve_base.specs.declared.refusal.Refusal.TheVariants as refusals
 use Rattle.serve_base.specs.Refusing.{AtDesk, DoesAs, DoesAtDesk, EndsNone, IsDoneAs, IsPlainAs}
 use Rattle.serve_base.specs.Shown.{view_of, Fits, ShowsSame}
-use Rattle.serve_base.specs.Stores.{StoreState, Has, LeavesAsBefore}
+use Rattle.serve_base.specs.Stores.{StoreState, Has, LeavesAsBefore, SameIds}
 use Rattle.serve_base.proofs.Gaves.{gave-is, gave-quiet}
 use Rattle.serve_base.proofs.Plain.{some-fits}
-use Rattle.serve_base.proofs.Storing.{has-still}
+use Rattle.serve_base.proofs.Storing.{has-still, same_ids-none}
 
 module _ {K T : Type 0} (terms : Terms K) (tell : T → Said) (f a : View → Answer) (old new : StoreState K) (before desk : DeskState) where
   does-read : (c : Contents) (r : Result T Refusal) → f (view_of c before) ≡ a (view_of c before) → (a (view_of c before)).change ≡ Stays → Has terms new c → LeavesAsBefore terms old new → DoesAtDesk tell (a (view_of c before)) c before r desk → DoesAs terms tell (f (view_of c before)) c old new before r desk
@@ -47,7 +47,7 @@ module _ {K T : Type 0} (terms : Terms K) (tell : T → Said) (f a : View → An
   refused-read (Ok out) alone at = λ is. inl (λ c fits. let gives = at.serves c fits in gives.view ∙ alone (view_of c before) (ap is_refused (sym gives.says) ∙ is))
   refused-read (Err e) alone at = tt
 
-  pub done-read : (r : Result T Refusal) → KeepStays terms old.keep new.keep → new.ids ≡ old.ids → Counted terms old.keep new.keep 0 0 → ((v : View) → (a v).change ≡ Stays) → ((v : View) → resource_error_in (a v).says ≡ None) → ((v : View) → is_refused (a v).says ≡ true → (a v).view ≡ v)
+  pub done-read : (r : Result T Refusal) → KeepStays terms old.keep new.keep → SameIds terms old new → Counted terms old.keep new.keep 0 0 → ((v : View) → (a v).change ≡ Stays) → ((v : View) → resource_error_in (a v).says ≡ None) → ((v : View) → is_refused (a v).says ≡ true → (a v).view ≡ v)
       → (terms.doubt new.keep ≡ 0 → (c : Contents) → Has terms old c → Fits c before.handles.entries → f (view_of c before) ≡ a (view_of c before)) → AtDesk tell a before r desk → IsDoneAs terms tell 0 (λ c v. f v) old new before r desk
   done-read r same ids counts still plain alone is at =
       let some = some-fits before.handles.entries in
@@ -85,12 +85,12 @@ at-row {T} tell desk (Err e) row is = subst (λ x. AtDesk {T = T} tell (λ v. re
   }
 
 module _ {K T : Type 0} (terms : Terms K) (tell : T → Said) (f : View → Answer) where
-  pub done-row : (old new : StoreState K) (desk : DeskState) (r : Result T Refusal) (row : Condition) → IsErrAnd r (λ e. e ≡ refusals.Condition row) → KeepStays terms old.keep new.keep → new.ids ≡ old.ids → Counted terms old.keep new.keep 0 0
+  pub done-row : (old new : StoreState K) (desk : DeskState) (r : Result T Refusal) (row : Condition) → IsErrAnd r (λ e. e ≡ refusals.Condition row) → KeepStays terms old.keep new.keep → SameIds terms old new → Counted terms old.keep new.keep 0 0
       → (terms.doubt new.keep ≡ 0 → (c : Contents) → Has terms old c → Fits c desk.handles.entries → f (view_of c desk) ≡ refuses_by (view_of c desk) row) → IsDoneAs terms tell 0 (λ c v. f v) old new desk r desk
   done-row old new desk r row is same ids counts holds = done-read terms tell f (λ v. refuses_by v row) old new desk desk r same ids counts (λ v. refl) (λ v. plain-row row) (λ v is. refl) holds (at-row tell desk r row is)
 
   -- before anything is read
   pub done-row-first : (store : StoreState K) (desk : DeskState) (r : Result T Refusal) (row : Condition) → IsErrAnd r (λ e. e ≡ refusals.Condition row) → ((c : Contents) → f (view_of c desk) ≡ refuses_by (view_of c desk) row) → IsDoneAs terms tell 0 (λ c v. f v) store store desk r desk
   done-row-first store desk r row is holds =
-      done-row store store desk r row is (record { held = λ c h. h; crash = λ c l h may. may }) refl (record { steady = λ s. s; doubt = omega arith; failures = omega arith; tried = omega arith; bounded = omega arith })
+      done-row store store desk r row is (record { held = λ c h. h; crash = λ c l h may. may }) (same_ids-none terms store) (record { steady = λ s. s; doubt = omega arith; failures = omega arith; tried = omega arith; bounded = omega arith })
       (λ sure c h fits. holds c)

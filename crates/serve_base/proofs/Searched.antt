@@ -1,12 +1,24 @@
--- What a search finds by the ids of the token objects is what it finds among the objects.
-use Rattle.std.proofs.Common.{◌≡◌, ℕ, ◌<◌, Bool, true, false, cond, List, [], ◌∷◌, ◌++◌, map, Option, Some, refl, ◌∙◌, ap, arith}
-use Rattle.std.specs.Prelude.{find, filter, ◌==◌}
+-- What a search finds by the list of the token objects is what it finds among the objects.
+use Rattle.std.proofs.Common.{◌≡◌, ℕ, zero, suc, ◌+◌, ◌<◌, Bool, true, false, cond, not, List, [], ◌∷◌, ◌++◌, length, get_or, set, drop, map, Option, Some, None, refl, sym, ◌∙◌, ap, subst, add-one, append_assoc, arith}
+use Rattle.std.specs.Prelude.{find, filter, ◌==◌, ◌&&◌, ◌||◌}
+use Rattle.std.specs.List.{AllByRecursion}
 use Rattle.std.specs.Option.{option_map}
 use Rattle.std.proofs.lemmas.Bool.{eq-eqb, ne_eqb}
+use Rattle.std.proofs.lemmas.List.{append-nil}
+use Rattle.std.proofs.lemmas.List.Elements.{All-set}
+use Rattle.ck_types.specs.declared.attr_type.AttrType.TheVariants as attr
 use Rattle.ck_types.specs.declared.entry.Entry.{Entry}
 use Rattle.ck_types.specs.declared.user_type.UserType.{UserType}
 use Rattle.keep.specs.Contents.{Contents, Kept, IdsRise, IsSound, ids_of, object_at}
-use Rattle.serve_base.specs.Searching.{finds, token_match, tokens_found, found_of, found_at}
+use Rattle.attrs.specs.Objects.{flag}
+use Rattle.find.specs.Marks.{ObjectMark, excludes, mark_of, wanted_of}
+use Rattle.find.specs.MarkLaws.{template_matches-excluded}
+use Rattle.find.specs.Matching.{template_matches}
+use Rattle.guard.specs.Access.{is_user_in}
+use Rattle.serve_base.specs.declared.listed.Listed.{Listed}
+use Rattle.serve_base.specs.declared.searching.Match.{Match}
+use Rattle.serve_base.specs.Listing.{AreMarks, IsMarkOf, all_ids, ids_in}
+use Rattle.serve_base.specs.Searching.{finds, token_match, tokens_found, found_of, found_in, found_at, passes_over}
 
 module _ (login : Option UserType) (template : List Entry) where
   by-objects : (object_of : ℕ → Option (List Entry)) (low last : ℕ) (es : List Kept) → IdsRise low es last
@@ -26,3 +38,65 @@ module _ (login : Option UserType) (template : List Entry) where
 
   pub found-objects : (c : Contents) → IsSound c → found_at login template (object_at c) (ids_of c) ≡ tokens_found login template c.objects
   found-objects c sound = by-objects (object_at c) 0 c.last_id c.objects sound.ids (λ id above. refl)
+
+  -- ---- objects that are passed over
+
+  hides : (private user excluded matches : Bool) → ((private && not user) || excluded) ≡ true → (excluded ≡ true → matches ≡ false) → ((not private || user) && matches) ≡ false
+  hides true true excluded matches h rest = rest h
+  hides true false excluded matches h rest = refl
+  hides false user excluded matches h rest = rest h
+
+  passed-hidden : (o : List Entry) → passes_over login (wanted_of template) (mark_of o) ≡ true → finds login template o ≡ false
+  passed-hidden o h = hides (flag o attr.Private) (is_user_in login) (excludes (wanted_of template) (mark_of o)) (template_matches template o) h (template_matches-excluded o template)
+
+  -- nothing is found of an object that is passed over
+  none-passed : (id : ℕ) (found : List Match) (o : Option (List Entry)) (mark : ObjectMark) → passes_over login (wanted_of template) mark ≡ true → IsMarkOf o (Some mark) → found ≡ found ++ found_of login template id o
+  none-passed id found None mark passes is = sym (append-nil found)
+  none-passed id found (Some o) mark passes is =
+      let hidden : finds login template o ≡ false = passed-hidden o (ap (passes_over login (wanted_of template)) (sym is) ∙ passes) in
+      sym (ap (λ b. found ++ cond b (token_match login template id o ∷ []) []) hidden ∙ append-nil found)
+
+  pub found-passed : (object_of : ℕ → Option (List Entry)) (e : Listed) (found : List Match) (mark : ObjectMark) → e.removed ≡ false → passes_over login (wanted_of template) mark ≡ true → IsMarkOf (object_of e.id) (Some mark) → found ≡ found ++ found_in login template object_of e
+  found-passed object_of e found mark there passes is =
+      none-passed e.id found (object_of e.id) mark passes is ∙ ap (λ r. found ++ cond r [] (found_of login template e.id (object_of e.id))) (sym there)
+
+  -- ---- from one object of the list to the next
+
+  found-next : (object_of : ℕ → Option (List Entry)) (xs : List Listed) (at : ℕ) (d e : Listed) → at < length xs
+      → found_at login template object_of (ids_in (drop at xs)) ≡ found_in login template object_of (get_or xs at d) ++ found_at login template object_of (ids_in (drop (suc at) (set xs at e)))
+  found-next object_of [] at d e lt = absurd (omega (arith, lt))
+  found-next object_of (x ∷ xs) zero d e lt = step x.removed where
+    step : (r : Bool) → found_at login template object_of (cond r (ids_in xs) (x.id ∷ ids_in xs)) ≡ cond r [] (found_of login template x.id (object_of x.id)) ++ found_at login template object_of (ids_in xs)
+    step true = refl
+    step false = refl
+  found-next object_of (x ∷ xs) (suc at) d e lt = found-next object_of xs at d e (omega (arith, lt))
+
+  pub walked : (object_of : ℕ → Option (List Entry)) (xs : List Listed) (at : ℕ) (d e : Listed) (was now all : List Match) → at < length xs
+      → was ++ found_at login template object_of (ids_in (drop at xs)) ≡ all → now ≡ was ++ found_in login template object_of (get_or xs at d)
+      → now ++ found_at login template object_of (ids_in (drop (at + 1) (set xs at e))) ≡ all
+  walked object_of xs at d e was now all lt before is =
+      let rest = found_at login template object_of (ids_in (drop (suc at) (set xs at e))) in
+      let here = found_in login template object_of (get_or xs at d) in
+      ap (λ n. now ++ found_at login template object_of (ids_in (drop n (set xs at e)))) (add-one at)
+      ∙ ap (λ ms. ms ++ rest) is ∙ append_assoc was here rest ∙ ap (λ ms. was ++ ms) (sym (found-next object_of xs at d e lt)) ∙ before
+
+pub ids-noted : (xs : List Listed) (at : ℕ) (d e : Listed) → at < length xs → e.id ≡ (get_or xs at d).id → e.removed ≡ (get_or xs at d).removed → ids_in (set xs at e) ≡ ids_in xs
+ids-noted [] at d e lt same gone = absurd (omega (arith, lt))
+ids-noted (x ∷ xs) zero d e lt same gone = ap (λ r. cond r (ids_in xs) (e.id ∷ ids_in xs)) gone ∙ ap (λ id. cond x.removed (ids_in xs) (id ∷ ids_in xs)) same
+ids-noted (x ∷ xs) (suc at) d e lt same gone = ap (λ ids. cond x.removed ids (x.id ∷ ids)) (ids-noted xs at d e (omega (arith, lt)) same gone)
+
+pub all-noted : (xs : List Listed) (at : ℕ) (d e : Listed) → at < length xs → e.id ≡ (get_or xs at d).id → all_ids (set xs at e) ≡ all_ids xs
+all-noted [] at d e lt same = absurd (omega (arith, lt))
+all-noted (x ∷ xs) zero d e lt same = ap (λ id. id ∷ all_ids xs) same
+all-noted (x ∷ xs) (suc at) d e lt same = ap (λ ids. x.id ∷ ids) (all-noted xs at d e (omega (arith, lt)) same)
+
+pub marks-noted : (c : Contents) (xs : List Listed) (at : ℕ) (d e : Listed) → e.id ≡ (get_or xs at d).id → AreMarks c xs → IsMarkOf (object_at c (get_or xs at d).id) e.mark → AreMarks c (set xs at e)
+marks-noted c xs at d e same marks is = All-set (λ x. IsMarkOf (object_at c x.id) x.mark) xs at e (subst (λ id. IsMarkOf (object_at c id) e.mark) (sym same) is) marks
+
+pub each-id : (P : ℕ → Type 0) (xs : List Listed) (at : ℕ) (d : Listed) → at < length xs → (get_or xs at d).removed ≡ false → AllByRecursion P (ids_in xs) → P (get_or xs at d).id
+each-id P [] at d lt there all = absurd (omega (arith, lt))
+each-id P (x ∷ xs) zero d lt there all = let one : AllByRecursion P (x.id ∷ ids_in xs) = rw there at all in one.0
+each-id P (x ∷ xs) (suc at) d lt there all = each-id P xs at d (omega (arith, lt)) there (rest x.removed all) where
+  rest : (r : Bool) → AllByRecursion P (cond r (ids_in xs) (x.id ∷ ids_in xs)) → AllByRecursion P (ids_in xs)
+  rest true all = all
+  rest false all = all.1

@@ -1,5 +1,6 @@
 pub mod Short
 pub mod Shown
+pub mod Listing
 pub mod Stores
 pub mod Found
 pub mod Refusing

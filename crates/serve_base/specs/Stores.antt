@@ -1,5 +1,5 @@
--- A keeper with the ids that the token has of it, and what the token refines by it.
-use Rattle.std.specs.Prelude.{◌≡◌, ◌⊎◌, ℕ, ◌≤◌, List, Option, Some, Result, Ok, Err, IsErrOf}
+-- A keeper with the list that the token has of its objects, and what the token refines by it.
+use Rattle.std.specs.Prelude.{◌≡◌, ◌⊎◌, ◌≤◌, List, Option, Some, Result, Ok, Err, IsErrOf}
 use Rattle.ck_types.specs.declared.user_type.UserType.{UserType}
 use Rattle.keep.specs.Contents.{Contents, greatest_id, ids_of, IsSound}
 use Rattle.keep.specs.Keeping.{Terms}
@@ -7,17 +7,32 @@ use Rattle.desk.specs.Desks.{DeskState, SameDesk}
 use Rattle.model_views.specs.Views.{View, sees}
 use Rattle.model_views.specs.Changes.{Change, Stays, Insert, in_list}
 use Rattle.model_views.specs.Answering.{Said, Answer}
+use Rattle.serve_base.specs.declared.listed.Listed.{Listed}
+use Rattle.serve_base.specs.Listing.{AreListed, AreMarks, ids_in}
 use Rattle.serve_base.specs.Shown.{view_of, objects_of, Changes, Gives, Fits}
 
 pub record StoreState (K : Type 0) : Type 0 where
   pub keep : K
-  pub ids : List ℕ
+  pub listed : List Listed
 
--- the keeper holds the contents, and the ids are theirs
+-- The list is in order, and the marks that are known are right, as long as the disk is faithful. It is one member of `Has` and
+-- of `SameIds`, since the search for proofs goes through each of their members.
+pub record KnowsMarks {K : Type 0} (terms : Terms K) (s : StoreState K) (c : Contents) : Type 0 where
+  pub order : AreListed c.last_id s.listed
+  pub right : terms.doubt s.keep ≡ 0 → AreMarks c s.listed
+
+-- the keeper holds the contents, the ids are theirs, and so are the marks that are known
 pub record Has {K : Type 0} (terms : Terms K) (s : StoreState K) (c : Contents) : Type 0 where
   pub held : terms.holds s.keep c
-  pub ids : s.ids ≡ ids_of c
+  pub ids : ids_in s.listed ≡ ids_of c
+  pub marks : KnowsMarks terms s c
   pub sound : IsSound c
+
+-- What a call that reads leaves of the list: the ids stay, in order where they were. Marks that it learned are right where the
+-- others were.
+pub record SameIds {K : Type 0} (terms : Terms K) (old new : StoreState K) : Type 0 where
+  pub ids : ids_in new.listed ≡ ids_in old.listed
+  pub marks : (c : Contents) → terms.holds old.keep c → KnowsMarks terms old c → KnowsMarks terms new c
 
 -- ---- what a crash may leave
 module _ {K : Type 0} (terms : Terms K) where

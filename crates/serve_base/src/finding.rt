@@ -8,7 +8,7 @@ ghost use Rattle.keep.specs.declared.keep.KeepFault.TheVariants.{Device};
 ghost use Rattle.desk.specs.Desks.{own_at};
 ghost use Rattle.model_views.specs.Views.{sees};
 ghost use Rattle.serve_base.specs.Shown.{Fits};
-ghost use Rattle.serve_base.specs.Stores.{Has};
+ghost use Rattle.serve_base.specs.Stores.{Has, SameIds};
 ghost use Rattle.serve_base.specs.Found.{IsFound, IsOwn};
 
 use crate::store::Store;
@@ -61,7 +61,7 @@ pub fn find<K: Keep>(
     ensures table { IsTable desk.now.handles.next_number desk.now.handles.entries }
     ensures token { IfOk result (λ found. IfSome found (λ f. IfSome f.id (λ id. IsTokenObject f.object))) }
     ensures same { Stays K.terms store.old.keep store.new.keep }
-    ensures ids { store.new.ids ≡ store.old.ids }
+    ensures ids { SameIds K.terms store.old store.new }
     ensures steady { K.terms.is_steady store.old.keep → IsErrOf result Device → (c : Contents) → Has K.terms store.old c → ⊥ }
     ensures counts { Counted K.terms store.old.keep store.new.keep 0 0 }
     ensures cause { HasCause (K.terms.failures store.old.keep) (K.terms.failures store.new.keep) result }

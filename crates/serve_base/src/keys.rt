@@ -6,9 +6,11 @@ ghost use Rattle.attrs.specs.Masking.{is_secret_key};
 ghost use Rattle.attrs.specs.Objects.{attribute_of, class_of, key_type_of};
 ghost use Rattle.model_views.specs.Checked.{is_aes, is_of_type};
 
-use aes_block::Key;
+use aes_vector::Key;
 use attrs::Object;
 use ck_types::{KeyType, ObjectClass};
+use desk::Desk;
+use std::alloc::Global;
 
 /// Whether an object is a key.
 pub fn is_secret_key(object: &Object) -> bool
@@ -48,6 +50,20 @@ pub fn aes_key(object: &Object) -> Key
 {
     let _entries = object.entries();
     match Key::new(object.value()) {
+        Some(key) => key,
+        None => unreachable!(),
+    }
+}
+
+/// The same for an application's desk, which keeps the last key that an operation began under. Nothing is seen of it.
+pub fn operation_key(alloc: Global, desk: &mut Desk, object: &Object) -> Key
+    requires secret { is_secret_key (class_of object.now) ≡ true }
+    requires aes { is_aes (key_type_of object.now) ≡ true }
+    ensures key { attribute_of object.now attr.Value ≡ Some result }
+    ensures same { desk.new ≡ desk.old }
+{
+    let _entries = object.entries();
+    match desk.key_of(alloc, object.value()) {
         Some(key) => key,
         None => unreachable!(),
     }

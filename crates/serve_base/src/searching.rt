@@ -1,17 +1,20 @@
 //! Searching the token objects.
 
-ghost use Rattle.std.specs.Prelude.{◌≡◌, ◌++◌, IsErrOf, IsSome, OnOk};
+ghost use Rattle.std.specs.Prelude.{◌≡◌, ◌++◌, false, None, Some, IsErrOf, IsSome, OnOk};
 ghost use Rattle.std.specs.List.{AllByRecursion};
 ghost use Rattle.keep.specs.Contents.{Contents, object_at};
 ghost use Rattle.keep.specs.Keeping.{Counted, HasCause, Stays};
 ghost use Rattle.keep.specs.declared.keep.KeepFault.TheVariants.{Device};
-ghost use Rattle.serve_base.specs.Searching.{found_at, found_of, MayFind};
-ghost use Rattle.std.specs.Prelude.{Some};
+ghost use Rattle.find.specs.Marks.{wanted_of};
+ghost use Rattle.guard.specs.Access.{is_user_in};
+ghost use Rattle.serve_base.specs.Listing.{AreMarks, IsMarkOf, all_ids, ids_in};
+ghost use Rattle.serve_base.specs.Searching.{found_at, found_in, found_of, passes_over, MayFind};
 
 use crate::finding::sees;
+use crate::listed::Listed;
 use attrs::Object;
 use ck_types::{AttrType, Template, UserType};
-use find::search;
+use find::{Mark, Wanted, search};
 use keep::{Keep, KeepFault};
 use std::alloc::{AllocError, Global};
 
@@ -24,27 +27,86 @@ pub enum Match {
     SessionObject { handle: u64 },
 }
 
-/// Finds the token objects among those under these ids: one after the other is read, and no copy is kept.
+/// Finds the token objects among those of the list. An object whose mark is known and excludes it is passed over. Each other one is
+/// read, its mark is noted, and no copy is kept.
 pub(crate) fn search_kept<K: Keep>(
     alloc: Global,
     keep: &mut K,
-    ids: &[u64],
+    listed: &mut [Listed],
     login: Option<UserType>,
     template: &Template,
     found: &mut Vec<Match>,
 ) -> Result<(), KeepFault>
-    ensures found { K.terms.doubt keep.new ≡ 0 → (c : Contents) → K.terms.holds keep.old c → OnOk result (found.new.items ≡ found.old.items ++ found_at login template.now (object_at c) ids.now) }
+    ensures found { K.terms.doubt keep.new ≡ 0 → (c : Contents) → K.terms.holds keep.old c → AreMarks c listed.old
+        → OnOk result (found.new.items ≡ found.old.items ++ found_at login template.now (object_at c) (ids_in listed.old)) }
     ensures may { AllByRecursion (MayFind login) found.old.items → OnOk result (AllByRecursion (MayFind login) found.new.items) }
+    ensures ids { ids_in listed.new ≡ ids_in listed.old }
+    ensures all { all_ids listed.new ≡ all_ids listed.old }
+    ensures marks { K.terms.doubt keep.new ≡ 0 → (c : Contents) → K.terms.holds keep.old c → AreMarks c listed.old → AreMarks c listed.new }
     ensures same { Stays K.terms keep.old keep.new }
-    ensures steady { K.terms.is_steady keep.old → IsErrOf result Device → (c : Contents) → K.terms.holds keep.old c → AllByRecursion (λ id. IsSome (object_at c id)) ids.now → ⊥ }
+    ensures steady { K.terms.is_steady keep.old → IsErrOf result Device → (c : Contents) → K.terms.holds keep.old c
+        → AllByRecursion (λ id. IsSome (object_at c id)) (ids_in listed.old) → ⊥ }
     ensures counts { Counted K.terms keep.old keep.new 0 0 }
     ensures cause { HasCause (K.terms.failures keep.old) (K.terms.failures keep.new) result }
 {
-    for id in ids {
-        let object = keep.object(alloc, *id)?;
-        search_one(login, template, *id, &object, found)?;
+    let wanted = Wanted::of(template);
+    for entry in listed.iter_mut() {
+        search_next(alloc, keep, entry, login, template, &wanted, found)?;
     }
     Ok(())
+}
+
+/// Looks at the next object of the list, if it wasn't removed.
+fn search_next<K: Keep>(
+    alloc: Global,
+    keep: &mut K,
+    entry: &mut Listed,
+    login: Option<UserType>,
+    template: &Template,
+    wanted: &Wanted,
+    found: &mut Vec<Match>,
+) -> Result<(), KeepFault>
+    requires { wanted.now ≡ wanted_of template.now }
+    ensures found { K.terms.doubt keep.new ≡ 0 → (c : Contents) → K.terms.holds keep.old c → IsMarkOf (object_at c entry.old.id) entry.old.mark
+        → OnOk result (found.new.items ≡ found.old.items ++ found_in login template.now (object_at c) entry.old) }
+    ensures may { AllByRecursion (MayFind login) found.old.items → OnOk result (AllByRecursion (MayFind login) found.new.items) }
+    ensures id { entry.new.id ≡ entry.old.id }
+    ensures removed { entry.new.removed ≡ entry.old.removed }
+    ensures mark { K.terms.doubt keep.new ≡ 0 → (c : Contents) → K.terms.holds keep.old c → IsMarkOf (object_at c entry.old.id) entry.old.mark
+        → IsMarkOf (object_at c entry.old.id) entry.new.mark }
+    ensures same { Stays K.terms keep.old keep.new }
+    ensures steady { K.terms.is_steady keep.old → IsErrOf result Device → (c : Contents) → K.terms.holds keep.old c
+        → (entry.old.removed ≡ false) × (object_at c entry.old.id ≡ None) }
+    ensures counts { Counted K.terms keep.old keep.new 0 0 }
+    ensures cause { HasCause (K.terms.failures keep.old) (K.terms.failures keep.new) result }
+{
+    if entry.removed {
+        return Ok(());
+    }
+    if let Some(mark) = entry.mark {
+        if passes_over(login, wanted, &mark) {
+            return Ok(());
+        }
+    }
+    let object = keep.object(alloc, entry.id)?;
+    entry.mark = Some(Mark::of(&object));
+    search_one(login, template, entry.id, &object, found)?;
+    Ok(())
+}
+
+/// Whether a search passes over each object with this mark. One who is logged in so doesn't see it, or the template doesn't find
+/// it.
+fn passes_over(login: Option<UserType>, wanted: &Wanted, mark: &Mark) -> bool
+    ensures { result ≡ passes_over login wanted.now mark.now }
+{
+    (mark.is_private() && !sees_private(login)) || wanted.excludes(mark)
+}
+
+/// Whether one who is logged in so sees private objects (PKCS #11 v3.1, 4.4, CKA_PRIVATE).
+fn sees_private(login: Option<UserType>) -> bool
+    ensures { result ≡ is_user_in login }
+{
+    matches!(login, Some(UserType::User))
 }
 
 /// Adds a token object to what was found, where it is seen and the template finds it.

@@ -1,27 +1,31 @@
-//! The keeper, with the ids of its objects in the order of their creation.
+//! The keeper, with a list of its objects in the order of their creation: their ids, and their marks.
 
-ghost use Rattle.std.specs.Prelude.{◌≡◌, ◌≢◌, ◌==◌, ◌+◌, ◌++◌, ◌≤◌, not, filter, None, Option, IfOk, IfErr, IsErrOf, OnOk, OnErr, IfSome};
-ghost use Rattle.std.specs.List.{AllByRecursion, list_any};
+ghost use Rattle.std.specs.Prelude.{◌≡◌, ◌≢◌, ◌+◌, ◌++◌, ◌≤◌, None, Option, IfOk, IfErr, IsErrOf, OnOk, OnErr, IfSome};
+ghost use Rattle.std.specs.List.{AllByRecursion};
 ghost use Rattle.keep.specs.Contents.{Contents, IsTokenObject, after_reset, greatest_id, object_at, with_object, with_record, with_replacement, without_object};
 ghost use Rattle.keep.specs.Keeping.{Stays, HasCause, Counted};
 ghost use Rattle.keep.specs.declared.keep.KeepFault.TheVariants.{Device};
-ghost use Rattle.lists.specs.Bisection.{IsIndexOf, KeysRise};
 ghost use Rattle.serve_base.specs.Searching.{tokens_found, MayFind};
-ghost use Rattle.serve_base.specs.Stores.{Has, LeavesAlone, LeavesOr};
+ghost use Rattle.serve_base.specs.Stores.{Has, LeavesAlone, LeavesOr, SameIds};
 
+use crate::listed::{Listed, has_id, list_unread, remove_id, set_mark, take_out_many};
 use crate::searching::{Match, search_kept};
 use attrs::Object;
 use ck_types::{Template, UserType};
+use find::Mark;
 use keep::{Keep, KeepFault};
 use pin_record::Record;
 use std::alloc::Global;
 use std::marker::Model;
 
-/// A keeper and the ids of its objects. The keeper is called only with ids that it has.
+/// A keeper and the list of its objects. The keeper is called only with ids that it has. A mark is known once an object was
+/// searched through or written here.
 #[derive(Drop)]
 pub struct Store<K: Keep> {
     keep: K,
-    ids: Vec<u64>,
+    listed: Vec<Listed>,
+    /// How many entries of the list are of removed objects.
+    removed: usize,
 }
 
 impl<K: Keep> Model for Store<K> {
@@ -29,11 +33,11 @@ impl<K: Keep> Model for Store<K> {
 
     ghost Value = { StoreState K };
 
-    ghost view = { λ s. record { keep = s.keep; ids = s.ids.items } };
+    ghost view = { λ s. record { keep = s.keep; listed = s.listed.items } };
 }
 
 impl<K: Keep> Store<K> {
-    /// Reads the ids of a keeper. A keeper that fails comes back beside its fault.
+    /// Reads the ids of a keeper, and none of its objects. A keeper that fails comes back beside its fault.
     pub fn adopt(alloc: Global, mut keep: K) -> Result<Store<K>, (KeepFault, K)>
         ensures has { (c : Contents) → K.terms.holds keep c → IfOk result (λ s. K.terms.doubt s.keep ≡ 0 → Has K.terms s c) }
         ensures leaves { (c : Contents) → K.terms.holds keep c → IfOk result (λ s. (left : Option Contents) → K.terms.may_leave s.keep left → K.terms.may_leave keep left) }
@@ -41,9 +45,17 @@ impl<K: Keep> Store<K> {
         ensures steady { K.terms.is_steady keep → IfOk result (λ s. K.terms.is_steady s.keep) }
         ensures device { K.terms.is_steady keep → IfErr result (λ e. e.0 ≢ Device) }
     {
-        match keep.ids(alloc) {
-            Ok(ids) => Ok(Store { keep, ids }),
-            Err(fault) => Err((fault, keep)),
+        let ids = match keep.ids(alloc) {
+            Ok(ids) => ids,
+            Err(fault) => return Err((fault, keep)),
+        };
+        match list_unread(alloc, &ids) {
+            Ok(listed) => Ok(Store {
+                keep,
+                listed,
+                removed: 0,
+            }),
+            Err(_) => Err((KeepFault::Memory, keep)),
         }
     }
 
@@ -86,15 +98,9 @@ impl<K: Keep> Store<K> {
         ensures cause { HasCause (K.terms.failures self.old.keep) (K.terms.failures self.new.keep) result }
     {
         self.keep.reset(token_record)?;
-        self.ids.clear();
+        self.listed.clear();
+        self.removed = 0;
         Ok(())
-    }
-
-    /// Whether there is an object under the id, where the ids rise.
-    fn has_id(&self, id: u64) -> bool
-        ensures { KeysRise (λ i. i) self.now.ids → result ≡ list_any (λ i. i == id) self.now.ids }
-    {
-        index_of_id(&self.ids, id).is_ok()
     }
 
     /// A copy of the object under an id.
@@ -103,19 +109,19 @@ impl<K: Keep> Store<K> {
         ensures object { K.terms.doubt self.new.keep ≡ 0 → (c : Contents) → Has K.terms self.old c → IfOk result (λ found. found ≡ object_at c id) }
         ensures token { IfOk result (λ found. IfSome found IsTokenObject) }
         ensures same { Stays K.terms self.old.keep self.new.keep }
-        ensures ids { self.new.ids ≡ self.old.ids }
+        ensures ids { SameIds K.terms self.old self.new }
         ensures steady { K.terms.is_steady self.old.keep → IsErrOf result Device → (c : Contents) → Has K.terms self.old c → ⊥ }
         ensures counts { Counted K.terms self.old.keep self.new.keep 0 0 }
         ensures cause { HasCause (K.terms.failures self.old.keep) (K.terms.failures self.new.keep) result }
     {
-        if !self.has_id(id) {
+        if !has_id(&self.listed, id) {
             return Ok(None);
         }
         Ok(Some(self.keep.object(alloc, id)?))
     }
 
     /// Finds the token objects that one who is logged in so sees and the template finds. Appends them to what was found before, in
-    /// the order of their creation. Each object is read once.
+    /// the order of their creation. An object whose mark excludes it is not read, and each other one is read once.
     pub fn search(
         &mut self,
         alloc: Global,
@@ -126,15 +132,23 @@ impl<K: Keep> Store<K> {
         ensures found { K.terms.doubt self.new.keep ≡ 0 → (c : Contents) → Has K.terms self.old c → OnOk result (found.new.items ≡ found.old.items ++ tokens_found login template.now c.objects) }
         ensures may { AllByRecursion (MayFind login) found.old.items → OnOk result (AllByRecursion (MayFind login) found.new.items) }
         ensures same { Stays K.terms self.old.keep self.new.keep }
-        ensures ids { self.new.ids ≡ self.old.ids }
+        ensures ids { SameIds K.terms self.old self.new }
         ensures steady { K.terms.is_steady self.old.keep → IsErrOf result Device → (c : Contents) → Has K.terms self.old c → ⊥ }
         ensures counts { Counted K.terms self.old.keep self.new.keep 0 0 }
         ensures cause { HasCause (K.terms.failures self.old.keep) (K.terms.failures self.new.keep) result }
     {
-        search_kept(alloc, &mut self.keep, &self.ids, login, template, found)
+        take_out_many(&mut self.listed, &mut self.removed);
+        search_kept(
+            alloc,
+            &mut self.keep,
+            &mut self.listed,
+            login,
+            template,
+            found,
+        )
     }
 
-    /// Adds a token object at the end. Memory for its id is allocated before it is written.
+    /// Adds a token object at the end. Memory for its id and its mark is allocated before it is written.
     pub fn insert(&mut self, object: &Object) -> Result<u64, KeepFault>
         requires { IsTokenObject object.now }
         ensures id { K.terms.doubt self.new.keep ≡ 0 → (c : Contents) → Has K.terms self.old c → IfOk result (λ id. id ≡ c.last_id + 1) }
@@ -146,9 +160,14 @@ impl<K: Keep> Store<K> {
         ensures counts { Counted K.terms self.old.keep self.new.keep 0 1 }
         ensures cause { HasCause (K.terms.failures self.old.keep) (K.terms.failures self.new.keep) result }
     {
-        self.ids.reserve(1)?;
+        take_out_many(&mut self.listed, &mut self.removed);
+        self.listed.reserve(1)?;
         let id = self.keep.insert(object)?;
-        self.ids.push_reserved(id);
+        self.listed.push_reserved(Listed {
+            id,
+            mark: Some(Mark::of(object)),
+            removed: false,
+        });
         Ok(id)
     }
 
@@ -164,6 +183,7 @@ impl<K: Keep> Store<K> {
         ensures cause { HasCause (K.terms.failures self.old.keep) (K.terms.failures self.new.keep) result }
     {
         self.keep.replace(id, object)?;
+        set_mark(&mut self.listed, id, Mark::of(object));
         Ok(())
     }
 
@@ -178,20 +198,8 @@ impl<K: Keep> Store<K> {
         ensures cause { HasCause (K.terms.failures self.old.keep) (K.terms.failures self.new.keep) result }
     {
         self.keep.remove(id)?;
-        remove_id(&mut self.ids, id);
+        remove_id(&mut self.listed, id);
+        self.removed = self.removed.saturating_add(1);
         Ok(())
     }
-}
-
-/// The index of an id among ids that rise, or the index where it would be inserted.
-fn index_of_id(ids: &[u64], id: u64) -> Result<usize, usize>
-    ensures { KeysRise (λ i. i) ids.now → IsIndexOf (λ i. i) ids.now id result }
-{
-    ids.binary_search_by_key(&id, |i| *i)
-}
-
-fn remove_id(ids: &mut Vec<u64>, id: u64)
-    ensures { ids.new.items ≡ filter (λ i. not (i == id)) ids.old.items }
-{
-    ids.retain(|i| *i != id);
 }

@@ -12,7 +12,7 @@ ghost use Rattle.serve_keys.specs.Objects.{object_in};
 ghost use Rattle.serve_keys.specs.Unwrapping.{asks_for_key};
 
 use crate::found_key::{is_no_key, key_in};
-use aes_block::Key;
+use aes_vector::Key;
 use attrs::Object;
 use ck_calls::{Function, Mechanism, Reply};
 use ck_mechanisms::{Purpose, find_for};

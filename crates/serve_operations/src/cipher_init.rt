@@ -17,7 +17,7 @@ use ck_types::Rv;
 use desk::Desk;
 use keep::Keep;
 use precede::Condition;
-use serve_base::{Refusal, Store, aes_key, find, is_aes, is_secret_key};
+use serve_base::{Refusal, Store, find, is_aes, is_secret_key, operation_key};
 use std::alloc::Global;
 use streams::Stream;
 
@@ -56,7 +56,7 @@ fn begin<K: Keep>(
     };
     let cipher = cipher_for(desk, direction, session, mechanism)?;
     let found = find(alloc, desk, store, key)?.ok_or(Condition::NoKey)?;
-    begin_under(desk, direction, session, cipher, &found.object)
+    begin_under(alloc, desk, direction, session, cipher, &found.object)
 }
 
 /// The mechanism of an operation that is to begin, where none is in progress at its place.
@@ -77,6 +77,7 @@ fn cipher_for(
 
 /// Begins an operation under an object that was found, where that is an AES key and permits it.
 fn begin_under(
+    alloc: Global,
     desk: &mut Desk,
     direction: Direction,
     session: u64,
@@ -94,7 +95,8 @@ fn begin_under(
     if !key.flag(permission(direction)) {
         return Err(Refusal::Condition(Condition::KeyNotPermitted));
     }
-    let stream = Stream::new(cipher, direction, aes_key(key));
+    let key = operation_key(alloc, desk, key);
+    let stream = Stream::new(cipher, direction, key);
     desk.set_operation(session, place_for(direction), Some(stream));
     Ok(Reply::Code(Rv::Ok))
 }

@@ -4,8 +4,8 @@ ghost use Rattle.std.specs.Prelude.{◌≡◌, ◌==◌, length, Option, Some, N
 ghost use Rattle.model_answers.specs.CipherInit.{counter_bits, is_counter_parameter, with_parameter};
 ghost use Rattle.streams.specs.declared.mechanism.Mechanism.TheVariants.{Ctr};
 
-use aes_block::{BLOCK_SIZE, Block};
 use aes_modes::CounterBits;
+use aes_vector::{BLOCK_SIZE, Block};
 use byteorder::{BigEndian, ByteOrder};
 use ck_types::MechType;
 use streams::Mechanism;

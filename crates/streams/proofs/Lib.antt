@@ -1,3 +1,5 @@
 pub mod RightLaw
 pub mod FirstTexts
 pub mod OutputLaw
+pub mod Decrypted
+pub mod Counted

@@ -2,14 +2,15 @@
 
 ghost use Rattle.std.specs.Prelude.{◌≡◌, ◌≢◌, ◌⊎◌, ℕ, List, ◌+◌, ◌-◌, ◌*◌, ◌%◌, ◌≤◌, ◌++◌, ◌↔◌, length, take, IfOk, IfErr, OnErr, IsErrOf};
 ghost use Rattle.fips_197.specs.Bytes.{AreBytes};
+ghost use Rattle.fips_197.specs.Texts.{block_of};
 ghost use Rattle.aes_modes.specs.Modes.{chained, cbc_blocks, cbc_pad_encrypted};
 ghost use Rattle.streams_model.specs.Flows.{begun, further};
 ghost use Rattle.streams_model.specs.CbcFlows.{IsCbcDecrypted};
 
 use crate::kept::Kept;
 use crate::passed::Passed;
-use aes_block::{BLOCK_SIZE, Block, Key, are_bytes, xor_blocks};
-use aes_modes::{ModeFault, unpadded_len};
+use aes_modes::{ModeFault, push_unchained, unpadded_len};
+use aes_vector::{BLOCK_SIZE, Block, Key, are_bytes, xor_blocks};
 use lists::GhostBytes;
 use std::alloc::{AllocError, Global};
 use std::marker::Model;
@@ -54,15 +55,27 @@ fn decrypted_blocks(
     ensures chain { IfOk result (λ r. r.1 ≡ chained key.now start r.0.items blocks) }
     ensures bytes { IfOk result (λ r. AreBytes r.0.items) }
 {
+    let _size = key.size();
+    let front = kept.as_slice();
+    are_bytes(front);
+    are_bytes(piece);
     let mut out = Vec::with_capacity(alloc, kept.len() + piece.len())?;
-    let mut chain = start;
-    'turns: for i in 0..blocks {
-        let block = kept.block(piece, i);
-        out.extend_from_slice(&xor_blocks(key.decipher(block), chain))?;
-        chain = block;
-    }
+    push_unchained(alloc, &mut out, key, start, front, piece, blocks)?;
     are_bytes(&out);
-    Ok((out, chain))
+    Ok((out, last_block(start, kept, piece, blocks)))
+}
+
+// The last of the first blocks of buffered bytes and a part. It is the block before them where there
+// are none.
+fn last_block(start: Block, kept: &Kept, piece: &[u8], blocks: usize) -> Block
+    requires { 16 * blocks ≤ length kept.now + length piece.now }
+    ensures { result ≡ block_of (start ++ (kept.now ++ piece.now)) blocks }
+{
+    if blocks == 0 {
+        start
+    } else {
+        kept.block(piece, blocks - 1)
+    }
 }
 
 impl CbcDecryption {

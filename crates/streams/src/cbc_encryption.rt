@@ -7,8 +7,8 @@ ghost use Rattle.streams_model.specs.CbcFlows.{IsCbcEncrypted};
 
 use crate::kept::Kept;
 use crate::passed::Passed;
-use aes_block::{BLOCK_SIZE, Block, Key, are_bytes, xor_blocks};
-use aes_modes::{filled_block, push_number, xor_number};
+use aes_modes::filled_block;
+use aes_vector::{BLOCK_SIZE, Block, Key, xor_blocks};
 use lists::GhostBytes;
 use std::alloc::{AllocError, Global};
 use std::marker::Model;
@@ -50,13 +50,12 @@ fn encrypted_blocks(
     ensures chain { IfOk result (λ r. r.1 ≡ chained key.now start (kept.now ++ piece.now) blocks) }
 {
     let mut out = Vec::with_capacity(alloc, kept.len() + piece.len())?;
-    are_bytes(&start);
-    let mut chain = u128::from_be_bytes(start);
+    let mut chain = start;
     'turns: for i in 0..blocks {
-        chain = key.encrypt_number(xor_number(kept.block(piece, i), chain));
-        push_number(&mut out, chain)?;
+        chain = key.encipher(xor_blocks(kept.block(piece, i), chain));
+        out.extend_from_slice(&chain)?;
     }
-    Ok((out, chain.to_be_bytes()))
+    Ok((out, chain))
 }
 
 impl CbcEncryption {

@@ -8,8 +8,8 @@ ghost use Rattle.aes_modes.specs.Counter.{counter_start};
 ghost use Rattle.streams_model.specs.Countings.{begun_counting, counted_further, ctr_output, numbered};
 
 use crate::kept::Kept;
-use aes_block::{BLOCK_SIZE, Block, Key, are_bytes};
-use aes_modes::{CounterBits, ModeFault, filled_block, push_number, xor_number};
+use aes_modes::{CounterBits, ModeFault, filled_block, push_counted, xor_number};
+use aes_vector::{BLOCK_SIZE, Block, Key, are_bytes};
 use lists::GhostBytes;
 use std::alloc::{AllocError, Global};
 use std::marker::Model;
@@ -51,12 +51,10 @@ fn joined_counters(
     ensures size { IfOk result (λ out. length out.items ≡ length kept.now + length piece.now) }
     ensures value { IfOk result (λ out. out.items ≡ numbered key.now number (kept.now ++ piece.now)) }
 {
+    let _size = key.size();
     let whole = (kept.len() + piece.len()) / BLOCK_SIZE;
     let mut out = Vec::with_capacity(alloc, kept.len() + piece.len())?;
-    'turns: for i in 0..whole {
-        let output = key.encrypt_number(number + i as u128);
-        push_number(&mut out, xor_number(kept.block(piece, i), output))?;
-    }
+    push_counted(alloc, &mut out, key, number, kept.as_slice(), piece, whole)?;
     let rest = kept.behind(piece, whole);
     if rest.len() == 0 {
         return Ok(out);

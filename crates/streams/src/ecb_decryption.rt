@@ -8,7 +8,8 @@ ghost use Rattle.streams_model.specs.EcbFlows.{IsEcbDecrypted};
 
 use crate::kept::Kept;
 use crate::passed::Passed;
-use aes_block::{BLOCK_SIZE, Key, are_bytes};
+use aes_modes::push_decrypted;
+use aes_vector::{BLOCK_SIZE, Key, are_bytes};
 use std::alloc::{AllocError, Global};
 use std::marker::Model;
 
@@ -45,10 +46,12 @@ fn decrypted_blocks(
         ecb_blocks key.now out.items blocks ≡ take (16 * blocks) (kept.now ++ piece.now)) }
     ensures bytes { IfOk result (λ out. AreBytes out.items) }
 {
+    let _size = key.size();
+    let front = kept.as_slice();
+    are_bytes(front);
+    are_bytes(piece);
     let mut out = Vec::with_capacity(alloc, kept.len() + piece.len())?;
-    'turns: for i in 0..blocks {
-        out.extend_from_slice(&key.decipher(kept.block(piece, i)))?;
-    }
+    push_decrypted(alloc, &mut out, key, front, piece, blocks)?;
     are_bytes(&out);
     Ok(out)
 }

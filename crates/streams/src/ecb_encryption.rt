@@ -7,7 +7,8 @@ ghost use Rattle.streams_model.specs.EcbFlows.{IsEcbEncrypted};
 
 use crate::kept::Kept;
 use crate::passed::Passed;
-use aes_block::{BLOCK_SIZE, Key};
+use aes_modes::push_encrypted;
+use aes_vector::{BLOCK_SIZE, Key, are_bytes};
 use std::alloc::{AllocError, Global};
 use std::marker::Model;
 
@@ -42,10 +43,12 @@ fn encrypted_blocks(
     ensures size { IfOk result (λ out. length out.items ≡ 16 * blocks) }
     ensures value { IfOk result (λ out. out.items ≡ ecb_blocks key.now (kept.now ++ piece.now) blocks) }
 {
+    let _size = key.size();
+    let front = kept.as_slice();
+    are_bytes(front);
+    are_bytes(piece);
     let mut out = Vec::with_capacity(alloc, kept.len() + piece.len())?;
-    'turns: for i in 0..blocks {
-        out.extend_from_slice(&key.encipher(kept.block(piece, i)))?;
-    }
+    push_encrypted(alloc, &mut out, key, front, piece, blocks)?;
     Ok(out)
 }
 

@@ -1,9 +1,9 @@
 //! Bytes that are buffered until they are worked on.
 
 ghost use Rattle.std.specs.Prelude.{◌≡◌, ◌+◌, ◌*◌, ◌≤◌, ◌++◌, [], length, drop};
-ghost use Rattle.aes_block.specs.Texts.{block_of};
+ghost use Rattle.fips_197.specs.Texts.{block_of};
 
-use aes_block::{BLOCK_SIZE, Block};
+use aes_vector::{BLOCK_SIZE, Block};
 use std::marker::Model;
 
 /// At most a block of bytes. Contracts see them as a list.
@@ -64,7 +64,7 @@ impl Kept {
 
     /// Block `i` of them with a part behind them.
     #[inline(always)]
-    #[tactic(auto, unfolding(aes_block::specs::Texts::block_of))]
+    #[tactic(auto, unfolding(fips_197::specs::Texts::block_of))]
     pub(crate) fn block(&self, piece: &[u8], i: usize) -> Block
         requires { 16 * i + 16 ≤ length self.now + length piece.now }
         ensures { result ≡ block_of (self.now ++ piece.now) i }

@@ -23,8 +23,8 @@
 //!   byte.
 //!
 //! An update makes one allocation, of the length of the part and a block. The last call makes that one
-//! and, for a padding, at most two more. The time that they take depends on secrets, as that of
-//! `aes_block`.
+//! and, for a padding, at most two more. No read and no branch depends on the key or the data, as in `aes_vector`, but on
+//! their lengths and on whether a padding is right.
 #![tactic(auto)]
 
 mod cbc_decryption;

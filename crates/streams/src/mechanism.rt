@@ -1,7 +1,7 @@
 //! The mechanisms.
 
-use aes_block::Block;
 use aes_modes::CounterBits;
+use aes_vector::Block;
 
 /// A mechanism with its parameter (PKCS #11 v3.1, 6.10 and 6.11).
 #[derive(Clone, Copy)]

@@ -6,8 +6,8 @@ ghost use Rattle.aes_modes.specs.Blocks.{blocks_begun};
 ghost use Rattle.aes_modes.specs.Counter.{counter_start};
 
 use crate::ctr_stream::CtrStream;
-use aes_block::BLOCK_SIZE;
 use aes_modes::ModeFault;
+use aes_vector::BLOCK_SIZE;
 use std::alloc::Global;
 
 /// The whole blocks of what is buffered and of a part, where so many bytes at least stay buffered.

@@ -16,8 +16,8 @@ use crate::ecb_encryption::EcbEncryption;
 use crate::rooms::{counted, nothing_more, padded, so_far, unpadded, whole};
 use crate::state::State;
 use crate::{Mechanism, Part};
-use aes_block::Key;
 use aes_modes::{Direction, ModeFault};
+use aes_vector::Key;
 use std::alloc::Global;
 use std::marker::Model;
 

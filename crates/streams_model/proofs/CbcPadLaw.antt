@@ -4,7 +4,7 @@ use Rattle.std.proofs.lemmas.List.{append_assoc, append-nil, take_all, take-appe
 use Rattle.std.proofs.lemmas.List.Elements.{All-append}
 use Rattle.fips_197.specs.Bytes.{AreBytes, xor_bytes}
 use Rattle.fips_197.specs.Encrypt.{encrypted_block}
-use Rattle.aes_block.specs.Texts.{block_of}
+use Rattle.fips_197.specs.Texts.{block_of}
 use Rattle.aes_modes.specs.Modes.{chained, cbc_blocks, cbc_encrypted, cbc_pad_encrypted}
 use Rattle.aes_modes.specs.Padding.{padded, pad_count}
 use Rattle.aes_modes.proofs.Texts.{block_of-drop, block_of-rest}

@@ -7,7 +7,7 @@ use Rattle.std.proofs.lemmas.List.Elements.{All-nil}
 use Rattle.fips_197.specs.Bytes.{AreBytes, xor_bytes}
 use Rattle.fips_197.specs.Encrypt.{encrypted_block}
 use Rattle.fips_197.specs.KeyExpansion.{IsKey}
-use Rattle.aes_block.specs.Texts.{block_of}
+use Rattle.fips_197.specs.Texts.{block_of}
 use Rattle.aes_modes.specs.Blocks.{first_blocks, blocks_begun}
 use Rattle.aes_modes.specs.Counter.{counter_start}
 use Rattle.aes_modes.specs.Modes.{output_block, ctr_block, ctr_blocks, ctr_encrypted}

@@ -50,7 +50,7 @@ fn make(alloc: Global, recipe: &Recipe) -> Result<Object, MakeFault>
     ensures { MatchResult result (λ object. object ≡ made_entries recipe.now.making recipe.now.class recipe.now.original.now recipe.now.template.now recipe.now.random.now recipe.now.value.now) (λ fault. fault ≡ Memory) }
 {
     let entries = make_entries(alloc, recipe)?;
-    Ok(Object::new(entries))
+    Ok(Object::new(alloc, entries)?)
 }
 
 fn value_given(template: &[Entry]) -> &[u8]

@@ -21,6 +21,7 @@ use std::io::{self, Error, ErrorKind, Read, Write};
 use std::sync::Wait;
 use std::test::*;
 use std::thread::Threads;
+use std::time::Clock;
 use test_scripts::{FIRST_REPLIES, FIRST_RUN};
 
 /// What a command line answered and wrote.
@@ -41,7 +42,7 @@ fn args_of(alloc: Global, words: &[&str]) -> Result<Vec<String>, AllocError> {
     Ok(args)
 }
 
-fn run<R: Threads + Wait + Copy + Send + Drop + 'static>(
+fn run<R: Threads + Wait + Clock + Copy + Send + Drop + 'static>(
     rt: &HostRuntime,
     threads: R,
     words: &[&str],
@@ -65,7 +66,7 @@ fn has_ended_so(ended: &Ended, status: u8, output: &[u8], errors: &[u8]) -> bool
 }
 
 /// Sees that a command line with this input ends with this status, and writes this output and these errors.
-fn expect_run<R: Threads + Wait + Copy + Send + Drop + 'static>(
+fn expect_run<R: Threads + Wait + Clock + Copy + Send + Drop + 'static>(
     rt: &HostRuntime,
     threads: R,
     words: &[&str],
@@ -115,7 +116,7 @@ fn stdio_answers_the_size_and_the_identifier_of_a_key(rt: HostRuntime) -> Result
 }
 
 /// Sees that a command line with this input ends with this status and output, and reports this failure and this cause.
-fn expect_refusal<R: Threads + Wait + Copy + Send + Drop + 'static>(
+fn expect_refusal<R: Threads + Wait + Clock + Copy + Send + Drop + 'static>(
     rt: &HostRuntime,
     threads: R,
     words: &[&str],

@@ -16,7 +16,9 @@ use Rattle.model_answers.specs.Standing.{StandsAfter, ended_with, LeavesTries}
 use Rattle.model_answers.proofs.Standing.{fails-alone, refuses-alone}
 use Rattle.model_worlds.specs.Worlds.{value_of}
 use Rattle.serve_base.specs.declared.out.Out.{Out}
+use Rattle.keep.specs.Keeping.{Terms}
 use Rattle.serve_base.specs.Refusing.{GivesAnyway}
+use Rattle.serve_base.specs.Stores.{StoreState, Served}
 use Rattle.serve_base.specs.Shown.{question_of, said_of, view_of, Fits, ShowsSame}
 use Rattle.token.specs.Dispatching.{Stands}
 use Rattle.model_runs.specs.Applications.{StandsAtDesk, StandsOverDesk, answer_to_job, asked_by_job, by_job, told_as, told_result}
@@ -72,3 +74,11 @@ pub stands-from : (f : View → Answer) (old before desk : DeskState) (r : Resul
     → IfOk r (λ out. is_refused (said_of out) ≡ true → ShowsSame before desk ⊎ GivesAnyway (λ c. f) before (said_of out) desk) → Stands f old r desk
 stands-from f old before desk (Ok out) same refused = subst (λ d. is_refused (said_of out) ≡ true → ShowsSame d desk ⊎ GivesAnyway (λ c. f) d (said_of out) desk) same refused
 stands-from f old before desk (Err fault) same refused = tt
+
+-- what is served over one with other capacities is served over it
+pub served-from : {K : Type 0} (terms : Terms K) (f : View → Answer) (old new : StoreState K) (before met desk : DeskState) (r : Result Out Fault) → SameDesk before met
+    → Served terms said_of f old new met met r desk → Served terms said_of f old new before before r desk
+served-from terms f old new before met desk (Ok out) same served = subst (λ d. Served terms {E = Fault} said_of f old new d d (Ok out) desk) same served
+served-from terms f old new before met desk (Err fault) same served = λ sure c h fits.
+    let k = subst (λ d. Served terms {T = Out} said_of f old new d d (Err fault) desk) same served sure c h fits in
+    record { has = k.has; same = k.same; leaves = k.leaves }

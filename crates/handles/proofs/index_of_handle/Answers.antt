@@ -6,5 +6,5 @@ use Rattle.handles.proofs.index_of_handle.Goals as goal
 pub returns : goal.returns
 returns c =
     let facts = c.binary_search_by_key.ensures in
-    let by_key = facts.position (λ h. h.handle) (answers_always _ _ _ (λ f a r g called. search rules)) in
-    searched (λ h. h.handle) c.args.handle _ _ c.requires facts.bound by_key
+    let by_key = facts.position (λ h. h.handle.handle) (answers_always _ _ _ (λ f a r g called. search rules)) in
+    searched (λ h. h.handle.handle) c.args.handle _ _ c.requires facts.bound by_key

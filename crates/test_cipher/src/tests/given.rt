@@ -1,5 +1,5 @@
 //! The text that SP 800-38A and SP 800-38B work on, and bytes and keys as tables write them.
-use aes_block::Key;
+use aes_vector::Key;
 use std::alloc::Global;
 use std::test::Fail;
 

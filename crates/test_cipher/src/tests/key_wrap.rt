@@ -1,6 +1,6 @@
 use crate::tests::given::{bytes_of, key_of};
-use aes_block::Key;
 use aes_kw::{KwFault, unwrap, wrap};
+use aes_vector::Key;
 use std::alloc::Global;
 use std::test::Fail;
 use vectors::{RFC_3394, Vector};

@@ -1,6 +1,6 @@
 use crate::tests::given::{TEXT, bytes_of, key_of};
-use aes_block::Key;
 use aes_modes::{CounterBits, Direction, ModeFault, cbc, cbc_pad, ctr, ecb};
+use aes_vector::Key;
 use std::alloc::Global;
 use std::test::Fail;
 use vectors::{COUNTER, IV, KEY_128, Mode, SP_800_38A, Vector};

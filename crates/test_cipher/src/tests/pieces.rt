@@ -1,6 +1,6 @@
 use crate::tests::given::{TEXT, bytes_of, key_of};
-use aes_block::{Block, Key};
 use aes_modes::{CounterBits, Direction, ModeFault, cbc, cbc_pad, ctr, ecb};
+use aes_vector::{Block, Key};
 use lists::GhostBytes;
 use std::alloc::Global;
 use std::mem::size_of;

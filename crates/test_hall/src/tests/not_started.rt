@@ -11,6 +11,7 @@ use std::sync::atomic::{AtomicBool, Ordering};
 use std::sync::{Arc, Wait};
 use std::test::*;
 use std::thread::Threads;
+use std::time::Clock;
 use test_scripts::{opened_session, token_over, told_code};
 use token::Token;
 
@@ -87,7 +88,7 @@ fn has_session<K: Keep>(alloc: Global, token: &mut Token<K>) -> Result<bool, Fai
 type Came = (Option<HallFault>, bool, bool);
 
 /// What comes of four silent seats before a token, with stacks of these sizes.
-fn held_silent<K: Keep, R: Threads + Wait + Copy + Send + Drop + 'static>(
+fn held_silent<K: Keep, R: Threads + Wait + Clock + Copy + Send + Drop + 'static>(
     rt: R,
     alloc: Global,
     keep: K,
@@ -123,7 +124,7 @@ fn held_silent<K: Keep, R: Threads + Wait + Copy + Send + Drop + 'static>(
 
 /// Sees whether all seats were called, where no stack is too large; or that none was, that this is returned, and that the token
 /// comes back as it was.
-fn expect_asked<K: Keep, R: Threads + Wait + Copy + Send + Drop + 'static>(
+fn expect_asked<K: Keep, R: Threads + Wait + Clock + Copy + Send + Drop + 'static>(
     rt: R,
     alloc: Global,
     keep: K,

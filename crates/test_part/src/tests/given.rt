@@ -60,5 +60,5 @@ pub(super) fn object_of(
     class: ObjectClass,
     given: &[Given],
 ) -> Result<Object, Fail> {
-    Ok(Object::from_entries(entries_of(alloc, class, given)?).ok_or("an object")?)
+    Ok(Object::from_entries(alloc, entries_of(alloc, class, given)?)?.ok_or("an object")?)
 }

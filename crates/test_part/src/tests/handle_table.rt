@@ -84,3 +84,49 @@ fn an_object_is_found_whatever_the_order_of_ids(rt: HostRuntime) -> Result<(), F
     assert_eq!(rt; handles.object_of(4), None);
     Ok(())
 }
+
+/// How many of the objects from 1 to `last` have a handle by which they are found.
+fn found(handles: &Handles, last: u64) -> u64 {
+    let mut count: u64 = 0;
+    for id in 1..=last {
+        if let Some(number) = handles.number_of(id) {
+            if handles.object_of(number) == Some(id) {
+                count = count.saturating_add(1);
+            }
+        }
+    }
+    count
+}
+
+#[test]
+fn many_handles_are_retired_and_given_again(rt: HostRuntime) -> Result<(), Fail> {
+    const OBJECTS: u64 = 300;
+    let mut handles = Handles::new(rt.alloc());
+    for id in 1..=OBJECTS {
+        assert_eq!(rt; given(&mut handles, id, id % 2 == 0)?, id);
+    }
+    for id in 1..=OBJECTS {
+        if id % 3 != 0 {
+            handles.retire(id);
+        }
+    }
+    assert_eq!(rt; found(&handles, OBJECTS), 100);
+    for id in 1..=OBJECTS {
+        given(&mut handles, id, id % 2 == 0)?;
+    }
+    assert_eq!(rt; found(&handles, OBJECTS), OBJECTS);
+    assert_eq!(rt; handles.next_number(), 501);
+    expect_numbers(
+        &rt,
+        &handles,
+        &[
+            (1, Some(301)),
+            (3, Some(3)),
+            (300, Some(300)),
+            (299, Some(500)),
+        ],
+    );
+    handles.retire_private();
+    assert_eq!(rt; found(&handles, OBJECTS), 150);
+    Ok(())
+}

@@ -29,7 +29,8 @@ fn key_entries(
 }
 
 fn aes_key(alloc: Global) -> Result<Object, Fail> {
-    Ok(Object::from_entries(key_entries(alloc, &AES, &[7; 16], &LEN_16)?).ok_or("a key")?)
+    let entries = key_entries(alloc, &AES, &[7; 16], &LEN_16)?;
+    Ok(Object::from_entries(alloc, entries)?.ok_or("a key")?)
 }
 
 fn data_object(alloc: Global) -> Result<Object, Fail> {
@@ -99,7 +100,7 @@ fn is_cut(alloc: Global, stored: &[u8], len: usize) -> bool {
 #[test]
 fn what_is_stored_is_read_again(rt: HostRuntime) -> Result<(), Fail> {
     let entries = key_entries(rt.alloc(), &GENERIC, b"value", &LEN_5)?;
-    let key = Object::from_entries(entries).ok_or("a key")?;
+    let key = Object::from_entries(rt.alloc(), entries)?.ok_or("a key")?;
     let stored = encode(rt.alloc(), &key.clone()?)?;
     let is_read = is_read_again(rt.alloc(), &key, &stored)?;
     assert!(rt; is_read);
@@ -129,7 +130,8 @@ static CASES: [Case; 7] = [
 #[test]
 fn a_key_has_a_listed_type_and_the_length_that_it_says(rt: HostRuntime) -> Result<(), Fail> {
     for (key_type, value, len, is_key) in &CASES {
-        let made = Object::from_entries(key_entries(rt.alloc(), key_type, value, len)?);
+        let entries = key_entries(rt.alloc(), key_type, value, len)?;
+        let made = Object::from_entries(rt.alloc(), entries)?;
         assert_eq!(rt; made.is_some(), *is_key, "{key_type:?} {value:?} {len:?}");
     }
     Ok(())

@@ -8,7 +8,7 @@ use std::os::unix::net::UnixStream;
 use std::sync::Wait;
 use std::test::*;
 use std::thread::{JoinHandle, Threads};
-use std::time::Duration;
+use std::time::{Clock, Duration};
 use std::{fs, thread};
 use test_scripts::{FIRST_REPLIES, FIRST_RUN};
 
@@ -23,7 +23,7 @@ pub(super) const SESSION_TWO: &[u8] =
 pub(super) type Options = (&'static str, &'static str, &'static str);
 
 /// Runs `tokend serve` over a store in memory in a thread of its own, with these options and a seed of zeros.
-pub(super) fn start_with<R: Threads + Wait + Copy + Send + Drop + 'static>(
+pub(super) fn start_with<R: Threads + Wait + Clock + Copy + Send + Drop + 'static>(
     rt: &HostRuntime,
     threads: R,
     socket: &'static str,
@@ -34,7 +34,7 @@ pub(super) fn start_with<R: Threads + Wait + Copy + Send + Drop + 'static>(
 }
 
 /// The same. The file of the seed is made, and has this byte 32 times.
-pub(super) fn start_seeded<R: Threads + Wait + Copy + Send + Drop + 'static>(
+pub(super) fn start_seeded<R: Threads + Wait + Clock + Copy + Send + Drop + 'static>(
     rt: &HostRuntime,
     threads: R,
     socket: &'static str,
@@ -47,7 +47,7 @@ pub(super) fn start_seeded<R: Threads + Wait + Copy + Send + Drop + 'static>(
     Ok(thread::spawn(&threads, daemon)?)
 }
 
-fn serve_with<'a, R: Threads + Wait + Copy + Send + Drop + 'static>(
+fn serve_with<'a, R: Threads + Wait + Clock + Copy + Send + Drop + 'static>(
     rt: &HostRuntime,
     threads: R,
     socket: &'a str,

@@ -8,7 +8,7 @@ use std::os::unix::net::UnixStream;
 use std::sync::Wait;
 use std::test::*;
 use std::thread::{JoinHandle, Threads};
-use std::time::Duration;
+use std::time::{Clock, Duration};
 use std::{fs, thread};
 use test_scripts::{FIRST_REPLIES, FIRST_RUN};
 
@@ -55,7 +55,7 @@ pub(super) const SEARCH_REPLIES: &[u8] =
 const TAKEN: &str = "another program listens on --socket, or its file is no socket";
 
 /// Runs `tokend serve` in a thread of its own, each seat of which accepts one connection.
-pub(super) fn start<R: Threads + Wait + Copy + Send + Drop + 'static>(
+pub(super) fn start<R: Threads + Wait + Clock + Copy + Send + Drop + 'static>(
     rt: &HostRuntime,
     threads: R,
     store: &'static str,
@@ -66,7 +66,7 @@ pub(super) fn start<R: Threads + Wait + Copy + Send + Drop + 'static>(
 }
 
 /// The same, each seat of which accepts so many connections.
-pub(super) fn start_for<R: Threads + Wait + Copy + Send + Drop + 'static>(
+pub(super) fn start_for<R: Threads + Wait + Clock + Copy + Send + Drop + 'static>(
     rt: &HostRuntime,
     threads: R,
     store: &'static str,
@@ -80,7 +80,7 @@ pub(super) fn start_for<R: Threads + Wait + Copy + Send + Drop + 'static>(
     Ok(thread::spawn(&threads, daemon)?)
 }
 
-fn serve<R: Threads + Wait + Copy + Send + Drop + 'static>(
+fn serve<R: Threads + Wait + Clock + Copy + Send + Drop + 'static>(
     rt: &HostRuntime,
     threads: R,
     store: &str,
@@ -90,7 +90,7 @@ fn serve<R: Threads + Wait + Copy + Send + Drop + 'static>(
     serve_for(rt, threads, store, socket, seed, "1")
 }
 
-fn serve_for<R: Threads + Wait + Copy + Send + Drop + 'static>(
+fn serve_for<R: Threads + Wait + Clock + Copy + Send + Drop + 'static>(
     rt: &HostRuntime,
     threads: R,
     store: &str,

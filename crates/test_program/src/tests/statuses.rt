@@ -12,6 +12,7 @@ use std::os::unix::net::UnixStream;
 use std::sync::Wait;
 use std::test::*;
 use std::thread::Threads;
+use std::time::Clock;
 use test_scripts::{FIRST_REPLIES, FIRST_RUN};
 
 /// The files of each test.
@@ -65,7 +66,7 @@ impl Write for BrokenOutput {
 }
 
 /// What a command line answers whose input gives these bytes, and then fails.
-fn run_from<R: Threads + Wait + Copy + Send + Drop + 'static>(
+fn run_from<R: Threads + Wait + Clock + Copy + Send + Drop + 'static>(
     rt: &HostRuntime,
     threads: R,
     words: &[&str],
@@ -85,7 +86,7 @@ fn run_from<R: Threads + Wait + Copy + Send + Drop + 'static>(
 }
 
 /// What a command line answers whose output takes so many bytes, and then fails.
-fn run_into<R: Threads + Wait + Copy + Send + Drop + 'static>(
+fn run_into<R: Threads + Wait + Clock + Copy + Send + Drop + 'static>(
     rt: &HostRuntime,
     threads: R,
     words: &[&str],
@@ -191,7 +192,7 @@ fn line_of(alloc: Global, len: usize) -> Result<Vec<u8>, Fail> {
 const NO_FUNCTION: &[u8] = b"0000000000000054\n";
 
 /// Sees that the second line is refused, and that the reply to the first one stays printed.
-fn expect_second_refused<R: Threads + Wait + Copy + Send + Drop + 'static>(
+fn expect_second_refused<R: Threads + Wait + Clock + Copy + Send + Drop + 'static>(
     rt: &HostRuntime,
     threads: R,
     (first, reply): (&[u8], &[u8]),
@@ -247,7 +248,7 @@ fn a_daemon_of_no_connections_serves_nobody(rt: HostRuntime) -> Result<(), Fail>
 }
 
 /// What a command line answers over this output, and what it reports. Its words are made once more where an allocation fails.
-fn run_in<R: Threads + Wait + Copy + Send + Drop + 'static>(
+fn run_in<R: Threads + Wait + Clock + Copy + Send + Drop + 'static>(
     rt: &HostRuntime,
     threads: R,
     words: &[&str],

@@ -27,6 +27,8 @@ const OF_KEY: Given = &[(AttrType::Value, KEY_BYTES)];
 
 const OF_TEXT: Given = &[(AttrType::Value, TEXT)];
 
+const OTHER_LABEL: Given = &[(AttrType::Label, b"k2")];
+
 const HIDDEN_VALUES: &[Row] = &[
     (A, OPEN, Told::Session(1)),
     (A, CreateObject(1, LABELLED), Told::Object(1)),
@@ -41,6 +43,13 @@ const HIDDEN_VALUES: &[Row] = &[
     (A, FindObjectsFinal(1), OK),
     (A, FindObjectsInit(1, OF_TEXT), OK),
     (A, FindObjects(1, 9), Told::Objects(&[2])),
+    (A, FindObjectsFinal(1), OK),
+    (A, SetAttributeValue(1, 1, OTHER_LABEL), OK),
+    (
+        A,
+        GetAttributeValue(1, 1, &[(LABEL, Some(64))]),
+        Told::AttributeValues(Rv::Ok, &[(2, Some(b"k2"))]),
+    ),
 ];
 
 /// What makes no object, each of the token.

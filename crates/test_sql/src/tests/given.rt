@@ -42,7 +42,7 @@ fn entries_of(alloc: Global, is_token: bool, byte: u8) -> Result<Items<Entry>, A
 
 /// A data object with a value of one byte, of the token or of a session. `Memory` stands for none too.
 pub(super) fn data_object(alloc: Global, is_token: bool, byte: u8) -> Result<Object, KeepFault> {
-    Object::from_entries(entries_of(alloc, is_token, byte)?).ok_or(KeepFault::Memory)
+    Object::from_entries(alloc, entries_of(alloc, is_token, byte)?)?.ok_or(KeepFault::Memory)
 }
 
 /// A token object with a value of one byte.

@@ -41,7 +41,7 @@ fn aes_key(alloc: Global) -> Result<Object, Fail> {
             })?;
         }
     }
-    Ok(Object::from_entries(entries).ok_or("an object")?)
+    Ok(Object::from_entries(alloc, entries)?.ok_or("an object")?)
 }
 
 fn is_new(number: u64) -> bool {

@@ -3,7 +3,7 @@ use Rattle.fips_197.specs.Encrypt.{encrypted_block}
 use Rattle.fips_197.specs.Cipher.{cipher}
 use Rattle.fips_197.specs.InverseCipher.{inverse_cipher}
 use Rattle.aes_block.specs.Words.{words_bytes}
-use Rattle.aes_block.proofs.Inverses.{cipher-inverse_cipher, inverse_cipher-cipher}
+use Rattle.fips_197.proofs.Inverses.{cipher-inverse_cipher, inverse_cipher-cipher}
 use Rattle.aes_block.proofs.StoredKeys.{rounds-bounds, IsBlock-stored, encrypted-stored}
 use Rattle.aes_block.proofs.Key.decipher.Goals as goal
 

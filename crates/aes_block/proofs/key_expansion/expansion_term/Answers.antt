@@ -1,7 +1,7 @@
 use Rattle.std.proofs.Common.{◌∙◌, sym}
 use Rattle.fips_197.specs.Bytes.{xor_bytes}
 use Rattle.aes_block.specs.Words.{word_bytes}
-use Rattle.aes_block.proofs.ExpansionTerms.{at_multiple, at_fourth, at_other, at_short_key}
+use Rattle.fips_197.proofs.ExpansionTerms.{at_multiple, at_fourth, at_other, at_short_key}
 use Rattle.aes_block.proofs.key_expansion.expansion_term.Goals as goal
 use Rattle.aes_block.proofs.key_expansion.expansion_term.Goals.{else-this-gt6-via-then-this-gt6+else-i-eq4, else-this-gt6-via-else-this-gt6}
 

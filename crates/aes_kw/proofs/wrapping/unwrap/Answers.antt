@@ -1,23 +1,9 @@
-use Rattle.std.proofs.Common.{◌≡◌, ℕ, ◌+◌, ◌-◌, ◌*◌, ◌/◌, List, true, false, not, ◌∙◌, ap, refl, sym, arith, length, take, suc, Decides}
-use Rattle.std.specs.Cmp.Lexicographic.{pointwise}
-use Rattle.std.proofs.Math.Dec.{eqb}
-use Rattle.std.proofs.lemmas.Bool.{not-true, not-false, false≢true}
-use Rattle.std.proofs.lemmas.Bool.Decides.{Decides-eqb}
-use Rattle.std.proofs.lemmas.Slice.Eq.{slice_eq-Decides}
-use Rattle.aes_kw.specs.KeyWrap.{half, after_steps, initial_value, wrapped}
+use Rattle.std.proofs.Common.{◌≡◌, ◌+◌, ◌-◌, ◌*◌, ◌/◌, ◌∙◌, ap, sym, arith, length, take, suc}
+use Rattle.std.proofs.lemmas.Bool.{false≢true}
+use Rattle.aes_kw.specs.KeyWrap.{half, after_steps, wrapped}
 use Rattle.aes_kw.proofs.Rows.{written-back, first-dropped}
 use Rattle.aes_kw.proofs.Only.{start, back-more, only-more, wrapped-row, row-from-wrapped, first-from-start, rest-from-start}
 use Rattle.aes_kw.proofs.wrapping.unwrap.Goals as goal
-
--- what the test of the check value finds
-decided : (a : List ℕ) → Decides (pointwise eqb a initial_value) (a ≡ initial_value)
-decided a = slice_eq-Decides Decides-eqb a initial_value (pointwise eqb a initial_value) refl
-
-is_initial : (a : List ℕ) → false ≡ not (pointwise eqb a initial_value) → a ≡ initial_value
-is_initial a test = let d = decided a in d.0 (not-false _ (sym test))
-
-is_other : (a : List ℕ) → true ≡ not (pointwise eqb a initial_value) → a ≡ initial_value → ⊥
-is_other a test same = let d = decided a in false≢true (sym (not-true _ (sym test)) ∙ d.1 same)
 
 pub steps-preserved : goal.steps-preserved
 steps-preserved c =
@@ -39,8 +25,8 @@ steps-preserved c =
           ∙ sym row;
     }
 
-pub returns-then-ne-clause-bad_check : goal.returns-then-ne-clause-bad_check
-returns-then-ne-clause-bad_check c = λ _ x value is.
+pub returns-then-not-same_bytes-clause-bad_check : goal.returns-then-not-same_bytes-clause-bad_check
+returns-then-not-same_bytes-clause-bad_check c = λ _ x value is.
     let key = c.args.key.now in
     let bytes = c.args.bytes.now in
     let n = length bytes / 8 - 1 in
@@ -49,7 +35,7 @@ returns-then-ne-clause-bad_check c = λ _ x value is.
     let first = c.half_at.ensures ∙ ap (λ r. half r 0) c.deref.ensures.value in
     let start_is = row-from-wrapped key row bytes x n c.is_key.ensures (omega arith) value
     (λ y hb hs e. sym (start key n y) ∙ ap (after_steps key n y) (sym end) ∙ c.steps.invariant.only y hb hs e) is in
-    is_other _ c.if-ne.ensures (first ∙ first-from-start row x start_is)
+    false≢true (sym c.if-not-same_bytes.true ∙ c.same_bytes.ensures.same.1 (first ∙ first-from-start row x start_is))
 
 pub returns-clause-value : goal.returns-clause-value
 returns-clause-value c =
@@ -61,7 +47,7 @@ returns-clause-value c =
     let first = c.half_at.ensures ∙ ap (λ r. half r 0) c.deref.ensures.value in
     let cut = c.truncate.ensures.items ∙ ap (take (8 * n)) c.rotate_left.ensures.items ∙ first-dropped row n c.steps.invariant.size in
     ap (wrapped key) cut
-    ∙ wrapped-row key row bytes n c.steps.invariant.size (sym first ∙ is_initial _ c.if-ne.ensures)
+    ∙ wrapped-row key row bytes n c.steps.invariant.size (sym first ∙ c.same_bytes.ensures.same.0 c.if-not-same_bytes.false)
     (c.steps.invariant.back row (ap (after_steps key n row) end ∙ start key n row))
 
 pub returns-clause-only : goal.returns-clause-only

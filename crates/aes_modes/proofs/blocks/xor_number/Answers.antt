@@ -1,7 +1,7 @@
 use Rattle.std.proofs.Common.{◌∙◌, ap, arith, bit_xor}
 use Rattle.std.specs.Int.{w128, to_be_bytes}
 use Rattle.fips_197.specs.Bytes.{xor_bytes}
-use Rattle.aes_block.proofs.Numbers.{to_be_bytes-xor, to_be_bytes-block}
+use Rattle.fips_197.proofs.Numbers.{to_be_bytes-xor, to_be_bytes-block}
 use Rattle.aes_modes.proofs.blocks.xor_number.Goals as goal
 
 pub returns : goal.returns

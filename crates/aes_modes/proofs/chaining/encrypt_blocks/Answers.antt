@@ -1,9 +1,7 @@
 use Rattle.std.proofs.Common.{◌∙◌, ◌≡◌, ◌/◌, ◌++◌, ap, sym, arith, refl, length}
 use Rattle.std.proofs.lemmas.List.{append-nil, append_assoc, length-append}
-use Rattle.std.specs.Int.{w128, to_be_bytes}
 use Rattle.fips_197.specs.Bytes.{xor_bytes}
 use Rattle.fips_197.specs.Encrypt.{encrypted_block}
-use Rattle.aes_block.proofs.Numbers.{to_be_bytes-block}
 use Rattle.aes_modes.specs.Blocks.{first_blocks}
 use Rattle.aes_modes.specs.Modes.{chained, cbc_blocks}
 use Rattle.aes_modes.proofs.Chains.{chained-more, cbc_blocks-more}
@@ -14,8 +12,7 @@ unfolding first_blocks chained
 turns-init c = record {
   size = omega arith;
   out = sym (append-nil c.args.out.now.items);
-  before = ap (to_be_bytes w128) c.from_be_bytes-before.ensures
-      ∙ to_be_bytes-block c.args.iv (record { size = omega arith; bytes = c.are_bytes.ensures });
+  before = refl;
 }
 
 pub turns-preserved : goal.turns-preserved
@@ -24,11 +21,11 @@ turns-preserved c =
     let iv = c.args.iv in
     let text = c.args.text.now in
     let start = c.args.out.now.items in
-    let last = to_be_bytes w128 c.turns.before in
-    let block = to_be_bytes w128 c.encrypt_number-before.result in
-    let is = c.in_ok-push_number.ensures in
-    let next = c.encrypt_number-before.ensures
-    ∙ ap (encrypted_block key) (c.xor_number.ensures ∙ ap (λ b. xor_bytes b last) c.block_at.ensures)
+    let last = c.turns.before in
+    let block = c.encipher-before.result in
+    let is = c.in_ok-extend_from_slice.ensures.items in
+    let next = c.encipher-before.ensures.value
+    ∙ ap (encrypted_block key) (c.xor_blocks.ensures.value ∙ ap (λ b. xor_bytes b last) c.block_at.ensures)
     ∙ chained-more key iv text last c.turns.i c.turns.invariant.before in
     record {
       size = ap length is ∙ length-append c.turns.out.items block
@@ -53,4 +50,4 @@ returns-clause-blocks c =
 pub returns-clause-chained : goal.returns-clause-chained
 returns-clause-chained c =
     let end : c.turns.i ≡ length c.args.text.now / 16 = omega arith in
-    c.to_be_bytes.ensures ∙ c.turns.invariant.before ∙ ap (chained c.args.key.now c.args.iv c.args.text.now) end
+    c.turns.invariant.before ∙ ap (chained c.args.key.now c.args.iv c.args.text.now) end

@@ -1,5 +1,4 @@
 use Rattle.std.proofs.Common.{◌≡◌, ◌+◌, ◌*◌, ◌++◌, length}
-use Rattle.std.specs.Int.{w128, to_be_bytes}
 use Rattle.aes_modes.specs.Modes.{chained, cbc_blocks}
 use Rattle.aes_modes.proofs.chaining.encrypt_blocks.Given as goal
 
@@ -7,5 +6,5 @@ abbrev pub invariant-turns : goal.invariant-turns
 invariant-turns l = record {
   size : length l.out.items ≡ length l.initial.out.items + 16 * l.i;
   out : l.out.items ≡ l.initial.out.items ++ cbc_blocks l.key l.fn.iv l.text l.i;
-  before : to_be_bytes w128 l.before ≡ chained l.key l.fn.iv l.text l.i;
+  before : l.before ≡ chained l.key l.fn.iv l.text l.i;
 }

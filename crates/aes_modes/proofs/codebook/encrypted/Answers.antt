@@ -1,31 +1,18 @@
-use Rattle.std.proofs.Common.{◌∙◌, ◌≡◌, ◌/◌, ap, arith, length}
-use Rattle.std.proofs.lemmas.List.{length-append}
+use Rattle.std.proofs.Common.{◌∙◌, ◌/◌, ◌++◌, ap, length}
 use Rattle.fips_197.specs.Encrypt.{encrypted_block}
+use Rattle.fips_197.specs.Texts.{block_of}
 use Rattle.aes_modes.specs.Blocks.{first_blocks}
-use Rattle.aes_modes.specs.Modes.{ecb_blocks}
-use Rattle.aes_modes.proofs.Chains.{ecb_blocks-more}
+use Rattle.aes_modes.specs.Modes.{ecb_block}
+use Rattle.aes_modes.proofs.Only.{length-ecb_encrypted}
 use Rattle.aes_modes.proofs.codebook.encrypted.Goals as goal
 
-pub turns-init : goal.turns-init
-unfolding first_blocks
-turns-init c = record { size = ap length c.in_ok-out.ensures.items; out = c.in_ok-out.ensures.items }
-
-pub turns-preserved : goal.turns-preserved
-turns-preserved c =
-    let key = c.args.key.now in
-    let is = c.in_ok-extend_from_slice.ensures.items in
-    record {
-      size = ap length is ∙ length-append c.turns.out.items c.encipher.result
-          ∙ omega (arith, c.turns.invariant.size, c.encipher.ensures.blocks.1.size);
-      out = is
-          ∙ ecb_blocks-more key c.args.text.now c.turns.out.items c.encipher.result c.turns.i c.turns.invariant.out
-          (c.encipher.ensures.value ∙ ap (encrypted_block key) c.block_at.ensures);
-    }
+pub returns-clause-value : goal.returns-clause-value
+unfolding ecb_block
+returns-clause-value c =
+    let text = c.args.text.now in
+    c.in_ok-push_encrypted.ensures
+    ∙ ap (λ l. l ++ first_blocks (λ i. encrypted_block c.args.key.now (block_of text i)) (length text / 16)) c.in_ok-out.ensures.items
 
 pub returns-clause-length : goal.returns-clause-length
-returns-clause-length c = omega (arith, c.turns.invariant.size, c.requires)
-
-pub returns-clause-value : goal.returns-clause-value
-returns-clause-value c =
-    let end : c.turns.i ≡ length c.args.text.now / 16 = omega arith in
-    c.turns.invariant.out ∙ ap (ecb_blocks c.args.key.now c.args.text.now) end
+returns-clause-length c =
+    ap length (returns-clause-value c) ∙ length-ecb_encrypted c.args.key.now c.is_key.ensures c.args.text.now c.are_bytes.ensures c.requires

@@ -7,7 +7,7 @@ use Rattle.hall_sockets.proofs.holding.hold_sockets.Lts as lts
 use Rattle.hall_sockets.proofs.holding.hold_sockets.Goals as goal
 
 pub hold-requires-send-S : goal.hold-requires-send-S
-hold-requires-send-S g c κs within = param_send 1 (lts.arg-2-1 g.row.K g.row.L g.row.C g.row.G g.row.R g.K.laws g.L.laws g.C.laws g.G.laws g.R.laws g.R.copy g.K.Keep g.K.Keep-dict g.L.Log g.L.Log-dict g.C.Clock g.C.Clock-dict g.G.Gate g.G.Gate-dict g.R.Threads g.R.Threads-dict g.R.Wait g.R.Wait-dict g.R.Clone g.R.Clone-dict g.K.Destruct-dict g.L.Destruct-dict g.C.Destruct-dict g.G.Destruct-dict κs)
+hold-requires-send-S g c κs within = param_send 1 (lts.arg-2-1 g.row.K g.row.L g.row.C g.row.G g.row.R g.K.laws g.L.laws g.C.laws g.G.laws g.R.laws g.R.copy g.K.Keep g.K.Keep-dict g.L.Log g.L.Log-dict g.C.Clock g.C.Clock-dict g.G.Gate g.G.Gate-dict g.R.Threads g.R.Threads-dict g.R.Wait g.R.Wait-dict g.R.Clock g.R.Clock-dict g.R.Clone g.R.Clone-dict g.K.Destruct-dict g.L.Destruct-dict g.C.Destruct-dict g.G.Destruct-dict κs)
     (arg_send _ exits.no _ (seat_send _ _ c.type_bounds.send-L c.type_bounds.send-C))
 
 pub returns-clause-served : goal.returns-clause-served

@@ -1,38 +1,48 @@
-use Rattle.std.proofs.Common.{refl, arith}
+use Rattle.std.proofs.Common.{◌≡◌, None, Some, length, refl, sym, ap, ◌∙◌, arith}
+use Rattle.std.specs.Prelude.{find, ◌==◌}
+use Rattle.handles.specs.Stored.{handles_in}
 use Rattle.handles.proofs.HandleLemmas.{number_of-push}
-use Rattle.handles.proofs.StoredLemmas.{IsStored-KeysRise, IsStored-found, IsStored-absent, IsStored-length, IsStored-push}
+use Rattle.handles.proofs.StoredLemmas.{IsStored-given, IsStored-length, IsStored-number_of, IsStored-taken, pushed-same, taken-ids, taken-same}
 use Rattle.handles.proofs.Handles.give.Goals as goal
 
-pub index_of_id-requires : goal.index_of_id-requires
-index_of_id-requires c = rw c.deref.ensures.value (IsStored-KeysRise c.self.inside.next_number c.self.inside.entries.items _ c.self.invariant)
+pub returns-in-Some-clause-handle : goal.returns-in-Some-clause-handle
+returns-in-Some-clause-handle c =
+    let found = rw c.deref.ensures.value at c.in-Some.ensures in
+    rw (← c.self.view_is) (IsStored-number_of c.self.inside.next_number _ _ c.self.invariant c.args.id (Some c.in-Some.found) found)
 
-pub returns-in-Ok-clause-handle : goal.returns-in-Ok-clause-handle
-returns-in-Ok-clause-handle c =
-    let found = rw c.deref.ensures.value at c.in-Ok.ensures in
-    rw (← c.self.view_is) (IsStored-found c.self.inside.next_number c.args.id c.in-Ok.at _ _ _ c.self.invariant (found.1 c.index.result.now) c.index.ensures)
+pub returns-in-Some-clause-given : goal.returns-in-Some-clause-given
+returns-in-Some-clause-given c = rw (returns-in-Some-clause-handle c) refl
 
-pub returns-in-Ok-clause-given : goal.returns-in-Ok-clause-given
-returns-in-Ok-clause-given c = rw (returns-in-Ok-clause-handle c) refl
+pub put_by_id-requires-clause-rise : goal.put_by_id-requires-clause-rise
+put_by_id-requires-clause-rise c = taken-ids _ _ c.make_room-2.ensures.left c.self.invariant.ids
 
-pub insert_reserved-requires-clause-room : goal.insert_reserved-requires-clause-room
-insert_reserved-requires-clause-room c =
+pub put_by_id-requires-clause-new : goal.put_by_id-requires-clause-new
+put_by_id-requires-clause-new c =
+    let none = rw c.deref.ensures.value at c.in_default.ensures in
+    ap (find (λ h. h.id == c.args.id)) (taken-same _ _ c.make_room-2.ensures.left) ∙ sym none
+
+pub put_by_id-requires-clause-room : goal.put_by_id-requires-clause-room
+put_by_id-requires-clause-room c =
     let room = rw (← c.self.view_is) at c.requires.room in
-    omega (arith, room, c.self.inside.by_id.ok.0, IsStored-length c.self.inside.next_number _ _ c.self.invariant)
+    c.make_room-2.ensures.room (omega (arith, room, IsStored-length c.self.inside.next_number _ _ c.self.invariant))
 
 pub invariant_of-self : goal.invariant_of-self
 invariant_of-self c =
-    let gap = rw c.deref.ensures.value at c.in-Err.ensures in
-    let none = IsStored-absent c.self.inside.next_number c.args.id _ _ c.self.invariant gap.1 in
-    rw (c.push_reserved.ensures.items, c.insert_reserved.ensures.items, ← gap.2 (record { handle = c.self.inside.next_number; id = c.args.id; private = c.args.private }) refl) (IsStored-push c.self.inside.next_number c.args.id c.args.private _ _ none c.self.invariant)
+    let none = rw c.deref.ensures.value at c.in_default.ensures in
+    let taken = IsStored-taken c.self.inside.next_number _ _ c.make_room.new.entries.items c.make_room-2.new.entries.items c.self.invariant c.make_room.ensures.left c.make_room-2.ensures.left in
+    let absent = none ∙ ap (find (λ h. h.id == c.args.id)) (sym (taken-same _ _ c.make_room-2.ensures.left)) in
+    rw c.push_reserved.ensures.items (IsStored-given c.self.inside.next_number c.args.id c.args.private _ _ _ absent c.put_by_id.ensures.put c.put_by_id.ensures.rise taken)
 
 pub returns-clause-given : goal.returns-clause-given
 returns-clause-given c =
-    let gap = rw c.deref.ensures.value at c.in-Err.ensures in
-    let none = IsStored-absent c.self.inside.next_number c.args.id _ _ c.self.invariant gap.1 in
-    rw (← c.self.view_is, none, c.push_reserved.ensures.items, c.push_reserved.ensures.capacity, c.insert_reserved.ensures.capacity) refl
+    let none = rw c.deref.ensures.value at c.in_default.ensures in
+    let absent = IsStored-number_of c.self.inside.next_number _ _ c.self.invariant c.args.id None none in
+    let items = ap handles_in c.push_reserved.ensures.items ∙ pushed-same c.make_room.new.entries.items (record { handle = c.self.inside.next_number; id = c.args.id; private = c.args.private }) in
+    rw (← c.self.view_is, absent, items, taken-same _ _ c.make_room.ensures.left, c.push_reserved.ensures.capacity, c.make_room.ensures.capacity, c.put_by_id.ensures.capacity, c.make_room-2.ensures.capacity) refl
 
 pub returns-clause-handle : goal.returns-clause-handle
 returns-clause-handle c =
-    let gap = rw c.deref.ensures.value at c.in-Err.ensures in
-    let none = IsStored-absent c.self.inside.next_number c.args.id _ _ c.self.invariant gap.1 in
-    rw c.push_reserved.ensures.items (number_of-push _ (record { handle = c.self.inside.next_number; id = c.args.id; private = c.args.private }) none)
+    let none = rw c.deref.ensures.value at c.in_default.ensures in
+    let absent = IsStored-number_of c.self.inside.next_number _ _ c.self.invariant c.args.id None none in
+    let items = ap handles_in c.push_reserved.ensures.items ∙ pushed-same c.make_room.new.entries.items (record { handle = c.self.inside.next_number; id = c.args.id; private = c.args.private }) in
+    rw (items, taken-same _ _ c.make_room.ensures.left) (number_of-push _ (record { handle = c.self.inside.next_number; id = c.args.id; private = c.args.private }) absent)

@@ -1,5 +1,4 @@
 use Rattle.std.proofs.Common.{◌≡◌, ◌*◌, ◌++◌, length}
-use Rattle.std.specs.Int.{w128, to_be_bytes}
 use Rattle.aes_modes.specs.Modes.{cbc_blocks, chained}
 use Rattle.streams.proofs.cbc_encryption.encrypted_blocks.Given as goal
 
@@ -7,5 +6,5 @@ abbrev pub invariant-turns : goal.invariant-turns
 invariant-turns l = record {
   size : length l.out.items ≡ 16 * l.i;
   out : l.out.items ≡ cbc_blocks l.key l.fn.start (l.kept ++ l.piece) l.i;
-  chain : to_be_bytes w128 l.chain ≡ chained l.key l.fn.start (l.kept ++ l.piece) l.i;
+  chain : l.chain ≡ chained l.key l.fn.start (l.kept ++ l.piece) l.i;
 }

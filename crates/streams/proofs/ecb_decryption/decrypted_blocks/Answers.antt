@@ -1,24 +1,22 @@
-use Rattle.std.proofs.Common.{◌∙◌, ap, arith, refl, ◌+◌, ◌++◌, length}
+use Rattle.std.proofs.Common.{ℕ, ◌*◌, ◌≤◌, ◌++◌, List, subst, arith, length}
 use Rattle.std.proofs.lemmas.List.{length-append}
-use Rattle.aes_modes.specs.Blocks.{first_blocks}
-use Rattle.aes_modes.specs.Modes.{ecb_blocks}
-use Rattle.aes_modes.proofs.Chains.{ecb_blocks-back}
+use Rattle.fips_197.specs.Bytes.{AreBytes}
+use Rattle.fips_197.proofs.Blocks.{AreBytes-append}
+use Rattle.streams.proofs.Decrypted.{IsEcbPlain, ecb_plain}
 use Rattle.streams.proofs.ecb_decryption.decrypted_blocks.Goals as goal
 
-pub turns-init : goal.turns-init
-unfolding first_blocks
-turns-init c = record { size = ap length c.in_ok-out.ensures.items; back = refl }
+plain : (c : goal.After-are_bytes-3)
+    → IsEcbPlain c.args.key.now (c.args.kept.now ++ c.args.piece.now) c.push_decrypted.new.out.items c.args.blocks
+plain c =
+    let kept : List ℕ = c.args.kept.now in
+    let piece : List ℕ = c.args.piece.now in
+    let bytes : AreBytes (kept ++ piece) = AreBytes-append kept piece (subst AreBytes c.as_slice-front.ensures c.are_bytes.ensures) c.are_bytes-2.ensures in
+    let within : 16 * c.args.blocks ≤ length (kept ++ piece) = omega (arith, c.requires, length-append kept piece) in
+    ecb_plain c.args.key.now (kept ++ piece) c.push_decrypted.new.out.items c.args.blocks c.size-size.ensures.key bytes within
+    (rw (c.as_slice-front.ensures, c.in_ok-out.ensures.items) at c.in_ok-push_decrypted.ensures)
 
-pub turns-preserved : goal.turns-preserved
-turns-preserved c =
-    let key = c.args.key.now in
-    let text = c.args.kept.now ++ c.args.piece.now in
-    let p = c.decipher.result in
-    let out = c.turns.out.items in
-    let is = c.in_ok-extend_from_slice.ensures.items in
-    let n = c.decipher.ensures.blocks.1.size in
-    record {
-      size = ap length is ∙ length-append out p ∙ omega (arith, n, c.turns.invariant.size);
-      back = ap (λ o. ecb_blocks key o (c.turns.i + 1)) is
-          ∙ ecb_blocks-back key text out p c.turns.i c.turns.invariant.size n c.turns.invariant.back (c.decipher.ensures.back ∙ c.block.ensures);
-    }
+pub returns-clause-size : goal.returns-clause-size
+returns-clause-size c = let h = plain c in h.size
+
+pub returns-clause-back : goal.returns-clause-back
+returns-clause-back c = let h = plain c in h.back

@@ -1,23 +1,29 @@
-use Rattle.std.proofs.Common.{◌∙◌, ◌++◌, ap, arith, length}
+use Rattle.std.proofs.Common.{ℕ, ◌∙◌, ◌++◌, List, ap, subst, arith, length}
 use Rattle.std.proofs.lemmas.List.{length-append}
+use Rattle.fips_197.specs.Bytes.{AreBytes}
 use Rattle.fips_197.specs.Encrypt.{encrypted_block}
+use Rattle.fips_197.specs.Texts.{block_of}
+use Rattle.fips_197.proofs.Blocks.{AreBytes-append}
 use Rattle.aes_modes.specs.Blocks.{first_blocks}
-use Rattle.aes_modes.proofs.Chains.{ecb_blocks-more}
+use Rattle.aes_modes.specs.Modes.{ecb_block}
+use Rattle.aes_modes.proofs.DecryptedTexts.{ecb_blocks-size}
 use Rattle.streams.proofs.ecb_encryption.encrypted_blocks.Goals as goal
 
-pub turns-init : goal.turns-init
-unfolding first_blocks
-turns-init c = record { size = ap length c.in_ok-out.ensures.items; out = c.in_ok-out.ensures.items }
-
-pub turns-preserved : goal.turns-preserved
-turns-preserved c =
+pub returns-clause-value : goal.returns-clause-value
+unfolding ecb_block
+returns-clause-value c =
     let key = c.args.key.now in
-    let out = c.turns.out.items in
-    let is = c.in_ok-extend_from_slice.ensures.items in
-    record {
-      size = ap length is ∙ length-append out c.encipher.result
-          ∙ omega (arith, c.turns.invariant.size, c.encipher.ensures.blocks.1.size);
-      out = is
-          ∙ ecb_blocks-more key (c.args.kept.now ++ c.args.piece.now) out c.encipher.result c.turns.i c.turns.invariant.out
-          (c.encipher.ensures.value ∙ ap (encrypted_block key) c.block.ensures);
-    }
+    let piece : List ℕ = c.args.piece.now in
+    let n : ℕ = c.args.blocks in
+    c.in_ok-push_encrypted.ensures
+    ∙ (λ t. c.in_ok-out.ensures.items t ++ first_blocks (λ i. encrypted_block key (block_of (c.as_slice-front.ensures t ++ piece) i)) n)
+
+pub returns-clause-size : goal.returns-clause-size
+returns-clause-size c =
+    let kept : List ℕ = c.args.kept.now in
+    let piece : List ℕ = c.args.piece.now in
+    let bytes : AreBytes (kept ++ piece) =
+    AreBytes-append kept piece (subst AreBytes c.as_slice-front.ensures c.are_bytes.ensures) c.are_bytes-2.ensures in
+    ap length (returns-clause-value c)
+    ∙ ecb_blocks-size c.args.key.now c.size-size.ensures.key (kept ++ piece) bytes c.args.blocks
+    (omega (arith, c.requires, length-append kept piece))

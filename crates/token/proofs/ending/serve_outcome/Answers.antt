@@ -11,7 +11,8 @@ use Rattle.ops.specs.Operations.{operation_of, mac_of}
 use Rattle.model_views.specs.TaskResults.{Unwrapped}
 use Rattle.model_views.specs.Answering.{answered, becomes, replies, with_operation, with_mac}
 use Rattle.model_session_answers.specs.Login.{right_pin}
-use Rattle.model_worlds.specs.Worlds.{reveals_login}
+use Rattle.model_session_answers.specs.SetPin.{pin_changed}
+use Rattle.model_worlds.specs.Worlds.{reveals_checks, reveals_login}
 use Rattle.model_answers.specs.CipherInit.{place_for}
 use Rattle.model_answers.specs.UnwrapKey.{unwrapped_result}
 use Rattle.serve_base.specs.Shown.{objects_of, view_of}
@@ -112,3 +113,14 @@ returns-in-RightPin g c =
     (done-is g.K.Keep.terms 1 (λ k v. right_pin (answered v) who (reveals_login (objects_of k) who (under_way_of c.args.others.now who))) (λ k v. right_pin (answered v) who (right_reveal who n k)) c.args.store.now _ d _ _
     (λ k. ap (right_pin (answered (view_of k d)) who) (ap (reveals_login (objects_of k) who) (sym c.checks.ensures) ∙ sym (right-is who n k)))
     (done-over g.K.Keep.terms (λ k v. right_pin v who (right_reveal who n k)) c.args.store.now _ d _ _ c.requires c.right.ensures)))
+
+pub returns-in-PinChanged : goal.returns-in-PinChanged
+returns-in-PinChanged g c =
+    let d = c.args.desk.now in
+    let who = c.in-PinChanged.who in
+    let made = c.in-PinChanged.verifier in
+    let n = c.checks-in-PinChanged.result in
+    rw (c.in-PinChanged.is) (ends-as g.K.Keep.terms c.args.session (out.PinChanged who made) c.args.others.now c.args.store.now _ d _ _
+    (done-is g.K.Keep.terms 1 (λ k v. pin_changed (answered v) who made (reveals_checks (under_way_of c.args.others.now who))) (λ k v. pin_changed (answered v) who made (reveals_checks n)) c.args.store.now _ d _ _
+    (λ k. ap (λ m. pin_changed (answered (view_of k d)) who made (reveals_checks m)) (sym c.checks-in-PinChanged.ensures))
+    (done-over g.K.Keep.terms (λ k v. pin_changed v who made (reveals_checks n)) c.args.store.now _ d _ _ c.requires c.changed.ensures)))

@@ -8,13 +8,13 @@ pub returns-in_err-set_record-clause-leaves_or : goal.returns-in_err-set_record-
 returns-in_err-set_record-clause-leaves_or g c = λ k h.
     rw (← c.self.view_is) (
     let t = rw (← c.self.view_is) at h in
-    let p : LeavesOr g.K.Keep.terms (record { keep = c.self.inside.keep; ids = c.self.inside.ids.items }) (record { keep = c.set_record.new.self; ids = c.self.inside.ids.items }) (with_record c.args.token_record k) = (λ d may. c.in_err-set_record.ensures.err.crash k d t.held may) in
+    let p : LeavesOr g.K.Keep.terms (record { keep = c.self.inside.keep; listed = c.self.inside.listed.items }) (record { keep = c.set_record.new.self; listed = c.self.inside.listed.items }) (with_record c.args.token_record k) = (λ d may. c.in_err-set_record.ensures.err.crash k d t.held may) in
     on_err c.from_residual.result p)
 
 pub returns-clause-has : goal.returns-clause-has
 returns-clause-has g c = λ k h.
     let t = rw (← c.self.view_is) at h in
-    has-recorded _ _ _ k c.args.token_record t (c.in_ok-set_record.ensures.ok.held k t.held) refl
+    has-recorded _ _ _ k c.set_record.ensures.counts.doubt c.args.token_record t (c.in_ok-set_record.ensures.ok.held k t.held) refl
 
 pub returns-clause-leaves : goal.returns-clause-leaves
 returns-clause-leaves g c = λ k h left may.

@@ -1,6 +1,6 @@
 use Rattle.std.proofs.Common.{◌≡◌, ◌+◌, ◌++◌, ◌*◌, ◌≤◌, ◌∙◌, ap, sym, arith, length, take}
 use Rattle.std.proofs.lemmas.List.{length-take-le}
-use Rattle.aes_block.specs.Texts.{block_of}
+use Rattle.fips_197.specs.Texts.{block_of}
 use Rattle.streams_model.proofs.Pieces.{block_of-first, block_of-past}
 use Rattle.streams.proofs.kept.Kept.block.Goals as goal
 

@@ -1,0 +1,9 @@
+use Rattle.std.proofs.Common.{◌≡◌, ◌*◌, ◌++◌, min}
+use Rattle.fips_197.specs.Texts.{block_of}
+use Rattle.fips_197.specs.Encrypt.{encrypted_block}
+use Rattle.aes_modes.specs.Blocks.{first_blocks}
+use Rattle.aes_modes.proofs.batches.push_encrypted.Given as goal
+
+abbrev pub invariant-turns : goal.invariant-turns
+invariant-turns l =
+    l.out.items ≡ l.initial.out.items ++ first_blocks (λ i. encrypted_block l.key (block_of (l.front ++ l.piece) i)) (min (8 * l.n) l.fn.blocks)

@@ -1,0 +1,4 @@
+pub mod Bits
+pub mod TruthTables
+pub mod Circuits
+pub mod InverseCircuits

@@ -1,6 +1,0 @@
-use Rattle.std.proofs.Common.{not, rules}
-use Rattle.std.proofs.lemmas.Fn.{filter_same}
-use Rattle.handles.proofs.remove_private.Goals as goal
-
-pub returns-clause-left : goal.returns-clause-left
-returns-clause-left c = filter_same _ (λ h. not h.private) _ (λ h keep next called. search rules) _ _ c.retain.ensures.filtered
