@@ -12,13 +12,14 @@ const FEWEST_SLEEPS: u32 = 32;
 
 const MOST_SLEEPS: u32 = 4_096;
 
+/// After a wait that is timed so many are not, for the clock's own cost.
+const UNTIMED: u32 = 3;
+
 /// Whether a turn was short. Where the clock couldn't be read it was not.
-fn is_short(began: Option<Duration>, ended: Option<Duration>) -> bool {
-    match (began, ended) {
-        (Some(began), Some(ended)) => {
-            ended.saturating_sub(began) <= Duration::from_micros(LONG_TURN_MICROS)
-        }
-        _ => false,
+fn is_short(began: Duration, ended: Option<Duration>) -> bool {
+    match ended {
+        Some(ended) => ended.saturating_sub(began) <= Duration::from_micros(LONG_TURN_MICROS),
+        None => false,
     }
 }
 
@@ -29,7 +30,9 @@ pub struct Patience {
     sleeps: u32,
     /// How many will be after the next long turn.
     penalty: u32,
-    /// When the last turn ended.
+    /// How many waits are not to be timed.
+    untimed: u32,
+    /// When the last turn ended, where this wait is timed.
     ended: Option<Duration>,
 }
 
@@ -39,8 +42,19 @@ impl Patience {
         Patience {
             sleeps: 0,
             penalty: FEWEST_SLEEPS,
+            untimed: 0,
             ended: None,
         }
+    }
+
+    /// When a wait begins, if it is timed.
+    fn begin<R: Clock>(&mut self, rt: &R) -> Option<Duration> {
+        if self.untimed > 0 {
+            self.untimed -= 1;
+            return None;
+        }
+        self.untimed = UNTIMED;
+        rt.monotonic().ok()
     }
 
     /// Yields once to the other threads. False where the wait is to sleep: in place of its first turn, or since a turn took long.
@@ -50,21 +64,26 @@ impl Patience {
             return false;
         }
         if is_first {
-            self.ended = rt.monotonic().ok();
+            self.ended = self.begin(rt);
         }
-        let began = self.ended;
         thread::yield_now();
+        let Some(began) = self.ended else {
+            return true;
+        };
         self.ended = rt.monotonic().ok();
         if is_short(began, self.ended) {
             return true;
         }
+        self.untimed = 0;
         self.sleeps = self.penalty;
         self.penalty = self.penalty.saturating_mul(2).min(MOST_SLEEPS);
         false
     }
 
-    /// A message came within short turns.
+    /// A message came after turns. Where they were timed they were short.
     pub(crate) fn came_soon(&mut self) {
-        self.penalty = FEWEST_SLEEPS;
+        if self.ended.is_some() {
+            self.penalty = FEWEST_SLEEPS;
+        }
     }
 }

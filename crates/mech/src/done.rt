@@ -163,8 +163,9 @@ fn token_reset(label: Label, verifier: &Verifier, pin: &[u8]) -> Outcome
     }
 }
 
-/// Does the work, or returns the work if an allocation fails. The work of PINs allocates nothing.
-fn work_done(alloc: Global, work: Work) -> Result<Outcome, Work>
+/// Does any work, or returns it if an allocation fails. The work of PINs allocates nothing.
+#[inline(never)]
+fn other_done(alloc: Global, work: Work) -> Result<Outcome, Work>
     requires { IsTrue (is_runnable work) }
     ensures value { IfOk result (λ o. o ≡ outcome_of work) }
     ensures room { IfOk result (λ o. HasRoom work o) }
@@ -209,6 +210,24 @@ fn work_done(alloc: Global, work: Work) -> Result<Outcome, Work>
             verifier,
             pin,
         } => Ok(token_reset(label, &verifier, pin.as_slice())),
+    }
+}
+
+/// Does the work, or returns the work if an allocation fails. A cipher's goes by itself, since a function clears what it has for each
+/// of its arms.
+fn work_done(alloc: Global, work: Work) -> Result<Outcome, Work>
+    requires { IsTrue (is_runnable work) }
+    ensures value { IfOk result (λ o. o ≡ outcome_of work) }
+    ensures room { IfOk result (λ o. HasRoom work o) }
+    ensures back { IfErr result (λ back. back ≡ work) }
+{
+    match work {
+        Work::Cipher {
+            stream,
+            part,
+            input,
+        } => ciphered(alloc, stream, part, input),
+        other => other_done(alloc, other),
     }
 }
 

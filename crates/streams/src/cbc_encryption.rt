@@ -50,9 +50,13 @@ fn encrypted_blocks(
     ensures chain { IfOk result (λ r. r.1 ≡ chained key.now start (kept.now ++ piece.now) blocks) }
 {
     let mut out = Vec::with_capacity(alloc, kept.len() + piece.len())?;
+    if blocks == 0 {
+        return Ok((out, start));
+    }
+    let first = kept.block(piece, 0);
     let mut chain = start;
     'turns: for i in 0..blocks {
-        chain = key.encipher(xor_blocks(kept.block(piece, i), chain));
+        chain = key.encipher(xor_blocks(kept.block_behind(first, piece, i), chain));
         out.extend_from_slice(&chain)?;
     }
     Ok((out, chain))

@@ -79,6 +79,22 @@ impl Kept {
         block
     }
 
+    /// Block `i` of them with a part behind them, where the first block is known. Unlike `block` it copies no bytes by a call, so a
+    /// loop over blocks keeps what it has in registers.
+    #[inline(always)]
+    pub(crate) fn block_behind(&self, first: Block, piece: &[u8], i: usize) -> Block
+        requires first { first ≡ block_of (self.now ++ piece.now) 0 }
+        requires within { 16 * i + 16 ≤ length self.now + length piece.now }
+        ensures { result ≡ block_of (self.now ++ piece.now) i }
+    {
+        let count = self.count;
+        let mut block = first;
+        if i != 0 {
+            block.copy_from_slice(&piece[16 * i - count..16 * i - count + 16]);
+        }
+        block
+    }
+
     /// What they and a part have behind their first `blocks` blocks.
     pub(crate) fn behind(&self, piece: &[u8], blocks: usize) -> Kept
         requires within { 16 * blocks ≤ length self.now + length piece.now }

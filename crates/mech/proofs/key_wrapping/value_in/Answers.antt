@@ -1,4 +1,4 @@
-use Rattle.std.proofs.Common.{Err, refl, sym, ◌∙◌, ap, subst}
+use Rattle.std.proofs.Common.{Err, sym, ◌∙◌, ap, subst}
 use Rattle.fips_197.specs.Bytes.{AreBytes}
 use Rattle.mech.proofs.Wrappings.{some-value, no-value}
 use Rattle.mech.proofs.key_wrapping.value_in.Goals as goal
