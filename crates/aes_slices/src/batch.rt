@@ -6,7 +6,7 @@ ghost use Rattle.fips_197.specs.Bytes.{xor_bytes};
 ghost use Rattle.fips_197.specs.Texts.{block_of};
 ghost use Rattle.aes_planes.specs.Planes.{vector_of};
 
-use crate::eight::{bytes_of, eight_at, store};
+use crate::eight::{bytes_of, eight_at, store_bytes};
 use aes_planes::Eight;
 use std::simd::prelude::*;
 
@@ -37,8 +37,8 @@ fn joined(front: &[u8], piece: &[u8]) -> Batch
     batch
 }
 
-/// The blocks from block 8 n on of a text, which is given as its first bytes and a piece after them. Zeros stand after the
-/// text's end.
+/// The blocks from block 8 n on of a text, which is given as its first bytes and a piece after them. What stands after the text's
+/// end isn't said.
 pub fn batch_at(front: &[u8], piece: &[u8], n: usize) -> Batch
     requires front { length front.now ≤ 128 }
     requires within { 128 * n ≤ length front.now + length piece.now }
@@ -90,7 +90,7 @@ fn block_of_number(number: u128) -> [u8; 16]
     block
 }
 
-/// So many numbers from `first` on, each as a block, its highest byte first, and zeros after them.
+/// So many numbers from `first` on, each as a block, its highest byte first. What stands after them isn't said.
 pub fn numbers(first: u128, count: usize) -> Batch
     requires few { count ≤ 8 }
     requires fits { first + count ≤ 2 ^ 128 }
@@ -98,11 +98,7 @@ pub fn numbers(first: u128, count: usize) -> Batch
 {
     let mut batch = [0; BATCH_SIZE];
     'turns: for i in 0..count {
-        store(
-            &mut batch,
-            i,
-            u8x16::from_array(block_of_number(first + i as u128)),
-        );
+        store_bytes(&mut batch, i, block_of_number(first + i as u128));
     }
     batch
 }

@@ -48,6 +48,17 @@ pub(crate) fn store(text: &mut [u8], i: usize, x: u8x16)
     x.copy_to_slice(&mut text[16 * i..16 * i + 16]);
 }
 
+/// The same of a block's bytes. They go by no vector, into which they would be put one by one.
+#[inline(always)]
+pub(crate) fn store_bytes(text: &mut [u8], i: usize, block: [u8; 16])
+    requires { 16 * i + 16 ≤ length text.old }
+    ensures here { block_of text.new i ≡ block }
+    ensures others { (k : ℕ) → k ≢ i → block_of text.new k ≡ block_of text.old k }
+    ensures size { length text.new ≡ length text.old }
+{
+    text[16 * i..16 * i + 16].copy_from_slice(&block);
+}
+
 /// The blocks from block 8 n of a text on become those given, and the others stay.
 #[inline(always)]
 pub(crate) fn store_eight(text: &mut [u8], n: usize, s: Eight)
