@@ -48,12 +48,15 @@
 //!
 //! - C_CreateObject, whose floor is an echo, and a write and a sync of as many bytes to a file `SOCKET.file`;
 //! - C_GetObjectSize of a hundred keys, which the cache holds, and of each in turn, which the store reads;
-//! - searches by label, which finds one key in a hundred, by CKA_ID, by class, and by an attribute that has no mark. Each is
-//!   C_FindObjectsInit, C_FindObjects and C_FindObjectsFinal, whose floor is three echoes. The first of each stands apart;
+//! - searches by label, which finds one key, or one in a hundred, by CKA_ID, by class, and by an attribute that has no mark. Each
+//!   is C_FindObjectsInit, C_FindObjects and C_FindObjectsFinal, whose floor is three echoes. The first of each stands apart;
 //! - C_DestroyObject of keys from the beginning, the middle and the end, with a floor as C_CreateObject has.
 //!
 //! With the arguments `searches SOCKET` it does those searches alone, as after a new start of the daemon: its first search reads
 //! all keys and learns their marks.
+//!
+//! With the arguments `opens STORE` it opens a store that no daemon has open, as a daemon does when it starts. The floor is reading
+//! the file.
 //!
 //! OpenSSL measures the same ciphers, in processor time too. It doesn't use the AES instructions of the processor where the bits
 //! that announce these and the carry-less product are masked. Its ECB is blocks that don't depend on one another, its CBC a
@@ -73,6 +76,7 @@ mod frames;
 mod logins;
 mod measures;
 mod objects;
+mod opening;
 mod pieces;
 mod reading;
 mod requests;
@@ -88,6 +92,7 @@ use frames::{cipher, frames};
 use logins::{derivations, logins};
 use measures::{FOUR, print_calls, print_echo};
 use objects::{KEYS, print_key_searches, print_objects};
+use opening::print_openings;
 use pieces::{print_memory, print_pieces};
 use reading::reading;
 use run::{Report, blocks_apart, chain, chain_back, keys_for_a_block, keys_kept};
@@ -268,7 +273,7 @@ fn print_all(rt: &HostRuntime, scale: Scale) -> io::Result<()> {
 
 fn print_usage(rt: &impl Print) -> io::Result<()> {
     println!(rt;
-        "bench: nothing, or small, pieces, memory, calls SOCKET [CLIENTS], objects SOCKET [KEYS], searches SOCKET"
+        "bench: nothing, or small, pieces, memory, calls SOCKET [CLIENTS], objects SOCKET [KEYS], searches SOCKET, opens STORE"
     )?;
     Err(io::Error::from(io::ErrorKind::InvalidInput))
 }
@@ -302,6 +307,7 @@ fn measure<T: Threads>(rt: &HostRuntime, threads: &T, words: &[String]) -> io::R
             print_pieces(rt, rt.alloc(), Report::Times)
         }
         [_, what] if what.as_str() == "memory" => print_memory(rt, rt.alloc()),
+        [_, what, store] if what.as_str() == "opens" => print_openings(rt, store.as_str()),
         [_, what, socket] => measure_daemon(rt, threads, what.as_str(), socket.as_str(), None),
         [_, what, socket, number] => match number.as_str().parse::<u64>() {
             Ok(number) => {

@@ -66,6 +66,10 @@ const ALONE: &[Row] = &[
 /// How many clients are together, where nothing else is asked for.
 pub(crate) const FOUR: u64 = 4;
 
+/// How many times as many calls a round of several clients has as one of a single client. It is long enough that the system has
+/// spread the threads over the processors for most of it.
+const TOGETHER: u64 = 40;
+
 fn parameter(mechanism: MechType) -> &'static [u8] {
     let (_, block) = PARAMETER.split_at(8);
     match mechanism {
@@ -255,7 +259,7 @@ fn print_clients<T: Threads>(
     one: u64,
 ) -> io::Result<()> {
     let what = format!(in rt.alloc(); "{what}, {clients} clients")?;
-    let each = (count.saturating_mul(4) / clients.max(1)).max(1);
+    let each = (count.saturating_mul(TOGETHER) / clients.max(1)).max(1);
     let times = times_of(rt, threads, socket, (request, each), clients)?;
     times.print(rt, what.as_str(), one)
 }

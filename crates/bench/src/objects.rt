@@ -3,7 +3,7 @@
 use crate::client::Client;
 use crate::echo::{Exchange, start_echo};
 use crate::measures::exchanges;
-use crate::requests::{KEY, Sought, destroy, new_token_key, object_size, search};
+use crate::requests::{KEY, SOLE_KEY, Sought, destroy, new_token_key, object_size, search};
 use crate::rounds::{ROUNDS, Rounds, Times, print_head};
 use crate::work::{SyncedFile, nanos_each};
 use std::alloc::Global;
@@ -29,10 +29,8 @@ const MOST_DESTROYED: u64 = 100;
 
 const MOST_WRITES: u64 = 100;
 
-/// The searches of a round, where marks serve them, and the number of a key that is found by its CKA_ID.
+/// The searches of a round, where marks serve them.
 const SEARCHES: u64 = 10;
-
-const SOME_KEY: u64 = 50;
 
 /// More than the length of any of these frames.
 const LONGEST: usize = 65_536;
@@ -238,8 +236,17 @@ fn print_search(rt: &HostRuntime, what: &str, first: u64, later: Times) -> io::R
 
 /// The searches: by what, and how many there are in a round.
 const SOUGHT: &[(&str, Sought, u64)] = &[
-    ("a search by label", Sought::Label, SEARCHES),
-    ("a search by CKA_ID", Sought::Id(SOME_KEY), SEARCHES),
+    (
+        "a search by label, for one key",
+        Sought::SoleLabel,
+        SEARCHES,
+    ),
+    (
+        "a search by label, for one key in a hundred",
+        Sought::Label,
+        SEARCHES,
+    ),
+    ("a search by CKA_ID", Sought::Id(SOLE_KEY), SEARCHES),
     ("a search by class", Sought::Class, SEARCHES),
     ("a search by CKA_EXTRACTABLE", Sought::Extractable, 1),
 ];
@@ -293,14 +300,15 @@ fn making(each: u64) -> [(&'static str, Series); 3] {
     ]
 }
 
-/// The series that come after them: keys from the beginning, the middle and the end are destroyed.
+/// The series that come after them: keys from the beginning, the middle and the end are destroyed. The one that is searched by its
+/// label stays.
 fn destroying(each: u64) -> [(&'static str, Series); 3] {
     let count = (each / 10).clamp(1, MOST_DESTROYED);
     let keys = each.saturating_mul(TENTHS);
     let all = count.saturating_mul(TENTHS);
     let from_start = Series {
         action: Action::Destroy,
-        first: 0,
+        first: SOLE_KEY + 1,
         among: keys,
         count,
     };

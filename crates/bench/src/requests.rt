@@ -16,7 +16,12 @@ pub(crate) const KEY: u64 = 1;
 /// The value of each key.
 pub(crate) const VALUE: [u8; 16] = [7; 16];
 
-/// The label of one key in a hundred, and of the others.
+/// The number of the token's key that alone has its label.
+pub(crate) const SOLE_KEY: u64 = 0;
+
+/// The label of that key, of one key in a hundred, and of the others.
+const SOLE: &[u8] = b"single";
+
 const WANTED: &[u8] = b"wanted";
 
 const OTHER: &[u8] = b"others";
@@ -81,13 +86,22 @@ pub(crate) fn new_key(alloc: Global) -> io::Result<Vec<u8>> {
     )
 }
 
-/// C_CreateObject of the AES key of the token that has this number. It is its CKA_ID, and one key in a hundred has the label that
-/// is searched.
+/// The label of the token's key that has this number.
+fn label_of(number: u64) -> &'static [u8] {
+    if number == SOLE_KEY {
+        SOLE
+    } else if number % 100 == 99 {
+        WANTED
+    } else {
+        OTHER
+    }
+}
+
+/// C_CreateObject of the AES key of the token that has this number, which is its CKA_ID.
 pub(crate) fn new_token_key(alloc: Global, number: u64) -> io::Result<Vec<u8>> {
     let class = ObjectClass::SecretKey.number().to_be_bytes();
     let key_type = KeyType::Aes.number().to_be_bytes();
     let id = number.to_be_bytes();
-    let label = if number % 100 == 0 { WANTED } else { OTHER };
     create(
         alloc,
         &[
@@ -96,7 +110,7 @@ pub(crate) fn new_token_key(alloc: Global, number: u64) -> io::Result<Vec<u8>> {
             (AttrType::Value, &VALUE[..]),
             (AttrType::Private, &[0][..]),
             (AttrType::Token, &[1][..]),
-            (AttrType::Label, label),
+            (AttrType::Label, label_of(number)),
             (AttrType::Id, &id[..]),
         ],
     )
@@ -123,6 +137,9 @@ pub(crate) fn destroy(alloc: Global, object: u64) -> io::Result<Vec<u8>> {
 /// What a search asks for.
 #[derive(Clone, Copy)]
 pub(crate) enum Sought {
+    /// The label of one key.
+    SoleLabel,
+    /// The label of one key in a hundred.
     Label,
     /// The CKA_ID of the key that has this number.
     Id(u64),
@@ -139,6 +156,7 @@ fn find_init(alloc: Global, sought: Sought) -> io::Result<Vec<u8>> {
     };
     let id = id.to_be_bytes();
     let attribute = match sought {
+        Sought::SoleLabel => (AttrType::Label, SOLE),
         Sought::Label => (AttrType::Label, WANTED),
         Sought::Id(_) => (AttrType::Id, &id[..]),
         Sought::Class => (AttrType::Class, &class[..]),
