@@ -71,16 +71,19 @@ seat_send L C l c = declared_send (SocketSeat.the_type L C) (
                                       (
                                         search (sendable, crosses) depth 30,
                                         (
-                                          search sendable depth 20,
+                                          search sendable depth 8,
                                           (
-                                            search sendable depth 20,
+                                            search (sendable, crosses) depth 30,
                                             (
                                               search sendable depth 20,
                                               (
-                                                search sendable depth 8,
+                                                search sendable depth 20,
                                                 (
-                                                  search sendable depth 8,
-                                                  (search sendable depth 8, tt),
+                                                  search sendable depth 20,
+                                                  (
+                                                    search sendable depth 8,
+                                                    (search sendable depth 8, (search sendable depth 8, tt)),
+                                                  ),
                                                 ),
                                               ),
                                             ),

@@ -13,8 +13,9 @@ use std::os::unix::net::UnixStream;
 use std::sync::atomic::Ordering;
 use std::time::{Clock, Duration};
 
-/// For how many milliseconds a seat leaves who waits to be accepted to another one.
-const SHORT_WAIT: u64 = 1;
+/// For how many milliseconds who waits to be accepted is left to a seat with fewer connections. The first seat that looks after that
+/// accepts him, however many it has.
+const LEFT_FOR: u64 = 10;
 
 /// EMFILE, ENFILE, ENOBUFS and ENOMEM: no more descriptors or memory at the moment.
 const SHORTAGES: [i32; 4] = [24, 23, 105, 12];
@@ -42,29 +43,52 @@ impl<L: Log, C: Clock> SocketSeat<L, C> {
         None
     }
 
-    /// Accepts who waits, if it is this seat's turn, or waits until something comes.
-    #[inline(never)]
-    pub(crate) fn look_round(&mut self)
+    /// Whether this seat may accept somebody who may wait: it has a free place.
+    pub(crate) fn can_accept(&self) -> bool {
+        self.may_accept && self.free_place().is_some()
+    }
+
+    /// Accepts one who waits, unless a seat with fewer connections is to.
+    pub(crate) fn accept_next(&mut self)
         ensures { Stays self.old self.new }
     {
-        let place = if self.may_accept {
-            self.free_place()
-        } else {
-            None
+        if !self.may_accept {
+            return;
+        }
+        let Some(place) = self.free_place() else {
+            return;
         };
-        match place {
-            Some(place) if self.loads.is_least(self.clients.number) => self.accept_at(place),
-            Some(_) => self.leave_to_others(),
-            None => self.wait(Duration::from_secs(PATIENCE)),
+        if self.was_left() || self.loads.is_least(self.clients.number) {
+            self.accept_at(place);
+        } else {
+            self.leave_to_others();
         }
     }
 
-    /// Leaves who waits to a seat with fewer connections for a moment. If somebody waits still, the next wait returns at once.
+    /// Whether who waits was left to others for long enough.
+    fn was_left(&self) -> bool {
+        match self.left_since {
+            Some(since) => self.time.saturating_sub(since) >= Duration::from_millis(LEFT_FOR),
+            None => false,
+        }
+    }
+
+    /// Leaves who waits to a seat with fewer connections. At the next look the listener is asked whether somebody waits still.
     fn leave_to_others(&mut self)
         ensures { Stays self.old self.new }
     {
+        if self.left_since.is_none() {
+            self.left_since = Some(self.time);
+        }
         self.may_accept = false;
-        self.wait(Duration::from_millis(SHORT_WAIT));
+        self.is_leaving = true;
+    }
+
+    /// Has the next wait report whether somebody waits to be accepted.
+    pub(crate) fn ask_listener(&mut self)
+        ensures { Stays self.old self.new }
+    {
+        self.is_leaving = false;
         let fd = self.listener.as_raw_fd();
         let registry = self.poll.registry();
         let renewed = registry.reregister(&mut SourceFd(&fd), Token(LISTENER), Interest::READABLE);
@@ -137,12 +161,10 @@ impl<L: Log, C: Clock> SocketSeat<L, C> {
 
     /// Shows the other seats how many connections there are.
     pub(crate) fn tell_load(&self) {
-        let count = if self.left == 0 {
-            usize::MAX
-        } else {
-            self.count
-        };
-        self.loads.set(self.clients.number, count);
+        self.loads.set(self.clients.number, self.count);
+        if self.left == 0 {
+            self.loads.close(self.clients.number);
+        }
     }
 
     /// Nobody was accepted: none waits any more, or a peer disconnected before, or the listener failed.
@@ -151,7 +173,10 @@ impl<L: Log, C: Clock> SocketSeat<L, C> {
     {
         match error.kind() {
             ErrorKind::ConnectionAborted | ErrorKind::Interrupted => {}
-            ErrorKind::WouldBlock => self.may_accept = false,
+            ErrorKind::WouldBlock => {
+                self.may_accept = false;
+                self.left_since = None;
+            }
             _ => {
                 let is_short = error
                     .raw_os_error()

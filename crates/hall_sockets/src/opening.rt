@@ -80,6 +80,8 @@ impl<L: Log + Drop, C: Clock + Drop> SocketSeat<L, C> {
             asked_since: 0,
             answering: 0,
             may_accept: true,
+            left_since: None,
+            is_leaving: false,
             idle: settings.idle,
             time,
             looked: time,

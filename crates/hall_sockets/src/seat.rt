@@ -66,6 +66,10 @@ pub struct SocketSeat<L, C> {
     pub(crate) answering: usize,
     /// Somebody may wait to be accepted.
     pub(crate) may_accept: bool,
+    /// Since when somebody who waits is left to a seat with fewer connections.
+    pub(crate) left_since: Option<Duration>,
+    /// Somebody was left to another seat, and the listener was not asked since.
+    pub(crate) is_leaving: bool,
     pub(crate) idle: Option<Duration>,
     pub(crate) time: Duration,
     /// When idle connections were last looked for.

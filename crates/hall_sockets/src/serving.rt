@@ -27,6 +27,7 @@ impl<L: Log, C: Clock + Drop> Seat for SocketSeat<L, C> {
     fn next(&mut self) -> Option<SeatEvent> {
         let event = self.next_event();
         if event.is_none() {
+            self.loads.looked(self.clients.number, u64::MAX);
             self.has_ended = true;
         }
         event

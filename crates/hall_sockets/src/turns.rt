@@ -2,10 +2,17 @@
 
 ghost use Rattle.hall_sockets.specs.Staying.{Gives, Stays};
 
-use crate::seat::{MAX_CLIENTS, SocketSeat};
+use crate::seat::SocketSeat;
+use crate::waiting::PATIENCE;
 use hall::SeatEvent;
 use log::Log;
 use std::time::{Clock, Duration};
+
+/// After how many turns of its connections a seat looks who else has something, or waits to be accepted.
+const TURNS: usize = 16;
+
+/// For how many milliseconds a seat with nothing to do leaves who waits to another one before it looks again.
+const SHORT_WAIT: u64 = 1;
 
 impl<L: Log, C: Clock> SocketSeat<L, C> {
     /// The next event. None once the seat has had its connections, or is to end, or failed, and no connection is there.
@@ -34,28 +41,23 @@ impl<L: Log, C: Clock> SocketSeat<L, C> {
         None
     }
 
-    /// Asks a connection that is to be asked, or looks for another one, or waits.
+    /// Asks the connection that is next, or looks round: after so many turns, and where none is to be asked.
     fn turn(&mut self) -> Option<SeatEvent>
         ensures { Gives self.old self.new result }
     {
+        if self.asked_since >= TURNS {
+            return self.look_round(Duration::ZERO);
+        }
         match self.next_due() {
             Some(place) => self.event_at(place),
             None => self.turn_round(),
         }
     }
 
-    /// Whether there is one place, whose connection is there and took all that was written to it.
-    fn is_alone(&self) -> bool {
-        self.is_single() && self.count == 1 && !self.is_stuck[0]
-    }
-
-    /// The next place that is to be asked. Once as many were asked as a seat has places at most, it is looked first who else is.
+    /// The next place that is to be asked.
     fn next_due(&mut self) -> Option<usize>
         ensures { Stays self.old self.new }
     {
-        if self.asked_since >= MAX_CLIENTS {
-            self.wait(Duration::ZERO);
-        }
         let place = self.due.pop_front()?;
         if let Some(is_due) = self.is_due.get_mut(place) {
             *is_due = false;
@@ -63,20 +65,56 @@ impl<L: Log, C: Clock> SocketSeat<L, C> {
         Some(place)
     }
 
-    /// Asks the only connection, which a read waits for. Otherwise ends one that is idle, or accepts one, or waits.
+    /// Whether there is one place, whose connection is there and took all that was written to it.
+    fn is_alone(&self) -> bool {
+        self.is_single() && self.count == 1 && !self.is_stuck[0]
+    }
+
+    /// Asks the only connection, for which a read waits. Otherwise, and where nothing came of it, looks round.
     fn turn_round(&mut self) -> Option<SeatEvent>
         ensures { Gives self.old self.new result }
     {
-        if self.is_alone() {
-            return self.event_at(0);
+        if !self.is_alone() {
+            return self.look_round(Duration::from_secs(PATIENCE));
         }
+        match self.event_at(0) {
+            Some(event) => Some(event),
+            None => self.look_round(Duration::ZERO),
+        }
+    }
+
+    /// Looks who has something, for so long at most. Ends a connection that is idle, or accepts one who waits.
+    #[inline(never)]
+    fn look_round(&mut self, longest: Duration) -> Option<SeatEvent>
+        ensures { Gives self.old self.new result }
+    {
+        self.look(longest);
         if self.must_look() {
             let event = self.end_idle();
             if event.is_some() {
                 return event;
             }
         }
-        self.look_round();
+        self.accept_next();
         None
+    }
+
+    /// Waits for something, for so long at most. It doesn't wait while this seat may accept somebody, and a moment alone while it
+    /// leaves somebody to another seat.
+    fn look(&mut self, longest: Duration)
+        ensures { Stays self.old self.new }
+    {
+        if self.is_leaving {
+            self.wait(longest.min(Duration::from_millis(SHORT_WAIT)));
+            self.ask_listener();
+        } else if self.can_accept() {
+            self.wait(Duration::ZERO);
+        } else {
+            self.wait(longest);
+            if !self.may_accept {
+                self.left_since = None;
+            }
+        }
+        self.loads.looked(self.clients.number, self.time.as_secs());
     }
 }

@@ -46,10 +46,8 @@ impl<L, C: Clock> SocketSeat<L, C> {
     fn read_clock(&mut self)
         ensures { Stays self.old self.new }
     {
-        if self.idle.is_some() {
-            if let Ok(time) = self.clock.monotonic() {
-                self.time = time;
-            }
+        if let Ok(time) = self.clock.monotonic() {
+            self.time = time;
         }
     }
 

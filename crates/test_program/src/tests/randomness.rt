@@ -113,15 +113,12 @@ fn random_bytes_differ_by_place_and_turn(rt: HostRuntime) -> Result<(), Fail> {
     let options = ("2", "4", "");
     let seed = ("two_each.seed", 0);
     let daemon = start_seeded(&rt, rt, "two_each.sock", seed, options)?;
-    let mut first = join_all(&rt, "two_each.sock", 4)?;
-    expect_streams(&rt, &mut first, (0, 4), true)?;
-    let mut second = join_all(&rt, "two_each.sock", 4)?;
-    expect_streams(&rt, &mut second, (4, 8), true)?;
+    let mut first = join_all(&rt, "two_each.sock", 8)?;
+    expect_streams(&rt, &mut first, (0, 8), true)?;
     drop(first);
+    let mut second = join_all(&rt, "two_each.sock", 8)?;
+    expect_streams(&rt, &mut second, (8, 16), true)?;
     drop(second);
-    let mut third = join_all(&rt, "two_each.sock", 8)?;
-    expect_streams(&rt, &mut third, (8, 16), true)?;
-    drop(third);
     expect_end(rt, daemon)?;
     clear(&rt, TWO_EACH);
     Ok(())
