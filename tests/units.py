@@ -206,6 +206,35 @@ def what_the_journal_has_is_no_error_where_there_is_none(it):
     see("serves" in it.sh("journalctl _SYSTEMD_UNIT=tokend.service -o cat"), "the start isn't said")
 
 
+def watched(it):
+    """The daemon runs, with a fifth of the time that the unit gives it. Its process."""
+    it.sh("systemctl start tokend")
+    see(show(it, "tokend", "WatchdogUSec") == "30s", "WatchdogSec is", show(it, "tokend", "WatchdogUSec"))
+    settings(it, "tokend.service", "[Service]\nWatchdogSec=6s\n")
+    it.sh("systemctl restart tokend")
+    return show(it, "tokend", "MainPID")
+
+
+@check
+def a_daemon_that_hangs_is_started_again(it):
+    first = watched(it)
+    it.sh('kill -STOP "$1"', first)
+    see(it.wait_for(lambda: show(it, "tokend", "MainPID") not in (first, "0"), 30), "it still hangs")
+    answered(it)
+
+
+@check
+def a_daemon_that_answers_is_left_alone(it):
+    first = watched(it)
+    end = time.monotonic() + 15
+    while time.monotonic() < end:
+        answered(it)
+        time.sleep(0.5)
+    see(show(it, "tokend", "MainPID") == first, "it was started again:", show(it, "tokend", "Result"))
+    time.sleep(15)
+    see(show(it, "tokend", "MainPID") == first, "it was started again when idle:", show(it, "tokend", "Result"))
+
+
 @check
 def its_memory_stays_off_the_disk(it):
     it.sh("systemctl start tokend")
