@@ -17,19 +17,20 @@ pub mod signing;
 pub mod slots;
 pub mod verifying;
 
-use crate::abi::CK_RV;
-use crate::edge::memory::{Answer, MechanismPointer, Place};
-use crate::frame::{Failure, Function, Reply, Request};
-use crate::process::with_link;
+use crate::abi::codes::CKR_BUFFER_TOO_SMALL;
+use crate::edge::memory::{MechanismPointer, Place};
+use crate::error::{Answer, Error};
+use crate::frame::{Function, Reply, Request};
+use crate::process::with_session;
 
 /// A call in a session, read by `read`.
 fn in_session<T>(
     function: Function,
     session: u64,
     write: impl FnOnce(Request<'_>) -> Request<'_>,
-    read: impl FnOnce(&mut Reply<'_>) -> Result<T, Failure>,
-) -> Result<T, CK_RV> {
-    with_link(|link| link.in_session(function, session, write, read))
+    read: impl FnOnce(&mut Reply<'_>) -> Answer<T>,
+) -> Answer<T> {
+    with_session(session, |link| link.in_session(function, session, write, read))
 }
 
 /// A call in a session that returns nothing.
@@ -50,4 +51,13 @@ fn made(function: Function, session: u64, object: Place<u64>, write: impl FnOnce
 /// An Init call: an operation begins with a key, or, without a mechanism, the one that is active ends.
 fn begin(function: Function, session: u64, mechanism: MechanismPointer, key: u64) -> Answer {
     told(function, session, |it| it.mechanism_or_none(&mechanism).object(key))
+}
+
+/// The answer of a call of an operation. Where the module refuses the call by itself, the operation ends, as it ends where the token
+/// refuses it: an error but CKR_BUFFER_TOO_SMALL ends it (5.8.2 and its like).
+fn ending(init: Function, session: u64, answer: Answer) -> Answer {
+    if matches!(answer, Err(Error::Module(code)) if code != CKR_BUFFER_TOO_SMALL) {
+        let _ = begin(init, session, MechanismPointer::none(), 0);
+    }
+    answer
 }

@@ -6,8 +6,9 @@
 use crate::abi::numbers::{CKM_AES_CTR, is_number};
 use crate::abi::{CK_RV, codes::*};
 use crate::buffer::Buffer;
-use crate::edge::memory::{Input, MechanismPointer, Output, Overflow, Template};
-use crate::handles::{OBJECTS, SESSIONS};
+use crate::edge::memory::{Input, MechanismPointer, Output, Template};
+use crate::error::{Answer, Error, Loss, refused};
+use crate::handles::{Handles, SlotHandles};
 
 /// The most bytes of a payload.
 pub const MAX_PAYLOAD: usize = 1_048_576;
@@ -18,70 +19,71 @@ pub const HEADER: usize = 4;
 /// The most entries of a template, and of a query of attributes.
 pub const MAX_ENTRIES: usize = 32;
 
-/// The numbers of the functions.
+/// The numbers of the functions (`docs/PROTOCOL.md`).
 #[derive(Clone, Copy, Debug, PartialEq, Eq)]
 #[repr(u16)]
 pub enum Function {
     GetTokenInfo = 1,
-    GetMechanismList,
-    GetMechanismInfo,
-    InitToken,
-    InitPin,
-    SetPin,
-    OpenSession,
-    CloseSession,
-    CloseAllSessions,
-    GetSessionInfo,
-    Login,
-    Logout,
-    CreateObject,
-    CopyObject,
-    DestroyObject,
-    GetObjectSize,
-    GetAttributeValue,
-    SetAttributeValue,
-    FindObjectsInit,
-    FindObjects,
-    FindObjectsFinal,
-    EncryptInit,
-    Encrypt,
-    EncryptUpdate,
-    EncryptFinal,
-    DecryptInit,
-    Decrypt,
-    DecryptUpdate,
-    DecryptFinal,
-    SignInit,
-    Sign,
-    SignUpdate,
-    SignFinal,
-    VerifyInit,
-    Verify,
-    VerifyUpdate,
-    VerifyFinal,
-    GenerateKey,
-    WrapKey,
-    UnwrapKey,
-    GenerateRandom,
+    GetMechanismList = 2,
+    GetMechanismInfo = 3,
+    InitToken = 4,
+    InitPin = 5,
+    SetPin = 6,
+    OpenSession = 7,
+    CloseSession = 8,
+    CloseAllSessions = 9,
+    GetSessionInfo = 10,
+    Login = 11,
+    Logout = 12,
+    CreateObject = 13,
+    CopyObject = 14,
+    DestroyObject = 15,
+    GetObjectSize = 16,
+    GetAttributeValue = 17,
+    SetAttributeValue = 18,
+    FindObjectsInit = 19,
+    FindObjects = 20,
+    FindObjectsFinal = 21,
+    EncryptInit = 22,
+    Encrypt = 23,
+    EncryptUpdate = 24,
+    EncryptFinal = 25,
+    DecryptInit = 26,
+    Decrypt = 27,
+    DecryptUpdate = 28,
+    DecryptFinal = 29,
+    SignInit = 30,
+    Sign = 31,
+    SignUpdate = 32,
+    SignFinal = 33,
+    VerifyInit = 34,
+    Verify = 35,
+    VerifyUpdate = 36,
+    VerifyFinal = 37,
+    GenerateKey = 38,
+    WrapKey = 39,
+    UnwrapKey = 40,
+    GenerateRandom = 41,
 }
 
 /// A request that is written. What can't be written is remembered, and refuses the whole.
 pub struct Request<'a> {
     bytes: &'a mut Buffer,
-    fault: Option<CK_RV>,
+    objects: Handles,
+    fault: Option<Error>,
 }
 
 impl<'a> Request<'a> {
     /// A request for a function, over whatever the buffer had.
-    pub fn new(bytes: &'a mut Buffer, function: Function) -> Request<'a> {
+    pub fn new(bytes: &'a mut Buffer, function: Function, handles: SlotHandles) -> Request<'a> {
         bytes.clear();
         bytes.append(&[0; HEADER]);
         bytes.append(&(function as u16).to_be_bytes());
-        Request { bytes, fault: None }
+        Request { bytes, objects: handles.objects, fault: None }
     }
 
-    fn fail(mut self, fault: CK_RV) -> Self {
-        self.fault.get_or_insert(fault);
+    fn fail(mut self, fault: impl Into<Error>) -> Self {
+        self.fault.get_or_insert(fault.into());
         self
     }
 
@@ -107,7 +109,8 @@ impl<'a> Request<'a> {
 
     /// The handle of an object, as the daemon has it.
     pub fn object(self, handle: u64) -> Self {
-        self.number(OBJECTS.inner(handle))
+        let inner = self.objects.inner(handle);
+        self.number(inner)
     }
 
     /// Bytes of the module's own.
@@ -237,7 +240,7 @@ impl<'a> Request<'a> {
     }
 
     /// The frame is whole: its length is written.
-    pub fn finish(self) -> Result<(), CK_RV> {
+    pub fn finish(self) -> Answer {
         if let Some(fault) = self.fault {
             return Err(fault);
         }
@@ -247,55 +250,25 @@ impl<'a> Request<'a> {
                 self.bytes.bytes_mut()[..HEADER].copy_from_slice(&header.to_be_bytes());
                 Ok(())
             }
-            _ => Err(CKR_DATA_LEN_RANGE),
+            _ => refused(CKR_DATA_LEN_RANGE),
         }
     }
 }
 
-/// Why a call got no value. A code is the token's or the module's, and the connection goes on; a loss ends it.
-#[derive(Clone, Copy, Debug, PartialEq, Eq)]
-pub enum Failure {
-    Code(CK_RV),
-    Lost(Loss),
-}
-
-/// Why a connection can't be used any more.
-#[derive(Clone, Copy, Debug, PartialEq, Eq)]
-pub enum Loss {
-    /// The daemon closed it, or can't be written to.
-    Closed,
-    /// The daemon took too long.
-    Silent,
-    /// What came is no reply.
-    Nonsense,
-}
-
-const NONSENSE: Failure = Failure::Lost(Loss::Nonsense);
-
-impl From<CK_RV> for Failure {
-    fn from(code: CK_RV) -> Failure {
-        Failure::Code(code)
-    }
-}
-
-impl From<Overflow> for Failure {
-    fn from(_: Overflow) -> Failure {
-        NONSENSE
-    }
-}
+const NONSENSE: Error = Error::Lost(Loss::Nonsense);
 
 /// A reply: its code, and the fields that are left to read.
+///
+/// Where it has less than what is read of it, what came is no reply.
 pub struct Reply<'a> {
     code: CK_RV,
     fields: &'a [u8],
+    handles: SlotHandles,
 }
 
-/// What is read of a reply. Where it has less than that, what came is no reply.
-pub type Read<T> = Result<T, Failure>;
-
 impl<'a> Reply<'a> {
-    pub fn new(payload: &'a [u8]) -> Read<Reply<'a>> {
-        let mut reply = Reply { code: CKR_OK, fields: payload };
+    pub fn new(payload: &'a [u8], handles: SlotHandles) -> Answer<Reply<'a>> {
+        let mut reply = Reply { code: CKR_OK, fields: payload, handles };
         reply.code = CK_RV(reply.number()?);
         Ok(reply)
     }
@@ -305,17 +278,17 @@ impl<'a> Reply<'a> {
     }
 
     /// The code as an error, unless it is CKR_OK.
-    pub fn ok(&self) -> Read<()> {
-        if self.code == CKR_OK { Ok(()) } else { Err(self.code.into()) }
+    pub fn ok(&self) -> Answer<()> {
+        if self.code == CKR_OK { Ok(()) } else { Err(Error::Token(self.code)) }
     }
 
-    fn array<const N: usize>(&mut self) -> Read<[u8; N]> {
+    fn array<const N: usize>(&mut self) -> Answer<[u8; N]> {
         let (front, rest) = self.fields.split_first_chunk().ok_or(NONSENSE)?;
         self.fields = rest;
         Ok(*front)
     }
 
-    pub fn tag(&mut self) -> Read<bool> {
+    pub fn tag(&mut self) -> Answer<bool> {
         match self.array::<1>()? {
             [0] => Ok(false),
             [1] => Ok(true),
@@ -323,34 +296,34 @@ impl<'a> Reply<'a> {
         }
     }
 
-    pub fn count(&mut self) -> Read<usize> {
+    pub fn count(&mut self) -> Answer<usize> {
         Ok(u32::from_be_bytes(self.array()?) as usize)
     }
 
-    pub fn number(&mut self) -> Read<u64> {
+    pub fn number(&mut self) -> Answer<u64> {
         Ok(u64::from_be_bytes(self.array()?))
     }
 
-    pub fn label(&mut self) -> Read<[u8; 32]> {
+    pub fn label(&mut self) -> Answer<[u8; 32]> {
         self.array()
     }
 
     /// The handle of a session, as the application has it.
-    pub fn session(&mut self) -> Read<u64> {
-        SESSIONS.outer(self.number()?).ok_or(NONSENSE)
+    pub fn session(&mut self) -> Answer<u64> {
+        self.handles.sessions.outer(self.number()?).ok_or(NONSENSE)
     }
 
     /// The handle of an object, as the application has it.
-    pub fn object(&mut self) -> Read<u64> {
-        OBJECTS.outer(self.number()?).ok_or(NONSENSE)
+    pub fn object(&mut self) -> Answer<u64> {
+        self.handles.objects.outer(self.number()?).ok_or(NONSENSE)
     }
 
-    pub fn numbers(&mut self) -> Read<Vec<u64>> {
+    pub fn numbers(&mut self) -> Answer<Vec<u64>> {
         (0..self.count()?).map(|_| self.number()).collect()
     }
 
     /// So many bytes.
-    pub fn raw(&mut self, len: u64) -> Read<&'a [u8]> {
+    pub fn raw(&mut self, len: u64) -> Answer<&'a [u8]> {
         let len = usize::try_from(len).map_err(|_| NONSENSE)?;
         let (front, rest) = self.fields.split_at_checked(len).ok_or(NONSENSE)?;
         self.fields = rest;
@@ -358,13 +331,13 @@ impl<'a> Reply<'a> {
     }
 
     /// Bytes behind their length.
-    pub fn bytes(&mut self) -> Read<&'a [u8]> {
+    pub fn bytes(&mut self) -> Answer<&'a [u8]> {
         let len = self.count()?;
         self.raw(len as u64)
     }
 
     /// Nothing may follow the last field.
-    pub fn end(&self) -> Read<()> {
+    pub fn end(&self) -> Answer<()> {
         if self.fields.is_empty() { Ok(()) } else { Err(NONSENSE) }
     }
 }
@@ -374,11 +347,13 @@ mod tests {
     use super::{Function, NONSENSE, Reply, Request};
     use crate::abi::codes::*;
     use crate::buffer::Buffer;
+    use crate::error::refused;
+    use crate::handles::of_slot;
 
     #[test]
     fn the_first_request_of_all() {
         let mut bytes = Buffer::default();
-        Request::new(&mut bytes, Function::OpenSession).number(0).number(6).finish().unwrap();
+        Request::new(&mut bytes, Function::OpenSession, of_slot(0)).number(0).number(6).finish().unwrap();
         let wanted = [0, 0, 0, 0x12, 0, 7, 0, 0, 0, 0, 0, 0, 0, 0, 0, 0, 0, 0, 0, 0, 0, 6];
         assert_eq!(bytes.bytes(), wanted);
         assert_eq!(Function::GenerateRandom as u16, 41);
@@ -387,17 +362,17 @@ mod tests {
     #[test]
     fn a_fault_refuses_the_whole() {
         let mut bytes = Buffer::default();
-        let request = Request::new(&mut bytes, Function::Login).fail(CKR_PIN_LEN_RANGE).fail(CKR_ARGUMENTS_BAD);
-        assert_eq!(request.number(1).finish(), Err(CKR_PIN_LEN_RANGE));
-        let request = Request::new(&mut bytes, Function::SignUpdate).bytes(&[0; 1_048_576]);
-        assert_eq!(request.finish(), Err(CKR_DATA_LEN_RANGE));
+        let request = Request::new(&mut bytes, Function::Login, of_slot(0)).fail(CKR_PIN_LEN_RANGE).fail(CKR_ARGUMENTS_BAD);
+        assert_eq!(request.number(1).finish(), refused(CKR_PIN_LEN_RANGE));
+        let request = Request::new(&mut bytes, Function::SignUpdate, of_slot(0)).bytes(&[0; 1_048_576]);
+        assert_eq!(request.finish(), refused(CKR_DATA_LEN_RANGE));
     }
 
     #[test]
     fn what_is_no_reply_is_nonsense() {
-        assert_eq!(Reply::new(&[0; 7]).err(), Some(NONSENSE));
+        assert_eq!(Reply::new(&[0; 7], of_slot(0)).err(), Some(NONSENSE));
         let payload = [0, 0, 0, 0, 0, 0, 0, 0, 0, 0, 0, 2, 9, 9, 5];
-        let mut reply = Reply::new(&payload).unwrap();
+        let mut reply = Reply::new(&payload, of_slot(0)).unwrap();
         assert_eq!(reply.bytes(), Ok(&[9, 9][..]));
         assert_eq!(reply.end(), Err(NONSENSE));
         assert_eq!(reply.tag(), Err(NONSENSE));

@@ -1,30 +1,41 @@
-//! The connection of this process, with its sessions.
+//! The connection of this process to the daemon of a slot, with its sessions.
 //!
 //! - A connection is one application of the daemon's, and takes one of its places. So it is made at the first call that needs it, kept
 //!   from the first session to the last, and else ended after each call.
 //! - Where it is lost, its sessions and objects are gone. The call that finds that out is answered CKR_DEVICE_REMOVED (or
 //!   CKR_DEVICE_ERROR, where what came is no reply), the next in such a session CKR_SESSION_HANDLE_INVALID. A call on the slot, and
 //!   C_OpenSession, connects anew.
+//! - Where the daemon doesn't answer a new connection, the calls of the next seconds don't wait for it again.
 
-use crate::abi::numbers::SLOT;
-use crate::abi::{CK_RV, codes::*};
+use crate::abi::codes::*;
+use crate::abi::numbers::DAEMON_SLOT;
+use crate::absence::Absence;
 use crate::connection::Connection;
-use crate::frame::{Failure, Function, Loss, Reply, Request};
-use crate::handles::{OBJECTS, SESSIONS};
+use crate::error::{Answer, Error, Loss, refused};
+use crate::frame::{Function, Reply, Request};
+use crate::handles::{self, SlotHandles};
 use crate::process;
-use crate::settings::Settings;
+use crate::settings::{Patience, Place};
+use crate::trace;
 use std::collections::BTreeSet;
-use std::path::Path;
+use std::time::{Duration, Instant};
 
-/// What a process has of the daemon.
+/// How long a daemon that didn't answer isn't asked again.
+const SILENCE: Duration = Duration::from_secs(5);
+
+/// What a process has of a slot's daemon.
 pub struct Link {
+    /// The slot's index.
+    slot: usize,
     /// None until C_Initialize, and after C_Finalize.
-    settings: Option<Settings>,
+    place: Option<(Place, Patience)>,
     connection: Option<Connection>,
     /// How many sessions are open on the connection.
     open_sessions: u64,
     /// The sessions whose verification has taken data by C_VerifyUpdate. See `calls::verifying`.
     verifying: BTreeSet<u64>,
+    /// When the daemon hadn't answered a new connection, and what that came to.
+    silent: Option<(Instant, Absence)>,
 }
 
 /// Whether a call may be sent a second time, where the daemon was started again since the last one.
@@ -36,38 +47,42 @@ pub enum Again {
 
 impl Link {
     pub const fn new() -> Link {
-        Link { settings: None, connection: None, open_sessions: 0, verifying: BTreeSet::new() }
+        Link { slot: 0, place: None, connection: None, open_sessions: 0, verifying: BTreeSet::new(), silent: None }
     }
 
-    pub fn begin(&mut self, settings: Settings) {
-        self.settings = Some(settings);
+    pub fn begin(&mut self, slot: usize, place: Place, patience: Patience) {
+        self.slot = slot;
+        self.place = Some((place, patience));
+        self.silent = None;
     }
 
     pub fn is_begun(&self) -> bool {
-        self.settings.is_some()
+        self.place.is_some()
     }
 
-    fn settings(&self) -> Result<&Settings, CK_RV> {
-        self.settings.as_ref().ok_or(CKR_CRYPTOKI_NOT_INITIALIZED)
+    /// Where the token is.
+    pub fn place(&self) -> Answer<&Place> {
+        let (place, _) = self.place.as_ref().ok_or(CKR_CRYPTOKI_NOT_INITIALIZED)?;
+        Ok(place)
     }
 
-    pub fn socket(&self) -> Result<&Path, CK_RV> {
-        Ok(&self.settings()?.socket)
+    fn handles(&self) -> SlotHandles {
+        handles::of_slot(self.slot)
     }
 
     /// C_Finalize: the sessions are closed first, so that the daemon has forgotten them when this returns.
     pub fn end(&mut self) {
         if self.open_sessions > 0 {
-            let _ = self.ask(Function::CloseAllSessions, |it| it.number(SLOT), |it| it.ok());
+            let _ = self.ask(Function::CloseAllSessions, |it| it.number(DAEMON_SLOT), |it| it.ok());
         }
         self.lose();
-        self.settings = None;
+        self.place = None;
     }
 
     /// The connection ends, and all that it had.
     pub fn lose(&mut self) {
         if let Some(connection) = self.connection.take() {
-            process::set_socket(None);
+            process::forget_socket(self.slot);
             connection.end();
         }
         self.forget();
@@ -76,31 +91,61 @@ impl Link {
     fn forget(&mut self) {
         self.open_sessions = 0;
         self.verifying.clear();
-        SESSIONS.forget();
-        OBJECTS.forget();
+        self.handles().sessions.forget();
+        self.handles().objects.forget();
     }
 
     /// In the child of a fork, what is here is of the process that forked: its socket's copy is closed, if that was not done yet.
-    pub fn leave_to_parent(&mut self) {
+    pub fn leave_to_parent(&mut self, slot: usize) {
+        self.slot = slot;
+        process::close_socket(slot);
         if let Some(connection) = self.connection.take() {
-            process::close_if_ours(connection.into_descriptor());
+            connection.leave();
         }
         self.forget();
-        self.settings = None;
+        self.place = None;
     }
 
-    /// Whether a daemon listens, as far as connecting shows it.
-    pub fn is_present(&self) -> Result<bool, CK_RV> {
-        let settings = self.settings()?;
-        Ok(self.connection.is_some() || Connection::open(&settings.socket, settings.timeout).is_ok())
+    /// Why no token is in the slot, as far as connecting and a first answer show it. Where there is a connection, there is a token.
+    pub fn absence(&mut self) -> Answer<Option<Absence>> {
+        if self.connection.is_some() {
+            return Ok(None);
+        }
+        let absence = self.connect()?;
+        self.end_if_unused();
+        Ok(absence)
     }
 
-    fn connect(&mut self) -> Result<(), Failure> {
-        let settings = self.settings()?;
-        let opened = Connection::open(&settings.socket, settings.timeout).map_err(|_| CKR_TOKEN_NOT_PRESENT)?;
-        process::set_socket(Some(opened.descriptor()));
-        self.connection = Some(opened);
-        Ok(())
+    /// Makes the connection, or finds out why there is none.
+    fn connect(&mut self) -> Answer<Option<Absence>> {
+        let (place, patience) = self.place.as_ref().ok_or(CKR_CRYPTOKI_NOT_INITIALIZED)?;
+        let found = match self.silent {
+            Some((at, absence)) if at.elapsed() < SILENCE => Err(absence),
+            _ => Connection::open(&place.socket, *patience, self.handles()),
+        };
+        match found {
+            Ok(opened) => {
+                process::set_socket(self.slot, opened.descriptor(), opened.identity());
+                self.connection = Some(opened);
+                self.silent = None;
+                Ok(None)
+            }
+            Err(absence) => {
+                trace::note_absence(&place.socket, absence);
+                if matches!(absence, Absence::Silent(_)) && self.silent.is_none_or(|(at, _)| at.elapsed() >= SILENCE) {
+                    self.silent = Some((Instant::now(), absence));
+                }
+                Ok(Some(absence))
+            }
+        }
+    }
+
+    /// Makes the connection for a call on the slot.
+    fn connect_or_refuse(&mut self) -> Answer {
+        match self.connect()? {
+            None => Ok(()),
+            Some(absence) => refused(absence.code()),
+        }
     }
 
     /// Asks on the connection. Where it is lost, it ends.
@@ -108,11 +153,11 @@ impl Link {
         &mut self,
         function: Function,
         write: impl FnOnce(Request<'_>) -> Request<'_>,
-        read: impl FnOnce(&mut Reply<'_>) -> Result<T, Failure>,
-    ) -> Result<T, Failure> {
-        let connection = self.connection.as_mut().ok_or(Failure::Lost(Loss::Closed))?;
+        read: impl FnOnce(&mut Reply<'_>) -> Answer<T>,
+    ) -> Answer<T> {
+        let connection = self.connection.as_mut().ok_or(Error::Lost(Loss::Closed))?;
         let found = connection.ask(function, write, read);
-        if let Err(Failure::Lost(_)) = found {
+        if let Err(Error::Lost(_)) = found {
             self.lose();
         }
         found
@@ -124,71 +169,52 @@ impl Link {
         function: Function,
         session: u64,
         write: impl FnOnce(Request<'_>) -> Request<'_>,
-        read: impl FnOnce(&mut Reply<'_>) -> Result<T, Failure>,
-    ) -> Result<T, CK_RV> {
-        let inner = SESSIONS.inner(session);
+        read: impl FnOnce(&mut Reply<'_>) -> Answer<T>,
+    ) -> Answer<T> {
+        let inner = self.handles().sessions.inner(session);
         if self.connection.is_none() || inner == 0 {
-            return Err(CKR_SESSION_HANDLE_INVALID);
+            return refused(CKR_SESSION_HANDLE_INVALID);
         }
-        self.ask(function, |it| write(it.number(inner)), read).map_err(|it| match it {
-            Failure::Code(code) => code,
-            Failure::Lost(Loss::Nonsense) => CKR_DEVICE_ERROR,
-            Failure::Lost(_) => CKR_DEVICE_REMOVED,
-        })
+        self.ask(function, |it| write(it.number(inner)), read)
     }
 
     /// A call on the slot, which makes the connection where there is none, and ends it where no session is open.
     pub fn on_slot<T>(
         &mut self,
         function: Function,
-        slot: u64,
         again: Again,
         write: impl FnMut(Request<'_>) -> Request<'_>,
-        read: impl FnMut(&mut Reply<'_>) -> Result<T, Failure>,
-    ) -> Result<T, CK_RV> {
-        let found = self.connected(function, slot, again, write, read);
+        read: impl FnMut(&mut Reply<'_>) -> Answer<T>,
+    ) -> Answer<T> {
+        let found = self.connected(function, again, write, read);
         self.end_if_unused();
         found
     }
 
-    /// A call on the slot, after which the connection is there as long as it isn't lost.
+    /// A call on the slot, after which the connection is there as long as it isn't lost. Where the daemon was started again since the
+    /// last call, a new connection is made, unless the call may not be sent twice.
     fn connected<T>(
         &mut self,
         function: Function,
-        slot: u64,
         again: Again,
         mut write: impl FnMut(Request<'_>) -> Request<'_>,
-        mut read: impl FnMut(&mut Reply<'_>) -> Result<T, Failure>,
-    ) -> Result<T, CK_RV> {
-        if slot != SLOT {
-            return Err(CKR_SLOT_ID_INVALID);
+        mut read: impl FnMut(&mut Reply<'_>) -> Answer<T>,
+    ) -> Answer<T> {
+        let mut ask = |link: &mut Link| link.ask(function, |it| write(it.number(DAEMON_SLOT)), &mut read);
+        if self.connection.is_some() {
+            let found = ask(self);
+            if again == Again::NotSent || !matches!(found, Err(Error::Lost(Loss::Closed))) {
+                return found;
+            }
         }
-        let mut ask = |link: &mut Link| link.ask(function, |it| write(it.number(slot)), &mut read);
-        let mut is_new = self.connection.is_none();
-        if is_new && again == Again::NotSent {
-            self.connect_and_be_served()?;
-            is_new = false;
-        }
-        let mut found = if is_new { self.connect().and_then(|()| ask(self)) } else { ask(self) };
-        if !is_new && again == Again::Sent && matches!(found, Err(Failure::Lost(Loss::Closed))) {
-            is_new = true;
-            found = self.connect().and_then(|()| ask(self));
-        }
-        found.map_err(|it| slot_code(it, is_new))
-    }
-
-    /// Connects, and asks something harmless. A connection beyond those that the daemon serves is accepted by the system, and a request
-    /// that was given up there would be read once a place is free.
-    fn connect_and_be_served(&mut self) -> Result<(), CK_RV> {
-        let served = self.connect().and_then(|()| self.ask(Function::CloseAllSessions, |it| it.number(SLOT), |it| it.ok()));
-        served.map_err(|it| slot_code(it, true))
+        self.connect_or_refuse()?;
+        ask(self)
     }
 
     /// Opens a session, with which the connection stays.
-    pub fn open_session(&mut self, slot: u64, flags: u64) -> Result<u64, CK_RV> {
+    pub fn open_session(&mut self, flags: u64) -> Answer<u64> {
         let found = self.connected(
             Function::OpenSession,
-            slot,
             Again::Sent,
             |it| it.number(flags),
             |it| {
@@ -202,7 +228,7 @@ impl Link {
     }
 
     /// Closes a session, and with the last one the connection.
-    pub fn close_session(&mut self, session: u64) -> Result<(), CK_RV> {
+    pub fn close_session(&mut self, session: u64) -> Answer {
         self.in_session(Function::CloseSession, session, |it| it, |it| it.ok())?;
         self.verifying.remove(&session);
         self.open_sessions = self.open_sessions.saturating_sub(1);
@@ -211,12 +237,11 @@ impl Link {
     }
 
     /// Closes all sessions, and the connection.
-    pub fn close_all_sessions(&mut self, slot: u64) -> Result<(), CK_RV> {
-        self.settings()?;
-        if slot == SLOT && self.connection.is_none() {
+    pub fn close_all_sessions(&mut self) -> Answer {
+        if self.connection.is_none() {
             return Ok(());
         }
-        self.connected(Function::CloseAllSessions, slot, Again::NotSent, |it| it, |it| it.ok())?;
+        self.connected(Function::CloseAllSessions, Again::NotSent, |it| it, |it| it.ok())?;
         self.open_sessions = 0;
         self.end_if_unused();
         Ok(())
@@ -240,16 +265,5 @@ impl Link {
         } else {
             self.verifying.remove(&session);
         }
-    }
-}
-
-/// What a failure on the slot is answered, by whether the connection was made for the call.
-fn slot_code(failure: Failure, is_new: bool) -> CK_RV {
-    match failure {
-        Failure::Code(code) => code,
-        Failure::Lost(Loss::Nonsense) => CKR_DEVICE_ERROR,
-        // (nobody answers, or the daemon is about to end)
-        Failure::Lost(_) if is_new => CKR_TOKEN_NOT_PRESENT,
-        Failure::Lost(_) => CKR_DEVICE_REMOVED,
     }
 }

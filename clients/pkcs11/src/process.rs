@@ -1,16 +1,19 @@
-//! Which link is this process's.
+//! Which links are this process's: one a slot.
 //!
-//! After a fork the child has nothing of its parent's (PKCS #11 v3.1, 5.4.1: it calls C_Initialize of its own). Its copy of the socket
-//! is closed at once, or the daemon would take the application to live as long as the child does. A lock that another thread held at
+//! After a fork the child has nothing of its parent's (PKCS #11 v3.1, 5.4.1: it calls C_Initialize of its own). Its copies of the sockets
+//! are closed at once, or a daemon would take the application to live as long as the child does. A lock that another thread held at
 //! the fork is held in the child for good, since that thread isn't there: the child takes a link of its own then.
 
-use crate::abi::{CK_RV, codes::*};
-use crate::edge::system;
+use crate::abi::codes::*;
+use crate::abi::numbers::MAX_SLOTS;
+use crate::edge::system::{self, Identity};
+use crate::error::{Answer, refused};
+use crate::handles;
 use crate::link::Link;
 use crate::settings::Settings;
 use crate::trace;
 use std::os::fd::RawFd;
-use std::sync::atomic::{AtomicBool, AtomicI32, AtomicU32, AtomicUsize, Ordering::SeqCst};
+use std::sync::atomic::{AtomicBool, AtomicI32, AtomicU32, AtomicU64, AtomicUsize, Ordering::SeqCst};
 use std::sync::{Mutex, MutexGuard, OnceLock, PoisonError, TryLockError};
 
 /// A link under its lock, and the one that takes its place in the child of a fork, if one has to.
@@ -25,112 +28,192 @@ impl Holder {
     }
 }
 
-static FIRST: Holder = Holder::new();
+/// What the child of a fork finds of a slot, whatever locks are held.
+struct Slot {
+    first: Holder,
+    /// How many links were left behind.
+    left: AtomicUsize,
+    socket: Descriptor,
+}
 
-/// How many links were left behind.
-static LEFT: AtomicUsize = AtomicUsize::new(0);
+impl Slot {
+    const fn new() -> Slot {
+        Slot { first: Holder::new(), left: AtomicUsize::new(0), socket: Descriptor::new() }
+    }
+
+    fn current(&'static self) -> &'static Mutex<Link> {
+        let mut holder = &self.first;
+        for _ in 0..self.left.load(SeqCst) {
+            holder = holder.next.get_or_init(|| Box::new(Holder::new()));
+        }
+        &holder.link
+    }
+
+    /// The link of this process, which just became its owner.
+    fn own(&'static self) -> MutexGuard<'static, Link> {
+        match self.current().try_lock() {
+            Ok(link) => link,
+            Err(TryLockError::Poisoned(it)) => it.into_inner(),
+            Err(TryLockError::WouldBlock) => {
+                self.left.fetch_add(1, SeqCst);
+                self.current().lock().unwrap_or_else(PoisonError::into_inner)
+            }
+        }
+    }
+}
+
+/// A socket's descriptor, or -1, and what it stood for when it was made.
+struct Descriptor {
+    number: AtomicI32,
+    device: AtomicU64,
+    inode: AtomicU64,
+}
+
+impl Descriptor {
+    const fn new() -> Descriptor {
+        Descriptor { number: AtomicI32::new(-1), device: AtomicU64::new(0), inode: AtomicU64::new(0) }
+    }
+
+    fn set(&self, number: RawFd, identity: Identity) {
+        self.device.store(identity.device, SeqCst);
+        self.inode.store(identity.inode, SeqCst);
+        self.number.store(number, SeqCst);
+    }
+
+    /// Takes the descriptor out, and says whether it is a socket's still.
+    fn take(&self) -> Option<RawFd> {
+        let number = self.number.swap(-1, SeqCst);
+        let identity = Identity { device: self.device.load(SeqCst), inode: self.inode.load(SeqCst) };
+        (system::identity(number) == Some(identity)).then_some(number)
+    }
+}
+
+static SLOTS: [Slot; MAX_SLOTS] = [const { Slot::new() }; MAX_SLOTS];
+
+/// How many slots the settings of this process have.
+static COUNT: AtomicUsize = AtomicUsize::new(0);
 
 /// The process that called C_Initialize, or 0.
 static OWNER: AtomicU32 = AtomicU32::new(0);
 
-/// The socket's descriptor, for the child of a fork, or -1.
-static SOCKET: AtomicI32 = AtomicI32::new(-1);
-
 /// Whether what is done once in a process was done.
 static IS_PREPARED: AtomicBool = AtomicBool::new(false);
 
-fn current() -> &'static Mutex<Link> {
-    let mut holder = &FIRST;
-    for _ in 0..LEFT.load(SeqCst) {
-        holder = holder.next.get_or_init(|| Box::new(Holder::new()));
-    }
-    &holder.link
+/// Notes the descriptor of a slot's connection.
+pub fn set_socket(slot: usize, descriptor: RawFd, identity: Identity) {
+    SLOTS[slot].socket.set(descriptor, identity);
 }
 
-/// Notes the descriptor of the connection.
-pub fn set_socket(descriptor: Option<RawFd>) {
-    SOCKET.store(descriptor.unwrap_or(-1), SeqCst);
+/// Forgets it.
+pub fn forget_socket(slot: usize) {
+    SLOTS[slot].socket.number.store(-1, SeqCst);
 }
 
-/// Closes a descriptor, unless that was done in the child already.
-pub fn close_if_ours(descriptor: RawFd) {
-    if SOCKET.swap(-1, SeqCst) == descriptor {
+/// Closes the descriptor of a slot's connection, unless that was done in the child already, or it isn't the connection's any more.
+pub fn close_socket(slot: usize) {
+    if let Some(descriptor) = SLOTS[slot].socket.take() {
         system::close(descriptor);
     }
 }
 
 extern "C" fn in_child() {
     OWNER.store(0, SeqCst);
-    let descriptor = SOCKET.swap(-1, SeqCst);
-    if descriptor >= 0 {
-        system::close(descriptor);
+    COUNT.store(0, SeqCst);
+    (0..MAX_SLOTS).for_each(close_socket);
+}
+
+/// What is done once in a process. Where the system refuses it, the next C_Initialize tries again.
+fn prepare() -> Answer {
+    if IS_PREPARED.load(SeqCst) {
+        return Ok(());
     }
+    if !system::on_fork_in_child(in_child) {
+        return refused(CKR_HOST_MEMORY);
+    }
+    if system::is_library() {
+        // (a panic is answered with a code, and says nothing on the application's streams; a program that has this crate in it has the
+        // hook itself)
+        std::panic::set_hook(Box::new(|_| ()));
+    }
+    IS_PREPARED.store(true, SeqCst);
+    Ok(())
 }
 
 /// C_Initialize.
-pub fn initialize() -> Result<(), CK_RV> {
+pub fn initialize() -> Answer {
     let (was, own) = (OWNER.load(SeqCst), std::process::id());
     if was == own {
-        return Err(CKR_CRYPTOKI_ALREADY_INITIALIZED);
+        return refused(CKR_CRYPTOKI_ALREADY_INITIALIZED);
     }
-    let settings = Settings::read().map_err(|_| CKR_GENERAL_ERROR)?;
-    if !IS_PREPARED.swap(true, SeqCst) {
-        // (a panic is answered with a code, and says nothing on the application's streams)
-        std::panic::set_hook(Box::new(|_| ()));
-        if !system::on_fork_in_child(in_child) {
-            return Err(CKR_HOST_MEMORY);
-        }
-    }
+    let settings = Settings::read()?;
+    prepare()?;
     if OWNER.compare_exchange(was, own, SeqCst, SeqCst).is_err() {
-        return Err(CKR_CRYPTOKI_ALREADY_INITIALIZED);
+        return refused(CKR_CRYPTOKI_ALREADY_INITIALIZED);
     }
     if let Some(file) = &settings.trace {
         trace::begin(file);
     }
-    let mut link = own_link();
-    link.leave_to_parent();
-    link.begin(settings);
+    let count = settings.places.len();
+    let mut places = settings.places.into_iter();
+    for (number, slot) in SLOTS.iter().enumerate() {
+        let mut link = slot.own();
+        link.leave_to_parent(number);
+        if let Some(place) = places.next() {
+            link.begin(number, place, settings.patience);
+        }
+    }
+    COUNT.store(count, SeqCst);
     Ok(())
 }
 
-/// The link of this process, which just became its owner.
-fn own_link() -> MutexGuard<'static, Link> {
-    match current().try_lock() {
-        Ok(link) => link,
-        Err(TryLockError::Poisoned(it)) => it.into_inner(),
-        Err(TryLockError::WouldBlock) => {
-            LEFT.fetch_add(1, SeqCst);
-            current().lock().unwrap_or_else(PoisonError::into_inner)
-        }
-    }
-}
-
 /// C_Finalize.
-pub fn finalize() -> Result<(), CK_RV> {
-    with_link(|link| {
-        link.end();
-        OWNER.store(0, SeqCst);
-        Ok(())
-    })
+pub fn finalize() -> Answer {
+    for slot in 0..count()? {
+        with_link(slot as u64, |link| {
+            link.end();
+            Ok(())
+        })?;
+    }
+    COUNT.store(0, SeqCst);
+    OWNER.store(0, SeqCst);
+    Ok(())
 }
 
 /// Whether C_Initialize was called in this process.
-pub fn ready() -> Result<(), CK_RV> {
-    if OWNER.load(SeqCst) == std::process::id() { Ok(()) } else { Err(CKR_CRYPTOKI_NOT_INITIALIZED) }
+pub fn ready() -> Answer {
+    if OWNER.load(SeqCst) == std::process::id() { Ok(()) } else { refused(CKR_CRYPTOKI_NOT_INITIALIZED) }
 }
 
-/// Does something with the link, alone.
-pub fn with_link<T>(work: impl FnOnce(&mut Link) -> Result<T, CK_RV>) -> Result<T, CK_RV> {
+/// How many slots there are.
+pub fn count() -> Answer<usize> {
     ready()?;
-    let mut link = match current().lock() {
+    match COUNT.load(SeqCst) {
+        0 => refused(CKR_CRYPTOKI_NOT_INITIALIZED),
+        count => Ok(count),
+    }
+}
+
+/// Does something with the link of a slot, alone.
+pub fn with_link<T>(slot: u64, work: impl FnOnce(&mut Link) -> Answer<T>) -> Answer<T> {
+    let count = count()?;
+    let Some(slot) = usize::try_from(slot).ok().filter(|it| *it < count).map(|it| &SLOTS[it]) else {
+        return refused(CKR_SLOT_ID_INVALID);
+    };
+    let mut link = match slot.current().lock() {
         Ok(link) => link,
         Err(poisoned) => {
             // (a call ended in a panic, perhaps between a request and its reply)
-            current().clear_poison();
+            slot.current().clear_poison();
             let mut link = poisoned.into_inner();
             link.lose();
             link
         }
     };
-    if link.is_begun() { work(&mut link) } else { Err(CKR_CRYPTOKI_NOT_INITIALIZED) }
+    if link.is_begun() { work(&mut link) } else { refused(CKR_CRYPTOKI_NOT_INITIALIZED) }
+}
+
+/// Does something with the link that has a session.
+pub fn with_session<T>(session: u64, work: impl FnOnce(&mut Link) -> Answer<T>) -> Answer<T> {
+    let slot = handles::slot_of(session);
+    if slot >= count()? as u64 { refused(CKR_SESSION_HANDLE_INVALID) } else { with_link(slot, work) }
 }

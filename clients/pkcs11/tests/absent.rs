@@ -4,7 +4,7 @@ mod common;
 
 use common::daemon::Daemon;
 use common::module::{Module, RW};
-use common::{Folder, templates::*};
+use common::{Folder, PATIENCE, templates::*};
 use std::io::{Read, Write};
 use std::os::unix::net::UnixListener;
 use std::ptr::null_mut;
@@ -53,14 +53,14 @@ fn no_daemon() {
 fn a_path_that_no_socket_can_have() {
     let folder = Folder::new();
     let module = Module::load(&folder, "module.so");
-    assert_eq!(module.initialize_at(&folder.file(&"x".repeat(200)), &folder.file("none")), CKR_OK);
+    assert_eq!(module.initialize_at(folder.file(&"x".repeat(200)), &folder.file("none")), CKR_OK);
     sees_no_token(&module);
 }
 
 #[test]
 fn a_daemon_that_does_not_answer() {
     let folder = Folder::new();
-    std::fs::write(folder.file("pkcs11.conf"), "timeout = 1\n").unwrap();
+    std::fs::write(folder.file("pkcs11.conf"), "timeout = 1\nconnect-timeout = 1\n").unwrap();
     // (the system accepts a few, and then keeps whoever connects waiting)
     let _listener = UnixListener::bind(folder.file("socket")).unwrap();
     let module = Module::load(&folder, "module.so");
@@ -76,7 +76,7 @@ fn a_daemon_that_does_not_answer() {
 #[test]
 fn a_token_is_not_made_anew_later() {
     let folder = Folder::new();
-    std::fs::write(folder.file("pkcs11.conf"), "timeout = 1\n").unwrap();
+    std::fs::write(folder.file("pkcs11.conf"), "timeout = 1\nconnect-timeout = 1\n").unwrap();
     let listener = UnixListener::bind(folder.file("socket")).unwrap();
     let module = Module::load(&folder, "module.so");
     assert_eq!(module.initialize(&folder), CKR_OK);
@@ -87,15 +87,19 @@ fn a_token_is_not_made_anew_later() {
     assert_eq!(sent, [0, 0, 0, 10, 0, 9, 0, 0, 0, 0, 0, 0, 0, 0]);
 }
 
-/// Answers C_OpenSession, and then sends a byte of a reply now and then.
+/// Answers the first request and C_OpenSession, and then sends a byte of a reply now and then.
 #[test]
 fn a_daemon_that_answers_for_ever() {
     let folder = Folder::new();
-    std::fs::write(folder.file("pkcs11.conf"), "timeout = 1\n").unwrap();
+    std::fs::write(folder.file("pkcs11.conf"), "timeout = 1\nconnect-timeout = 60\n").unwrap();
     let listener = UnixListener::bind(folder.file("socket")).unwrap();
     std::thread::spawn(move || {
         let (mut stream, _) = listener.accept().unwrap();
-        stream.write_all(&[&[0, 0, 0, 16][..], &[0; 15], &[1]].concat()).unwrap();
+        let mut request = [0; 256];
+        for reply in [&[&[0, 0, 0, 8][..], &[0; 8]].concat(), &[&[0, 0, 0, 16][..], &[0; 15], &[1]].concat()] {
+            let _ = stream.read(&mut request).unwrap();
+            stream.write_all(reply).unwrap();
+        }
         for byte in [0, 0, 1, 0].into_iter().chain(std::iter::repeat_n(0, 100)) {
             std::thread::sleep(Duration::from_millis(300));
             if stream.write_all(&[byte]).is_err() {
@@ -151,9 +155,9 @@ fn the_socket_of_the_file_of_settings() {
     let folder = Folder::new();
     let _daemon = Daemon::start(&folder);
     let file = folder.file("pkcs11.conf");
-    std::fs::write(&file, format!("socket = {}\n", folder.file("socket").display())).unwrap();
+    std::fs::write(&file, format!("{PATIENCE}socket = {}\n", folder.file("socket").display())).unwrap();
     let module = Module::load(&folder, "module.so");
-    assert_eq!(module.initialize_at("".as_ref(), &file), CKR_OK);
+    assert_eq!(module.initialize_at("", &file), CKR_OK);
     assert!(module.open(RW).is_ok());
 }
 
@@ -162,7 +166,7 @@ fn a_trace_has_calls_and_codes_and_no_secret() {
     let folder = Folder::new();
     let _daemon = Daemon::start(&folder);
     let trace = folder.file("trace");
-    std::fs::write(folder.file("pkcs11.conf"), format!("trace = {}\n", trace.display())).unwrap();
+    std::fs::write(folder.file("pkcs11.conf"), format!("{PATIENCE}trace = {}\n", trace.display())).unwrap();
     let module = Module::load(&folder, "module.so");
     assert_eq!(module.initialize(&folder), CKR_OK);
     assert_eq!(module.init_token("so pin", "a token"), CKR_OK);

@@ -358,7 +358,9 @@ fn arguments_of_c_initialize() {
     assert_eq!(initialize([0; 4], 2, 0), CKR_CRYPTOKI_ALREADY_INITIALIZED);
     unsafe { assert_eq!((module.c.C_Finalize)(8 as *mut _), CKR_ARGUMENTS_BAD) };
     assert_eq!(module.finalize(), CKR_OK);
-    // (some applications have parameters there)
-    assert_eq!(initialize([0; 4], 2, 8), CKR_OK);
+    // (parameters, for which another library was meant)
+    assert_eq!(initialize([0; 4], 2, 8), CKR_ARGUMENTS_BAD);
+    assert_eq!(module.finalize(), CKR_CRYPTOKI_NOT_INITIALIZED);
+    assert_eq!(initialize([0; 4], 0, 0), CKR_OK);
     assert_eq!(module.finalize(), CKR_OK);
 }

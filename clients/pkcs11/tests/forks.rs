@@ -2,44 +2,13 @@
 
 mod common;
 
+use common::children::{_exit, alone, fork, in_child, waitpid};
 use common::daemon::Daemon;
 use common::module::{Module, RW};
 use common::{Folder, templates::*};
-use std::ffi::c_int;
 use std::ptr::null_mut;
 use std::sync::atomic::{AtomicBool, Ordering::SeqCst};
-use std::sync::{Mutex, MutexGuard, PoisonError};
 use tokend_pkcs11::abi::codes::*;
-
-unsafe extern "C" {
-    fn fork() -> c_int;
-    fn waitpid(child: c_int, status: *mut c_int, options: c_int) -> c_int;
-    fn _exit(status: c_int) -> !;
-}
-
-/// Runs something in a child, which ends with the number of the first check that fails, or 0.
-fn in_child(checks: impl Fn() -> Vec<bool>) -> c_int {
-    // SAFETY: the child calls the module, which is what is tested, and ends without running what belongs to its parent.
-    unsafe {
-        let child = fork();
-        if child == 0 {
-            let failed = checks().iter().position(|it| !it);
-            _exit(failed.map_or(0, |it| it as c_int + 1));
-        }
-        assert!(child > 0);
-        let mut status = 0;
-        assert_eq!(waitpid(child, &mut status, 0), child);
-        assert_eq!(status & 0x7f, 0, "the child was killed by a signal");
-        status >> 8
-    }
-}
-
-/// One test at a time: in a child C_Initialize reads the environment, which is one for all tests.
-static ALONE: Mutex<()> = Mutex::new(());
-
-fn alone() -> MutexGuard<'static, ()> {
-    ALONE.lock().unwrap_or_else(PoisonError::into_inner)
-}
 
 fn begun(folder: &Folder) -> Module {
     let module = Module::load(folder, "module.so");

@@ -95,9 +95,11 @@ fn fitting(dice: &mut Dice, function: u16) -> Vec<u8> {
 
 /// A reply, and whether anything can follow it.
 fn reply(dice: &mut Dice, function: u16) -> (Vec<u8>, bool) {
-    if function == 7 && !dice.is_one_of(8) {
-        // (sessions are opened, or nothing else would be called)
-        return ([&[0, 0, 0, 16][..], &[0; 15], &[1]].concat(), true);
+    // (connections are made and sessions opened, or nothing else would be called)
+    match function {
+        7 if !dice.is_one_of(8) => return ([&[0, 0, 0, 16][..], &[0; 15], &[1]].concat(), true),
+        9 if !dice.is_one_of(8) => return ([&[0, 0, 0, 8][..], &[0; 8]].concat(), true),
+        _ => {}
     }
     let payload = if dice.is_one_of(4) { payload(dice) } else { fitting(dice, function) };
     let mut frame = (payload.len() as u32).to_be_bytes().to_vec();

@@ -63,6 +63,61 @@ fn what_every_key_has_as_false() {
     assert_eq!(module.create(session, &template), Err(CKR_ATTRIBUTE_TYPE_INVALID));
 }
 
+/// What each object of a class has without a value, or as false, and the token doesn't know.
+#[test]
+fn what_every_object_of_a_class_has() {
+    let (_folder, _daemon, module, session) = begun();
+    let key = module.create(session, &aes_key(NO, b"key")).unwrap();
+    let data = module.create(session, &data_object(NO, b"data")).unwrap();
+    let of_keys = [(START_DATE, EMPTY), (END_DATE, EMPTY), (ALLOWED_MECHANISMS, EMPTY), (DERIVE, NO), (ALWAYS_AUTHENTICATE, NO)];
+    let of_data = [(OBJECT_ID, EMPTY)];
+    let cases = of_keys.map(|it| (it, key, data, aes_key(NO, b"key"), data_object(NO, b"data")));
+    let cases = cases.into_iter().chain(of_data.map(|it| (it, data, key, data_object(NO, b"data"), aes_key(NO, b"key"))));
+    for ((kind, value), has, has_not, template, other) in cases {
+        let with = |template: &[(u64, &'static [u8])], value| [template, &[(kind, value)]].concat();
+        assert_eq!(module.value(session, has, kind).unwrap(), value);
+        assert_eq!(module.value(session, has_not, kind), Err(CKR_ATTRIBUTE_TYPE_INVALID));
+        let made = module.create(session, &with(&template, value)).unwrap();
+        assert_eq!(module.find(session, &with(&template[..1], value), 9).unwrap(), [has, made], "{kind:#x}");
+        assert_eq!(module.destroy(session, made), CKR_OK);
+        assert_eq!(module.find(session, &[(kind, value)], 9).unwrap(), [has], "{kind:#x}");
+        assert_eq!(module.find(session, &with(&other[..1], value), 9).unwrap(), [], "{kind:#x}");
+        assert_eq!(module.set(session, has, &[(kind, value)]), CKR_OK);
+        assert_eq!(module.destroy(session, module.copy(session, has, &[(kind, value)]).unwrap()), CKR_OK);
+        // (of the other class the token refuses it, and so any other value)
+        assert_eq!(module.create(session, &with(&other, value)), Err(CKR_ATTRIBUTE_TYPE_INVALID));
+        assert_eq!(module.set(session, has_not, &[(kind, value)]), CKR_ATTRIBUTE_TYPE_INVALID, "{kind:#x}");
+        assert_eq!(module.copy(session, has_not, &[(kind, value)]), Err(CKR_ATTRIBUTE_TYPE_INVALID));
+        let another = if kind == ALLOWED_MECHANISMS { &AES_ECB.to_ne_bytes()[..] } else { b"20261129" };
+        assert_eq!(module.create(session, &[&template[..], &[(kind, another)]].concat()), Err(CKR_ATTRIBUTE_TYPE_INVALID));
+        assert_eq!(module.set(session, has, &[(kind, another)]), CKR_ATTRIBUTE_TYPE_INVALID);
+        assert_eq!(module.find(session, &[(kind, another)], 9).unwrap(), []);
+    }
+    assert_eq!(module.find(session, &[(START_DATE, EMPTY), (OBJECT_ID, EMPTY)], 9).unwrap(), []);
+    let len = 16_u64.to_ne_bytes();
+    let template = [(VALUE_LEN, &len[..]), (PRIVATE, NO), (START_DATE, EMPTY), (ALLOWED_MECHANISMS, EMPTY), (DERIVE, NO)];
+    assert!(module.generate_key(session, AES_KEY_GEN, &template).is_ok());
+    // (a handle that is none is what is wrong first)
+    assert_eq!(module.set(session, 99, &[(START_DATE, EMPTY)]), CKR_OBJECT_HANDLE_INVALID);
+}
+
+/// Certificates and public keys have attributes that the token doesn't know: it's the class that is refused.
+#[test]
+fn a_class_that_the_token_has_not() {
+    let (_folder, _daemon, module, session) = begun();
+    let number = |it: u64| it.to_ne_bytes();
+    for (class, kind) in [(1, 0x80), (2, 0x100), (3, 0x100), (5, 0x300), (6, 0x120), (0x8000_0001, 0x9999)] {
+        let (class, kind_value) = (number(class), number(0));
+        let template = [(kind, &kind_value[..]), (CLASS, &class[..]), (0x101, b"subject"), (TOKEN, YES), (LABEL, b"it")];
+        assert_eq!(module.create(session, &template), Err(CKR_ATTRIBUTE_VALUE_INVALID));
+        assert_eq!(module.create(session, &[(CLASS, &class)]), Err(CKR_ATTRIBUTE_VALUE_INVALID));
+    }
+    assert_eq!(module.create(session + 1, &[(CLASS, &number(1)), (0x80, &number(0))]), Err(CKR_SESSION_HANDLE_INVALID));
+    // (of a class that it has, an attribute is wrong)
+    let template = [(CLASS, DATA), (0x80, &number(0)[..])];
+    assert_eq!(module.create(session, &template), Err(CKR_ATTRIBUTE_TYPE_INVALID));
+}
+
 /// Asks for attributes with buffers of so many bytes, and returns the code, the lengths and the buffers.
 fn ask(module: &Module, session: u64, object: u64, asked: &[(u64, Option<usize>)]) -> (CK_RV, Vec<u64>, Vec<Vec<u8>>) {
     let mut buffers: Vec<Vec<u8>> = asked.iter().map(|(_, len)| vec![0xAA; len.unwrap_or(0) + 8]).collect();

@@ -2,8 +2,11 @@
 
 use super::CK_ULONG;
 
-/// The one slot of the token.
-pub const SLOT: CK_ULONG = 0;
+/// The daemon's one slot, in a frame. What the application has are the indices of the sockets in the settings.
+pub const DAEMON_SLOT: CK_ULONG = 0;
+
+/// The most slots of a process.
+pub const MAX_SLOTS: usize = 16;
 
 /// CK_UNAVAILABLE_INFORMATION.
 pub const UNAVAILABLE: CK_ULONG = CK_ULONG::MAX;
@@ -42,14 +45,22 @@ pub const CKO_SECRET_KEY: CK_ULONG = 4;
 pub const CKA_CLASS: CK_ULONG = 0x0;
 /// CKA_KEY_TYPE.
 pub const CKA_KEY_TYPE: CK_ULONG = 0x100;
+/// CKA_OBJECT_ID.
+pub const CKA_OBJECT_ID: CK_ULONG = 0x12;
 /// CKA_DERIVE.
 pub const CKA_DERIVE: CK_ULONG = 0x10C;
+/// CKA_START_DATE.
+pub const CKA_START_DATE: CK_ULONG = 0x110;
+/// CKA_END_DATE.
+pub const CKA_END_DATE: CK_ULONG = 0x111;
 /// CKA_VALUE_LEN.
 pub const CKA_VALUE_LEN: CK_ULONG = 0x161;
 /// CKA_KEY_GEN_MECHANISM.
 pub const CKA_KEY_GEN_MECHANISM: CK_ULONG = 0x166;
 /// CKA_ALWAYS_AUTHENTICATE.
 pub const CKA_ALWAYS_AUTHENTICATE: CK_ULONG = 0x202;
+/// CKA_ALLOWED_MECHANISMS.
+pub const CKA_ALLOWED_MECHANISMS: CK_ULONG = 0x4000_0600;
 /// CKF_ARRAY_ATTRIBUTE: the value of such an attribute is itself a list of attributes, with pointers.
 pub const CKF_ARRAY_ATTRIBUTE: CK_ULONG = 0x4000_0000;
 
@@ -61,7 +72,18 @@ pub fn is_number(attribute_type: CK_ULONG) -> bool {
     matches!(attribute_type, CKA_CLASS | CKA_KEY_TYPE | CKA_VALUE_LEN | CKA_KEY_GEN_MECHANISM)
 }
 
-/// Whether it is one of the two attributes that every key of this token has as false. The token doesn't know them.
-pub fn is_always_false(attribute_type: CK_ULONG) -> bool {
-    matches!(attribute_type, CKA_DERIVE | CKA_ALWAYS_AUTHENTICATE)
+/// The classes of the token's objects.
+pub fn is_class(class: CK_ULONG) -> bool {
+    matches!(class, CKO_DATA | CKO_SECRET_KEY)
+}
+
+/// What every object of a class has with one value, and the token doesn't know: the class and the value. No key derives, none asks for
+/// a PIN at each use, none has a first or last day or a list of mechanisms, and no data object has an object identifier.
+pub fn fixed(attribute_type: CK_ULONG) -> Option<(CK_ULONG, &'static [u8])> {
+    match attribute_type {
+        CKA_DERIVE | CKA_ALWAYS_AUTHENTICATE => Some((CKO_SECRET_KEY, &[CK_FALSE])),
+        CKA_START_DATE | CKA_END_DATE | CKA_ALLOWED_MECHANISMS => Some((CKO_SECRET_KEY, &[])),
+        CKA_OBJECT_ID => Some((CKO_DATA, &[])),
+        _ => None,
+    }
 }

@@ -1,8 +1,9 @@
 //! Decryption functions (5.10).
 
-use super::begin;
 use super::pieces::{Calls, cipher, returned};
-use crate::edge::memory::{Answer, Input, MechanismPointer, Output};
+use super::{begin, ending};
+use crate::edge::memory::{Input, MechanismPointer, Output};
+use crate::error::Answer;
 use crate::frame::Function;
 
 /// C_DecryptInit.
@@ -13,16 +14,16 @@ pub fn decrypt_init(session: u64, mechanism: MechanismPointer, key: u64) -> Answ
 /// C_Decrypt.
 pub fn decrypt(session: u64, data: Input, output: Output) -> Answer {
     let calls = Calls { whole: Function::Decrypt, update: Function::DecryptUpdate, last: Some(Function::DecryptFinal) };
-    cipher(&calls, session, data, output)
+    ending(Function::DecryptInit, session, cipher(&calls, session, data, output))
 }
 
 /// C_DecryptUpdate.
 pub fn decrypt_update(session: u64, data: Input, output: Output) -> Answer {
     let calls = Calls { whole: Function::DecryptUpdate, update: Function::DecryptUpdate, last: None };
-    cipher(&calls, session, data, output)
+    ending(Function::DecryptInit, session, cipher(&calls, session, data, output))
 }
 
 /// C_DecryptFinal.
 pub fn decrypt_final(session: u64, output: Output) -> Answer {
-    returned(Function::DecryptFinal, session, output, |it| it)
+    ending(Function::DecryptInit, session, returned(Function::DecryptFinal, session, output, |it| it))
 }

@@ -1,8 +1,9 @@
 //! Encryption functions (5.8).
 
-use super::begin;
 use super::pieces::{Calls, cipher, returned};
-use crate::edge::memory::{Answer, Input, MechanismPointer, Output};
+use super::{begin, ending};
+use crate::edge::memory::{Input, MechanismPointer, Output};
+use crate::error::Answer;
 use crate::frame::Function;
 
 /// C_EncryptInit.
@@ -13,16 +14,16 @@ pub fn encrypt_init(session: u64, mechanism: MechanismPointer, key: u64) -> Answ
 /// C_Encrypt.
 pub fn encrypt(session: u64, data: Input, output: Output) -> Answer {
     let calls = Calls { whole: Function::Encrypt, update: Function::EncryptUpdate, last: Some(Function::EncryptFinal) };
-    cipher(&calls, session, data, output)
+    ending(Function::EncryptInit, session, cipher(&calls, session, data, output))
 }
 
 /// C_EncryptUpdate.
 pub fn encrypt_update(session: u64, data: Input, output: Output) -> Answer {
     let calls = Calls { whole: Function::EncryptUpdate, update: Function::EncryptUpdate, last: None };
-    cipher(&calls, session, data, output)
+    ending(Function::EncryptInit, session, cipher(&calls, session, data, output))
 }
 
 /// C_EncryptFinal.
 pub fn encrypt_final(session: u64, output: Output) -> Answer {
-    returned(Function::EncryptFinal, session, output, |it| it)
+    ending(Function::EncryptInit, session, returned(Function::EncryptFinal, session, output, |it| it))
 }

@@ -4,12 +4,14 @@ use super::made;
 use super::objects::made_of;
 use super::pieces::returned;
 use crate::abi::codes::*;
-use crate::edge::memory::{Answer, Input, MechanismPointer, Output, Place, Template};
+use crate::abi::numbers::CKO_SECRET_KEY;
+use crate::edge::memory::{Input, MechanismPointer, Output, Place, Template};
+use crate::error::Answer;
 use crate::frame::Function;
 
 /// C_GenerateKey.
 pub fn generate_key(session: u64, mechanism: MechanismPointer, template: Template, key: Place<u64>) -> Answer {
-    made(Function::GenerateKey, session, key, |it| made_of(it.mechanism(&mechanism), &template))
+    made(Function::GenerateKey, session, key, |it| made_of(it.mechanism(&mechanism), &template, Some(CKO_SECRET_KEY)))
 }
 
 /// C_WrapKey.
@@ -28,6 +30,6 @@ pub fn unwrap_key(
 ) -> Answer {
     made(Function::UnwrapKey, session, key, |it| {
         let it = it.mechanism(&mechanism).object(unwrapping_key).input(&wrapped, CKR_WRAPPED_KEY_LEN_RANGE);
-        made_of(it, &template)
+        made_of(it, &template, Some(CKO_SECRET_KEY))
     })
 }

@@ -1,16 +1,17 @@
 //! Object management functions (5.7).
 //!
-//! The token doesn't know CKA_DERIVE and CKA_ALWAYS_AUTHENTICATE, which many applications name. No key of it derives, and none asks for
-//! a PIN at each use: so of keys both are returned as false, and false is taken in a template. True goes to the token, which refuses it.
+//! The token doesn't know some attributes that many applications name, and of which each of its objects has one value: `fixed` has them.
+//! So of such objects that value is returned, and taken in a template. Any other value goes to the token, which refuses it.
 
 use super::{in_session, made, told};
 use crate::abi::codes::*;
 use crate::abi::numbers::*;
 use crate::abi::{CK_ATTRIBUTE, CK_RV};
-use crate::edge::memory::{Answer, Input, Numbers, Place, Template};
-use crate::frame::{Failure, Function, Loss, MAX_ENTRIES, Reply, Request};
+use crate::edge::memory::{Input, Numbers, Place, Template};
+use crate::error::{Answer, Error, Loss};
+use crate::frame::{Function, MAX_ENTRIES, Reply, Request};
 use crate::link::Link;
-use crate::process::with_link;
+use crate::process::with_session;
 
 /// The most handles that one reply has.
 const MAX_HANDLES: u64 = 1_024;
@@ -21,25 +22,58 @@ fn class_in(template: &Template) -> Option<u64> {
     entries.filter(|it| it.attribute_type == CKA_CLASS).find_map(|it| template.value(&it).number())
 }
 
-/// Whether an entry says that a key doesn't derive, or asks for no PIN.
-fn says_false(attribute_type: u64, value: &Input) -> bool {
-    is_always_false(attribute_type) && value.is_byte(CK_FALSE)
+/// The class whose objects all have what an entry says, if the token doesn't know the entry's type.
+fn class_said_by(attribute_type: u64, value: &Input) -> Option<u64> {
+    fixed(attribute_type).filter(|(_, wanted)| value.is(wanted)).map(|(class, _)| class)
 }
 
-/// The template of an object that is made or changed. What every key has as false is left out, unless the object is none.
-pub fn made_of<'a>(request: Request<'a>, template: &Template) -> Request<'a> {
-    let is_key = class_in(template) != Some(CKO_DATA);
-    request.template(template, |kind, value| is_key && says_false(kind, value))
+/// The class of the first entry that says what all objects of a class have.
+fn class_said_in(template: &Template) -> Option<u64> {
+    let entries = (0..template.count().unwrap_or(0)).map(|at| template.entry(at));
+    entries.into_iter().find_map(|it| class_said_by(it.attribute_type, &template.value(&it)))
+}
+
+/// The template of an object that is made, of a class that it gives, or else of this one, if there is one. What every object of the
+/// class has goes without saying. Of a class that the token hasn't, the class alone is sent, so that it is the class that is refused.
+pub fn made_of<'a>(request: Request<'a>, template: &Template, class: Option<u64>) -> Request<'a> {
+    let class = class_in(template).or(class);
+    request.template(template, |kind, value| match class {
+        Some(class) if !is_class(class) => kind != CKA_CLASS,
+        _ => class_said_by(kind, value).is_some_and(|it| class.is_none_or(|class| it == class)),
+    })
+}
+
+/// The template by which an object of a class is copied or changed.
+fn changed_by<'a>(request: Request<'a>, template: &Template, class: Option<u64>) -> Request<'a> {
+    request.template(template, |kind, value| class.is_some() && class_said_by(kind, value) == class)
+}
+
+/// The class of an object, if the template says what all of a class have. Where it isn't returned, the token refuses the template.
+fn class_for(template: &Template, link: &mut Link, session: u64, object: u64) -> Option<u64> {
+    class_said_in(template).and_then(|_| class_of(link, session, object).ok())
 }
 
 /// C_CreateObject.
 pub fn create_object(session: u64, template: Template, object: Place<u64>) -> Answer {
-    made(Function::CreateObject, session, object, |it| made_of(it, &template))
+    made(Function::CreateObject, session, object, |it| made_of(it, &template, None))
 }
 
 /// C_CopyObject.
 pub fn copy_object(session: u64, original: u64, template: Template, object: Place<u64>) -> Answer {
-    made(Function::CopyObject, session, object, |it| made_of(it.object(original), &template))
+    object.check()?;
+    let handle = with_session(session, |link| {
+        let class = class_for(&template, link, session, original);
+        link.in_session(
+            Function::CopyObject,
+            session,
+            |it| changed_by(it.object(original), &template, class),
+            |it| {
+                it.ok()?;
+                it.object()
+            },
+        )
+    })?;
+    object.put(handle)
 }
 
 /// C_DestroyObject.
@@ -65,9 +99,8 @@ pub fn get_object_size(session: u64, object: u64, size: Place<u64>) -> Answer {
 /// C_GetAttributeValue. A request asks for at most 32 attributes, so that more are asked for in several, one after the other.
 pub fn get_attribute_value(session: u64, object: u64, template: Template) -> Answer {
     let count = template.count()?;
-    let known: Vec<usize> = (0..count).filter(|at| !is_always_false(template.entry(*at).attribute_type)).collect();
-    let unknown: Vec<usize> = (0..count).filter(|at| is_always_false(template.entry(*at).attribute_type)).collect();
-    with_link(|link| {
+    let (unknown, known): (Vec<usize>, Vec<usize>) = (0..count).partition(|at| fixed(template.entry(*at).attribute_type).is_some());
+    with_session(session, |link| {
         let mut codes = Vec::new();
         if unknown.is_empty() || !known.is_empty() {
             let chunks = known.chunks(MAX_ENTRIES).chain(known.is_empty().then_some(&[][..]));
@@ -76,8 +109,8 @@ pub fn get_attribute_value(session: u64, object: u64, template: Template) -> Ans
             }
         }
         if !unknown.is_empty() {
-            let is_key = is_key(link, session, object)?;
-            codes.extend(unknown.iter().map(|at| put_false(&template, *at, is_key)));
+            let class = class_of(link, session, object)?;
+            codes.extend(unknown.iter().map(|at| put_fixed(&template, *at, class)));
         }
         worst(&codes)
     })
@@ -86,11 +119,11 @@ pub fn get_attribute_value(session: u64, object: u64, template: Template) -> Ans
 /// The code of the whole, by the codes of its parts: in the order that the token has for the entries of one request.
 fn worst(codes: &[CK_RV]) -> Answer {
     let order = [CKR_ATTRIBUTE_SENSITIVE, CKR_ATTRIBUTE_TYPE_INVALID, CKR_BUFFER_TOO_SMALL];
-    order.into_iter().find(|it| codes.contains(it)).map_or(Ok(()), Err)
+    order.into_iter().find(|it| codes.contains(it)).map_or(Ok(()), |it| Err(Error::Token(it)))
 }
 
 /// Asks for the attributes at some indices, and writes their values. Returns the code.
-fn values(link: &mut Link, session: u64, object: u64, template: &Template, indices: &[usize]) -> Result<CK_RV, CK_RV> {
+fn values(link: &mut Link, session: u64, object: u64, template: &Template, indices: &[usize]) -> Answer<CK_RV> {
     let entries: Vec<CK_ATTRIBUTE> = indices.iter().map(|at| template.entry(*at)).collect();
     let query: Vec<_> = entries.iter().map(|it| (it.attribute_type, if it.value.is_null() { None } else { Some(it.value_len) })).collect();
     link.in_session(
@@ -100,10 +133,10 @@ fn values(link: &mut Link, session: u64, object: u64, template: &Template, indic
         |it| {
             let code = it.code();
             if code != CKR_OK && worst(&[code]).is_ok() {
-                return Err(code.into());
+                return Err(Error::Token(code));
             }
             if it.count()? != entries.len() {
-                return Err(Failure::Lost(Loss::Nonsense));
+                return Err(Error::Lost(Loss::Nonsense));
             }
             for (at, entry) in indices.iter().zip(&entries) {
                 put_value(it, template, *at, entry)?;
@@ -115,7 +148,7 @@ fn values(link: &mut Link, session: u64, object: u64, template: &Template, indic
 
 /// Reads the value of an attribute, and writes it with its length. Without a value there is no length but where none was asked for, or
 /// the application would read what isn't there.
-fn put_value(reply: &mut Reply<'_>, template: &Template, at: usize, entry: &CK_ATTRIBUTE) -> Result<(), Failure> {
+fn put_value(reply: &mut Reply<'_>, template: &Template, at: usize, entry: &CK_ATTRIBUTE) -> Answer {
     let len = reply.number()?;
     if reply.tag()? {
         let value = reply.raw(len)?;
@@ -124,14 +157,14 @@ fn put_value(reply: &mut Reply<'_>, template: &Template, at: usize, entry: &CK_A
             _ => template.put(entry, value)?,
         }
     } else if len != UNAVAILABLE && !entry.value.is_null() {
-        return Err(Failure::Lost(Loss::Nonsense));
+        return Err(Error::Lost(Loss::Nonsense));
     }
     template.set_len(at, len);
     Ok(())
 }
 
-/// Whether an object is a key.
-fn is_key(link: &mut Link, session: u64, object: u64) -> Result<bool, CK_RV> {
+/// The class of an object.
+fn class_of(link: &mut Link, session: u64, object: u64) -> Answer<u64> {
     let query = [(CKA_CLASS, Some(8))];
     link.in_session(
         Function::GetAttributeValue,
@@ -140,24 +173,21 @@ fn is_key(link: &mut Link, session: u64, object: u64) -> Result<bool, CK_RV> {
         |it| {
             it.ok()?;
             let head = (it.count()?, it.number()?, it.tag()?);
-            if head != (1, 8, true) {
-                return Err(Failure::Lost(Loss::Nonsense));
-            }
-            Ok(it.number()? == CKO_SECRET_KEY)
+            if head == (1, 8, true) { it.number() } else { Err(Error::Lost(Loss::Nonsense)) }
         },
     )
 }
 
-/// The value of an attribute that every key has as false, and that nothing else has.
-fn put_false(template: &Template, at: usize, is_key: bool) -> CK_RV {
+/// The value of an attribute that every object of a class has with one value, and that nothing else has.
+fn put_fixed(template: &Template, at: usize, class: u64) -> CK_RV {
     let entry = template.entry(at);
-    let (len, code) = match entry {
-        _ if !is_key => (UNAVAILABLE, CKR_ATTRIBUTE_TYPE_INVALID),
-        it if it.value.is_null() => (1, CKR_OK),
-        it => match template.put(&it, &[CK_FALSE]) {
-            Ok(()) => (1, CKR_OK),
+    let (len, code) = match fixed(entry.attribute_type) {
+        Some((of, value)) if of == class => match template.put(&entry, value) {
+            _ if entry.value.is_null() => (value.len() as u64, CKR_OK),
+            Ok(()) => (value.len() as u64, CKR_OK),
             Err(_) => (UNAVAILABLE, CKR_BUFFER_TOO_SMALL),
         },
+        _ => (UNAVAILABLE, CKR_ATTRIBUTE_TYPE_INVALID),
     };
     template.set_len(at, len);
     code
@@ -165,18 +195,23 @@ fn put_false(template: &Template, at: usize, is_key: bool) -> CK_RV {
 
 /// C_SetAttributeValue.
 pub fn set_attribute_value(session: u64, object: u64, template: Template) -> Answer {
-    told(Function::SetAttributeValue, session, |it| made_of(it.object(object), &template))
+    with_session(session, |link| {
+        let class = class_for(&template, link, session, object);
+        link.in_session(Function::SetAttributeValue, session, |it| changed_by(it.object(object), &template, class), |it| it.ok())
+    })
 }
 
-/// C_FindObjectsInit. What every key has as false is searched for as the class of keys.
+/// C_FindObjectsInit. What every object of a class has is searched for as the class.
 pub fn find_objects_init(session: u64, template: Template) -> Answer {
-    let class = class_in(&template);
-    let is_key = class.is_none_or(|it| it == CKO_SECRET_KEY);
-    let says = (0..template.count()?).map(|at| template.entry(at)).any(|it| says_false(it.attribute_type, &template.value(&it)));
+    let given = class_in(&template);
+    let said = class_said_in(&template);
     told(Function::FindObjectsInit, session, |it| {
         let place = it.place();
-        let it = it.template(&template, |kind, value| is_key && says_false(kind, value));
-        if says && class.is_none() { it.and_number(place, CKA_CLASS, CKO_SECRET_KEY) } else { it }
+        let it = changed_by(it, &template, given.or(said));
+        match said {
+            Some(class) if given.is_none() => it.and_number(place, CKA_CLASS, class),
+            _ => it,
+        }
     })
 }
 
@@ -184,7 +219,7 @@ pub fn find_objects_init(session: u64, template: Template) -> Answer {
 pub fn find_objects(session: u64, objects: Numbers, count: Place<u64>) -> Answer {
     count.check()?;
     let most = objects.room()?;
-    let found = with_link(|link| {
+    let found = with_session(session, |link| {
         let mut found = 0;
         loop {
             let wanted = (most - found).min(MAX_HANDLES);

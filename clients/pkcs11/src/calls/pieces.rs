@@ -5,10 +5,11 @@
 
 use super::in_session;
 use crate::abi::{CK_RV, codes::*};
-use crate::edge::memory::{Answer, Input, Output};
-use crate::frame::{Failure, Function, Loss, Reply, Request};
+use crate::edge::memory::{Input, Output};
+use crate::error::{Answer, Error, Loss, refused};
+use crate::frame::{Function, Reply, Request};
 use crate::link::Link;
-use crate::process::with_link;
+use crate::process::with_session;
 
 /// The most data of one request: whole blocks, so that the request's other fields, and a reply with a block more, have room in a frame.
 pub const ONE_FRAME: u64 = 1_048_544;
@@ -31,7 +32,7 @@ pub struct Calls {
 /// Reads an output: bytes, which are written to the application's buffer from an offset on, or the length that is wanted. Returns the
 /// length with the code. Bytes come where there is a buffer, and only the length where there is none, or too short a one: anything
 /// else would have the application read what isn't there.
-fn output_in(reply: &mut Reply<'_>, buffer: Option<(&Output, u64)>) -> Result<(u64, CK_RV), Failure> {
+fn output_in(reply: &mut Reply<'_>, buffer: Option<(&Output, u64)>) -> Answer<(u64, CK_RV)> {
     let code = reply.code();
     if code != CKR_BUFFER_TOO_SMALL {
         reply.ok()?;
@@ -44,7 +45,7 @@ fn output_in(reply: &mut Reply<'_>, buffer: Option<(&Output, u64)>) -> Result<(u
             output.put(offset, bytes)?;
             Ok((bytes.len() as u64, code))
         }
-        _ => Err(Failure::Lost(Loss::Nonsense)),
+        _ => Err(Error::Lost(Loss::Nonsense)),
     }
 }
 
@@ -53,7 +54,7 @@ pub fn returned(function: Function, session: u64, output: Output, write: impl Fn
     let buffer = output.buffer_len()?.map(|_| (&output, 0));
     let (len, code) = in_session(function, session, |it| write(it).output(&output, 0), |it| output_in(it, buffer))?;
     output.set_len(len)?;
-    if code == CKR_OK { Ok(()) } else { Err(code) }
+    if code == CKR_OK { Ok(()) } else { Err(Error::Token(code)) }
 }
 
 /// Encrypts or decrypts data.
@@ -62,15 +63,15 @@ pub fn cipher(calls: &Calls, session: u64, data: Input, output: Output) -> Answe
         return returned(calls.whole, session, output, |it| it.input(&data, CKR_DATA_LEN_RANGE));
     }
     if data.is_null() {
-        return Err(CKR_ARGUMENTS_BAD);
+        return refused(CKR_ARGUMENTS_BAD);
     }
     let room = output.buffer_len()?;
-    with_link(|link| {
+    with_session(session, |link| {
         let probe = BLOCK + data.len() % BLOCK;
         let wanted = wanted(link, calls.whole, session, probe)?.saturating_add(data.len() - probe);
         if room.is_none_or(|it| it < wanted) {
             output.set_len(wanted)?;
-            return if room.is_none() { Ok(()) } else { Err(CKR_BUFFER_TOO_SMALL) };
+            return if room.is_none() { Ok(()) } else { refused(CKR_BUFFER_TOO_SMALL) };
         }
         let written = in_pieces(link, calls, session, &data, &output)?;
         output.set_len(written)
@@ -78,14 +79,14 @@ pub fn cipher(calls: &Calls, session: u64, data: Input, output: Output) -> Answe
 }
 
 /// The length of the output for so many bytes of data, at most two blocks. Nothing is taken.
-fn wanted(link: &mut Link, function: Function, session: u64, len: u64) -> Result<u64, CK_RV> {
+fn wanted(link: &mut Link, function: Function, session: u64, len: u64) -> Answer<u64> {
     let zeros = [0; 2 * BLOCK as usize];
     let zeros = zeros.get(..len as usize).ok_or(CKR_GENERAL_ERROR)?;
     let (len, _) = link.in_session(function, session, |it| it.bytes(zeros).buffer_len(None), |it| output_in(it, None))?;
     Ok(len)
 }
 
-fn in_pieces(link: &mut Link, calls: &Calls, session: u64, data: &Input, output: &Output) -> Result<u64, CK_RV> {
+fn in_pieces(link: &mut Link, calls: &Calls, session: u64, data: &Input, output: &Output) -> Answer<u64> {
     let (mut read, mut written) = (0, 0);
     while read < data.len() {
         // (a piece is in the request before its output is written, which may be over it)
@@ -100,7 +101,7 @@ fn in_pieces(link: &mut Link, calls: &Calls, session: u64, data: &Input, output:
 }
 
 /// One call of several, whose output stands behind what was written. Returns how much it is.
-fn part(link: &mut Link, function: Function, session: u64, data: Option<&Input>, output: &Output, written: u64) -> Result<u64, CK_RV> {
+fn part(link: &mut Link, function: Function, session: u64, data: Option<&Input>, output: &Output, written: u64) -> Answer<u64> {
     let (len, code) = link.in_session(
         function,
         session,
@@ -108,7 +109,7 @@ fn part(link: &mut Link, function: Function, session: u64, data: Option<&Input>,
         |it| output_in(it, Some((output, written))),
     )?;
     // (there was room for all)
-    if code == CKR_OK { Ok(len) } else { Err(CKR_DEVICE_ERROR) }
+    if code == CKR_OK { Ok(len) } else { refused(CKR_DEVICE_ERROR) }
 }
 
 /// Gives data to an operation that returns nothing for it.
@@ -125,6 +126,6 @@ pub fn taken(link: &mut Link, function: Function, session: u64, data: &Input) ->
 }
 
 /// The length of a signature, where no data was taken yet.
-pub fn signature_len(link: &mut Link, function: Function, session: u64) -> Result<u64, CK_RV> {
+pub fn signature_len(link: &mut Link, function: Function, session: u64) -> Answer<u64> {
     wanted(link, function, session, 0)
 }

@@ -1,22 +1,23 @@
 //! Random number generation functions (5.19).
 
 use crate::abi::codes::*;
-use crate::edge::memory::{Answer, Filled};
-use crate::frame::{Failure, Function, Loss};
-use crate::process::with_link;
+use crate::edge::memory::Filled;
+use crate::error::{Answer, Error, Loss, refused};
+use crate::frame::Function;
+use crate::process::with_session;
 
 /// The most bytes that the token returns at once.
 const MOST: u64 = 32_768;
 
 /// C_SeedRandom. The token takes none.
 pub fn seed_random() -> Answer {
-    Err(CKR_RANDOM_SEED_NOT_SUPPORTED)
+    refused(CKR_RANDOM_SEED_NOT_SUPPORTED)
 }
 
 /// C_GenerateRandom.
 pub fn generate_random(session: u64, random: Filled) -> Answer {
     let len = random.len()?;
-    with_link(|link| {
+    with_session(session, |link| {
         let mut done = 0;
         loop {
             let wanted = (len - done).min(MOST);
@@ -28,9 +29,9 @@ pub fn generate_random(session: u64, random: Filled) -> Answer {
                     it.ok()?;
                     let bytes = it.bytes()?;
                     if bytes.len() as u64 != wanted {
-                        return Err(Failure::Lost(Loss::Nonsense));
+                        return Err(Error::Lost(Loss::Nonsense));
                     }
-                    Ok(random.put(done, bytes)?)
+                    random.put(done, bytes)
                 },
             )?;
             done += wanted;

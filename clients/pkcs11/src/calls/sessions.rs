@@ -1,28 +1,30 @@
 //! Session management functions (5.6).
 
 use super::{begin, in_session, told, verifying};
+use crate::abi::CK_SESSION_INFO;
 use crate::abi::codes::*;
 use crate::abi::numbers::*;
-use crate::abi::{CK_RV, CK_SESSION_INFO};
-use crate::edge::memory::{Answer, Input, MechanismPointer, Place};
+use crate::edge::memory::{Input, MechanismPointer, Place};
+use crate::error::{Answer, Error, refused};
 use crate::frame::Function;
-use crate::process::with_link;
+use crate::handles::slot_of;
+use crate::process::{with_link, with_session};
 
 /// C_OpenSession. No callback is ever called.
 pub fn open_session(slot: u64, flags: u64, session: Place<u64>) -> Answer {
     session.check()?;
-    let found = with_link(|link| link.open_session(slot, flags))?;
+    let found = with_link(slot, |link| link.open_session(flags))?;
     session.put(found)
 }
 
 /// C_CloseSession.
 pub fn close_session(session: u64) -> Answer {
-    with_link(|link| link.close_session(session))
+    with_session(session, |link| link.close_session(session))
 }
 
 /// C_CloseAllSessions.
 pub fn close_all_sessions(slot: u64) -> Answer {
-    with_link(|link| link.close_all_sessions(slot))
+    with_link(slot, |link| link.close_all_sessions())
 }
 
 /// C_GetSessionInfo.
@@ -31,14 +33,16 @@ pub fn get_session_info(session: u64, info: Place<CK_SESSION_INFO>) -> Answer {
     info.put(session_info(session)?)
 }
 
-fn session_info(session: u64) -> Result<CK_SESSION_INFO, CK_RV> {
+fn session_info(session: u64) -> Answer<CK_SESSION_INFO> {
     in_session(
         Function::GetSessionInfo,
         session,
         |it| it,
         |it| {
             it.ok()?;
-            Ok(CK_SESSION_INFO { slot_id: it.number()?, state: it.number()?, flags: it.number()?, device_error: it.number()? })
+            // (the daemon has one slot, which is one of several for the application)
+            it.number()?;
+            Ok(CK_SESSION_INFO { slot_id: slot_of(session), state: it.number()?, flags: it.number()?, device_error: it.number()? })
         },
     )
 }
@@ -57,7 +61,7 @@ pub fn session_cancel(session: u64, flags: u64) -> Answer {
         return Ok(());
     }
     match told(Function::FindObjectsFinal, session, |it| it) {
-        Err(CKR_OPERATION_NOT_INITIALIZED) => Ok(()),
+        Err(Error::Token(CKR_OPERATION_NOT_INITIALIZED)) => Ok(()),
         ended => ended,
     }
 }
@@ -69,7 +73,7 @@ pub fn login(session: u64, user: u64, pin: Input) -> Answer {
 
 /// C_LoginUser. The token has users without names: with one it is CKR_FUNCTION_NOT_SUPPORTED.
 pub fn login_user(session: u64, user: u64, pin: Input, name: Input) -> Answer {
-    if name.len() == 0 { login(session, user, pin) } else { Err(CKR_FUNCTION_NOT_SUPPORTED) }
+    if name.len() == 0 { login(session, user, pin) } else { refused(CKR_FUNCTION_NOT_SUPPORTED) }
 }
 
 /// C_Logout.

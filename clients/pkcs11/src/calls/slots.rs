@@ -1,36 +1,46 @@
-//! Slot and token management functions (5.5). The one slot is number 0.
+//! Slot and token management functions (5.5). A slot's number is the index of its socket in the settings.
 
 use super::general::{MANUFACTURER, VERSION, padded};
 use super::told;
 use crate::abi::codes::*;
 use crate::abi::numbers::*;
 use crate::abi::{CK_MECHANISM_INFO, CK_SLOT_INFO, CK_TOKEN_INFO};
-use crate::edge::memory::{Answer, Input, Listing, Place};
-use crate::frame::{Function, Read, Reply};
+use crate::absence::description;
+use crate::edge::memory::{Input, Listing, Place};
+use crate::error::{Answer, refused};
+use crate::frame::{Function, Reply};
 use crate::link::Again;
-use crate::process::with_link;
+use crate::process::{count, with_link};
+use crate::settings;
 use std::os::unix::ffi::OsStrExt;
 use std::path::Path;
 
 /// How many bytes a token's label has.
 const LABEL_LEN: u64 = 32;
 
-/// C_GetSlotList. Slots with a token are those at whose socket a daemon listens.
+/// C_GetSlotList. Slots with a token are those at whose socket a daemon answers.
 pub fn get_slot_list(token_present: u8, list: Listing<u64>) -> Answer {
     list.check()?;
-    let is_listed = token_present == CK_FALSE || with_link(|link| link.is_present())?;
-    list.put(if is_listed { &[SLOT] } else { &[] })
+    let mut listed = Vec::new();
+    for slot in 0..count()? as u64 {
+        if token_present == CK_FALSE || with_link(slot, |link| link.absence())?.is_none() {
+            listed.push(slot);
+        }
+    }
+    list.put(&listed)
 }
 
-/// C_GetSlotInfo. The slot is one of a device that can be removed, since the daemon may come and go.
+/// C_GetSlotInfo. The slot is one of a device that can be removed, since the daemon may come and go. Its description is the socket, and
+/// the cause, where no token is there.
 pub fn get_slot_info(slot: u64, info: Place<CK_SLOT_INFO>) -> Answer {
     info.check()?;
-    if slot != SLOT {
-        return Err(CKR_SLOT_ID_INVALID);
-    }
-    let present = if with_link(|link| link.is_present())? { CKF_TOKEN_PRESENT } else { 0 };
+    let (absence, text) = with_link(slot, |link| {
+        let absence = link.absence()?;
+        Ok((absence, description(&link.place()?.socket, absence)))
+    })?;
+    let present = if absence.is_none() { CKF_TOKEN_PRESENT } else { 0 };
     info.put(CK_SLOT_INFO {
-        slot_description: padded("tokend"),
+        slot_description: padded(&text),
         manufacturer_id: padded(MANUFACTURER),
         flags: CKF_REMOVABLE_DEVICE | present,
         hardware_version: VERSION,
@@ -41,11 +51,10 @@ pub fn get_slot_info(slot: u64, info: Place<CK_SLOT_INFO>) -> Answer {
 /// C_GetTokenInfo. What the daemon doesn't say is blank, or CK_UNAVAILABLE_INFORMATION.
 pub fn get_token_info(slot: u64, info: Place<CK_TOKEN_INFO>) -> Answer {
     info.check()?;
-    let found = with_link(|link| {
-        let serial = serial_number(link.socket()?);
+    let found = with_link(slot, |link| {
+        let serial = serial_number(link.place()?);
         link.on_slot(
             Function::GetTokenInfo,
-            slot,
             Again::Sent,
             |it| it,
             |it| {
@@ -57,7 +66,7 @@ pub fn get_token_info(slot: u64, info: Place<CK_TOKEN_INFO>) -> Answer {
     info.put(found)
 }
 
-fn token_info(reply: &mut Reply<'_>, serial_number: [u8; 16]) -> Read<CK_TOKEN_INFO> {
+fn token_info(reply: &mut Reply<'_>, serial_number: [u8; 16]) -> Answer<CK_TOKEN_INFO> {
     Ok(CK_TOKEN_INFO {
         label: reply.label()?,
         manufacturer_id: padded(MANUFACTURER),
@@ -80,9 +89,18 @@ fn token_info(reply: &mut Reply<'_>, serial_number: [u8; 16]) -> Read<CK_TOKEN_I
     })
 }
 
-/// Sixteen hexadecimal digits that tell the tokens of different sockets apart: a hash (FNV-1a) of the path, since the daemon has no
-/// number of its own. Two tokens behind one path, one after the other, look like one.
-fn serial_number(socket: &Path) -> [u8; 16] {
+/// The serial number of the settings, or else one that tells the tokens of different sockets apart: a hash of the path, since the daemon
+/// has no number of its own. Two tokens behind one path, one after the other, look like one. A socket that is named in several ways, as
+/// by a link, has one path: that without links.
+fn serial_number(place: &settings::Place) -> [u8; settings::SERIAL_LEN] {
+    match &place.serial {
+        Some(serial) => padded(serial),
+        None => hashed(&std::fs::canonicalize(&place.socket).unwrap_or_else(|_| place.socket.clone())),
+    }
+}
+
+/// Sixteen hexadecimal digits: FNV-1a of a path.
+fn hashed(socket: &Path) -> [u8; settings::SERIAL_LEN] {
     let hash = socket
         .as_os_str()
         .as_bytes()
@@ -93,16 +111,15 @@ fn serial_number(socket: &Path) -> [u8; 16] {
 
 /// C_WaitForSlotEvent. There are none: a daemon that comes or goes is found out by asking.
 pub fn wait_for_slot_event(flags: u64) -> Answer {
-    Err(if flags & CKF_DONT_BLOCK != 0 { CKR_NO_EVENT } else { CKR_FUNCTION_NOT_SUPPORTED })
+    refused(if flags & CKF_DONT_BLOCK != 0 { CKR_NO_EVENT } else { CKR_FUNCTION_NOT_SUPPORTED })
 }
 
 /// C_GetMechanismList.
 pub fn get_mechanism_list(slot: u64, list: Listing<u64>) -> Answer {
     list.check()?;
-    let found = with_link(|link| {
+    let found = with_link(slot, |link| {
         link.on_slot(
             Function::GetMechanismList,
-            slot,
             Again::Sent,
             |it| it,
             |it| {
@@ -117,10 +134,9 @@ pub fn get_mechanism_list(slot: u64, list: Listing<u64>) -> Answer {
 /// C_GetMechanismInfo.
 pub fn get_mechanism_info(slot: u64, mechanism: u64, info: Place<CK_MECHANISM_INFO>) -> Answer {
     info.check()?;
-    let found = with_link(|link| {
+    let found = with_link(slot, |link| {
         link.on_slot(
             Function::GetMechanismInfo,
-            slot,
             Again::Sent,
             |it| it.number(mechanism),
             |it| {
@@ -135,11 +151,11 @@ pub fn get_mechanism_info(slot: u64, mechanism: u64, info: Place<CK_MECHANISM_IN
 /// C_InitToken. Where the connection is lost, it isn't sent again: whether the token was made anew isn't known.
 pub fn init_token(slot: u64, pin: Input, label: Input) -> Answer {
     if label.is_null() {
-        return Err(CKR_ARGUMENTS_BAD);
+        return refused(CKR_ARGUMENTS_BAD);
     }
     let label = label.at_most(LABEL_LEN);
-    with_link(|link| {
-        link.on_slot(Function::InitToken, slot, Again::NotSent, |it| it.pin(&pin).input(&label, CKR_ARGUMENTS_BAD), |it| it.ok())
+    with_link(slot, |link| {
+        link.on_slot(Function::InitToken, Again::NotSent, |it| it.pin(&pin).input(&label, CKR_ARGUMENTS_BAD), |it| it.ok())
     })
 }
 
@@ -155,14 +171,22 @@ pub fn set_pin(session: u64, old: Input, new: Input) -> Answer {
 
 #[cfg(test)]
 mod tests {
-    use super::serial_number;
+    use super::{hashed, serial_number};
+    use crate::settings::Place;
     use std::path::Path;
 
     #[test]
     fn serial_numbers_are_hexadecimal_digits_of_the_path() {
         // (the published values of FNV-1a with 64 bits)
-        assert_eq!(&serial_number(Path::new("")), b"cbf29ce484222325");
-        assert_eq!(&serial_number(Path::new("a")), b"af63dc4c8601ec8c");
-        assert_eq!(&serial_number(Path::new("foobar")), b"85944171f73967e8");
+        assert_eq!(&hashed(Path::new("")), b"cbf29ce484222325");
+        assert_eq!(&hashed(Path::new("a")), b"af63dc4c8601ec8c");
+        assert_eq!(&hashed(Path::new("foobar")), b"85944171f73967e8");
+    }
+
+    #[test]
+    fn a_serial_number_of_the_settings_comes_first() {
+        let place = |serial: Option<&str>| Place { socket: "foobar".into(), serial: serial.map(String::from) };
+        assert_eq!(&serial_number(&place(Some("A-1"))), b"A-1             ");
+        assert_eq!(&serial_number(&place(None)), b"85944171f73967e8");
     }
 }

@@ -1,9 +1,12 @@
 //! The few calls of the C library that std doesn't have.
 
-use std::ffi::{CStr, c_char, c_int, c_void};
+use std::ffi::{CStr, c_char, c_int, c_ulong, c_void};
+use std::fs::File;
 use std::io;
+use std::mem::ManuallyDrop;
 use std::os::fd::{AsRawFd, FromRawFd, OwnedFd, RawFd};
 use std::os::unix::ffi::OsStrExt;
+use std::os::unix::fs::MetadataExt;
 use std::os::unix::net::UnixStream;
 use std::path::Path;
 use std::time::Duration;
@@ -15,18 +18,35 @@ unsafe extern "C" {
     fn socket(domain: c_int, kind: c_int, protocol: c_int) -> c_int;
     fn connect(socket: c_int, address: *const SocketAddress, len: u32) -> c_int;
     fn send(socket: c_int, bytes: *const c_void, len: usize, flags: c_int) -> isize;
+    fn fcntl(descriptor: c_int, command: c_int, ...) -> c_int;
+    fn getauxval(kind: c_ulong) -> c_ulong;
+    fn dladdr(address: *const c_void, found: *mut Found) -> c_int;
 }
 
 const AF_UNIX: u16 = 1;
 const SOCK_STREAM: c_int = 1;
 const SOCK_CLOEXEC: c_int = 0o2_000_000;
 const MSG_NOSIGNAL: c_int = 0x4000;
+const F_DUPFD_CLOEXEC: c_int = 1_030;
+const AT_PHDR: c_ulong = 3;
+
+/// The least descriptor that isn't one of the three streams.
+const FIRST_DESCRIPTOR: c_int = 3;
 
 /// C's `struct sockaddr_un`.
 #[repr(C)]
 struct SocketAddress {
     family: u16,
     path: [u8; 108],
+}
+
+/// C's `Dl_info`: what a program or library has at an address.
+#[repr(C)]
+struct Found {
+    file: *const c_char,
+    base: *const c_void,
+    symbol: *const c_char,
+    symbol_at: *const c_void,
 }
 
 /// Overwrites bytes with zeros, which the compiler doesn't leave out though nobody reads them.
@@ -49,11 +69,64 @@ pub fn on_fork_in_child(handler: extern "C" fn()) -> bool {
     unsafe { pthread_atfork(None, None, Some(handler)) == 0 }
 }
 
+/// Where the program or library begins that has an address.
+fn base_of(address: *const c_void) -> Option<*const c_void> {
+    let mut found = Found { file: std::ptr::null(), base: std::ptr::null(), symbol: std::ptr::null(), symbol_at: std::ptr::null() };
+    // SAFETY: it reads the system's list of what is loaded, by whatever address, and writes what it finds.
+    let is_found = unsafe { dladdr(address, &mut found) } != 0;
+    is_found.then_some(found.base)
+}
+
+/// Whether this code is a library that was loaded, whose std nobody else uses, and no part of the program itself.
+pub fn is_library() -> bool {
+    // SAFETY: it looks up a number that the system gave the process.
+    let program = unsafe { getauxval(AT_PHDR) };
+    let ours = base_of(base_of as *const c_void);
+    ours.is_some() && ours != base_of(std::ptr::without_provenance(program as usize))
+}
+
+/// What a descriptor stands for, for as long as that is open: its device and its inode.
+#[derive(Clone, Copy, Debug, PartialEq, Eq)]
+pub struct Identity {
+    pub device: u64,
+    pub inode: u64,
+}
+
+/// What a descriptor stands for, if it is open.
+pub fn identity(descriptor: RawFd) -> Option<Identity> {
+    if descriptor < 0 {
+        return None;
+    }
+    // SAFETY: it is asked what the descriptor is, and it isn't closed.
+    let file = ManuallyDrop::new(unsafe { File::from_raw_fd(descriptor) });
+    file.metadata().ok().map(|it| Identity { device: it.dev(), inode: it.ino() })
+}
+
 /// Closes a descriptor that nothing else owns.
 pub fn close(descriptor: RawFd) {
     // SAFETY: the caller has taken it out of whatever owned it (`into_raw_fd`), or it is a forked child's copy, whose owner is
     // never dropped there.
     drop(unsafe { OwnedFd::from_raw_fd(descriptor) });
+}
+
+/// Takes over a descriptor that a call of the system returned, or its error.
+fn owned(descriptor: c_int) -> io::Result<OwnedFd> {
+    if descriptor < 0 {
+        return Err(io::Error::last_os_error());
+    }
+    // SAFETY: the descriptor was made just now, and nothing else owns it.
+    Ok(unsafe { OwnedFd::from_raw_fd(descriptor) })
+}
+
+/// A socket whose descriptor is none of the three streams: where one of those is closed, the application may print to its number.
+fn new_socket() -> io::Result<OwnedFd> {
+    // SAFETY: it makes a descriptor, or fails.
+    let made = owned(unsafe { socket(AF_UNIX.into(), SOCK_STREAM | SOCK_CLOEXEC, 0) })?;
+    if made.as_raw_fd() >= FIRST_DESCRIPTOR {
+        return Ok(made);
+    }
+    // SAFETY: it makes a second descriptor for the one that is owned here, or fails. The first is closed then.
+    owned(unsafe { fcntl(made.as_raw_fd(), F_DUPFD_CLOEXEC, FIRST_DESCRIPTOR) })
 }
 
 /// Connects to a socket. Connecting, each read and each write wait at most so long.
@@ -65,13 +138,8 @@ pub fn connected(path: &Path, limit: Duration) -> io::Result<UnixStream> {
         return Err(io::ErrorKind::InvalidInput.into());
     }
     address.path[..bytes.len()].copy_from_slice(bytes);
-    // SAFETY: it makes a descriptor, or fails.
-    let descriptor = unsafe { socket(AF_UNIX.into(), SOCK_STREAM | SOCK_CLOEXEC, 0) };
-    if descriptor < 0 {
-        return Err(io::Error::last_os_error());
-    }
-    // SAFETY: the descriptor was made just now, and nothing else owns it.
-    let stream = UnixStream::from(unsafe { OwnedFd::from_raw_fd(descriptor) });
+    let stream = UnixStream::from(new_socket()?);
+    let descriptor = stream.as_raw_fd();
     // (the limit of writes is that of connecting, too, where the daemon's queue is full)
     stream.set_write_timeout(Some(limit))?;
     stream.set_read_timeout(Some(limit))?;

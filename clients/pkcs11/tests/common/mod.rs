@@ -2,12 +2,16 @@
 
 #![allow(dead_code)]
 
+pub mod children;
 pub mod daemon;
 pub mod module;
 pub mod templates;
 
 use std::path::{Path, PathBuf};
 use std::sync::atomic::{AtomicU32, Ordering::SeqCst};
+
+/// Settings by which the module waits for long.
+pub const PATIENCE: &str = "timeout = 60\nconnect-timeout = 60\n";
 
 /// A folder of a test's own, which goes with it.
 pub struct Folder {
@@ -21,7 +25,7 @@ impl Folder {
         let path = std::env::temp_dir().join(name);
         std::fs::create_dir(&path).expect("a folder for the test");
         // (a machine that does much else is no reason to give up)
-        std::fs::write(path.join("pkcs11.conf"), "timeout = 60\n").expect("settings");
+        std::fs::write(path.join("pkcs11.conf"), PATIENCE).expect("settings");
         Folder { path }
     }
 

@@ -1,7 +1,7 @@
 //! The module as an application loads it, and its calls in Rust's manner.
 
 use super::Folder;
-use std::ffi::{CString, c_char, c_int, c_void};
+use std::ffi::{CString, OsStr, c_char, c_int, c_void};
 use std::os::unix::ffi::OsStrExt;
 use std::path::{Path, PathBuf};
 use std::ptr::{null, null_mut};
@@ -60,14 +60,14 @@ impl Module {
 
     /// C_Initialize, for the socket of a folder, with its settings, if there are any.
     pub fn initialize(&self, folder: &Folder) -> CK_RV {
-        self.initialize_at(&folder.file("socket"), &folder.file("pkcs11.conf"))
+        self.initialize_at(folder.file("socket"), &folder.file("pkcs11.conf"))
     }
 
-    pub fn initialize_at(&self, socket: &Path, settings: &Path) -> CK_RV {
+    pub fn initialize_at(&self, socket: impl AsRef<OsStr>, settings: &Path) -> CK_RV {
         let _alone = ENVIRONMENT.lock().unwrap_or_else(|it| it.into_inner());
         // SAFETY: no other thread reads or changes the environment meanwhile but by std, which has a lock for that, or under this one.
         unsafe {
-            std::env::set_var("TOKEND_SOCKET", socket);
+            std::env::set_var("TOKEND_SOCKET", socket.as_ref());
             std::env::set_var("TOKEND_PKCS11_CONF", settings);
             (self.c.C_Initialize)(null_mut())
         }
@@ -78,9 +78,35 @@ impl Module {
     }
 
     pub fn open(&self, flags: u64) -> Result<u64, CK_RV> {
+        self.open_at(0, flags)
+    }
+
+    pub fn open_at(&self, slot: u64, flags: u64) -> Result<u64, CK_RV> {
         let mut session = 0;
-        told(unsafe { (self.c.C_OpenSession)(0, flags, null_mut(), null_mut(), &mut session) })?;
+        told(unsafe { (self.c.C_OpenSession)(slot, flags, null_mut(), null_mut(), &mut session) })?;
         Ok(session)
+    }
+
+    /// C_GetSlotList: all slots, or those with a token.
+    pub fn slots(&self, with_token: bool) -> Result<Vec<u64>, CK_RV> {
+        let (mut slots, mut count) = (vec![0; 32], 32);
+        told(unsafe { (self.c.C_GetSlotList)(u8::from(with_token), slots.as_mut_ptr(), &mut count) })?;
+        slots.truncate(count as usize);
+        Ok(slots)
+    }
+
+    /// C_GetSlotInfo: the description without the blanks behind it, and whether a token is there.
+    pub fn slot(&self, slot: u64) -> Result<(String, bool), CK_RV> {
+        let mut info: CK_SLOT_INFO = unsafe { std::mem::zeroed() };
+        told(unsafe { (self.c.C_GetSlotInfo)(slot, &mut info) })?;
+        let text = String::from_utf8(info.slot_description.to_vec()).expect("UTF-8");
+        Ok((text.trim_end().to_owned(), info.flags & 1 == 1))
+    }
+
+    pub fn token(&self, slot: u64) -> Result<CK_TOKEN_INFO, CK_RV> {
+        let mut info: CK_TOKEN_INFO = unsafe { std::mem::zeroed() };
+        told(unsafe { (self.c.C_GetTokenInfo)(slot, &mut info) })?;
+        Ok(info)
     }
 
     pub fn close(&self, session: u64) -> CK_RV {
@@ -94,9 +120,13 @@ impl Module {
     }
 
     pub fn init_token(&self, pin: &str, label: &str) -> CK_RV {
+        self.init_token_at(0, pin, label)
+    }
+
+    pub fn init_token_at(&self, slot: u64, pin: &str, label: &str) -> CK_RV {
         let mut padded = [b' '; 32];
         padded[..label.len()].copy_from_slice(label.as_bytes());
-        unsafe { (self.c.C_InitToken)(0, pin.as_ptr().cast_mut(), pin.len() as u64, padded.as_mut_ptr()) }
+        unsafe { (self.c.C_InitToken)(slot, pin.as_ptr().cast_mut(), pin.len() as u64, padded.as_mut_ptr()) }
     }
 
     pub fn login(&self, session: u64, user: u64, pin: &str) -> CK_RV {
@@ -112,6 +142,13 @@ impl Module {
         let mut object = 0;
         told(unsafe { (self.c.C_CreateObject)(session, entries.as_mut_ptr(), entries.len() as u64, &mut object) })?;
         Ok(object)
+    }
+
+    pub fn copy(&self, session: u64, object: u64, template: &[(u64, &[u8])]) -> Result<u64, CK_RV> {
+        let mut entries = attributes(template);
+        let mut copy = 0;
+        told(unsafe { (self.c.C_CopyObject)(session, object, entries.as_mut_ptr(), entries.len() as u64, &mut copy) })?;
+        Ok(copy)
     }
 
     pub fn destroy(&self, session: u64, object: u64) -> CK_RV {

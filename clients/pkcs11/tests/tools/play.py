@@ -1,10 +1,10 @@
 #!/usr/bin/env python3
-"""Plays pkcs11-tool (opensc) and p11tool (gnutls-bin) over the module, and the protocol's client in Python, and compares what they print
-with the files beside this one.
+"""Plays pkcs11-tool (opensc), p11tool (gnutls-bin) and Java over the module, and the protocol's client in Python, and compares what they
+print with the files beside this one.
 
     play.py PROGRAM MODULE [--accept]
 
-Starts a daemon of its own. Prints a line a step, `ok NAME`, `FAILED NAME` or `skipped NAME`, and behind a failed one what differs.
+Starts two daemons of its own, of which the first is alone in most steps. Prints a line a step, `ok NAME`, `FAILED NAME` or `skipped NAME`, and behind a failed one what differs.
 The last line is `N passed, M failed, K skipped`. With --accept it writes the files instead of comparing.
 
 A file's first line is the exit status; standard output and standard error follow. What differs from run to run is replaced: names of
@@ -18,6 +18,7 @@ SECONDS = 60
 SO, USER = ["--so-pin", "12345678"], ["--login", "--pin", "1234"]
 IV = ["--iv", "000102030405060708090a0b0c0d0e0f"]
 TOKEN = "pkcs11:token=probe"
+PROGRAMS = ("pkcs11-tool", "p11tool", "java", "cmp", "python3")
 
 
 def tool(*words):
@@ -30,6 +31,16 @@ def user(*words):
 
 def p11(*words, **variables):
     return ["env", *(f"GNUTLS_{name}={value}" for name, value in variables.items()), "p11tool", "--provider", "MODULE", *words]
+
+
+def elsewhere(socket, words):
+    """At another socket."""
+    return ["env", f"TOKEND_SOCKET={socket}", *words]
+
+
+def both(words):
+    """With the settings that have both sockets."""
+    return ["env", "TOKEND_SOCKET=", "TOKEND_PKCS11_CONF=two.conf", *words]
 
 
 def same(one, other):
@@ -101,6 +112,17 @@ STEPS = [
     ("p11tool write", p11("--login", "--write", "--secret-key", "000102030405060708090a0b0c0d0e0f", "--label", "ps", TOKEN, PIN="1234"), True),
     ("p11tool init pin", p11("--batch", "--initialize-pin", TOKEN, PIN="1234", SO_PIN="12345678"), True),
     ("p11tool delete", p11("--batch", "--login", "--delete", f"{TOKEN};object=ps", PIN="1234"), True),
+    ("slots without a socket", elsewhere("none", tool("-L")), True),
+    ("objects without a socket", elsewhere("none", tool("-O")), True),
+    ("slots of a file", elsewhere("text", tool("-L")), True),
+    ("p11tool tokens without a socket", elsewhere("none", p11("--list-tokens")), True),
+    ("init the second token", both(tool("--slot", "1", "--init-token", "--label", "second", *SO)), True),
+    ("init the second pin", both(tool("--slot", "1", "--init-pin", "--login", "--login-type", "so", *SO, "--new-pin", "1234")), True),
+    ("slots of two tokens", both(tool("-L")), True),
+    ("p11tool two tokens", both(p11("--list-token-urls")), True),
+    ("a key on the second token", both(user("--slot", "1", "--keygen", "--key-type", "AES:16", "--label", "on-2", "--id", "02")), True),
+    ("list of the second token", both(user("--token-label", "second", "-O")), True),
+    ("two tokens in Java", both(["java", f"{HERE}/Slots.java", "MODULE", "1234", "2"]), True),
     ("p11tool init token", p11("--batch", "--initialize", "--label", "probe2", TOKEN, SO_PIN="12345678"), True),
 ]
 
@@ -114,8 +136,10 @@ def fill(room):
     with open(f"{room}/object", "w") as it:
         it.write("hello\n")
     # (a machine that does much else is no reason to give up)
-    with open(f"{room}/pkcs11.conf", "w") as it:
-        it.write("timeout = 60\n")
+    patience = "timeout = 60\nconnect-timeout = 60\n"
+    for name, sockets in (("pkcs11.conf", []), ("two.conf", ["socket", "second"])):
+        with open(f"{room}/{name}", "w") as it:
+            it.write(patience + "".join(f"socket = {room}/{socket}\n" for socket in sockets))
 
 
 def normal(text, room, module):
@@ -141,7 +165,7 @@ def run(words, room, module):
 def play(room, module, accepts):
     counts = {"ok": 0, "FAILED": 0, "skipped": 0}
     for name, words, is_compared in STEPS:
-        program = next(it for it in words if it in ("pkcs11-tool", "p11tool", "cmp", "python3"))
+        program = next(it for it in words if it in PROGRAMS)
         file, found = f"{HERE}/{name.replace(' ', '-')}.txt", None
         if not shutil.which(program):
             how = "skipped"
@@ -163,25 +187,33 @@ def play(room, module, accepts):
     return 1 if counts["FAILED"] else 0
 
 
+def daemon(program, room, name):
+    """A daemon at a socket of that name, once it listens."""
+    with open(f"{room}/errors", "ab") as errors:
+        started = subprocess.Popen(
+            [program, "serve", "--store", f"{room}/{name}.db", "--socket", f"{room}/{name}", "--seed-file", f"{room}/seed"],
+            stdin=subprocess.DEVNULL, stdout=subprocess.PIPE, stderr=errors)
+    return started, started.stdout.readline() == b"ready\n"
+
+
 def main():
     words = [it for it in sys.argv[1:] if it != "--accept"]
     program, module = map(os.path.abspath, words)
-    with tempfile.TemporaryDirectory(prefix="tokend-tools-") as room:
+    # (a slot's description has the socket's path, which a longer one would be cut from)
+    with tempfile.TemporaryDirectory(prefix="tokend-tools-", dir="/tmp") as room:
         fill(room)
         with open(f"{room}/seed", "wb") as it:
             it.write(bytes(32))
-        with open(f"{room}/errors", "wb") as errors:
-            daemon = subprocess.Popen(
-                [program, "serve", "--store", f"{room}/store", "--socket", f"{room}/socket", "--seed-file", f"{room}/seed"],
-                stdin=subprocess.DEVNULL, stdout=subprocess.PIPE, stderr=errors)
+        daemons = [daemon(program, room, name) for name in ("socket", "second")]
         try:
-            if daemon.stdout.readline() != b"ready\n":
-                print("FAILED the daemon doesn't start\n0 passed, 1 failed")
+            if not all(is_ready for _, is_ready in daemons):
+                print("FAILED the daemons don't start\n0 passed, 1 failed")
                 return 1
             return play(room, module, "--accept" in sys.argv)
         finally:
-            daemon.kill()
-            daemon.wait()
+            for started, _ in daemons:
+                started.kill()
+                started.wait()
 
 
 if __name__ == "__main__":
