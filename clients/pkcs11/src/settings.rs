@@ -167,7 +167,7 @@ mod tests {
 
     #[test]
     fn a_file_with_all_lines() {
-        let text = b"# where tokend listens\n\n socket = /run/a b.sock \nserial=A-1\ntimeout=3\nconnect-timeout = 1\nsocket = /run/2\ntrace =/tmp/t\n";
+        let text = b"# tokend\n\n socket = /run/a b.sock \nserial=A-1\ntimeout=3\nconnect-timeout = 1\nsocket = /run/2\ntrace =/tmp/t\n";
         let patience = Patience { answer: Duration::from_secs(3), connect: Duration::from_secs(1) };
         let places = vec![place("/run/a b.sock", Some("A-1")), place("/run/2", None)];
         assert_eq!(Settings::of(text), Ok(Settings { places, patience, trace: Some(PathBuf::from("/tmp/t")) }));

@@ -178,16 +178,14 @@ functions! {
         ready C_SessionCancel(session: N, flags: N) [] sessions::session_cancel(session, flags);
         ready C_MessageEncryptInit(_session: N, _by: M, _key: N) [] absent();
         ready C_EncryptMessage(_session: N, _parameter: V, _parameter_len: N, _data: B, _data_len: N, _text: B, _text_len: N, _to: B, _to_len: Num)
-            []
-            absent();
+            [] absent();
         ready C_EncryptMessageBegin(_session: N, _parameter: V, _parameter_len: N, _data: B, _data_len: N) [] absent();
         ready C_EncryptMessageNext(_session: N, _parameter: V, _parameter_len: N, _text: B, _text_len: N, _to: B, _to_len: Num, _flags: N)
             [] absent();
         ready C_MessageEncryptFinal(_session: N) [] absent();
         ready C_MessageDecryptInit(_session: N, _by: M, _key: N) [] absent();
         ready C_DecryptMessage(_session: N, _parameter: V, _parameter_len: N, _data: B, _data_len: N, _text: B, _text_len: N, _to: B, _to_len: Num)
-            []
-            absent();
+            [] absent();
         ready C_DecryptMessageBegin(_session: N, _parameter: V, _parameter_len: N, _data: B, _data_len: N) [] absent();
         ready C_DecryptMessageNext(_session: N, _parameter: V, _parameter_len: N, _text: B, _text_len: N, _to: B, _to_len: Num, _flags: N)
             [] absent();

@@ -11,7 +11,7 @@ use std::path::{Path, PathBuf};
 use std::sync::atomic::{AtomicU32, Ordering::SeqCst};
 
 /// Settings by which the module waits for long.
-pub const PATIENCE: &str = "timeout = 60\nconnect-timeout = 60\n";
+pub const PATIENCE: &str = "timeout = 600\nconnect-timeout = 600\n";
 
 /// A folder of a test's own, which goes with it.
 pub struct Folder {

@@ -14,7 +14,7 @@ import difflib, os, re, shutil, subprocess, sys, tempfile
 
 HERE = os.path.dirname(os.path.abspath(__file__))
 CLIENT = os.path.normpath(f"{HERE}/../../../python/encrypt.py")
-SECONDS = 60
+SECONDS = 600
 SO, USER = ["--so-pin", "12345678"], ["--login", "--pin", "1234"]
 IV = ["--iv", "000102030405060708090a0b0c0d0e0f"]
 TOKEN = "pkcs11:token=probe"
@@ -136,7 +136,7 @@ def fill(room):
     with open(f"{room}/object", "w") as it:
         it.write("hello\n")
     # (a machine that does much else is no reason to give up)
-    patience = "timeout = 60\nconnect-timeout = 60\n"
+    patience = "timeout = 600\nconnect-timeout = 600\n"
     for name, sockets in (("pkcs11.conf", []), ("two.conf", ["socket", "second"])):
         with open(f"{room}/{name}", "w") as it:
             it.write(patience + "".join(f"socket = {room}/{socket}\n" for socket in sockets))
