@@ -8,6 +8,7 @@ mod messages;
 mod objects;
 mod old_forms;
 mod order;
+mod quotas;
 mod records;
 mod session_table;
 mod templates_made;
