@@ -16,7 +16,7 @@ import tempfile
 import time
 
 PACKAGES = "systemd,dbus,util-linux,passwd,opensc,gnutls-bin,p11-kit,p11-kit-modules"
-SUITE, MIRROR = "bookworm", "http://deb.debian.org/debian"
+SUITE = "bookworm"
 PLAIN = ["env", "-i", "PATH=/usr/sbin:/usr/bin:/sbin:/bin", "HOME=/", "LC_ALL=C.UTF-8"]
 TOP = os.path.dirname(os.path.dirname(os.path.abspath(__file__)))
 # What `bin/install` and `bin/package` read.
@@ -85,7 +85,7 @@ def debian():
         folder = ROOM.enter_context(tempfile.TemporaryDirectory(prefix="tokend-debian-")) + "/root"
     shutil.rmtree(f"{folder}.new", ignore_errors=True)
     # (with mounts of its own, so that none is left if it is ended)
-    words = ["unshare", "--mount", "debootstrap", "--variant=minbase", f"--include={PACKAGES}", SUITE, f"{folder}.new", MIRROR]
+    words = ["unshare", "--mount", "debootstrap", "--variant=minbase", f"--include={PACKAGES}", SUITE, f"{folder}.new"]
     made = subprocess.run(words, capture_output=True, text=True, check=False)
     if made.returncode == 0:
         os.rename(f"{folder}.new", folder)

@@ -12,6 +12,8 @@ use thiserror::Error;
 pub(crate) enum Cause {
     #[error("--socket-mode is not a number of up to 777 in octal digits")]
     SocketMode,
+    #[error("--max-objects goes with a store in a file")]
+    MaxObjects,
     #[error("--seed is not 64 hexadecimal digits")]
     SeedDigits,
     #[error("--seed-file cannot be read: {0}")]

@@ -3,6 +3,7 @@
 use clap::builder::ValueParser;
 use clap::{Arg, ArgAction, Command, Error};
 use hall_sockets::MAX_CLIENTS;
+use keep::GREATEST_ID;
 use std::alloc::Global;
 
 pub(crate) const VERSION: &str = "0.1.0";
@@ -25,6 +26,7 @@ pub(crate) fn command<'a>(alloc: Global) -> Result<Command<'a>, Error> {
     let command = with_subcommand(command, stdio(alloc))?;
     let command = with_subcommand(command, serve(alloc))?;
     let command = with_subcommand(command, p11call(alloc))?;
+    let command = with_subcommand(command, status(alloc))?;
     let command = with_subcommand(command, check(alloc))?;
     with_subcommand(command, backup(alloc))
 }
@@ -64,6 +66,15 @@ fn p11call<'a>(alloc: Global) -> Result<Command<'a>, Error> {
             .about(
                 "Sends calls to a daemon: one a line, in hexadecimal, and prints their replies so",
             )
+            .arg(needed(alloc, "socket", "The path of the daemon's socket"))?,
+    )
+}
+
+/// The command that reports whether a daemon serves.
+fn status<'a>(alloc: Global) -> Result<Command<'a>, Error> {
+    Ok(
+        Command::new(alloc, "status")
+            .about("Prints in a second at most whether a daemon serves on a socket")
             .arg(needed(alloc, "socket", "The path of the daemon's socket"))?,
     )
 }
@@ -115,6 +126,7 @@ fn serve<'a>(alloc: Global) -> Result<Command<'a>, Error> {
             .arg(level(alloc))?
             .arg(clients(alloc))?
             .arg(idle(alloc))?
+            .arg(max_objects(alloc))?
             .arg(connections(alloc))?,
     )
 }
@@ -147,6 +159,16 @@ fn idle<'a>(alloc: Global) -> Arg<'a> {
         "After how many seconds a connection of which nothing came is ended; never if left out",
     )
     .value_parser(ValueParser::unsigned(1, MAX_IDLE))
+}
+
+/// The option of how many objects the store may have.
+fn max_objects<'a>(alloc: Global) -> Arg<'a> {
+    chosen(
+        alloc,
+        "max-objects",
+        "How many token objects the store may have: one more is refused; as many as fit on the disk if left out",
+    )
+    .value_parser(ValueParser::unsigned(0, GREATEST_ID))
 }
 
 /// The option of how many connections there are.

@@ -7,7 +7,8 @@
 //! - 4 where the socket can't be used;
 //! - 5 for a bad seed or line of a script;
 //! - 6 where an allocation failed;
-//! - 7 where the line ended badly.
+//! - 7 where the line ended badly;
+//! - 8 where a daemon that is asked for its status doesn't answer, and 9 where it can't be asked for want of permission.
 //!
 //! A failure is a line on the output for errors, and its cause the next one. `refuse_args` returns the status where the process's
 //! own arguments can't be read.
@@ -19,14 +20,20 @@
 //! of the command line or of the file, and which exit status a failure has.
 #![tactic(auto)]
 
+mod address;
 mod args;
 mod cause;
 mod command;
 mod copying;
+mod cores;
+mod environment;
 mod examining;
 mod failure;
+mod groups;
+mod health;
 mod journal;
 mod listening;
+mod monitor;
 mod notify;
 mod options;
 mod p11call;
@@ -34,10 +41,13 @@ mod reported;
 mod run;
 mod seed;
 mod serve;
+mod standing;
+mod status;
 mod store;
 mod upkeep;
 
 pub use args::refuse_args;
+pub use health::Health;
 pub use journal::Journal;
 pub use p11call::ask;
 pub use reported::{Explains, Reported};

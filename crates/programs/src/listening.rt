@@ -1,6 +1,7 @@
 //! The daemon's socket.
 
 use crate::cause::Cause;
+use crate::environment::{names_us, number_in};
 use crate::failure::{Failure, Fault};
 use os::FromRawFd;
 use std::fs::{Files, Permissions};
@@ -9,7 +10,7 @@ use std::net::Net;
 use std::os::fd::{AsFd, AsRawFd};
 use std::os::unix::fs::{FileTypeExt, PermissionsExt};
 use std::os::unix::net::{SocketAddr, UnixListener, UnixStream};
-use std::{env, fs, io};
+use std::{fs, io};
 
 /// As many connections may wait to be accepted as the system allows.
 const BACKLOG: i32 = -1;
@@ -38,17 +39,9 @@ fn last_error() -> io::Error {
     io::Error::from_raw_os_error(os::errno())
 }
 
-/// A number in an environment variable.
-fn number_in(rt: &HostRuntime, name: &str) -> Option<u64> {
-    match env::var(rt, name) {
-        Ok(text) => text.parse::<u64>().ok(),
-        Err(_) => None,
-    }
-}
-
 /// The listening socket that was handed over to this process, if one was.
 fn handed_over(rt: &HostRuntime) -> Result<Option<UnixListener>, Fault> {
-    if number_in(rt, "LISTEN_PID") != u64::try_from(libc::getpid()).ok() {
+    if !names_us(rt, "LISTEN_PID") {
         return Ok(None);
     }
     match number_in(rt, "LISTEN_FDS") {

@@ -1,50 +1,66 @@
-//! What the daemon sends to a service manager (sd_notify(3)).
+//! What the daemon sends to a service manager (sd_notify(3), sd_watchdog_enabled(3)).
 
-ghost use Rattle.std.specs.Prelude.{◌≡◌, ◌+◌, ◌≤◌, ◌<◌, length, IfSome};
+ghost use Rattle.std.specs.Prelude.{◌≤◌};
 
+use crate::address::write_address;
+use crate::environment::{is_ours, number_in};
 use libc::net::{AF_UNIX, MSG_DONTWAIT, MSG_NOSIGNAL, SOCK_CLOEXEC, SOCK_DGRAM, sendto, socket};
 use std::env;
 
-/// The most bytes of a socket's path (unix(7)).
-const MAX_PATH_LEN: usize = 107;
-
-/// Writes the address of a socket, and returns its length. The socket is at a path, or at a name in the abstract namespace where
-/// that begins with @.
-fn write_address(raw: &mut [u8; 128], path: &[u8]) -> Option<u32>
-    ensures { IfSome result (λ len. len ≤ 128) }
-{
-    raw[..2].copy_from_slice(&(AF_UNIX as u16).to_ne_bytes());
-    if path.is_empty() || path.len() > MAX_PATH_LEN {
-        return None;
-    }
-    raw[2..2 + path.len()].copy_from_slice(path);
-    if raw[2] == b'@' {
-        raw[2] = 0;
-        Some(2 + path.len() as u32)
-    } else {
-        Some(3 + path.len() as u32)
-    }
+/// The socket of the service manager that started the daemon.
+#[derive(Clone, Copy, Drop)]
+pub(crate) struct Manager {
+    addr: [u8; 128],
+    /// How many bytes of the address count: 0 where there is no manager, or where its socket can't be named.
+    len: u32,
+    is_named: bool,
+    has_watchdog: bool,
+    ghost fits: { len ≤ 128 },
 }
 
-/// Sends a text as one datagram to the socket at a path. It never waits. False where that fails.
-fn send_to(path: &[u8], text: &[u8]) -> bool {
-    let mut addr = [0u8; 128];
-    let Some(len) = write_address(&mut addr, path) else {
-        return false;
-    };
-    let fd = unsafe { socket(AF_UNIX, SOCK_DGRAM | SOCK_CLOEXEC, 0) };
-    if fd < 0 {
-        return false;
+impl Manager {
+    /// The manager whose socket NOTIFY_SOCKET names, if there is one. It watches the daemon where WATCHDOG_USEC is set for this
+    /// process.
+    pub(crate) fn of_process(rt: &HostRuntime) -> Manager {
+        let mut addr = [0u8; 128];
+        let path = env::var(rt, "NOTIFY_SOCKET");
+        let len = match &path {
+            Ok(path) => write_address(&mut addr, path.as_str().as_bytes()).unwrap_or(0),
+            Err(_) => 0,
+        };
+        Manager {
+            addr,
+            len,
+            is_named: path.is_ok(),
+            has_watchdog: number_in(rt, "WATCHDOG_USEC").is_some() && is_ours(rt, "WATCHDOG_PID"),
+        }
     }
-    let sent = unsafe { sendto(fd, text, MSG_NOSIGNAL | MSG_DONTWAIT, &addr, len) };
-    libc::close(fd);
-    sent >= 0
-}
 
-/// Sends a text to the service manager that NOTIFY_SOCKET names, if there is one. False where that fails.
-pub(crate) fn notify(rt: &HostRuntime, text: &str) -> bool {
-    match env::var(rt, "NOTIFY_SOCKET") {
-        Ok(path) => send_to(path.as_str().as_bytes(), text.as_bytes()),
-        Err(_) => true,
+    /// Whether there is one.
+    pub(crate) fn is_there(&self) -> bool {
+        self.is_named
+    }
+
+    /// Whether it ends a daemon of which it hears nothing.
+    pub(crate) fn has_watchdog(&self) -> bool {
+        self.has_watchdog
+    }
+
+    /// Sends a text as one datagram. It never waits. False where there is a manager and that fails.
+    pub(crate) fn tell(&self, text: &str) -> bool {
+        if !self.is_named {
+            return true;
+        }
+        if self.len == 0 {
+            return false;
+        }
+        let fd = unsafe { socket(AF_UNIX, SOCK_DGRAM | SOCK_CLOEXEC, 0) };
+        if fd < 0 {
+            return false;
+        }
+        let flags = MSG_NOSIGNAL | MSG_DONTWAIT;
+        let sent = unsafe { sendto(fd, text.as_bytes(), flags, &self.addr, self.len) };
+        libc::close(fd);
+        sent >= 0
     }
 }

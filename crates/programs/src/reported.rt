@@ -3,6 +3,7 @@
 ghost use Rattle.std.specs.Prelude.{◌≡◌};
 ghost use Rattle.keep.specs.Keeping.{Counted, Stays};
 
+use crate::health::Health;
 use attrs::Object;
 use ck_types::UserType;
 use keep::{Keep, KeepFault, ListKeep};
@@ -54,18 +55,25 @@ pub struct Reported<K, L> {
     log: L,
     /// The daemon is to end.
     is_stopping: Arc<AtomicBool, Global>,
+    health: Arc<Health, Global>,
     has_failed: bool,
 }
 
 impl<K: Explains, L: Log + Drop> Reported<K, L> {
-    /// The keeper, which sets `is_stopping` where its store is shut.
-    pub fn new(keep: K, log: L, is_stopping: Arc<AtomicBool, Global>) -> Reported<K, L>
+    /// The keeper, which sets `is_stopping` where its store is shut. `health` counts what comes and goes.
+    pub fn new(
+        keep: K,
+        log: L,
+        is_stopping: Arc<AtomicBool, Global>,
+        health: Arc<Health, Global>,
+    ) -> Reported<K, L>
         ensures { result.keep ≡ keep }
     {
         Reported {
             keep,
             log,
             is_stopping,
+            health,
             has_failed: false,
         }
     }
@@ -104,6 +112,7 @@ impl<K: Explains, L: Log + Drop> Reported<K, L> {
             return;
         }
         self.has_failed = true;
+        self.health.set_failed(true);
         match self.keep.cause() {
             Some(cause) => error!(self.log; "the store failed: {cause}"),
             None => error!(self.log; "the store failed"),
@@ -156,6 +165,7 @@ impl<K: Explains, L: Log + Drop> Keep for Reported<K, L> {
         let before = self.keep.get_record();
         match self.keep.set_record(token_record) {
             Ok(()) => {
+                self.health.succeed(self.has_failed);
                 self.has_failed = false;
                 self.say_locked(&before, &token_record);
                 Ok(())
@@ -167,7 +177,9 @@ impl<K: Explains, L: Log + Drop> Keep for Reported<K, L> {
     fn insert(&mut self, object: &Object) -> Result<u64, KeepFault> {
         match self.keep.insert(object) {
             Ok(id) => {
+                self.health.succeed(self.has_failed);
                 self.has_failed = false;
+                self.health.add_object();
                 Ok(id)
             }
             Err(fault) => Err(self.report(fault)),
@@ -177,6 +189,7 @@ impl<K: Explains, L: Log + Drop> Keep for Reported<K, L> {
     fn replace(&mut self, id: u64, object: &Object) -> Result<(), KeepFault> {
         match self.keep.replace(id, object) {
             Ok(()) => {
+                self.health.succeed(self.has_failed);
                 self.has_failed = false;
                 Ok(())
             }
@@ -187,7 +200,9 @@ impl<K: Explains, L: Log + Drop> Keep for Reported<K, L> {
     fn remove(&mut self, id: u64) -> Result<(), KeepFault> {
         match self.keep.remove(id) {
             Ok(()) => {
+                self.health.succeed(self.has_failed);
                 self.has_failed = false;
+                self.health.remove_object();
                 Ok(())
             }
             Err(fault) => Err(self.report(fault)),
@@ -197,7 +212,9 @@ impl<K: Explains, L: Log + Drop> Keep for Reported<K, L> {
     fn reset(&mut self, token_record: Record) -> Result<(), KeepFault> {
         match self.keep.reset(token_record) {
             Ok(()) => {
+                self.health.succeed(self.has_failed);
                 self.has_failed = false;
+                self.health.set_objects(0);
                 Ok(())
             }
             Err(fault) => Err(self.report(fault)),

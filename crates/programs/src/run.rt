@@ -10,6 +10,7 @@ use crate::failure::{Failure, Fault};
 use crate::p11call::ask_all;
 use crate::seed::trial_seed;
 use crate::serve::serve;
+use crate::status::status;
 use crate::upkeep::{backup, check};
 use clap::error::ErrorKind;
 use clap::{ArgMatches, Error};
@@ -130,6 +131,9 @@ pub fn tokend_with<
         Ok(matches) => matches,
         Err(error) => return tell(&error, output, errors),
     };
+    if let Some(("status", matches)) = matches.subcommand() {
+        return status(rt, matches, output);
+    }
     match run(rt, threads, &matches, input, output, errors) {
         Ok(()) => 0,
         Err(fault) => fault.report(errors),

@@ -5,10 +5,13 @@ ghost use Rattle.hall_sockets.specs.Staying.{AreNew, IsNew};
 
 use crate::cause::Cause;
 use crate::command::{MAX_CONNECTIONS, VERSION};
+use crate::cores::leave_cores_empty;
 use crate::failure::{Failure, Fault};
+use crate::health::Health;
 use crate::journal::{Journal, note};
 use crate::listening::daemon_socket;
-use crate::notify::notify;
+use crate::monitor::{Monitor, Watching};
+use crate::notify::Manager;
 use crate::options::{level_in, mode_in};
 use crate::reported::{Explains, Reported};
 use crate::seed::daemon_seed;
@@ -20,6 +23,7 @@ use hall_sockets::{Loads, MAX_CLIENTS, Seats, Settings, Shared, SocketSeat, hold
 use keep::{Keep, ListKeep};
 use log::{Level, LevelFilter, Log};
 use pin_record::Record;
+use quota::Quota;
 use std::alloc::Global;
 use std::io::{Stderr, Write};
 use std::num::NonZeroUsize;
@@ -29,6 +33,9 @@ use std::sync::{Arc, Wait};
 use std::thread::Threads;
 use std::time::{Clock, Duration};
 use token::Token;
+
+/// How many seats there are.
+const SEATS: usize = 4;
 
 /// How many objects the cache holds.
 const CAPACITY: usize = 128;
@@ -53,10 +60,15 @@ struct Served<'a> {
     store: &'a str,
     socket: &'a str,
     socket_mode: u32,
+    /// How many objects the store may have.
+    max_objects: u64,
     settings: Settings,
     level: LevelFilter,
+    manager: Manager,
     /// The daemon is to end: its store is shut.
     is_stopping: Arc<AtomicBool, Global>,
+    loads: Arc<Loads, Global>,
+    health: Arc<Health, Global>,
     ghost few: { settings.clients ≤ 64 },
 }
 
@@ -70,6 +82,11 @@ pub(crate) fn serve<R: Threads + Wait + Clock + Copy + Send + Drop + 'static, O:
     errors: &mut E,
 ) -> Result<(), Fault> {
     let served = read_options(rt, matches, errors)?;
+    if !leave_cores_empty(rt) {
+        let text =
+            "a core dump of this process would have its memory: /proc/self/coredump_filter cannot be written";
+        note(errors, served.level, Level::Warn, &text);
+    }
     let log = Journal::new(rt.stderr(), served.level);
     if served.store == IN_MEMORY {
         let keep = ListKeep::new(rt.alloc(), Record::new());
@@ -77,7 +94,7 @@ pub(crate) fn serve<R: Threads + Wait + Clock + Copy + Send + Drop + 'static, O:
         return serve_over(rt, threads, keep, &served, output, errors).map(|_| ());
     }
     let keep = with_reports(open_private(rt, &served, errors)?, log, &served)?;
-    let keep = serve_cached(rt, threads, keep, &served, output, errors)?;
+    let keep = serve_limited(rt, threads, keep, &served, output, errors)?;
     close_store(keep.into_keep())
 }
 
@@ -110,9 +127,23 @@ fn with_reports<K: Explains, L: Log + Drop>(
     log: L,
     served: &Served<'_>,
 ) -> Result<Reported<K, L>, Fault> {
-    match Arc::try_clone(&served.is_stopping) {
-        Ok(is_stopping) => Ok(Reported::new(keep, log, is_stopping)),
-        Err(_) => Err(Failure::Memory.into()),
+    match (
+        Arc::try_clone(&served.is_stopping),
+        Arc::try_clone(&served.health),
+    ) {
+        (Ok(is_stopping), Ok(health)) => Ok(Reported::new(keep, log, is_stopping, health)),
+        _ => Err(Failure::Memory.into()),
+    }
+}
+
+/// The keeper, which refuses an object beyond the limit that the command line asks for.
+fn with_limit<K: Keep>(alloc: Global, keep: K, served: &Served<'_>) -> Result<Quota<K>, Fault> {
+    match Quota::new(alloc, keep, served.max_objects) {
+        Ok(keep) => {
+            served.health.set_objects(keep.count());
+            Ok(keep)
+        }
+        Err((fault, _)) => Err(fault.into()),
     }
 }
 
@@ -132,17 +163,29 @@ fn read_options<'a, E: Write>(
     let level = level_in(matches.get_str("log").unwrap_or("warn"));
     let store = matches.get_str("store").ok_or(Failure::Store)?;
     let socket = matches.get_str("socket").ok_or(Failure::Socket)?;
+    let max_objects: Option<u64> = matches.get_one("max-objects");
+    if max_objects.is_some() && store == IN_MEMORY {
+        return Err(Failure::CommandLine.because(Cause::MaxObjects));
+    }
     let seed = seed_from(rt, matches.get_str("seed-file"), level, errors)?;
-    let Ok(is_stopping) = Arc::new(rt.alloc(), AtomicBool::new(false)) else {
+    let (Ok(is_stopping), Ok(loads), Ok(health)) = (
+        Arc::new(rt.alloc(), AtomicBool::new(false)),
+        Arc::new(rt.alloc(), Loads::new()),
+        Arc::new(rt.alloc(), Health::new()),
+    ) else {
         return Err(Failure::Memory.into());
     };
     Ok(Served {
         store,
         socket,
         socket_mode,
+        max_objects: max_objects.unwrap_or(u64::MAX),
         settings: settings_of(matches, seed),
         level,
+        manager: Manager::of_process(rt),
         is_stopping,
+        loads,
+        health,
     })
 }
 
@@ -185,6 +228,25 @@ fn token_over<K: Keep>(alloc: Global, keep: K) -> Result<Token<K>, Fault> {
     }
 }
 
+/// Serves a token over a keeper with a limit of objects and a cache, and returns the keeper at a clean end.
+fn serve_limited<
+    K: Keep,
+    R: Threads + Wait + Clock + Copy + Send + Drop + 'static,
+    O: Write,
+    E: Write,
+>(
+    rt: &HostRuntime,
+    threads: R,
+    keep: K,
+    served: &Served<'_>,
+    output: &mut O,
+    errors: &mut E,
+) -> Result<K, Fault> {
+    let keep = with_limit(rt.alloc(), keep, served)?;
+    let keep = serve_cached(rt, threads, keep, served, output, errors)?;
+    Ok(keep.into_keep())
+}
+
 /// Serves a token over a keeper behind a cache, and returns the keeper at a clean end.
 fn serve_cached<
     K: Keep,
@@ -218,20 +280,23 @@ fn serve_over<
 >(
     rt: &HostRuntime,
     threads: R,
-    mut keep: K,
+    keep: K,
     served: &Served<'_>,
     output: &mut O,
     errors: &mut E,
 ) -> Result<K, Fault> {
     let alloc = rt.alloc();
-    let objects = count_objects(alloc, &mut keep, served.level)?;
     let token = token_over(alloc, keep)?;
     let Ok(gate) = Arc::new(alloc, OpenGate) else {
         return Err(Failure::Memory.into());
     };
     let seats = ready_seats(rt, served, output)?;
-    say_ready(rt, served, objects, errors);
-    match hold_sockets(threads, alloc, token, seats, &gate) {
+    say_ready(served, errors);
+    let watching = Watching::start(threads, alloc, monitor_of(rt, served)?)?;
+    let held = hold_sockets(threads, alloc, token, seats, &gate);
+    watching.end(&threads);
+    served.manager.tell("STOPPING=1\n");
+    match held {
         Ok(held) => {
             seats_ended(&held.seats, served)?;
             Ok(held.token.into_keep())
@@ -243,25 +308,28 @@ fn serve_over<
     }
 }
 
-/// How many objects the store has, where that is going to be logged.
-fn count_objects<K: Keep>(alloc: Global, keep: &mut K, level: LevelFilter) -> Result<usize, Fault> {
-    if !level.allows(Level::Info) {
-        return Ok(0);
-    }
-    match keep.ids(alloc) {
-        Ok(ids) => Ok(ids.len()),
-        Err(fault) => Err(fault.into()),
-    }
+/// What looks after the daemon while it serves.
+fn monitor_of(rt: &HostRuntime, served: &Served<'_>) -> Result<Monitor, Fault> {
+    let (Ok(loads), Ok(health)) = (
+        Arc::try_clone(&served.loads),
+        Arc::try_clone(&served.health),
+    ) else {
+        return Err(Failure::Memory.into());
+    };
+    let log = Journal::new(rt.stderr(), served.level);
+    let places = SEATS * served.settings.clients;
+    let limits = (places, served.max_objects);
+    Ok(Monitor::new(rt.alloc(), log, served.manager, loads, health, limits))
 }
 
 /// Reports that the daemon serves, on standard error and to a service manager.
-fn say_ready<E: Write>(rt: &HostRuntime, served: &Served<'_>, objects: usize, errors: &mut E) {
-    let (store, socket) = (served.store, served.socket);
+fn say_ready<E: Write>(served: &Served<'_>, errors: &mut E) {
+    let (store, socket, objects) = (served.store, served.socket, served.health.objects());
     let text = format_args!(
         "version {VERSION} serves the store {store} with {objects} objects on {socket}"
     );
     note(errors, served.level, Level::Info, &text);
-    if !notify(rt, "READY=1\nSTATUS=serving\n") {
+    if !served.manager.tell("READY=1\nSTATUS=serving\n") {
         note(
             errors,
             served.level,
@@ -313,17 +381,14 @@ fn seats_on<L: Log + Copy + Drop>(
 ) -> Result<Seats<L, HostRuntime>, Fault>
     ensures { IfOk result (λ seats. AreNew served.now.settings.seed seats) }
 {
-    let Ok(loads) = Arc::new(rt.alloc(), Loads::new()) else {
-        return Err(Failure::Memory.into());
-    };
     let second = again(&listener)?;
     let third = again(&listener)?;
     let fourth = again(&listener)?;
     Ok((
-        seat_on(rt, log, listener, &loads, 0, served)?,
-        seat_on(rt, log, second, &loads, 1, served)?,
-        seat_on(rt, log, third, &loads, 2, served)?,
-        seat_on(rt, log, fourth, &loads, 3, served)?,
+        seat_on(rt, log, listener, 0, served)?,
+        seat_on(rt, log, second, 1, served)?,
+        seat_on(rt, log, third, 2, served)?,
+        seat_on(rt, log, fourth, 3, served)?,
     ))
 }
 
@@ -332,15 +397,16 @@ fn seat_on<L: Log + Drop>(
     rt: &HostRuntime,
     log: L,
     listener: UnixListener,
-    loads: &Arc<Loads, Global>,
     number: u64,
     served: &Served<'_>,
 ) -> Result<SocketSeat<L, HostRuntime>, Fault>
     requires { number < 4 }
     ensures { IfOk result (λ seat. IsNew seat served.now.settings.seed number) }
 {
-    let (Ok(is_stopping), Ok(loads)) = (Arc::try_clone(&served.is_stopping), Arc::try_clone(loads))
-    else {
+    let (Ok(is_stopping), Ok(loads)) = (
+        Arc::try_clone(&served.is_stopping),
+        Arc::try_clone(&served.loads),
+    ) else {
         return Err(Failure::Memory.into());
     };
     let shared = Shared {

@@ -12,6 +12,7 @@ mod operating;
 mod options;
 mod peers;
 mod randomness;
+mod standing;
 mod statuses;
 mod unread;
 
