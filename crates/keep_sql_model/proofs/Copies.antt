@@ -8,7 +8,7 @@ use Rattle.sqlite.specs.Table.{Table}
 use Rattle.sqlite.specs.Schema.{Schema}
 use Rattle.sqlite.specs.Effect.{Database, IsDatabase}
 use Rattle.sqlite.specs.State.{State, HasCleanDisk}
-use Rattle.sqlite_catalog.specs.Listing.{IsSound, IsTableRow}
+use Rattle.sqlite_catalog.specs.Listing.{AreListed, IsSound, IsTableRow}
 use Rattle.sqlite_resolve.specs.Compile.{table_defined_by}
 use Rattle.pin_record.specs.Records.{TokenRecord}
 use Rattle.keep.specs.Contents.{Contents}
@@ -45,14 +45,18 @@ none_too R Q [] [] one two = refl
 none_too R Q [] (b ∷ bs) one two = absurd two
 none_too R Q (r ∷ rows) bs one two = absurd one
 
--- trees that list a token's tables list no others
-pub one_schema : (trees : Trees) (s : Schema) → IsSound token_schema trees → IsSound s trees → s ≡ token_schema
-one_schema trees s one two =
-    let tables = same_tables _ _ _ one.lists.listed.tables two.lists.listed.tables in
-    let indexes = none_too _ _ _ s.indexes one.lists.listed.indexes two.lists.listed.indexes in
-    let views = none_too _ _ _ s.views one.lists.listed.views two.lists.listed.views in
+-- a list of a token's tables is that of no other schema
+pub one_listed : (objects : List Row) (s : Schema) → AreListed objects token_schema → AreListed objects s → s ≡ token_schema
+one_listed objects s one two =
+    let tables = same_tables _ _ _ one.tables two.tables in
+    let indexes = none_too _ _ _ s.indexes one.indexes two.indexes in
+    let views = none_too _ _ _ s.views one.views two.views in
     ap (λ (ts : List Table). record s { tables = ts }) (sym tables) ∙ ap (λ (xs : _). record s { tables = token_schema.tables; indexes = xs }) indexes
     ∙ ap (λ (vs : _). record s { tables = token_schema.tables; indexes = []; views = vs }) views
+
+-- trees that list a token's tables list no others
+pub one_schema : (trees : Trees) (s : Schema) → IsSound token_schema trees → IsSound s trees → s ≡ token_schema
+one_schema trees s one two = one_listed _ s one.lists.listed two.lists.listed
 
 module _ (mid new : State) (copy : IsCopy mid new) (clean : HasCleanDisk new) where
   is_up : IsTrue new.is_open

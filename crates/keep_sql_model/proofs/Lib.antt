@@ -7,3 +7,4 @@ pub mod Bytes
 pub mod Renewed
 pub mod Covers
 pub mod Copies
+pub mod Reopened

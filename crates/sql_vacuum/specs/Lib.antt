@@ -1,1 +1,4 @@
 pub mod Copies
+pub mod Filled
+pub mod FileOf
+pub mod VacuumThenOpen

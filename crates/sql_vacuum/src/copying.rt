@@ -68,6 +68,7 @@ fn copy_tree<A: Store, B: Store>(
 ) -> Result<(), StoreError>
     ensures ok { OnOk result (IsClean (A.Store.view from.new) → IsClean (B.Store.view to.new) → PutsEach (B.Store.view to.old) (B.Store.view to.new) tree ((A.Store.view from.old).trees tree)) }
     ensures same { OnOk result (IsClean (A.Store.view from.new) → OnlyReads (A.Store.view from.old) (A.Store.view from.new)) }
+    ensures writes { OnOk result (IsClean (B.Store.view to.new) → OnlyWrites (B.Store.view to.old) (B.Store.view to.new)) }
     ensures from { IsQuiet A.Store.view A.Store.faults A.Store.recovers A.Store.is_shielded from.old from.new }
     ensures to { IsQuiet B.Store.view B.Store.faults B.Store.recovers B.Store.is_shielded to.old to.new }
 {
@@ -84,6 +85,7 @@ pub fn copy_trees<A: Store, B: Store>(
     count: u32,
 ) -> Result<(), StoreError>
     ensures ok { OnOk result (IsClean (A.Store.view from.new) → IsClean (B.Store.view to.new) → PutsTrees (A.Store.view from.old) (B.Store.view to.old) (B.Store.view to.new) count) }
+    ensures writes { OnOk result (IsClean (B.Store.view to.new) → OnlyWrites (B.Store.view to.old) (B.Store.view to.new)) }
     ensures from { IsQuiet A.Store.view A.Store.faults A.Store.recovers A.Store.is_shielded from.old from.new }
     ensures to { IsQuiet B.Store.view B.Store.faults B.Store.recovers B.Store.is_shielded to.old to.new }
 {

@@ -1,9 +1,17 @@
-//! The rows of a store's trees in another store, as SQLite's VACUUM INTO writes a database into a new file. What else the first
-//! store's pages contain, as values that were removed, stays behind: nothing but rows is passed on.
+//! A store's rows in a new database file, as SQLite's VACUUM INTO writes them. What else the old file contains stays behind, as values
+//! that were removed or replaced: nothing but rows is passed on.
 //!
-//! - `copy_trees` puts the rows of trees into the tables of the same numbers.
+//! - `vacuumed` is the new file's bytes. It needs no log beside it, and its pages have sums.
+//! - `vacuum_then_open` is a law: what an opening of such a file finds is what the store held.
+//! - `error_of` is an error of a store of trees as one of sqlite.
 #![tactic(auto)]
 
 mod copying;
+mod faults;
+mod filling;
+mod image;
+mod laws;
 
-pub use copying::copy_trees;
+pub use faults::error_of;
+pub use image::vacuumed;
+pub use laws::vacuum_then_open;

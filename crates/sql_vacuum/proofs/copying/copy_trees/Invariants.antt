@@ -1,4 +1,4 @@
-use Rattle.sqlite_trees.specs.View.{IsClean, IsQuiet}
+use Rattle.sqlite_trees.specs.View.{IsClean, IsQuiet, OnlyWrites}
 use Rattle.sql_vacuum.specs.Copies.{OnlyReads, PutsTrees}
 use Rattle.sql_vacuum.proofs.copying.copy_trees.Given as goal
 
@@ -10,3 +10,4 @@ invariant-loop-tree g l =
     × (IsClean (g.A.Store.view l.from) → IsClean (g.B.Store.view l.to) → PutsTrees from old (g.B.Store.view l.to) l.tree)
     × IsQuiet g.A.Store.view g.A.Store.faults g.A.Store.recovers g.A.Store.is_shielded l.fn.from l.from
     × IsQuiet g.B.Store.view g.B.Store.faults g.B.Store.recovers g.B.Store.is_shielded l.fn.to l.to
+    × (IsClean (g.B.Store.view l.to) → OnlyWrites old (g.B.Store.view l.to))
