@@ -19,25 +19,8 @@ use Rattle.keep_sql_model.specs.Store.{IsStore, Stores}
 use Rattle.keep_sql_model.specs.Opening.{Adopts}
 use Rattle.keep_sql_model.specs.OpenedFile.{OpenedFile}
 use Rattle.keep_sql_model.specs.SqlState.{SqlState, sql_terms}
-use Rattle.keep_sql_model.proofs.Copies.{one_schema}
+use Rattle.keep_sql_model.proofs.Reopened.{found_held}
 use Rattle.keep_sql.specs.CrashThenOpen.{HoldsLeft}
-use Rattle.keep_sql.proofs.Taken.{stored_either}
-
--- a store that an opening finds is held
-found_held : {N : Type 0} {h : Ghosts N} (next : SqlState (FileStore N h)) (image : Image) (it : OpenedFile image next) → HasCleanDisk (file_state next.conn) → (c : Contents) → IsStore (file_state it.was).committed.trees c
-    → Adopts (sql_terms over_files) next c
-found_held next image it clean c left = it.found c (λ sure up.
-    let open_now = it.is_open sure in
-    let opens = open_now.0 in
-    let live = (open_now.1 up).0 in
-    let trees : (file_state it.was).committed.trees ≡ (file_state it.was).now.trees = ap (λ (d : Database). d.trees) (sym opens.clean) in
-    record {
-      schema = one_schema (file_state it.was).now.trees (file_state it.was).now.schema (subst (λ (t : Trees). IsSound token_schema t) trees left.sound) live;
-      settled = sym opens.clean;
-      autocommit = opens.autocommit;
-      stores = stored_either (file_state it.was).now.trees c (subst (λ (t : Trees). Stores t c) trees left.stores);
-      sound = live;
-    }) clean
 
 module _ {D N : Type 0} {g : Ghosts D} {h : Ghosts N} (k : SqlState (FileStore D g)) (next : SqlState (FileStore N h)) (image : Image) (clean : HasCleanDisk (file_state k.conn)) (numbered : IsTrue (view k.conn.store).is_numbered)
     (sound : AreDatabases (recovers k.conn.store)) (may : (state k.conn.store).may_leave image) (it : OpenedFile image next) (sure : HasCleanDisk (file_state next.conn)) where

@@ -20,7 +20,8 @@ use Rattle.keep_sql.specs.Found.{Finds, is_current}
 use Rattle.keep_sql_model.specs.Opening.{Adopts, AllDecode, HasOld, IsOurs, NotOpened, Opened, has_tables}
 use Rattle.keep_sql_model.proofs.Held.{at_again, held_on, one_contents, reads_one, reads_stay, sees_held, store_at}
 use Rattle.keep_sql_model.proofs.Opens.{not_both, not_none}
-use Rattle.keep_sql.proofs.Taken.{either_decodes, found_decodes, has_old, none_old, same_record, stored_either}
+use Rattle.keep_sql_model.proofs.Reopened.{stored_either}
+use Rattle.keep_sql.proofs.Taken.{either_decodes, found_decodes, has_old, none_old, same_record}
 
 -- ---- in either format
 

@@ -25,27 +25,7 @@ use Rattle.keep_sql_model.specs.Opening.{AllDecode, HasOld}
 use Rattle.sql_statements.proofs.Ids.{rising}
 use Rattle.keep_sql_model.proofs.Bytes.{if_new_record, if_old_record, new_is, new_record_is, old_is, old_record_is}
 use Rattle.keep_sql_model.proofs.Held.{record_of}
-use Rattle.keep_sql_model.proofs.Lifts.{rows_are, stored}
 use Rattle.keep_sql_model.proofs.Renewed.{all_renewed}
-
--- ---- what is stored in format 2 is stored in either
-
-new_bodies : (objects : List (ℕ × Body)) → AreBodies (map stored objects) objects
-new_bodies [] = tt
-new_bodies (e ∷ es) = (refl, inl refl, new_bodies es)
-
-pub stored_either : (trees : Trees) (c : Contents) → Stores trees c → StoresEither trees c
-stored_either trees c it = record {
-  record_body = encoded_record c.token_record;
-  bodies = map stored c.objects;
-  record_is = it.record_is;
-  is_record_body = inl (refl, it.is_record);
-  objects_are = it.objects_are ∙ rows_are c.objects;
-  are_bodies = new_bodies c.objects;
-  count_is = it.count_is;
-  sound = it.sound;
-  are_objects = it.are_objects;
-}
 
 -- ---- tables that store contents decode
 

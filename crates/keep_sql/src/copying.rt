@@ -6,21 +6,10 @@ ghost use Rattle.sqlite_store.specs.FileStore.{recovers};
 ghost use Rattle.sqlite.specs.Files.{file_state};
 ghost use Rattle.keep_sql_model.specs.OpenedFile.{IsCopy};
 
-use sqlite::{Connection, Error, ErrorCode, FileStore};
+use sql_vacuum::error_of;
+use sqlite::{Connection, Error, FileStore};
 use sqlite_disk::Disk;
-use sqlite_trees::error::StoreError;
 use std::alloc::Global;
-
-fn copy_error(error: StoreError) -> Error {
-    Error::SqliteFailure(match error {
-        StoreError::OutOfMemory => ErrorCode::OutOfMemory,
-        StoreError::Io => ErrorCode::SystemIoFailure,
-        StoreError::Corrupt => ErrorCode::DatabaseCorrupt,
-        StoreError::Full => ErrorCode::DiskFull,
-        StoreError::Broken => ErrorCode::Closed,
-        StoreError::Unstorable => ErrorCode::TooBig,
-    })
-}
 
 /// The connection once its log is copied into its file. Where it can't be, a crash leaves what it could leave before.
 pub(crate) fn copied<D: Disk + Drop>(
@@ -36,6 +25,6 @@ pub(crate) fn copied<D: Disk + Drop>(
             Ok(conn) => Ok(conn),
             Err((error, store)) => Err((error, store)),
         },
-        Err(error) => Err((copy_error(error), store)),
+        Err(error) => Err((error_of(error), store)),
     }
 }

@@ -1,11 +1,12 @@
 -- What the opening of a file gives.
-use Rattle.std.specs.Prelude.{◌≡◌, ◌≤◌, IsTrue}
+use Rattle.std.specs.Prelude.{◌≡◌, ◌≤◌, IsTrue, true}
 use Rattle.sqlite_disk.specs.declared.Disk.{Ghosts}
 use Rattle.sqlite.specs.declared.FileStore.{FileStore}
 use Rattle.sqlite_trees.specs.View.{doubt}
 use Rattle.sqlite.specs.State.{HasCleanDisk, IsLive, Opens, State}
 use Rattle.sqlite.specs.Held.{Held}
-use Rattle.sqlite.specs.Files.{file_state, over_files, IsOpened}
+use Rattle.sqlite.specs.Files.{file_state, over_files, IsBlankAs, IsOpened}
+use Rattle.sqlite_store.specs.FileStore.{view}
 use Rattle.sqlite.specs.Recovery.{Image}
 use Rattle.sqlite.specs.Start.{FindsIn}
 use Rattle.pin_record.specs.Records.{new_record}
@@ -24,12 +25,13 @@ pub record IsCopy (old new : State) : Type 0 where
   pub trees : HasCleanDisk new → new.now.trees ≡ old.committed.trees
 
 -- The keeper is over a connection that found the database which the files held. What that held, in whichever format, the keeper holds.
--- Only files that a first opening may have left are taken for a new store.
+-- Only files that a first opening may have left are taken for a new store, and the pages of a new file end in sums.
 pub record OpenedFile {D : Type 0} {g : Ghosts D} (start : Image) (k : SqlState (FileStore D g)) : Type 0 where
   pub was : Held (FileStore D g)
   pub is_open : HasCleanDisk (file_state was) → IsOpened was
   pub finds : HasCleanDisk (file_state was) → FindsIn start (file_state was)
   pub first : HasCleanDisk (file_state was) → (file_state was).now.schema ≡ no_schema → IsFirst start
+  pub sums : HasCleanDisk (file_state was) → IsBlankAs true start → IsTrue (view was.store).has_sums
   pub opened : Opened (file_state was) (file_state k.conn) k.token_record
   pub found : (c : Contents) → HoldsEither (file_state was) c → HasCleanDisk (file_state k.conn) → Adopts (sql_terms over_files) k c
   pub fresh : (file_state was).now.schema ≡ no_schema → HasCleanDisk (file_state k.conn) → Adopts (sql_terms over_files) k (new_contents new_record)

@@ -1,6 +1,6 @@
-use Rattle.std.proofs.Common.{◌≡◌, List, ℕ, IsTrue, sym, ap₂, subst, ◌∙◌, refl, inl, inr}
+use Rattle.std.proofs.Common.{◌≡◌, List, ℕ, IsTrue, true, sym, ap₂, subst, ◌∙◌, refl, inl, inr}
 use Rattle.sqlite_wal.specs.Recovery.{Image}
-use Rattle.sqlite.specs.Files.{file_state}
+use Rattle.sqlite.specs.Files.{file_state, IsBlankAs}
 use Rattle.sqlite.specs.Start.{FindsIn}
 use Rattle.keep_sql.proofs.Refusals.{left_by}
 use Rattle.keep_sql.proofs.files.SqlKeep+FileStore+D.open_files.Goals as goal
@@ -40,6 +40,7 @@ returns-in-Ok-settle-clause-opened g c =
       is_open = opened.opened;
       finds = λ clean. let f = opened.found clean in subst (λ (i : Image). FindsIn i (file_state c.in-Ok-open_files_with.conn)) seen (record { holds = f.holds; reads = f.reads });
       first = λ clean none. (c.in-Ok.ensures.first (opened.found clean).honest).0 (c.if-not-is_ours.ensures refl none);
+      sums = λ clean blank. opened.sums clean (subst (λ (i : Image). IsBlankAs true i) (sym seen) blank);
       opened = it.opened;
       found = it.found;
       fresh = it.fresh;
