@@ -1,22 +1,16 @@
 -- What a crash leaves of a store in files is what the next opening finds.
-use Rattle.std.proofs.Common.{◌≡◌, Option, Some, None, IsTrue, sym, ap, subst, arith}
+use Rattle.std.proofs.Common.{Option, Some, None, IsTrue, arith}
 use Rattle.std.proofs.Math.Logic.{∥∥₁_elim}
 use Rattle.sqlite_disk.specs.declared.Disk.{Ghosts}
 use Rattle.sqlite_wal.specs.Recovery.{Image}
-use Rattle.sqlite.specs.Tree.{Trees}
-use Rattle.sqlite.specs.Schema.{Schema}
 use Rattle.sqlite.specs.declared.FileStore.{FileStore}
 use Rattle.sqlite_store.specs.FileStore.{recovers, state, view}
 use Rattle.sqlite.specs.State.{HasCleanDisk}
 use Rattle.sqlite.specs.Held.{AreDatabases}
 use Rattle.sqlite.specs.Files.{file_state, over_files}
-use Rattle.sqlite.specs.Effect.{Database, IsDatabase}
 use Rattle.sqlite.proofs.Theorems.{next_run}
-use Rattle.sqlite_catalog.specs.Listing.{IsSound}
 use Rattle.keep.specs.Contents.{Contents}
-use Rattle.sql_statements.specs.Tables.{token_schema}
-use Rattle.keep_sql_model.specs.Store.{IsStore, Stores}
-use Rattle.keep_sql_model.specs.Opening.{Adopts}
+use Rattle.keep_sql_model.specs.Store.{IsStore}
 use Rattle.keep_sql_model.specs.OpenedFile.{OpenedFile}
 use Rattle.keep_sql_model.specs.SqlState.{SqlState, sql_terms}
 use Rattle.keep_sql_model.proofs.Reopened.{found_held}

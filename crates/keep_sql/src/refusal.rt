@@ -1,6 +1,7 @@
 //! Why a store in files isn't opened, and what is left of it.
 
-ghost use Rattle.std.specs.Prelude.{◌≡◌};
+ghost use Rattle.std.specs.Prelude.{◌≡◌, true, IfSome, IsSome};
+ghost use Rattle.sqlite_wal.specs.Reads.{IsClean};
 ghost use Rattle.keep_sql.specs.Faults.{is_of_contents};
 
 use keep::KeepFault;
@@ -95,22 +96,44 @@ pub struct Refused<D: Disk + Drop> {
     pub log: Option<Vec<u8>>,
 }
 
+/// The files, whose log has these bytes again. The database file is not touched. `None` where the log can't be written.
+fn with_log<D: Disk + Drop>(alloc: Global, mut files: Files<D>, bytes: &[u8]) -> Option<Files<D>>
+    ensures db { IfSome result (λ now. now.db ≡ files.db) }
+    ensures log { IfSome result (λ now. IsClean D.Disk now.log → D.Disk.seen now.log ≡ bytes.now) }
+{
+    if !files.may_be_used() {
+        return None;
+    }
+    match put_back(alloc, &mut files.log, bytes) {
+        Ok(()) => Some(files),
+        Err(_) => None,
+    }
+}
+
 impl<D: Disk + Drop> Refused<D> {
-    /// Closes what is left. Where the files were refused for what they hold, the log first gets back the bytes that it was found with.
+    /// Where the files were refused for what they hold, the log gets back the bytes that it was found with, and the files are returned.
     /// For sqlite may have written a new header to it, or shut it behind its last commit. What it begins with alike is not written, so
-    /// that no commit is touched.
-    pub fn put_back(self, alloc: Global) -> OpenFault
-        ensures { result ≡ self.fault }
+    /// that no commit is touched. Where the log can't be written, and after any other refusal, the files are closed.
+    pub fn given_back(self, alloc: Global) -> (OpenFault, Option<Files<D>>)
+        ensures fault { result.0 ≡ self.fault }
+        ensures log { IfSome result.1 (λ files. IsClean D.Disk files.log → IfSome self.log (λ bytes. D.Disk.seen files.log ≡ bytes.items)) }
+        ensures contents { IsSome result.1 → (is_of_contents self.fault ≡ true) × IsSome self.log }
     {
         let Refused { fault, left, log } = self;
         if !fault.is_damage() {
-            return fault;
+            return (fault, None);
         }
-        if let (Some(mut files), Some(bytes)) = (left.into_files(), log) {
-            if files.may_be_used() {
-                let _done = put_back(alloc, &mut files.log, bytes.as_slice());
-            }
+        match (left.into_files(), log) {
+            (Some(files), Some(bytes)) => (fault, with_log(alloc, files, bytes.as_slice())),
+            _ => (fault, None),
         }
+    }
+
+    /// The same, and the files are closed.
+    pub fn put_back(self, alloc: Global) -> OpenFault
+        ensures { result ≡ self.fault }
+    {
+        let (fault, _files) = self.given_back(alloc);
         fault
     }
 }

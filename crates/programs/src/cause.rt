@@ -32,6 +32,10 @@ pub(crate) enum Cause {
     CopyBusy,
     #[error("the store's folder or its log cannot be used: {0}")]
     StoreFolder(io::Error),
+    #[error("the store was in use, and its log is missing: put the log (its file's name with -wal) back beside it, or restore a copy that tokend backup made")]
+    LogLost,
+    #[error("the store's file cannot be written anew: {0}")]
+    Renewal(io::Error),
     #[error("sqlite refuses the store: {0}")]
     Sqlite(sqlite::Error),
     #[error("{0}")]

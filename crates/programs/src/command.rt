@@ -28,7 +28,8 @@ pub(crate) fn command<'a>(alloc: Global) -> Result<Command<'a>, Error> {
     let command = with_subcommand(command, p11call(alloc))?;
     let command = with_subcommand(command, status(alloc))?;
     let command = with_subcommand(command, check(alloc))?;
-    with_subcommand(command, backup(alloc))
+    let command = with_subcommand(command, backup(alloc))?;
+    with_subcommand(command, compact(alloc))
 }
 
 /// The command with a subcommand.
@@ -92,9 +93,20 @@ fn check<'a>(alloc: Global) -> Result<Command<'a>, Error> {
 fn backup<'a>(alloc: Global) -> Result<Command<'a>, Error> {
     Ok(
         Command::new(alloc, "backup")
-            .about("Copies a whole store that no daemon has open to a new file")
+            .about("Copies the rows of a store that no daemon has open to a new file")
             .arg(needed(alloc, "store", "The path of the store's file"))?
             .arg(needed(alloc, "to", "The path of the copy, where no file is yet"))?,
+    )
+}
+
+/// The command that writes a store anew.
+fn compact<'a>(alloc: Global) -> Result<Command<'a>, Error> {
+    Ok(
+        Command::new(alloc, "compact")
+            .about(
+                "Writes a store that no daemon has open anew, so that nothing is left of what was destroyed",
+            )
+            .arg(needed(alloc, "store", "The path of the store's file"))?,
     )
 }
 

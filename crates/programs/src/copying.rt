@@ -5,8 +5,10 @@ ghost use Rattle.sqlite_disk.specs.Memory.{memory_is_usable};
 
 use crate::cause::Cause;
 use crate::failure::{Failure, Fault};
+use crate::renewal::{AT_REST, is_in_use};
 use crate::store::log_of;
 use os::RangeLock;
+use sql_vacuum::vacuumed;
 use sqlite::{Connection, FileStore, Files, Options};
 use sqlite_disk::{Disk, Memory};
 use std::alloc::Global;
@@ -47,7 +49,12 @@ pub(crate) fn read_store(rt: &HostRuntime, path: &str) -> Result<StoreCopy, Faul
     let log = read.and_then(|_| log_beside(rt, path));
     drop(file);
     match log {
-        Ok(log) => Ok(StoreCopy { db, log }),
+        Ok(Some(log)) => Ok(StoreCopy { db, log }),
+        Ok(None) if is_in_use(&db) => Err(Failure::Store.because(Cause::LogLost)),
+        Ok(None) => Ok(StoreCopy {
+            db,
+            log: Vec::new(rt.alloc()),
+        }),
         Err(error) => Err(refused(error)),
     }
 }
@@ -59,12 +66,13 @@ fn refused(error: io::Error) -> Fault {
     Failure::Store.because(Cause::StoreFile(error))
 }
 
-/// The bytes of the log, which are none where there is no log.
-fn log_beside(rt: &HostRuntime, path: &str) -> io::Result<Vec<u8>> {
+/// The bytes of the log, where there is one.
+fn log_beside(rt: &HostRuntime, path: &str) -> io::Result<Option<Vec<u8>>> {
     let log = log_of(rt, path)?;
     match fs::read(rt, &log) {
-        Err(error) if error.kind() == ErrorKind::NotFound => Ok(Vec::new(rt.alloc())),
-        read => read,
+        Ok(bytes) => Ok(Some(bytes)),
+        Err(error) if error.kind() == ErrorKind::NotFound => Ok(None),
+        Err(error) => Err(error),
     }
 }
 
@@ -94,6 +102,17 @@ impl StoreCopy {
         match Connection::open_files(alloc, files, Options::new(0)) {
             Ok(conn) => Ok(conn),
             Err((error, _)) => Err(error.into()),
+        }
+    }
+
+    /// A new file with the store's rows, and nothing else of it. It needs no log beside it.
+    pub(crate) fn anew(&self, alloc: Global) -> Result<Vec<u8>, Fault> {
+        let mut store = self.connect(alloc)?.into_store();
+        let made = vacuumed(alloc, &mut store, AT_REST);
+        drop(store.close());
+        match made {
+            Ok(bytes) => Ok(bytes),
+            Err(error) => Err(error.into()),
         }
     }
 

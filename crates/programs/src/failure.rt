@@ -75,6 +75,11 @@ impl Fault {
         self.failure.status()
     }
 
+    /// What led to it, where the failure doesn't name that itself.
+    pub(crate) fn cause(&self) -> Option<Cause> {
+        self.cause
+    }
+
     /// Writes the failure as a line, and its cause as the next one, and returns the exit status.
     pub(crate) fn report<E: Write>(&self, errors: &mut E) -> u8
         ensures value { result ≡ status_of self.now.failure }

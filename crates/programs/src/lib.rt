@@ -14,7 +14,7 @@
 //! own arguments can't be read.
 //!
 //! The daemon is four seats (`hall_sockets::SocketSeat`) before one token. `Journal` is a log on standard error, as a journal reads
-//! it. `Reported` is a keeper that logs what becomes of its store.
+//! it. `Reported` is a keeper that logs what becomes of its store. `Marked` is one that lifts a mark before a value is destroyed.
 //!
 //! This crate is safe and tested. What it states is that it holds the seats as `hall_sockets::hold_sockets` asks, with the seed
 //! of the command line or of the file, and which exit status a failure has.
@@ -33,10 +33,13 @@ mod groups;
 mod health;
 mod journal;
 mod listening;
+mod mark;
+mod marked;
 mod monitor;
 mod notify;
 mod options;
 mod p11call;
+mod renewal;
 mod reported;
 mod run;
 mod seed;
@@ -45,10 +48,13 @@ mod standing;
 mod status;
 mod store;
 mod upkeep;
+mod writing;
 
 pub use args::refuse_args;
 pub use health::Health;
 pub use journal::Journal;
+pub use mark::Mark;
+pub use marked::Marked;
 pub use p11call::ask;
 pub use reported::{Explains, Reported};
 pub use run::tokend_with;

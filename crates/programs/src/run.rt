@@ -11,7 +11,7 @@ use crate::p11call::ask_all;
 use crate::seed::trial_seed;
 use crate::serve::serve;
 use crate::status::status;
-use crate::upkeep::{backup, check};
+use crate::upkeep::{backup, check, compact};
 use clap::error::ErrorKind;
 use clap::{ArgMatches, Error};
 use keep::ListKeep;
@@ -79,6 +79,7 @@ fn run<R: Threads + Wait + Clock + Copy + Send + Drop + 'static, I: Read, O: Wri
         Some(("p11call", matches)) => p11call(rt, matches, input, output),
         Some(("check", matches)) => check(rt, matches, output),
         Some(("backup", matches)) => backup(rt, matches),
+        Some(("compact", matches)) => compact(rt, matches),
         _ => Err(Failure::BadInput.into()),
     }
 }

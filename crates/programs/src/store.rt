@@ -4,16 +4,25 @@ use crate::cause::Cause;
 use crate::copying::{is_busy, read_store};
 use crate::examining::examine;
 use crate::failure::{Failure, Fault};
+use crate::journal::Journal;
+use crate::mark::Mark;
+use crate::marked::Marked;
+use crate::renewal::{file_is_in_use, renew};
 use keep::KeepFault;
 use keep_sql::{OWN_MODE, OpenFault, SqlKeep};
+use log::{LevelFilter, Log, warn};
 use sqlite::{Error, ErrorCode, FileFrom, FileStore};
 use sqlite_disk::Wary;
 use std::fs::{File, OpenOptions, Permissions};
-use std::os::unix::fs::{OpenOptionsExt, PermissionsExt};
+use std::io::ErrorKind;
+use std::os::unix::fs::{MetadataExt, OpenOptionsExt, PermissionsExt};
 use std::{fs, io};
 
+/// The keeper over a store in a file, and the mark beside that.
+pub(crate) type FileKeep = Marked<OpenKeep>;
+
 /// The keeper over a store in a file.
-pub(crate) type FileKeep = SqlKeep<FileStore<FileFrom<Wary>>>;
+type OpenKeep = SqlKeep<FileStore<FileFrom<Wary>>>;
 
 /// The permission bits of group and others.
 const SHARED_BITS: u32 = 0o077;
@@ -55,13 +64,110 @@ fn narrow(rt: &HostRuntime, path: &str) -> Result<bool, Fault> {
 }
 
 /// Opens the store, which is made where there is none. A refusal leaves its files as they were.
+///
+/// A store whose mark is missing, or whose file doesn't say that it is in use, is written anew first. Where that can't be done, as
+/// on a disk that is full, it is opened all the same, and a line reports it.
 pub(crate) fn open_store(rt: &HostRuntime, path: &str) -> Result<FileKeep, Fault> {
+    let keep = open_once(rt, path)?;
+    if is_clean(rt, path)? {
+        return marked(rt, path, keep);
+    }
+    if let Err(fault) = renew(rt, path, keep) {
+        say_kept(rt, &fault);
+        return marked(rt, path, open_once(rt, path)?);
+    }
+    let keep = open_once(rt, path)?;
+    set_mark(rt, path)?;
+    marked(rt, path, keep)
+}
+
+/// Reports that a store's file stays as it is, with what was destroyed.
+fn say_kept(rt: &HostRuntime, fault: &Fault) {
+    let log = Journal::new(rt.stderr(), LevelFilter::Warn);
+    match fault.cause() {
+        Some(cause) => warn!(log; "what was destroyed may still be in the store: {cause}"),
+        None => warn!(log; "what was destroyed may still be in the store: out of memory"),
+    }
+}
+
+/// Writes the file of a store anew. An empty file, which the daemon would make a new store of, is none.
+pub(crate) fn renew_store(rt: &HostRuntime, path: &str) -> Result<(), Fault> {
+    match fs::metadata(rt, path) {
+        Ok(found) if found.len() > 0 => {}
+        Ok(_) => return Err(OpenFault::NoTables.into()),
+        Err(error) => return Err(refused(error)),
+    }
+    renew(rt, path, open_once(rt, path)?)?;
+    set_mark(rt, path)
+}
+
+/// Whether nothing was destroyed since the file was written anew.
+fn is_clean(rt: &HostRuntime, path: &str) -> Result<bool, Fault> {
+    match Mark::find(rt, path).and_then(|mark| Ok(mark.is_set() && file_is_in_use(rt, path)?)) {
+        Ok(is_clean) => Ok(is_clean),
+        Err(error) => Err(refused(error)),
+    }
+}
+
+fn set_mark(rt: &HostRuntime, path: &str) -> Result<(), Fault> {
+    // (without it the next start takes longer)
+    match Mark::find(rt, path) {
+        Ok(mut mark) => {
+            let _ = mark.set();
+            Ok(())
+        }
+        Err(error) => Err(refused(error)),
+    }
+}
+
+fn marked(rt: &HostRuntime, path: &str, keep: OpenKeep) -> Result<FileKeep, Fault> {
+    match Mark::find(rt, path) {
+        Ok(mark) => Ok(Marked::new(keep, mark)),
+        Err(error) => Err(refused(error)),
+    }
+}
+
+/// The device and the number of the file that has the name.
+fn file_named(rt: &HostRuntime, path: &str) -> Option<(u64, u64)> {
+    match fs::metadata(rt, path) {
+        Ok(found) => Some((found.dev(), found.ino())),
+        Err(_) => None,
+    }
+}
+
+/// Opens the store as it is. Refused where its log is lost, or where another file got the name meanwhile, which another program
+/// wrote anew.
+fn open_once(rt: &HostRuntime, path: &str) -> Result<OpenKeep, Fault> {
+    if lacks_log(rt, path)? {
+        return Err(Failure::Store.because(Cause::LogLost));
+    }
+    let before = file_named(rt, path);
     match SqlKeep::open(rt, path, Wary) {
-        Ok(keep) => Ok(keep),
+        Ok(keep) => {
+            if before.is_some() && before != file_named(rt, path) {
+                return Err(Failure::Store.because(Cause::StoreBusy));
+            }
+            Ok(keep)
+        }
         Err(refused) => {
             let fault = refused.put_back(rt.alloc());
             Err(why_refused(rt, path, fault))
         }
+    }
+}
+
+/// Whether the file says that it is in use, and no log is beside it.
+fn lacks_log(rt: &HostRuntime, path: &str) -> Result<bool, Fault> {
+    let Ok(log) = log_of(rt, path) else {
+        return Ok(false);
+    };
+    match fs::symlink_metadata(rt, &log) {
+        Err(error) if error.kind() == ErrorKind::NotFound => {}
+        _ => return Ok(false),
+    }
+    match file_is_in_use(rt, path) {
+        Ok(is_in_use) => Ok(is_in_use),
+        Err(error) => Err(refused(error)),
     }
 }
 

@@ -1,17 +1,14 @@
-//! `tokend check` and `tokend backup`: a store that no daemon has open is looked through, or copied whole.
+//! `tokend check`, `tokend backup` and `tokend compact`: a store that no daemon has open is looked through, copied from its rows, or
+//! written anew from them.
 
 use crate::cause::Cause;
 use crate::copying::read_store;
 use crate::examining::{Findings, examine};
 use crate::failure::{Failure, Fault};
+use crate::store::renew_store;
+use crate::writing::write_new;
 use clap::ArgMatches;
-use std::fs::{File, OpenOptions};
-use std::io::Write;
-use std::os::unix::fs::OpenOptionsExt;
-use std::{fs, io};
-
-/// Its owner may read and write a copy, and nobody else.
-const COPY_MODE: u32 = 0o600;
+use std::io::{self, Write};
 
 /// Looks through a store, prints what it has, and changes nothing.
 pub(crate) fn check<O: Write>(
@@ -38,37 +35,20 @@ fn print<O: Write>(found: &Findings, output: &mut O) -> io::Result<()> {
     output.flush()
 }
 
-/// Copies a whole store to a new file.
+/// Copies a store to a new file, from its rows.
 pub(crate) fn backup(rt: &HostRuntime, matches: &ArgMatches<'_>) -> Result<(), Fault> {
     let store = matches.get_str("store").ok_or(Failure::Store)?;
     let to = matches.get_str("to").ok_or(Failure::Copy)?;
     let copy = read_store(rt, store)?;
     examine(rt.alloc(), &copy)?.verdict()?;
-    match write_new(rt, to, &copy.image(rt.alloc())?) {
+    match write_new(rt, to, &copy.anew(rt.alloc())?) {
         Ok(()) => Ok(()),
         Err(error) => Err(Failure::Copy.because(Cause::CopyFile(error))),
     }
 }
 
-/// Writes a new file and its name to the disk. Where that fails, the file is removed.
-fn write_new(rt: &HostRuntime, path: &str, bytes: &[u8]) -> io::Result<()> {
-    let mut file = OpenOptions::new()
-        .write(true)
-        .create_new(true)
-        .mode(COPY_MODE)
-        .open(rt, path)?;
-    let written = file
-        .write_all(bytes)
-        .and_then(|()| file.sync_all())
-        .and_then(|()| sync_folder(rt, path));
-    if written.is_err() {
-        let _ = fs::remove_file(rt, path);
-    }
-    written
-}
-
-fn sync_folder(rt: &HostRuntime, path: &str) -> io::Result<()> {
-    let mut folder = fs::canonicalize(rt, path)?;
-    folder.pop();
-    File::open(rt, folder.as_str())?.sync_all()
+/// Writes the file of a store anew.
+pub(crate) fn compact(rt: &HostRuntime, matches: &ArgMatches<'_>) -> Result<(), Fault> {
+    let store = matches.get_str("store").ok_or(Failure::Store)?;
+    renew_store(rt, store)
 }

@@ -7,3 +7,4 @@ mod old;
 mod openings;
 mod renewals;
 mod reopening;
+mod vacuum;

@@ -1,4 +1,4 @@
-use Rattle.std.proofs.Common.{◌≡◌, List, ℕ, IsTrue, true, sym, ap₂, subst, ◌∙◌, refl, inl, inr}
+use Rattle.std.proofs.Common.{List, ℕ, true, sym, ap₂, subst, refl, inl}
 use Rattle.sqlite_wal.specs.Recovery.{Image}
 use Rattle.sqlite.specs.Files.{file_state, IsBlankAs}
 use Rattle.sqlite.specs.Start.{FindsIn}

@@ -1,0 +1,58 @@
+//! Whole files that are written and synced.
+
+use std::fs::{File, OpenOptions};
+use std::io::Write;
+use std::os::unix::fs::{MetadataExt, OpenOptionsExt, fchown};
+use std::{fs, io};
+
+/// Its owner may read and write a file that is made, and nobody else.
+const OWN_MODE: u32 = 0o600;
+
+/// Writes a new file and its name to the disk. Where that fails, the file is removed.
+pub(crate) fn write_new(rt: &HostRuntime, path: &str, bytes: &[u8]) -> io::Result<()> {
+    let file = make(rt, path)?;
+    settle(rt, path, file, bytes)
+}
+
+/// The same, and the file belongs to the owner of another one.
+pub(crate) fn write_like(
+    rt: &HostRuntime,
+    path: &str,
+    other: &str,
+    bytes: &[u8],
+) -> io::Result<()> {
+    let owner = fs::metadata(rt, other)?;
+    let file = make(rt, path)?;
+    if let Err(error) = fchown(&file, Some(owner.uid()), Some(owner.gid())) {
+        drop(file);
+        let _ = fs::remove_file(rt, path);
+        return Err(error);
+    }
+    settle(rt, path, file, bytes)
+}
+
+fn make(rt: &HostRuntime, path: &str) -> io::Result<File> {
+    OpenOptions::new()
+        .write(true)
+        .create_new(true)
+        .mode(OWN_MODE)
+        .open(rt, path)
+}
+
+fn settle(rt: &HostRuntime, path: &str, mut file: File, bytes: &[u8]) -> io::Result<()> {
+    let written = file
+        .write_all(bytes)
+        .and_then(|()| file.sync_all())
+        .and_then(|()| sync_folder(rt, path));
+    if written.is_err() {
+        let _ = fs::remove_file(rt, path);
+    }
+    written
+}
+
+/// Writes the names in the folder of a file to the disk.
+pub(crate) fn sync_folder(rt: &HostRuntime, path: &str) -> io::Result<()> {
+    let mut folder = fs::canonicalize(rt, path)?;
+    folder.pop();
+    File::open(rt, folder.as_str())?.sync_all()
+}
