@@ -1,12 +1,10 @@
-//! Whole files that are written and synced.
+//! Whole files that are written and synced. Their owner may read and write them, and nobody else.
 
+use keep_sql::OWN_MODE;
 use std::fs::{File, OpenOptions};
 use std::io::Write;
 use std::os::unix::fs::{MetadataExt, OpenOptionsExt, fchown};
 use std::{fs, io};
-
-/// Its owner may read and write a file that is made, and nobody else.
-const OWN_MODE: u32 = 0o600;
 
 /// Writes a new file and its name to the disk. Where that fails, the file is removed.
 pub(crate) fn write_new(rt: &HostRuntime, path: &str, bytes: &[u8]) -> io::Result<()> {
