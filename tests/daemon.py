@@ -545,6 +545,9 @@ def damage(folder, statement):
         it.execute(statement)
         it.commit()
         it.execute("PRAGMA wal_checkpoint(TRUNCATE)")
+    # (sqlite3 removes a log that it has copied, and a store in use is refused without one)
+    with open(path + "-wal", "ab"):
+        pass
     pages = bytearray(contents(path)[0])
     see(pages[20] == SUM_LEN, "a new store has no sums")
     for start in range(0, len(pages), PAGE_LEN):
