@@ -201,7 +201,7 @@ const REFUSED: &[(&[&str], &[u8])] = &[
     (
         &[],
         b"error: 'tokend' requires a subcommand but one was not provided
-  [subcommands: stdio, serve, p11call, check, backup, help]
+  [subcommands: stdio, serve, p11call, status, check, backup, compact, help]
 
 Usage: tokend <COMMAND>
 
