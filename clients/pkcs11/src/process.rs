@@ -179,14 +179,16 @@ pub fn finalize() -> Answer {
     Ok(())
 }
 
-/// Whether C_Initialize was called in this process.
+/// Whether C_Initialize was called, as far as is known without asking the system: a child of a fork forgets it.
 pub fn ready() -> Answer {
-    if OWNER.load(SeqCst) == std::process::id() { Ok(()) } else { refused(CKR_CRYPTOKI_NOT_INITIALIZED) }
+    if OWNER.load(SeqCst) != 0 { Ok(()) } else { refused(CKR_CRYPTOKI_NOT_INITIALIZED) }
 }
 
-/// How many slots there are.
+/// How many slots there are, where C_Initialize was called in this process.
 pub fn count() -> Answer<usize> {
-    ready()?;
+    if OWNER.load(SeqCst) != std::process::id() {
+        return refused(CKR_CRYPTOKI_NOT_INITIALIZED);
+    }
     match COUNT.load(SeqCst) {
         0 => refused(CKR_CRYPTOKI_NOT_INITIALIZED),
         count => Ok(count),
@@ -196,9 +198,23 @@ pub fn count() -> Answer<usize> {
 /// Does something with the link of a slot, alone.
 pub fn with_link<T>(slot: u64, work: impl FnOnce(&mut Link) -> Answer<T>) -> Answer<T> {
     let count = count()?;
-    let Some(slot) = usize::try_from(slot).ok().filter(|it| *it < count).map(|it| &SLOTS[it]) else {
-        return refused(CKR_SLOT_ID_INVALID);
-    };
+    match usize::try_from(slot) {
+        Ok(slot) if slot < count => with_slot(slot, work),
+        _ => refused(CKR_SLOT_ID_INVALID),
+    }
+}
+
+/// Does something with the link that has a session.
+pub fn with_session<T>(session: u64, work: impl FnOnce(&mut Link) -> Answer<T>) -> Answer<T> {
+    let count = count()?;
+    match usize::try_from(handles::slot_of(session)) {
+        Ok(slot) if slot < count => with_slot(slot, work),
+        _ => refused(CKR_SESSION_HANDLE_INVALID),
+    }
+}
+
+fn with_slot<T>(slot: usize, work: impl FnOnce(&mut Link) -> Answer<T>) -> Answer<T> {
+    let slot = &SLOTS[slot];
     let mut link = match slot.current().lock() {
         Ok(link) => link,
         Err(poisoned) => {
@@ -210,10 +226,4 @@ pub fn with_link<T>(slot: u64, work: impl FnOnce(&mut Link) -> Answer<T>) -> Ans
         }
     };
     if link.is_begun() { work(&mut link) } else { refused(CKR_CRYPTOKI_NOT_INITIALIZED) }
-}
-
-/// Does something with the link that has a session.
-pub fn with_session<T>(session: u64, work: impl FnOnce(&mut Link) -> Answer<T>) -> Answer<T> {
-    let slot = handles::slot_of(session);
-    if slot >= count()? as u64 { refused(CKR_SESSION_HANDLE_INVALID) } else { with_link(slot, work) }
 }

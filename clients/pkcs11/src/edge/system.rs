@@ -1,12 +1,10 @@
 //! The few calls of the C library that std doesn't have.
 
 use std::ffi::{CStr, c_char, c_int, c_ulong, c_void};
-use std::fs::File;
 use std::io;
-use std::mem::ManuallyDrop;
+use std::mem::MaybeUninit;
 use std::os::fd::{AsRawFd, FromRawFd, OwnedFd, RawFd};
 use std::os::unix::ffi::OsStrExt;
-use std::os::unix::fs::MetadataExt;
 use std::os::unix::net::UnixStream;
 use std::path::Path;
 use std::time::Duration;
@@ -19,6 +17,7 @@ unsafe extern "C" {
     fn connect(socket: c_int, address: *const SocketAddress, len: u32) -> c_int;
     fn send(socket: c_int, bytes: *const c_void, len: usize, flags: c_int) -> isize;
     fn fcntl(descriptor: c_int, command: c_int, ...) -> c_int;
+    fn fstat64(descriptor: c_int, found: *mut Status) -> c_int;
     fn getauxval(kind: c_ulong) -> c_ulong;
     fn dladdr(address: *const c_void, found: *mut Found) -> c_int;
 }
@@ -87,19 +86,26 @@ pub fn is_library() -> bool {
 
 /// What a descriptor stands for, for as long as that is open: its device and its inode.
 #[derive(Clone, Copy, Debug, PartialEq, Eq)]
+#[repr(C)]
 pub struct Identity {
     pub device: u64,
     pub inode: u64,
 }
 
+/// C's `struct stat`, of which these two are the first, and no more than so much follows, on 64 bits of Linux.
+#[repr(C)]
+struct Status {
+    identity: Identity,
+    rest: [u64; 30],
+}
+
 /// What a descriptor stands for, if it is open.
 pub fn identity(descriptor: RawFd) -> Option<Identity> {
-    if descriptor < 0 {
-        return None;
-    }
-    // SAFETY: it is asked what the descriptor is, and it isn't closed.
-    let file = ManuallyDrop::new(unsafe { File::from_raw_fd(descriptor) });
-    file.metadata().ok().map(|it| Identity { device: it.dev(), inode: it.ino() })
+    let mut found = MaybeUninit::<Status>::zeroed();
+    // SAFETY: it is asked what a number stands for, and the answer has room.
+    let is_open = unsafe { fstat64(descriptor, found.as_mut_ptr()) } == 0;
+    // SAFETY: all of it was zeros, which are numbers, before the call wrote to it.
+    is_open.then(|| unsafe { found.assume_init() }.identity)
 }
 
 /// Closes a descriptor that nothing else owns.
