@@ -1,8 +1,8 @@
 -- Laws of histories.
-use Rattle.std.proofs.Common.{◌≡◌, ℕ, ◌%◌, [], ◌∷◌, ◌++◌, refl, ap, ◌∙◌, subst}
+use Rattle.std.proofs.Common.{◌≡◌, ℕ, ◌%◌, [], ◌∷◌, ◌++◌, refl, ap, ◌∙◌}
 use Rattle.model_views.specs.Views.{mask}
 use Rattle.model_worlds.specs.Worlds.{World, happens, after}
-use Rattle.model_worlds.specs.Traces.{NoResourceError, replies_to, replies_told, trace}
+use Rattle.model_worlds.specs.Traces.{replies_to, replies_told, trace}
 use Rattle.model_worlds.proofs.Told.{is_told}
 use Rattle.hall_channels.specs.Lists.{of}
 use Rattle.hall_channels.proofs.Rows.{of-append, of-one}
@@ -18,11 +18,9 @@ pub unfolds_before : (w : World) (before rest : History) → Unfolds w (before +
 unfolds_before w [] rest u = tt
 unfolds_before w (x ∷ xs) rest u = (u.0, unfolds_before (happens w (move_in x.1)) xs rest u.1)
 
-pub told_trace : (w : World) (history : History) (app : ℕ) → Unfolds w history → NoResourceError app (told_in history)
+pub told_trace : (w : World) (history : History) (app : ℕ) → Unfolds w history
     → replies_to app (told_in history) ≡ replies_told (mask (w.views app)) (trace app w (moves_in history))
-told_trace w history app u none =
-    let r = replied_is w history u in
-    ap (replies_to app) r ∙ (is_told app w (moves_in history) (subst (λ l. NoResourceError app l) r none)).told
+told_trace w history app u = ap (replies_to app) (replied_is w history u) ∙ (is_told app w (moves_in history)).told
 
 pub own_seat : (before : History) (x : ℕ × Exchange) (rest : History) → AllProper (before ++ x ∷ rest) → app_of x.1.0 % 4 ≡ x.0
 own_seat before x rest proper =

@@ -11,7 +11,6 @@ use Rattle.mech.specs.declared.job.Job.{Job}
 use Rattle.model_worlds.specs.Worlds.{World, event_of, happens, after, replies}
 use Rattle.model_worlds.proofs.Told.{is_told}
 use Rattle.model_worlds.proofs.Tries.{sound-run}
-use Rattle.model_worlds.specs.Traces.{NoResourceError}
 use Rattle.serve_base.specs.declared.out.Out.{Out}
 use Rattle.token.specs.States.{HasJobs, asked_by, jobs_of, AccountsFor, Lasting, LeftAfter}
 use Rattle.token.proofs.States.{accounts-more, accounts-none, after-append, left-append, left-more}
@@ -124,7 +123,7 @@ history_is showing prior left w ts settled so =
         shows = so.shows;
         jobs = no_jobs (after w (moves_in ts)) so.out so.jobs (λ app. so.waits app ∙ ap (own_job app) (settled (app % 4)));
         leaves = so.leaves;
-        private = λ app none. is_told app w (moves_in ts) (subst (λ l. NoResourceError app l) replied none);
+        private = λ app. is_told app w (moves_in ts);
         tries = λ s sound. sound-run s w (moves_in ts) sound;
       };
       moves = refl;

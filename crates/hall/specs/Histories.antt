@@ -133,7 +133,7 @@ pub record HasServed {T : Type 0} (doubt failures : T → ℕ) (shows : T → Wo
   pub runs : doubt new ≡ 0 → (w : World) → shows old w → HasJobs w [] → AllProper history → RunSoFar (shows new) (leaves old) (leaves new) w history
 
 -- A whole history from the world: each event was answered as the model says at its place, and all is a run of the token's
--- (`IsRun`). After it no call is pending. So each application that met no resource error got what its own trace determines.
+-- (`IsRun`). After it no call is pending. So each application got what its own trace determines.
 pub record IsHistory (showing : World → Type 0) (prior left : Option Lasting → Type 0) (w : World) (history : History) : Type 0 where
   pub unfolds : Unfolds w history
   pub run : IsRun showing prior left w (model_events history) (told_in history) [] []

@@ -3,7 +3,7 @@
 ghost use Rattle.std.specs.Prelude.{◌≡◌, ℕ, ◌%◌, List, [], ◌∷◌, ◌++◌};
 ghost use Rattle.model_views.specs.Views.{mask};
 ghost use Rattle.model_worlds.specs.Worlds.{World, after, replies};
-ghost use Rattle.model_worlds.specs.Traces.{NoResourceError, replies_to, replies_told, trace};
+ghost use Rattle.model_worlds.specs.Traces.{replies_to, replies_told, trace};
 ghost use Rattle.token.specs.States.{HasJobs};
 ghost use Rattle.hall_channels.specs.declared.messages.Event.{Event};
 ghost use Rattle.hall_channels.specs.declared.outbox.Outbox.{Outbox};
@@ -25,9 +25,9 @@ pub fn beginnings()
     ensures { (w : World) (before rest : History) → Unfolds w (before ++ rest) → Unfolds w before }
 {}
 
-/// An application that met no resource error got the replies that its own trace determines, whatever the other seats did.
+/// Every application got the replies that its own trace determines, for its whole life, whatever the other seats did.
 pub fn told_by_trace()
-    ensures { (w : World) (history : History) (app : ℕ) → Unfolds w history → NoResourceError app (told_in history)
+    ensures { (w : World) (history : History) (app : ℕ) → Unfolds w history
         → replies_to app (told_in history) ≡ replies_told (mask (w.views app)) (trace app w (moves_in history)) }
 {}
 

@@ -34,7 +34,7 @@ left-more p q w (Refuses event fault) x f (inl l) = inl (f l)
 left-more p q w (Refuses event fault) x f (inr l) = inr l
 
 pub nothing_yet : (shows : World → Type 0) (prior : Option Lasting → Type 0) (w : World) (events : List Event) (out : List (ℕ × Job)) → shows w → HasJobs w out → IsRun shows prior prior w events [] events out
-nothing_yet shows prior w events out s h = record { moves = []; took = refl; replied = refl; shows = s; jobs = h; leaves = λ x l. l; private = λ app none. is_told app w [] none; tries = λ s sound. sound-run s w [] sound }
+nothing_yet shows prior w events out s h = record { moves = []; took = refl; replied = refl; shows = s; jobs = h; leaves = λ x l. l; private = λ app. is_told app w []; tries = λ s sound. sound-run s w [] sound }
 
 pub one_more : (sure : Type 0) (shows shows' : World → Type 0) (prior left left' : Option Lasting → Type 0) (w : World) (events rest rest' : List Event) (said said' : List (ℕ × Reply)) (out out' : List (ℕ × Job)) → sure → IsRun shows prior left w events said rest out → Advances sure shows shows' left left' rest out said rest' out' said' → IsRun shows' prior left' w events said' rest' out'
 one_more sure shows shows' prior left left' w events rest rest' said said' out out' known so a =
@@ -47,6 +47,6 @@ one_more sure shows shows' prior left left' w events rest rest' said said' out o
       shows = rw (after-append w so.moves st.move) st.shows;
       jobs = rw (after-append w so.moves st.move) st.jobs;
       leaves = λ x l. left-append prior w so.moves st.move x (left-more left (LeftAfter prior w so.moves) (after w so.moves) st.move x (so.leaves x) (st.leaves x l));
-      private = λ app none. is_told app w (so.moves ++ st.move ∷ []) (rw told at none);
+      private = λ app. is_told app w (so.moves ++ st.move ∷ []);
       tries = λ s sound. sound-run s w (so.moves ++ st.move ∷ []) sound;
     }

@@ -19,7 +19,7 @@ use Rattle.model_views.specs.Changes.{Change, Stays}
 use Rattle.model_views.specs.Answering.{Replies}
 use Rattle.model_views.specs.Refusals.{resource_error}
 use Rattle.model_worlds.specs.Worlds.{World, Move, Goes, Refuses, event_of, answer_at, result_at, list_change, goes, happens, reply_to, after, replies}
-use Rattle.model_worlds.specs.Traces.{NoResourceError, IsTold}
+use Rattle.model_worlds.specs.Traces.{IsTold}
 use Rattle.model_worlds.specs.Tries.{IsSound, spent_in}
 use Rattle.serve_base.specs.Shown.{objects_of}
 use Rattle.serve_base.specs.Stores.{LacksId}
@@ -140,7 +140,7 @@ pub record IsRun (showing : World → Type 0) (prior left : Option Lasting → T
   pub jobs : HasJobs (after w moves) out
   -- a crash leaves the changes that were acknowledged, and perhaps one that was tried since, whole
   pub leaves : (l : Option Lasting) → left l → LeftAfter prior w moves l
-  -- each application that met no resource error got what its trace determines, and sees that
-  pub private : (app : ℕ) → NoResourceError app said → IsTold app w moves
+  -- each application got what its trace determines, and sees that: for its whole life, after resource errors too
+  pub private : (app : ℕ) → IsTold app w moves
   -- the tries of each PIN stay the checks of it that are spent and those in progress, ten at most
   pub tries : (s : UserType → ℕ) → IsSound s w → IsSound (spent_in s w moves) (after w moves)

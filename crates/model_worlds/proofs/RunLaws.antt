@@ -19,15 +19,15 @@ use Rattle.ck_calls.specs.declared.call.Call.{Call as CallType}
 use Rattle.ck_calls.specs.declared.function.Function.TheVariants as functions
 use Rattle.model_answers.specs.Answers.{answer, answer_result, is_pin_function, is_pin_task, is_key_task, may_change_objects, is_still_function}
 use Rattle.model_worlds.specs.Worlds.{World, is_init_token, answer_at, result_at, value_of, reveal_to_call, reveal_to_task, Move, Goes, Refuses, event_of, list_change, refused, happens, after, finished, finish_tells, finish_refusal, finish_refused, told, reply_to, replies}
-use Rattle.model_worlds.specs.Traces.{trace, replies_told, view_told, replies_to, NoResourceError, app_of, private_at, is_private, is_quiet_call, is_pin_event, IsQuiet, IsQuietMove, AllQuiet, own_moves, is_quiet_result, is_pin_question, is_private_result}
+use Rattle.model_worlds.specs.Traces.{trace, replies_told, view_told, replies_to, app_of, private_at, is_private, is_quiet_call, is_pin_event, IsQuiet, IsQuietMove, AllQuiet, own_moves, is_quiet_result, is_pin_question, is_private_result}
 use Rattle.model_answers.proofs.Proper.{still-answer, still-result}
 use Rattle.model_worlds.proofs.Told.{told-trace, seen-trace, replies_to-append, told-other}
 
-pub agreeing-replies : (app : ℕ) (v w : World) (ms ns : List Move) → mask (v.views app) ≡ mask (w.views app) → trace app v ms ≡ trace app w ns → NoResourceError app (replies v ms) → NoResourceError app (replies w ns) → replies_to app (replies v ms) ≡ replies_to app (replies w ns)
-agreeing-replies app v w ms ns views traces p q = told-trace app v ms p ∙ ap (λ u. replies_told u (trace app v ms)) views ∙ ap (replies_told (mask (w.views app))) traces ∙ sym (told-trace app w ns q)
+pub agreeing-replies : (app : ℕ) (v w : World) (ms ns : List Move) → mask (v.views app) ≡ mask (w.views app) → trace app v ms ≡ trace app w ns → replies_to app (replies v ms) ≡ replies_to app (replies w ns)
+agreeing-replies app v w ms ns views traces = told-trace app v ms ∙ ap (λ u. replies_told u (trace app v ms)) views ∙ ap (replies_told (mask (w.views app))) traces ∙ sym (told-trace app w ns)
 
-pub agreeing-views : (app : ℕ) (v w : World) (ms ns : List Move) → mask (v.views app) ≡ mask (w.views app) → trace app v ms ≡ trace app w ns → NoResourceError app (replies v ms) → NoResourceError app (replies w ns) → mask ((after v ms).views app) ≡ mask ((after w ns).views app)
-agreeing-views app v w ms ns views traces p q = seen-trace app v ms p ∙ ap (λ u. view_told u (trace app v ms)) views ∙ ap (view_told (mask (w.views app))) traces ∙ sym (seen-trace app w ns q)
+pub agreeing-views : (app : ℕ) (v w : World) (ms ns : List Move) → mask (v.views app) ≡ mask (w.views app) → trace app v ms ≡ trace app w ns → mask ((after v ms).views app) ≡ mask ((after w ns).views app)
+agreeing-views app v w ms ns views traces = seen-trace app v ms ∙ ap (λ u. view_told u (trace app v ms)) views ∙ ap (view_told (mask (w.views app))) traces ∙ sym (seen-trace app w ns)
 
 -- ---- quiet events
 

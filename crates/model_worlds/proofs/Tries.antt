@@ -282,7 +282,7 @@ module _ (s : UserType → ℕ) (w : World) (sound : IsSound s w) where
   seated-happen (Refuses (Finish app) fault) b = seated-refused app (w.views app).question b
   seated-happen (Refuses (Gone app) fault) b = seated-put app (left (w.views app)) refl b
 
-  sound-happen : (m : Move) → IsSound (λ who. spent who (s who) (charges_of w) (events_of w m)) (happens w m)
+  pub sound-happen : (m : Move) → IsSound (λ who. spent who (s who) (charges_of w) (events_of w m)) (happens w m)
   sound-happen m = record {
     checks = checks-happen m;
     seated = seated-happen m;

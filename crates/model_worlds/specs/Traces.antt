@@ -10,12 +10,14 @@ use Rattle.ck_calls.specs.Functions.{function_of}
 use Rattle.ck_calls.specs.declared.reply.Reply.{Reply}
 use Rattle.ck_calls.specs.declared.reply.Reply.TheVariants.{Code}
 use Rattle.guard.specs.Access.{is_public, is_user_in}
+use Rattle.model_views.specs.declared.fault.Fault.{Fault}
 use Rattle.model_views.specs.TaskResults.{TaskResult, mask_outcome}
 use Rattle.model_worlds.specs.declared.event.Event.{Event}
 use Rattle.model_worlds.specs.declared.event.Event.TheVariants.{Call, Finish, Gone}
 use Rattle.model_views.specs.Views.{View, Question, mask, left}
 use Rattle.model_views.specs.Changes.{Change, Stays, Insert, Replace, Remove, Records, Resets, mask_change, seen, is_seen, is_still}
-use Rattle.model_views.specs.Answering.{Said, Replies, Asks, Answer, Reveal, mask_reveal}
+use Rattle.model_views.specs.Answering.{Said, Replies, Asks, Answer, Reveal, mask_reveal, answered}
+use Rattle.model_views.specs.Refusals.{refusal}
 use Rattle.model_answers.specs.Answers.{answer, answer_result, is_pin_function, is_pin_task, is_key_task, may_change_objects}
 use Rattle.model_worlds.specs.Worlds.{World, Move, Goes, Refuses, event_of, value_of, reveal_to_call, reveal_to_task, answer_at, result_at, list_change, change_for, happens, after, replies}
 
@@ -23,6 +25,9 @@ use Rattle.model_worlds.specs.Worlds.{World, Move, Goes, Refuses, event_of, valu
 pub data Moment : Type 0 where
   Calls : (call : CallType) (random : List ℕ) (reveal : Reveal) → Moment
   Gets : (outcome : TaskResult) (reveal : Reveal) → Moment
+  -- memory or the store failed at a call, or at a result: declassified, and the only thing that such an event reveals
+  CallFails : (fault : Fault) → Moment
+  ResultFails : (fault : Fault) → Moment
   Leaves : Moment
   Sees : (change : Change) → Moment
 
@@ -39,6 +44,11 @@ abbrev pub got : World → ℕ → Option Question → List Moment
 got w app None = []
 got w app (Some q) = Gets (mask_outcome (value_of q.task)) (mask_reveal (reveal_to_task w app q.task)) ∷ []
 
+-- a result that met a resource error; where no call is pending there is none
+abbrev pub failed : Fault → Option Question → List Moment
+failed fault None = []
+failed fault (Some q) = ResultFails fault ∷ []
+
 abbrev pub moments : ℕ → World → Move → List Moment
 moments app w (Goes (Call other call random)) =
     if app == other then Calls call random.items (mask_reveal (reveal_to_call w other call)) ∷ []
@@ -47,8 +57,8 @@ moments app w (Goes (Finish other)) =
     if app == other then got w other (w.views other).question else saw_result app w other (w.views other).question
 moments app w (Goes (Gone other)) = if app == other then Leaves ∷ [] else []
 moments app w (Refuses (Gone other) fault) = if app == other then Leaves ∷ [] else []
-moments app w (Refuses (Call other call random) fault) = []
-moments app w (Refuses (Finish other) fault) = []
+moments app w (Refuses (Call other call random) fault) = if app == other then CallFails fault ∷ [] else []
+moments app w (Refuses (Finish other) fault) = if app == other then failed fault (w.views other).question else []
 
 -- all of a run that comes to the application
 abbrev pub trace : ℕ → World → List Move → List Moment
@@ -64,6 +74,8 @@ abbrev pub replies_told : View → List Moment → List Reply
 replies_told v [] = []
 replies_told v (Calls call random reveal ∷ ms) = said (answer v call random reveal).says ++ replies_told (mask (answer v call random reveal).view) ms
 replies_told v (Gets outcome reveal ∷ ms) = said (answer_result v outcome reveal).says ++ replies_told (mask (answer_result v outcome reveal).view) ms
+replies_told v (CallFails fault ∷ ms) = refusal fault ∷ replies_told v ms
+replies_told v (ResultFails fault ∷ ms) = refusal fault ∷ replies_told (answered v) ms
 replies_told v (Leaves ∷ ms) = replies_told (left v) ms
 replies_told v (Sees change ∷ ms) = replies_told (seen change v) ms
 
@@ -72,6 +84,8 @@ abbrev pub view_told : View → List Moment → View
 view_told v [] = v
 view_told v (Calls call random reveal ∷ ms) = view_told (mask (answer v call random reveal).view) ms
 view_told v (Gets outcome reveal ∷ ms) = view_told (mask (answer_result v outcome reveal).view) ms
+view_told v (CallFails fault ∷ ms) = view_told v ms
+view_told v (ResultFails fault ∷ ms) = view_told (answered v) ms
 view_told v (Leaves ∷ ms) = view_told (left v) ms
 view_told v (Sees change ∷ ms) = view_told (seen change v) ms
 
@@ -87,6 +101,18 @@ app_of (Gone app) = app
 -- no reply to the application is a resource error: CKR_HOST_MEMORY or CKR_DEVICE_ERROR
 abbrev pub NoResourceError : ℕ → List (ℕ × Reply) → Type 0
 NoResourceError app told = AllByRecursion (λ r. (r ≢ Code HostMemory) × (r ≢ Code DeviceError)) (replies_to app told)
+
+-- and nothing in a trace is one
+abbrev pub is_failure : Moment → Bool
+is_failure (Calls call random reveal) = false
+is_failure (Gets outcome reveal) = false
+is_failure (CallFails fault) = true
+is_failure (ResultFails fault) = true
+is_failure Leaves = false
+is_failure (Sees change) = false
+
+abbrev pub HasNoFailure : List Moment → Type 0
+HasNoFailure ms = AllByRecursion (λ m. is_failure m ≡ false) ms
 
 -- the application's replies, and its view after the run, are those of its trace
 pub record IsTold (app : ℕ) (w : World) (moves : List Move) : Type 0 where

@@ -7,7 +7,7 @@ ghost use Rattle.pin_record.specs.Records.{tries_limit, tries_of};
 ghost use Rattle.model_views.specs.Views.{View, mask};
 ghost use Rattle.model_views.specs.Changes.{Change, seen};
 ghost use Rattle.model_worlds.specs.Worlds.{World, Move, event_of, happens, after, replies};
-ghost use Rattle.model_worlds.specs.Traces.{saw, trace, replies_to, NoResourceError, IsTold, IsQuiet, AllQuiet, own_moves};
+ghost use Rattle.model_worlds.specs.Traces.{saw, trace, replies_to, NoResourceError, HasNoFailure, IsTold, IsQuiet, AllQuiet, own_moves};
 ghost use Rattle.model_worlds.specs.Tries.{charges_of, events_in, IsSound, spent_in};
 
 pub use model_answers::laws::blind_answers;
@@ -18,18 +18,26 @@ pub fn seen_changes()
     ensures only { (v : View) (change : Change) → saw v change ≡ [] → mask (seen change v) ≡ mask v }
 {}
 
-/// An application that met no resource error got the replies, and has the view, of the fold of its own trace.
+/// Every application got the replies, and has the view, of the fold of its own trace: for its whole life, also where events of
+/// its own met resource errors, which stand in the trace.
 pub fn told_by_trace()
-    ensures { (app : ℕ) (w : World) (ms : List Move) → NoResourceError app (replies w ms) → IsTold app w ms }
+    ensures { (app : ℕ) (w : World) (ms : List Move) → IsTold app w ms }
+{}
+
+/// A corollary: the trace of an application that met no resource error has none. So its replies and its view are those of its
+/// calls, its results, its disconnect and what it sees of others.
+pub fn told_without_failures()
+    ensures none { (app : ℕ) (w : World) (ms : List Move) → NoResourceError app (replies w ms) → HasNoFailure (trace app w ms) }
+    ensures told { (app : ℕ) (w : World) (ms : List Move) → NoResourceError app (replies w ms) → IsTold app w ms }
 {}
 
 /// Two runs in which the same comes to an application, from worlds in which it sees the same, return the same
 /// to it. They leave it the same view, whatever else the worlds hold.
 pub fn agreeing_runs()
     ensures replies { (app : ℕ) (v w : World) (ms ns : List Move) → mask (v.views app) ≡ mask (w.views app) → trace app v ms ≡ trace app w ns
-        → NoResourceError app (replies v ms) → NoResourceError app (replies w ns) → replies_to app (replies v ms) ≡ replies_to app (replies w ns) }
+        → replies_to app (replies v ms) ≡ replies_to app (replies w ns) }
     ensures views { (app : ℕ) (v w : World) (ms ns : List Move) → mask (v.views app) ≡ mask (w.views app) → trace app v ms ≡ trace app w ns
-        → NoResourceError app (replies v ms) → NoResourceError app (replies w ns) → mask ((after v ms).views app) ≡ mask ((after w ns).views app) }
+        → mask ((after v ms).views app) ≡ mask ((after w ns).views app) }
 {}
 
 /// A quiet (non-interfering) event of another application leaves the full view, and so the view.
