@@ -6,3 +6,4 @@ pub mod Jobs
 pub mod Accounts
 pub mod Runs
 pub mod Ids
+pub mod Lives
