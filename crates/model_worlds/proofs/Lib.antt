@@ -4,3 +4,4 @@ pub mod RunLaws
 pub mod UnderWay
 pub mod Ends
 pub mod Tries
+pub mod Failures

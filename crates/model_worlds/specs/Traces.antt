@@ -17,7 +17,7 @@ use Rattle.model_worlds.specs.declared.event.Event.TheVariants.{Call, Finish, Go
 use Rattle.model_views.specs.Views.{View, Question, mask, left}
 use Rattle.model_views.specs.Changes.{Change, Stays, Insert, Replace, Remove, Records, Resets, mask_change, seen, is_seen, is_still}
 use Rattle.model_views.specs.Answering.{Said, Replies, Asks, Answer, Reveal, mask_reveal, answered}
-use Rattle.model_views.specs.Refusals.{refusal}
+use Rattle.model_views.specs.Refusals.{refusal, resource_error}
 use Rattle.model_answers.specs.Answers.{answer, answer_result, is_pin_function, is_pin_task, is_key_task, may_change_objects}
 use Rattle.model_worlds.specs.Worlds.{World, Move, Goes, Refuses, event_of, value_of, reveal_to_call, reveal_to_task, answer_at, result_at, list_change, change_for, happens, after, replies}
 
@@ -102,7 +102,26 @@ app_of (Gone app) = app
 abbrev pub NoResourceError : ℕ → List (ℕ × Reply) → Type 0
 NoResourceError app told = AllByRecursion (λ r. (r ≢ Code HostMemory) × (r ≢ Code DeviceError)) (replies_to app told)
 
--- and nothing in a trace is one
+-- the resource errors among replies, in their order
+abbrev pub with_fault : Option Fault → List Fault → List Fault
+with_fault None faults = faults
+with_fault (Some fault) faults = fault ∷ faults
+
+abbrev pub faults_in : List Reply → List Fault
+faults_in [] = []
+faults_in (reply ∷ rs) = with_fault (resource_error reply) (faults_in rs)
+
+-- and those in a trace
+abbrev pub failures_in : List Moment → List Fault
+failures_in [] = []
+failures_in (Calls call random reveal ∷ ms) = failures_in ms
+failures_in (Gets outcome reveal ∷ ms) = failures_in ms
+failures_in (CallFails fault ∷ ms) = fault ∷ failures_in ms
+failures_in (ResultFails fault ∷ ms) = fault ∷ failures_in ms
+failures_in (Leaves ∷ ms) = failures_in ms
+failures_in (Sees change ∷ ms) = failures_in ms
+
+-- nothing in a trace is one
 abbrev pub is_failure : Moment → Bool
 is_failure (Calls call random reveal) = false
 is_failure (Gets outcome reveal) = false

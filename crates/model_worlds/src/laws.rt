@@ -7,7 +7,7 @@ ghost use Rattle.pin_record.specs.Records.{tries_limit, tries_of};
 ghost use Rattle.model_views.specs.Views.{View, mask};
 ghost use Rattle.model_views.specs.Changes.{Change, seen};
 ghost use Rattle.model_worlds.specs.Worlds.{World, Move, event_of, happens, after, replies};
-ghost use Rattle.model_worlds.specs.Traces.{saw, trace, replies_to, NoResourceError, HasNoFailure, IsTold, IsQuiet, AllQuiet, own_moves};
+ghost use Rattle.model_worlds.specs.Traces.{saw, trace, replies_to, NoResourceError, HasNoFailure, failures_in, faults_in, IsTold, IsQuiet, AllQuiet, own_moves};
 ghost use Rattle.model_worlds.specs.Tries.{charges_of, events_in, IsSound, spent_in};
 
 pub use model_answers::laws::blind_answers;
@@ -22,6 +22,12 @@ pub fn seen_changes()
 /// its own met resource errors, which stand in the trace.
 pub fn told_by_trace()
     ensures { (app : ℕ) (w : World) (ms : List Move) → IsTold app w ms }
+{}
+
+/// What a trace reveals of resource errors is what the application was answered: these errors are those of its replies, in their
+/// order. So it learns of no other.
+pub fn told_failures()
+    ensures { (app : ℕ) (w : World) (ms : List Move) → failures_in (trace app w ms) ≡ faults_in (replies_to app (replies w ms)) }
 {}
 
 /// A corollary: the trace of an application that met no resource error has none. So its replies and its view are those of its
