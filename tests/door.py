@@ -274,7 +274,7 @@ def a_watchdog_hears_of_a_daemon_until_its_token_hangs(folder):
             with open(sign, "wb"):
                 pass
             client.send(data_object())
-            see(b"<3>tokend: the token gave no answer for 5 seconds\n" in daemon.errors(b"no answer", 20), daemon.said)
+            see(b"<3>tokend: a worker had no turn for 5 seconds: " in daemon.errors(b"no turn", 20), daemon.said)
             # (what was sent before that)
             time.sleep(0.5)
             while manager.until("WATCHDOG=1", 0.05):

@@ -95,12 +95,12 @@ impl Monitor {
         self.tell_manager();
     }
 
-    /// Logs once that the token doesn't answer.
+    /// Logs once that a worker hangs: it waits for the token, or for a job of its own.
     fn look_at_token(&mut self, second: u64) {
         let last = self.loads.last_look();
         let is_hanging = last > 0 && second.saturating_sub(last) > LONGEST;
         if is_hanging && !self.is_hanging {
-            error!(self.log; "the token gave no answer for {LONGEST} seconds");
+            error!(self.log; "a worker had no turn for {LONGEST} seconds: the token gives no answer, or a job takes so long");
         }
         self.is_hanging = is_hanging;
     }

@@ -87,15 +87,49 @@ pub(crate) fn serve<R: Threads + Wait + Clock + Copy + Send + Drop + 'static, O:
             "a core dump of this process would have its memory: /proc/self/coredump_filter cannot be written";
         note(errors, served.level, Level::Warn, &text);
     }
-    let log = Journal::new(rt.stderr(), served.level);
     if served.store == IN_MEMORY {
-        let keep = ListKeep::new(rt.alloc(), Record::new());
-        let keep = with_reports(keep, log, &served)?;
-        return serve_over(rt, threads, keep, &served, output, errors).map(|_| ());
+        serve_memory(rt, threads, &served, output, errors)
+    } else {
+        let keep = open_private(rt, &served, errors)?;
+        close_store(serve_file(rt, threads, keep, &served, output, errors)?)
     }
-    let keep = with_reports(open_private(rt, &served, errors)?, log, &served)?;
-    let keep = serve_limited(rt, threads, keep, &served, output, errors)?;
-    close_store(keep.into_keep())
+}
+
+/// Serves a new token in memory.
+fn serve_memory<R: Threads + Wait + Clock + Copy + Send + Drop + 'static, O: Write, E: Write>(
+    rt: &HostRuntime,
+    threads: R,
+    served: &Served<'_>,
+    output: &mut O,
+    errors: &mut E,
+) -> Result<(), Fault> {
+    let log = Journal::new(rt.stderr(), served.level);
+    let keep = ListKeep::new(rt.alloc(), Record::new());
+    let keep = with_reports(keep, log, served)?;
+    match serve_over(rt, threads, keep, served, output, errors) {
+        Ok(_) => Ok(()),
+        Err(fault) => Err(fault),
+    }
+}
+
+/// Serves a token over a keeper of a file, behind what reports, limits and remembers, and returns the keeper at a clean end.
+fn serve_file<
+    K: Explains,
+    R: Threads + Wait + Clock + Copy + Send + Drop + 'static,
+    O: Write,
+    E: Write,
+>(
+    rt: &HostRuntime,
+    threads: R,
+    keep: K,
+    served: &Served<'_>,
+    output: &mut O,
+    errors: &mut E,
+) -> Result<K, Fault> {
+    let log = Journal::new(rt.stderr(), served.level);
+    let keep = with_reports(keep, log, served)?;
+    let keep = serve_limited(rt, threads, keep, served, output, errors)?;
+    Ok(keep.into_keep())
 }
 
 /// Opens the store, and keeps it from other users.

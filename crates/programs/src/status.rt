@@ -60,7 +60,9 @@ fn standing(rt: &HostRuntime, path: &str) -> Standing {
 
 /// Connects, and asks for the token's information. A queue of connections that is full doesn't hold it up.
 fn ask(rt: &HostRuntime, path: &str) -> io::Result<Standing> {
-    let deadline = rt.monotonic()? + Duration::from_millis(PATIENCE);
+    let deadline = rt
+        .monotonic()?
+        .saturating_add(Duration::from_millis(PATIENCE));
     let mut addr = [0u8; 128];
     let Some(len) = write_path(&mut addr, path.as_bytes()) else {
         return Err(ErrorKind::InvalidInput.into());
