@@ -13,8 +13,8 @@ import time
 sys.dont_write_bytecode = True
 
 import daemon as base
-from daemon import (DEVICE_ERROR, OK, OPEN_SESSION, SESSION, Daemon, Skipped, aes_key, call, check, data, data_object, found, number, ran,
-                    see, small_disk)
+from daemon import (DEVICE_ERROR, OK, OPEN_SESSION, PUBLIC_TOKEN_OBJECT, SESSION, Daemon, Skipped, aes_key, call, check, data, data_object,
+                    found, number, ran, see, small_disk, template)
 
 # (its own checks alone)
 base.CHECKS.clear()
@@ -38,7 +38,7 @@ def an_object_beyond_the_limit_is_refused_and_all_else_goes_on(folder):
         client.expect(data_object(), DEVICE_ERROR)
         client.expect(aes_key(bytes(16)), DEVICE_ERROR)
         # (a session object is none of the store's)
-        client.expect(call(13, SESSION, base.template((0x0, number(0)), (0x1, b"\x00"))))
+        client.expect(call(13, SESSION, template((0x0, number(0)), (0x1, b"\x00"))))
         client.expect(call(11, SESSION, number(0), data(b"officer")))
         client.expect(call(5, SESSION, data(b"secret")))
         client.expect(call(12, SESSION))
@@ -51,7 +51,7 @@ def an_object_beyond_the_limit_is_refused_and_all_else_goes_on(folder):
         see(found(daemon) == 3, "other objects")
         client = daemon.client()
         client.expect(OPEN_SESSION)
-        client.expect(call(19, SESSION, base.template()))
+        client.expect(call(19, SESSION, template()))
         client.expect(call(20, SESSION, number(9)))
         for handle in 1, 2:
             client.expect(data_object(), DEVICE_ERROR)
@@ -91,7 +91,8 @@ def a_core_dump_has_no_key(folder):
         pattern = it.read().strip()
     if "/" in pattern or pattern.startswith("|"):
         raise Skipped(f"cores go elsewhere: {pattern}")
-    value = os.urandom(16)
+    # (longer than what a register may have of it)
+    value = os.urandom(512)
 
     def before():
         resource.setrlimit(resource.RLIMIT_CORE, (resource.RLIM_INFINITY, resource.RLIM_INFINITY))
@@ -99,7 +100,7 @@ def a_core_dump_has_no_key(folder):
     with Daemon(folder, before=before) as daemon:
         client = daemon.client()
         client.expect(OPEN_SESSION)
-        client.expect(aes_key(value))
+        client.expect(call(13, SESSION, template((0x0, number(4)), (0x100, number(0x10)), *PUBLIC_TOKEN_OBJECT, (0x11, value))))
         daemon.run.send_signal(signal.SIGABRT)
         daemon.run.wait()
     time.sleep(0.1)
