@@ -87,7 +87,7 @@ def tools_find_the_token(it, library=IN_PACKAGE, user="member"):
     see("model=tokend;" in tokens, "p11tool --list-token-urls prints", tokens)
     for module in (library, "p11-kit-proxy.so"):
         of_tool = slots(it, module, user)
-        see("token" in of_tool.partition("): tokend\n")[2] and "(empty)" not in of_tool, module, "pkcs11-tool --list-slots prints", of_tool)
+        see("token" in of_tool.partition("): tokend: ")[2] and "(empty)" not in of_tool, module, "pkcs11-tool --list-slots prints", of_tool)
     see("(empty)" in slots(it, library, "nobody"), "a stranger finds the token")
 
 
@@ -176,7 +176,7 @@ def purged_nothing_is_left_but_the_store():
         it.sh("printf '%s\n' 000700000000000000000000000000000006 | tokend p11call --socket /run/tokend-one/tokend.sock")
         is_used(it)
         it.sh(PURGE)
-        stores = r"/var/lib/(private/)?tokend(-one)?(/token\.db(-wal)?)?$"
+        stores = r"/var/lib/(private/)?tokend(-one)?(/token\.db(-wal|-clean)?)?$"
         left = {path for path in everything(it) - before if not re.match(stores, path)}
         see(not left, "left:", sorted(left))
         see(it.run("getent", "group", "tokend").returncode == 2, "the group is left")
