@@ -1,9 +1,10 @@
 /*
  * load SOCKET IDLE ACTIVE CALLS [LOGINS]: what a client of the daemon on SOCKET sees beside others.
  *
- * IDLE connections open a session each and then do nothing. ACTIVE ones make CALLS calls of C_GetSessionInfo each, at once. LOGINS ones
- * log in and out over and over meanwhile; the token is initialised for them. It prints the nanoseconds a call of the active clients, and
- * with one of them or with logins also how long half of its calls took at most, 99 of 100, and the longest. Frames: docs/PROTOCOL.md.
+ * IDLE connections open a session each and then do nothing. ACTIVE ones make CALLS calls of C_GetSessionInfo each, once all of them are
+ * served. LOGINS ones log in and out over and over meanwhile; the token is initialised for them. It prints the nanoseconds a call of the
+ * active clients, and with one of them or with logins also how long half of its calls took at most, 99 of 100, and the longest.
+ * Frames: docs/PROTOCOL.md.
  *
  * cc -O2 -pthread tests/load.c -o load
  */
@@ -31,6 +32,7 @@ struct timing {
 static const char *path;
 static int calls;
 static volatile int is_over;
+static pthread_barrier_t all_there;
 
 static void fail(const char *what) {
     fprintf(stderr, "load: %s\n", what);
@@ -149,6 +151,7 @@ static void *call(void *result) {
     struct timing *timing = result;
     int fd = dial();
     struct frame info = request(SESSION_INFO, open_session(fd));
+    pthread_barrier_wait(&all_there);
     double *took = malloc(calls * sizeof *took), begun;
     for (int i = 0; i < calls / 10; i++)
         ask(fd, info);
@@ -188,6 +191,7 @@ int main(int count, char **words) {
     for (int i = 0; i < logins; i++)
         pthread_create(&others[i], NULL, log_in_and_out, &done[i]);
     usleep(300000);
+    pthread_barrier_init(&all_there, NULL, active);
     begun = now();
     for (int i = 0; i < active; i++)
         pthread_create(&callers[i], NULL, call, &timings[i]);
