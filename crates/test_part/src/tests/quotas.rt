@@ -54,9 +54,7 @@ fn expect_refusal<K: Keep>(
 }
 
 #[test]
-fn an_object_beyond_the_limit_is_refused_until_one_is_removed(
-    rt: HostRuntime,
-) -> Result<(), Fail> {
+fn an_object_beyond_the_limit_is_refused_until_one_is_removed(rt: HostRuntime) -> Result<(), Fail> {
     let alloc = rt.alloc();
     let mut keep = limited_list(alloc, 2)?;
     insert(alloc, &mut keep, 1)?;
