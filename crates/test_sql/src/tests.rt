@@ -7,4 +7,3 @@ mod old;
 mod openings;
 mod renewals;
 mod reopening;
-mod vacuum;

@@ -33,7 +33,7 @@ fn a_new_store_has_no_objects_and_no_pin(rt: HostRuntime) -> Result<(), Fail> {
 }
 
 /// Twenty changes. Objects are made under the ids 1 to 9.
-pub(super) const CHANGES: [Change; 20] = [
+const CHANGES: [Change; 20] = [
     SetRecord(1),
     Insert(10),
     Insert(11),
