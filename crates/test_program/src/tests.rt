@@ -12,7 +12,6 @@ mod operating;
 mod options;
 mod peers;
 mod randomness;
-mod standing;
 mod statuses;
 mod unread;
 

@@ -1,9 +1,6 @@
 //! Keepers with a limit of objects.
 
-use super::keepers::{
-    expect_charges, expect_failures, has_rows, insert, inserted, record_with_tries,
-    rows_after_steps, use_ids,
-};
+use super::keepers::{has_rows, insert, inserted};
 use keep::*;
 use pin_record::Record;
 use quota::Quota;
@@ -22,22 +19,6 @@ fn limited<K: Keep>(alloc: Global, keep: K, most: u64) -> Result<Quota<K>, Fail>
 /// A new keeper in memory with a limit of so many objects.
 fn limited_list(alloc: Global, most: u64) -> Result<Quota<ListKeep>, Fail> {
     limited(alloc, ListKeep::new(alloc, Record::new()), most)
-}
-
-#[test]
-fn a_keeper_far_from_its_limit_is_a_keeper(rt: HostRuntime) -> Result<(), Fail> {
-    let mut keep = limited_list(rt.alloc(), 1000)?;
-    let count = rows_after_steps(&rt, rt.alloc(), &mut keep)?;
-    assert_eq!(rt; (count, keep.count(), keep.failures()), (50, 50, 0));
-    let mut ids = limited_list(rt.alloc(), 1000)?;
-    use_ids(&rt, rt.alloc(), &mut ids)?;
-    let mut absent = limited_list(rt.alloc(), 1)?;
-    insert(rt.alloc(), &mut absent, 1)?;
-    expect_failures(&rt, rt.alloc(), &mut absent)?;
-    let record = record_with_tries(rt.alloc(), 8)?;
-    let mut charged = limited(rt.alloc(), ListKeep::new(rt.alloc(), record), 1)?;
-    insert(rt.alloc(), &mut charged, 7)?;
-    expect_charges(&rt, rt.alloc(), &mut charged)
 }
 
 /// Sees that an object is refused as the device's failure, which is the n-th.
