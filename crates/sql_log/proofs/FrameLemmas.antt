@@ -1,9 +1,9 @@
 -- Where frames stand.
 use Rattle.std.proofs.Common.{◌≡◌, ◌≢◌, inl, inr, ℕ, zero, suc, ◌+◌, ◌-◌, ◌*◌, ◌/◌, ◌<◌, ◌≤◌, List, length, take, drop, refl, sym, subst, ap, ap₂, arith}
-use Rattle.std.proofs.Math.Nat.{eq-or-lt_of_le, suc-mul, div-mul-le_self, mul-le-mul_right}
+use Rattle.std.proofs.Math.Nat.{eq-or-lt_of_le, suc-mul, div-mul-le_self, le-div_iff_mul-le, mul-le-mul_right}
 use Rattle.sqlite_wal.specs.Format.{IsFrame, part, stored_sum}
 use Rattle.sqlite_wal.specs.Recovery.{Passes, frame, frame_at, frames_len, header, sum_before}
-use Rattle.sql_log.specs.Damage.{PassesUnder}
+use Rattle.sql_log.specs.Damage.{HasCommit, PassesUnder}
 
 pub start_is : (size at : ℕ) → 32 + at * (24 + size) ≡ frame_at size at
 unfolding frames_len
@@ -21,6 +21,10 @@ frame_is log size at start is =
 pub head_is : (log : List ℕ) → take 32 log ≡ header log
 unfolding part
 head_is log = refl
+
+pub salts_are : (log : List ℕ) → take 8 (drop 40 log) ≡ part log 40 8
+unfolding part
+salts_are log = refl
 
 pub first_sum : (log : List ℕ) (size at : ℕ) → at ≡ 0 → stored_sum (take 32 log) 24 ≡ sum_before size log at
 first_sum log size zero is = ap (λ (h : List ℕ). stored_sum h 24) (head_is log)
@@ -59,3 +63,11 @@ inside log size at long few =
     let more : suc at * n ≤ (length log - 32) / n * n = mul-le-mul_right n (omega (arith, few)) in
     let step = suc-mul at n in
     omega (arith, whole, more, step, long)
+
+-- a frame for which the log has the bytes is one of those
+pub counted : (log : List ℕ) (at : ℕ) → frame_at 4096 at + 4120 ≤ length log → at < (length log - 32) / 4120
+unfolding frames_len
+counted log at within = (le-div_iff_mul-le {k = 4120} {x = suc at} {y = length log - 32} (omega arith)).1 (let step = suc-mul at 4120 in omega (arith, within, step))
+
+pub commit_inside : (head log : List ℕ) (from : ℕ) (it : HasCommit head 4096 log from) → it.one < (length log - 32) / 4120
+commit_inside head log from it = counted log it.one (it.run it.one it.after (omega arith)).within

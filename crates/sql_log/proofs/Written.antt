@@ -1,9 +1,9 @@
 -- A file that was written from a place on, and cut.
-use Rattle.std.proofs.Common.{◌≡◌, inl, inr, ℕ, ◌+◌, ◌-◌, ◌<◌, ◌≤◌, List, length, take, drop, slice_index, sym, subst, ap, ◌∙◌, arith}
+use Rattle.std.proofs.Common.{◌≡◌, inl, inr, ℕ, ◌+◌, ◌-◌, ◌<◌, ◌≤◌, min, List, length, take, drop, slice_index, refl, sym, subst, ap, ◌∙◌, arith}
 use Rattle.std.proofs.lemmas.List.{ext_get_or, get_or-drop, length-drop, take_all}
 use Rattle.std.proofs.lemmas.Bool.{cases_lt}
 use Rattle.sqlite_disk.specs.Disk.{Cut, Holds, Torn}
-use Rattle.sql_log.specs.Bytes.{IsAlike}
+use Rattle.sql_log.specs.Bytes.{BeginsAs, IsAlike}
 
 pub all_alike : (a b : List ℕ) (n : ℕ) → IsAlike n a b → n ≡ length a → n ≡ length b → a ≡ b
 all_alike a b n it first second = ext_get_or 0 a b (sym first ∙ second) (λ i low. it.each i (omega (arith, low, first)))
@@ -51,3 +51,20 @@ module _ (bytes old mid new : List ℕ) (same : ℕ) (it : IsAlike same old byte
 
   pub written_is : new ≡ bytes
   written_is = ext_get_or 0 new bytes len each
+
+-- ---- what a crash may leave, as far as nothing was written
+
+pub begins_same : (n : ℕ) (c : List ℕ) → BeginsAs n c c
+begins_same n c = record { long = omega arith; each = λ i low there. refl }
+
+pub begins_less : (n same : ℕ) (d c : List ℕ) → n ≤ same → BeginsAs same d c → BeginsAs n d c
+begins_less n same d c few it = record { long = (let l = it.long in omega (arith, few, l)); each = λ i low there. it.each i (omega (arith, low, few)) there }
+
+pub begins_cut : (same len : ℕ) (d c : List ℕ) → same ≤ len → Cut len d c → BeginsAs same d c
+begins_cut same len d c within cut = record { long = (let l = cut.no_shorter in omega (arith, within, l)); each = λ i low there. cut.below i there (omega (arith, low, within)) }
+
+pub begins_torn : (same more len : ℕ) (d mid c : List ℕ) → same ≤ len → Torn same more d mid → Cut len mid c → BeginsAs same d c
+begins_torn same more len d mid c within torn cut = record {
+  long = (let l = cut.no_shorter in let longer = torn.no_shorter in omega (arith, within, l, longer));
+  each = λ i low there. (let longer = torn.no_shorter in cut.below i (omega (arith, there, longer)) (omega (arith, low, within))) ∙ torn.below i there low;
+}

@@ -1,6 +1,6 @@
 -- Damage in a log that no power cut leaves.
-use Rattle.std.specs.Prelude.{◌≢◌, ◌⊎◌, ℕ, ◌+◌, ◌-◌, ◌/◌, ◌<◌, ◌≤◌, ◌==◌, Bool, min, if◌then◌else◌, List, length, slice_index}
-use Rattle.sqlite_wal.specs.Format.{IsFrame, IsSigned, be32, commit_size}
+use Rattle.std.specs.Prelude.{◌≢◌, ◌⊎◌, ℕ, ◌+◌, ◌-◌, ◌/◌, ◌<◌, ◌≤◌, ◌==◌, Bool, min, if◌then◌else◌, List, ◌++◌, length, take, drop, slice_index, slice_set}
+use Rattle.sqlite_wal.specs.Format.{IsFrame, IsSigned, be32, commit_size, part}
 use Rattle.sqlite_wal.specs.Recovery.{Image, IsBegun, Passes, frame, frame_at, header, sum_before}
 
 -- a log that is too short for a frame and has no header that passes its checksum
@@ -82,6 +82,27 @@ pub record IsBeheaded (size : ℕ) (log : List ℕ) : Type 0 where
   pub unsigned : ¬ IsSigned (header log)
   pub shown : slice_index log 0 ≢ 0
   pub behind : HasAnyCommit size log
+
+-- a damaged header as it may have been: with this fourth byte, which says how words are read, and with the first frame's salts
+abbrev pub mended_header : ℕ → List ℕ → List ℕ
+mended_header fourth log = let head = slice_set (header log) 3 fourth in take 16 head ++ part log 40 8 ++ drop 24 head
+
+-- a run with a frame that commits begins at the first frame, or at the second
+abbrev pub HasEarlyCommit : List ℕ → List ℕ → Type 0
+HasEarlyCommit head log = HasCommit head 4096 log 0 ⊎ HasCommit head 4096 log 1
+
+-- The header fails its checksum, but its first byte isn't 0, and a commit stands behind it under one of the headers that it may have
+-- been. A log of more than 4,294,901,760 frames is none of these.
+pub record IsPlainlyBeheaded (log : List ℕ) : Type 0 where
+  pub unsigned : ¬ IsSigned (header log)
+  pub shown : slice_index log 0 ≢ 0
+  pub few : frame_count 4096 log ≤ 4294901760
+  pub behind : HasEarlyCommit (mended_header 0x82 log) log ⊎ HasEarlyCommit (mended_header 0x83 log) log
+
+-- damage that is found for sure
+abbrev pub IsPlainlyDamaged : List ℕ → Type 0
+IsPlainlyDamaged log =
+    (IsSigned (header log) × (be32 (header log) 8 ≤ 65536) × IsPlainlyBroken (be32 (header log) 8) log) ⊎ IsPlainlyBeheaded log
 
 -- pages have the size in the header, or 4096 bytes where it is damaged
 abbrev pub IsDamaged : List ℕ → Type 0

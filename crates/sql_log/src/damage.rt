@@ -3,7 +3,8 @@
 ghost use Rattle.std.specs.Prelude.{◌≡◌, ◌⊎◌, ◌+◌, ◌-◌, ◌*◌, ◌^◌, ◌<◌, ◌≤◌, ◌↔◌, ℕ, length, true, IsTrue, IfSome, IsNone};
 ghost use Rattle.sqlite_wal.specs.Format.{IsSigned, be32};
 ghost use Rattle.sqlite_wal.specs.Recovery.{Passes, frame_at, header};
-ghost use Rattle.sql_log.specs.Damage.{HasAnyCommit, HasCommit, HasTwoCommits, IsBroken, IsDamaged, IsPlainlyBroken, is_shut as is_shut_gate};
+ghost use Rattle.sql_log.specs.Damage.{HasAnyCommit, HasCommit, HasEarlyCommit, HasTwoCommits, IsBroken, IsDamaged, IsPlainlyBroken, IsPlainlyDamaged};
+ghost use Rattle.sql_log.specs.Damage.{frame_count, is_shut as is_shut_gate, mended_header};
 
 use crate::format::{FRAME_HEADER_LEN, HEADER_LEN, is_signed, number_at};
 use crate::frames::{commits_at, frame_of, passes_under};
@@ -99,7 +100,9 @@ fn is_broken(log: &[u8], size: usize) -> bool
 
 /// The header with another fourth byte, which says how words are read, and with the first frame's salts.
 fn header_with(log: &[u8], magic: u8) -> [u8; 32]
-    requires { 56 ≤ length log.now }
+    requires long { 56 ≤ length log.now }
+    requires byte { magic < 256 }
+    ensures { result ≡ mended_header magic log.now }
 {
     let mut head = [0u8; 32];
     head.copy_from_slice(&log[..32]);
@@ -111,7 +114,8 @@ fn header_with(log: &[u8], magic: u8) -> [u8; 32]
 /// Whether a commit stands behind a damaged header.
 fn is_beheaded(log: &[u8]) -> bool
     requires { 56 ≤ length log.now }
-    ensures { IsTrue result → HasAnyCommit 4096 log.now }
+    ensures sound { IsTrue result → HasAnyCommit 4096 log.now }
+    ensures found { frame_count 4096 log.now ≤ 4294901760 → HasEarlyCommit (mended_header 0x82 log.now) log.now ⊎ HasEarlyCommit (mended_header 0x83 log.now) log.now → IsTrue result }
 {
     let frames = (log.len() - HEADER_LEN) / (FRAME_HEADER_LEN + PAGE_SIZE);
     if frames > MOST_FRAMES {
@@ -126,7 +130,8 @@ fn is_beheaded(log: &[u8]) -> bool
 fn has_commit(head: &[u8], log: &[u8], frames: usize) -> bool
     requires head { length head.now ≡ 32 }
     requires number { frames ≤ 2 ^ 32 }
-    ensures { IsTrue result → HasAnyCommit 4096 log.now }
+    ensures sound { IsTrue result → HasAnyCommit 4096 log.now }
+    ensures found { frame_count 4096 log.now ≤ frames → HasEarlyCommit head.now log.now → IsTrue result }
 {
     commits_in_run(head, log, PAGE_SIZE, 0, frames) > 0
         || commits_in_run(head, log, PAGE_SIZE, 1, frames) > 0
@@ -134,11 +139,11 @@ fn has_commit(head: &[u8], log: &[u8], frames: usize) -> bool
 
 /// Whether commits stand in a log behind damage that no power cut leaves. Those are two commits behind a frame that fails SQLite's
 /// test, or one behind a header that fails it and does not begin with 0. The page size is the header's, or 4096 where that is damaged.
-/// Where the header passes and names pages of at most 65,536 bytes, two commits behind the first bad frame are always found.
-/// `IsPlainlyBroken` defines how far frames are looked at.
+/// Where the header passes and names pages of at most 65,536 bytes, two commits behind the first bad frame are always found, and one
+/// behind a header that is damaged in its salts or its fourth byte alone. `IsPlainlyDamaged` defines how far frames are looked at.
 pub fn has_commits_behind(log: &[u8]) -> bool
     ensures sound { IsTrue result → IsDamaged log.now }
-    ensures found { IsSigned (header log.now) → be32 (header log.now) 8 ≤ 65536 → IsPlainlyBroken (be32 (header log.now) 8) log.now → IsTrue result }
+    ensures found { IsPlainlyDamaged log.now → IsTrue result }
 {
     if log.len() < HEADER_LEN + FRAME_HEADER_LEN {
         return false;

@@ -3,6 +3,7 @@
 //!
 //! - `bytes_of` reads a file whole, and `put_back` writes its bytes again.
 //! - `is_begun` is whether a log is the one of a first opening, and `is_unwritten` whether it has no header at all.
+//! - `round_of` is how often the log was begun anew, and `next_round` the number behind one.
 //! - `has_commits_behind` is whether commits stand behind a frame or a header that is damaged.
 //!
 //! The bytes are those of SQLite's fileformat2.html, section 4.
@@ -13,7 +14,9 @@ mod first;
 mod format;
 mod frames;
 mod reading;
+mod round;
 
 pub use damage::has_commits_behind;
 pub use first::{is_begun, is_unwritten};
 pub use reading::{bytes_of, put_back};
+pub use round::{next_round, round_of};

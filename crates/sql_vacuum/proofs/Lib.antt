@@ -1,3 +1,4 @@
 pub mod Puts
 pub mod Fills
 pub mod Files
+pub mod Quiet

@@ -1,10 +1,15 @@
 //! The errors of a store of trees, as sqlite's.
 
+ghost use Rattle.std.specs.Prelude.{◌≡◌};
+ghost use Rattle.sqlite.specs.State.{store_error};
+
 use sqlite::{Error, ErrorCode};
 use sqlite_trees::error::StoreError;
 
 /// What a statement would have returned.
-pub fn error_of(error: StoreError) -> Error {
+pub fn error_of(error: StoreError) -> Error
+    ensures { result ≡ store_error error }
+{
     Error::SqliteFailure(match error {
         StoreError::OutOfMemory => ErrorCode::OutOfMemory,
         StoreError::Io => ErrorCode::SystemIoFailure,

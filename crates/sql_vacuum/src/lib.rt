@@ -2,6 +2,7 @@
 //! that were removed or replaced: nothing but rows is passed on.
 //!
 //! - `vacuumed` is the new file's bytes. It needs no log beside it, and its pages have sums.
+//! - `emptied` is what comes before a store's log is emptied: all of it is copied into the file.
 //! - `vacuum_then_open` is a law: what an opening of such a file finds is what the store held.
 //! - `error_of` is an error of a store of trees as one of sqlite.
 #![tactic(auto)]
@@ -11,7 +12,9 @@ mod faults;
 mod filling;
 mod image;
 mod laws;
+mod log_copying;
 
 pub use faults::error_of;
 pub use image::vacuumed;
 pub use laws::vacuum_then_open;
+pub use log_copying::emptied;
