@@ -1,6 +1,6 @@
 //! Keepers over files and in memory.
 
-ghost use Rattle.std.specs.Prelude.{◌≡◌, IfOk, IfErr, IsErrOf, IsTrue};
+ghost use Rattle.std.specs.Prelude.{◌≡◌, ◌⊎◌, true, false, IfOk, IfErr, IsErrOf, IsTrue};
 ghost use Rattle.sqlite.specs.State.{HasCleanDisk};
 ghost use Rattle.sqlite.specs.Held.{state};
 ghost use Rattle.sqlite.specs.Files.{file_state, image_of, over_files};
@@ -10,8 +10,8 @@ ghost use Rattle.keep.specs.Keeping.{Begins};
 ghost use Rattle.keep.specs.declared.keep.KeepFault.TheVariants.{Damaged};
 ghost use Rattle.sql_statements.specs.Tables.{no_schema};
 ghost use Rattle.keep_sql_model.specs.Formats.{HoldsEither};
-ghost use Rattle.keep_sql_model.specs.Opening.{Adopts, Opened};
-ghost use Rattle.keep_sql_model.specs.OpenedFile.{OpenedFile};
+ghost use Rattle.keep_sql_model.specs.Opening.{Adopts, Opened, is_blank};
+ghost use Rattle.keep_sql_model.specs.OpenedFile.{HasNoRoom, IsInFile, OpenedFile};
 ghost use Rattle.keep_sql_model.specs.SqlState.{sql_terms};
 ghost use Rattle.keep_sql.specs.Refusal.{Leaves, LeavesConnection};
 
@@ -52,7 +52,7 @@ pub fn store_options(seed: u64) -> Options
     options
 }
 
-/// The keeper over a connection to files, once the log is copied into the database file.
+/// The keeper over a connection to files, once the log is copied into the database file, if the disk has room for that.
 fn settle<D: Disk + Drop>(
     alloc: Global,
     conn: Connection<FileStore<D>>,
@@ -60,6 +60,7 @@ fn settle<D: Disk + Drop>(
     ensures opened { IfOk result (λ k. Opened (file_state conn) (file_state k.conn) k.token_record) }
     ensures found { (c : Contents) → HoldsEither (file_state conn) c → IfOk result (λ k. HasCleanDisk (file_state k.conn) → Adopts (sql_terms over_files) k c) }
     ensures fresh { (file_state conn).now.schema ≡ no_schema → IfOk result (λ k. HasCleanDisk (file_state k.conn) → Adopts (sql_terms over_files) k (new_contents new_record)) }
+    ensures file { IfOk result (λ k. IsInFile k.conn ⊎ HasNoRoom k.conn) }
     ensures counts { IfOk result (λ k. (k.failures ≡ 0) × (k.tried ≡ 0)) }
     ensures leaves { IfErr result (λ e. LeavesConnection conn e.0 e.1) }
 {
@@ -76,14 +77,15 @@ fn settle<D: Disk + Drop>(
 
 /// Whether a connection is one to a store, or to files that a first opening left.
 fn is_ours<S: Alter>(conn: &Connection<S>, is_first: bool) -> bool
-    ensures { IsTrue result → (state S.Store conn.now).now.schema ≡ no_schema → IsTrue is_first }
+    ensures ours { IsTrue result → (state S.Store conn.now).now.schema ≡ no_schema → IsTrue is_first }
+    ensures not_ours { result ≡ false → (is_first ≡ false) × (is_blank (state S.Store conn.now).now.schema ≡ true) }
 {
     is_first || !lacks_tables(conn)
 }
 
 impl<D: Disk + Drop> SqlKeep<FileStore<D>> {
     /// Opens the store in two files, or makes it where they are what a first opening leaves. New files get the sums of SQLite's
-    /// cksumvfs on their pages; older ones go on without. The log is copied into the file before this returns.
+    /// cksumvfs on their pages; older ones go on without. The log is copied into the file before this returns, if the disk has room for that.
     ///
     /// A refusal is why, and what is left of the files. For what the files hold: `FileLost`, `LogDamaged`, `NoTables`, what sqlite
     /// returns for files that are no sound database, and `Damaged` as `from_connection` has it. The database file is not written then.

@@ -1,9 +1,14 @@
 //! What the files are before sqlite opens them. Nothing is written.
 
-ghost use Rattle.std.specs.Prelude.{◌≡◌, ◌↔◌, ◌≤◌, ℕ, List, length, IsTrue, IfOk};
+ghost use Rattle.std.specs.Prelude.{◌≡◌, ◌≢◌, ◌↔◌, ◌⊎◌, ◌≤◌, ℕ, List, length, IsTrue, IfOk, IfErr, OnOk};
+ghost use Rattle.std.specs.IoError.{error_kind};
+ghost use Rattle.std.specs.declared.io.ErrorKind.TheVariants.{OutOfMemory};
+ghost use Rattle.sqlite.specs.declared.error.Error.TheVariants.{SqliteFailure};
+ghost use Rattle.sqlite.specs.declared.error.ErrorCode.TheVariants as code;
 ghost use Rattle.sqlite.specs.Files.{image_of};
 ghost use Rattle.sqlite_wal.specs.Reads.{AreClean, OnlyReads};
-ghost use Rattle.sql_log.specs.Damage.{IsDamaged, IsFirst};
+ghost use Rattle.sql_log.specs.Damage.{IsDamaged, IsFirst, IsPlainlyDamaged};
+ghost use Rattle.keep_sql.specs.Reasons.{ExcusesReading};
 
 use crate::refusal::OpenFault;
 use sql_log::{bytes_of, has_commits_behind, is_begun, is_unwritten};
@@ -19,7 +24,11 @@ pub(crate) struct Inspected {
     pub(crate) is_first: bool,
 }
 
-fn read_fault(error: &io::Error) -> OpenFault {
+/// What a file that can't be read is told as.
+fn read_fault(error: &io::Error) -> OpenFault
+    ensures memory { error_kind error.now ≡ OutOfMemory → result ≡ OpenFault.Sqlite (SqliteFailure code.OutOfMemory) }
+    ensures disk { error_kind error.now ≢ OutOfMemory → result ≡ OpenFault.Sqlite (SqliteFailure code.SystemIoFailure) }
+{
     let code = if error.kind() == io::ErrorKind::OutOfMemory {
         ErrorCode::OutOfMemory
     } else {
@@ -32,6 +41,8 @@ fn read_fault(error: &io::Error) -> OpenFault {
 /// and the log was written for another one. `LogDamaged` where commits stand behind damage in the log.
 fn is_first(log: &[u8], db_len: usize) -> Result<bool, OpenFault>
     ensures first { IfOk result (λ b. (db : List ℕ) → length db ≡ db_len → (IsTrue b ↔ IsFirst (record { log = log.now; db = db }))) }
+    ensures sound { OnOk result (¬ IsPlainlyDamaged log.now) }
+    ensures only { IfErr result (λ fault. (fault ≡ OpenFault.FileLost) ⊎ (fault ≡ OpenFault.LogDamaged)) }
     ensures lost { result ≡ Err OpenFault.FileLost → (db : List ℕ) → length db ≡ db_len → (length db ≤ 1) × (¬ IsFirst (record { log = log.now; db = db })) }
     ensures damaged { result ≡ Err OpenFault.LogDamaged → IsDamaged log.now }
 {
@@ -57,6 +68,8 @@ pub(crate) fn inspect<D: Disk>(alloc: Global, files: &mut Files<D>) -> Result<In
     requires db { IsTrue (D.Disk.is_usable files.old.db) }
     ensures bytes { IfOk result (λ it. AreClean D.Disk files.new.log files.new.db → it.log.items ≡ D.Disk.seen files.old.log) }
     ensures first { IfOk result (λ it. AreClean D.Disk files.new.log files.new.db → (IsTrue it.is_first ↔ IsFirst (image_of D.Disk files.old))) }
+    ensures sound { OnOk result (AreClean D.Disk files.new.log files.new.db → ¬ IsPlainlyDamaged (D.Disk.seen files.old.log)) }
+    ensures cause { IfErr result (λ fault. AreClean D.Disk files.new.log files.new.db → ExcusesReading D.Disk files.old files.new fault) }
     ensures log { OnlyReads D.Disk files.old.log files.new.log }
     ensures db { OnlyReads D.Disk files.old.db files.new.db }
 {

@@ -41,6 +41,6 @@ mod taking;
 
 pub use files::{LOG_FRAMES, store_options};
 pub use laws::crash_then_open;
-pub use path::OWN_MODE;
-pub use refusal::{Left, OpenFault, Refused};
+pub use path::own_mode;
+pub use refusal::{GivenBack, Left, OpenFault, Refused};
 pub use sql_keep::SqlKeep;

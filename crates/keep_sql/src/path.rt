@@ -6,6 +6,8 @@ ghost use Rattle.sqlite.specs.declared.error.Error.TheVariants.{SqliteFailure};
 ghost use Rattle.sqlite_wal.specs.Files.{image_at};
 ghost use Rattle.sqlite_std_file.specs.File.{file_is_usable, IsFresh};
 ghost use Rattle.keep_sql_model.specs.OpenedFile.{OpenedFile};
+ghost use Rattle.keep_sql.specs.Modes.{owner_alone};
+ghost use Rattle.keep_sql.specs.Reasons.{IsOfSystem};
 ghost use Rattle.keep_sql.specs.Refusal.{Leaves};
 
 use crate::files::store_options;
@@ -26,11 +28,17 @@ const NO_MEMORY: OpenFault = OpenFault::Sqlite(Error::SqliteFailure(ErrorCode::O
 
 const BUSY: OpenFault = OpenFault::Sqlite(Error::SqliteFailure(ErrorCode::DatabaseBusy));
 
-/// The permission bits of a file that is made: its owner may read and write it, and nobody else.
-pub const OWN_MODE: u32 = 0o600;
+/// The permission bits of a file that is made: its owner may read and write it, and nobody else (POSIX, `sys/stat.h`).
+pub fn own_mode() -> u32
+    ensures { result ≡ owner_alone }
+{
+    0o600
+}
 
 /// Whether there is no file at the path, and a log beside it that is not empty.
-fn is_log_alone(rt: &HostRuntime, path: &str) -> Result<bool, OpenFault> {
+fn is_log_alone(rt: &HostRuntime, path: &str) -> Result<bool, OpenFault>
+    ensures { IfErr result IsOfSystem }
+{
     match fs::symlink_metadata(rt, path) {
         Err(error) if error.kind() == ErrorKind::NotFound => {}
         _ => return Ok(false),
@@ -45,12 +53,14 @@ fn is_log_alone(rt: &HostRuntime, path: &str) -> Result<bool, OpenFault> {
 }
 
 /// Makes an empty file where there is none, for its owner alone. sqlite gives its log the same permission bits.
-fn make_private(rt: &HostRuntime, path: &str) -> Result<(), OpenFault> {
+fn make_private(rt: &HostRuntime, path: &str) -> Result<(), OpenFault>
+    ensures { IfErr result IsOfSystem }
+{
     let made = OpenOptions::new()
         .read(true)
         .write(true)
         .create_new(true)
-        .mode(OWN_MODE)
+        .mode(own_mode())
         .open(rt, path);
     match made {
         Ok(_) => Ok(()),
@@ -70,6 +80,7 @@ fn open_pair<S: Start>(
     ensures memory { path.now ≡ codes ":memory:" → result ≡ Err (OpenFault.Sqlite (SqliteFailure CannotOpen)) }
     ensures usable { IfOk result (λ files. IsTrue (file_is_usable S.Start files.log) × IsTrue (file_is_usable S.Start files.db)) }
     ensures fresh { IfOk result (λ files. IsFresh true files.log × IsFresh false files.db) }
+    ensures cause { IfErr result IsOfSystem }
 {
     if path == ":memory:" || path.starts_with("file:") {
         return Err(CANNOT_OPEN);
@@ -88,7 +99,9 @@ fn open_pair<S: Start>(
 }
 
 /// A random number for the salts of the log.
-fn random(rt: &HostRuntime) -> Result<u64, OpenFault> {
+fn random(rt: &HostRuntime) -> Result<u64, OpenFault>
+    ensures { IfErr result IsOfSystem }
+{
     match RandomState::new(rt) {
         Ok(state) => Ok(state.hash_one(&0u8)),
         Err(_) => Err(CANNOT_OPEN),
@@ -116,7 +129,7 @@ impl<S: Start> SqlKeep<FileStore<FileFrom<S>>> {
     pub fn open(rt: &HostRuntime, path: &str, start: S) -> Result<Self, Refused<FileFrom<S>>>
         ensures opened { IfOk result (OpenedFile (image_at S.Start)) }
         ensures memory { path.now ≡ codes ":memory:" → IsErrAnd result (λ r. r.fault ≡ OpenFault.Sqlite (SqliteFailure CannotOpen)) }
-        ensures leaves { IfErr result (λ r. (r.left ≡ Left.Nothing) ⊎ ((files : _) × IsFresh true files.log × IsFresh false files.db × Leaves files r.fault r.left)) }
+        ensures leaves { IfErr result (λ r. ((r.left ≡ Left.Nothing) × IsOfSystem r.fault) ⊎ ((files : _) × IsFresh true files.log × IsFresh false files.db × Leaves files r.fault r.left)) }
     {
         let files = match open_pair(rt, path, start) {
             Ok(files) => files,

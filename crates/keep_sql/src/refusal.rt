@@ -1,8 +1,9 @@
 //! Why a store in files isn't opened, and what is left of it.
 
-ghost use Rattle.std.specs.Prelude.{◌≡◌, true, IfSome, IsSome};
-ghost use Rattle.sqlite_wal.specs.Reads.{IsClean};
+ghost use Rattle.std.specs.Prelude.{◌≡◌, ◌≢◌, true, option_map, IfSome, IsSome};
 ghost use Rattle.keep_sql.specs.Faults.{is_of_contents};
+ghost use Rattle.keep_sql.specs.Refusal.{AreLeftIn, GivesBack, GivesBackLeft};
+ghost use Rattle.keep_sql.specs.declared.refusal.Left.TheVariants.{Nothing};
 
 use keep::KeepFault;
 use sql_log::put_back;
@@ -63,7 +64,10 @@ pub enum Left<D: Disk + Drop> {
 
 impl<D: Disk + Drop> Left<D> {
     /// The files, where they were opened.
-    pub fn into_files(self) -> Option<Files<D>> {
+    pub fn into_files(self) -> Option<Files<D>>
+        ensures files { AreLeftIn self result }
+        ensures there { self ≢ Nothing → IsSome result }
+    {
         match self {
             Left::Nothing => None,
             Left::Files(files) => Some(files),
@@ -96,44 +100,66 @@ pub struct Refused<D: Disk + Drop> {
     pub log: Option<Vec<u8>>,
 }
 
-/// The files, whose log has these bytes again. The database file is not touched. `None` where the log can't be written.
-fn with_log<D: Disk + Drop>(alloc: Global, mut files: Files<D>, bytes: &[u8]) -> Option<Files<D>>
-    ensures db { IfSome result (λ now. now.db ≡ files.db) }
-    ensures log { IfSome result (λ now. IsClean D.Disk now.log → D.Disk.seen now.log ≡ bytes.now) }
+/// What a refusal gives back.
+#[derive(Drop)]
+pub struct GivenBack<D: Disk + Drop> {
+    pub fault: OpenFault,
+    /// The files, where they were refused for what they hold.
+    pub files: Option<Files<D>>,
+    /// The log has the bytes again that it was found with, and they are synced.
+    pub is_whole: bool,
+}
+
+/// Gives the log these bytes again, and returns whether they are synced. The database file is not touched.
+fn give_back<D: Disk + Drop>(alloc: Global, files: &mut Files<D>, bytes: &[u8]) -> bool
+    ensures { GivesBack D.Disk files.old files.new bytes.now result }
 {
     if !files.may_be_used() {
-        return None;
+        return false;
     }
     match put_back(alloc, &mut files.log, bytes) {
-        Ok(()) => Some(files),
-        Err(_) => None,
+        Ok(()) => true,
+        Err(_) => false,
+    }
+}
+
+fn nothing_back<D: Disk + Drop>(fault: OpenFault) -> GivenBack<D>
+    ensures { (result.fault ≡ fault) × (result.files ≡ None) }
+{
+    GivenBack {
+        fault,
+        files: None,
+        is_whole: false,
     }
 }
 
 impl<D: Disk + Drop> Refused<D> {
-    /// Where the files were refused for what they hold, the log gets back the bytes that it was found with, and the files are returned.
-    /// For sqlite may have written a new header to it, or shut it behind its last commit. What it begins with alike is not written, so
-    /// that no commit is touched. Where the log can't be written, and after any other refusal, the files are closed.
-    pub fn given_back(self, alloc: Global) -> (OpenFault, Option<Files<D>>)
-        ensures fault { result.0 ≡ self.fault }
-        ensures log { IfSome result.1 (λ files. IsClean D.Disk files.log → IfSome self.log (λ bytes. D.Disk.seen files.log ≡ bytes.items)) }
-        ensures contents { IsSome result.1 → (is_of_contents self.fault ≡ true) × IsSome self.log }
+    /// Where the files were refused for what they hold, they come back, and their log gets back the bytes that it was found with. For
+    /// sqlite may have written a new header to it, or shut it behind its last commit. What it begins with alike is not written, so
+    /// that no commit is touched. After any other refusal the files are closed.
+    pub fn given_back(self, alloc: Global) -> GivenBack<D>
+        ensures fault { result.fault ≡ self.fault }
+        ensures files { IfSome result.files (λ now. GivesBackLeft self.left (option_map (λ bytes. bytes.items) self.log) now result.is_whole) }
+        ensures contents { IsSome result.files → is_of_contents self.fault ≡ true }
+        ensures there { is_of_contents self.fault ≡ true → IsSome self.log → self.left ≢ Nothing → IsSome result.files }
     {
         let Refused { fault, left, log } = self;
         if !fault.is_damage() {
-            return (fault, None);
+            return nothing_back(fault);
         }
-        match (left.into_files(), log) {
-            (Some(files), Some(bytes)) => (fault, with_log(alloc, files, bytes.as_slice())),
-            _ => (fault, None),
+        let Some(bytes) = log else {
+            return nothing_back(fault);
+        };
+        match left.into_files() {
+            Some(mut files) => {
+                let is_whole = give_back(alloc, &mut files, bytes.as_slice());
+                GivenBack {
+                    fault,
+                    files: Some(files),
+                    is_whole,
+                }
+            }
+            None => nothing_back(fault),
         }
-    }
-
-    /// The same, and the files are closed.
-    pub fn put_back(self, alloc: Global) -> OpenFault
-        ensures { result ≡ self.fault }
-    {
-        let (fault, _files) = self.given_back(alloc);
-        fault
     }
 }

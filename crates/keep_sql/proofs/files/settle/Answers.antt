@@ -1,8 +1,9 @@
-use Rattle.std.proofs.Common.{◌≡◌, sym, ap, subst, ◌∙◌, refl}
+use Rattle.std.proofs.Common.{◌≡◌, ◌⊎◌, sym, ap, subst, ◌∙◌, refl}
 use Rattle.sqlite.specs.Held.{Held}
 use Rattle.sqlite.specs.Files.{file_state}
 use Rattle.pin_record.specs.Records.{TokenRecord, new_record}
 use Rattle.keep.specs.Contents.{new_contents}
+use Rattle.keep_sql_model.specs.OpenedFile.{HasNoRoom, IsInFile}
 use Rattle.keep_sql_model.specs.Opening.{Opened}
 use Rattle.keep_sql_model.proofs.Copies.{opened_copy}
 use Rattle.keep_sql.proofs.files.settle.Goals as goal
@@ -16,6 +17,9 @@ returns-in-Ok-copied-clause-opened g c =
     let first = subst (λ (h : Held _). Opened was (file_state h) c.into_parts-conn.result.1) (sym c.into_parts-conn.ensures.0) (subst (λ (r : TokenRecord). Opened was (file_state c.in-Ok.keep.conn) r) (sym c.into_parts-conn.ensures.1) c.in-Ok.ensures.opened) in
     let made = opened_copy was _ (file_state c.in-Ok-copied.conn) _ first c.in-Ok-copied.ensures.ok in
     subst (λ (h : Held _). Opened was (file_state h) c.with_record.result.token_record) (sym c.with_record.ensures.is.0) (subst (λ (r : TokenRecord). Opened was (file_state c.in-Ok-copied.conn) r) (sym c.with_record.ensures.is.1) made)
+
+pub returns-in-Ok-copied-clause-file : goal.returns-in-Ok-copied-clause-file
+returns-in-Ok-copied-clause-file g c = subst (λ (h : Held _). IsInFile h ⊎ HasNoRoom h) (sym c.with_record.ensures.is.0) c.in-Ok-copied.ensures.file
 
 pub returns-in-Ok-copied-clause-found : goal.returns-in-Ok-copied-clause-found
 returns-in-Ok-copied-clause-found g c = λ d h clean.
@@ -42,4 +46,5 @@ returns-in-Err-copied-clause-leaves g c =
       c.into_parts-conn.result.1,
       subst (λ (h : Held _). Opened was (file_state h) c.into_parts-conn.result.1) (sym c.into_parts-conn.ensures.0) (subst (λ (r : TokenRecord). Opened was (file_state c.in-Ok.keep.conn) r) (sym c.into_parts-conn.ensures.1) c.in-Ok.ensures.opened),
       c.in-Err-copied.ensures.left,
+      (c.in-Err-copied.error, refl, c.in-Err-copied.ensures.cause),
     )
