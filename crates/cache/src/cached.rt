@@ -60,6 +60,10 @@ impl<K: Keep> Keep for Cached<K> {
 
     ghost sure = { λ k steady. K.sure k.keep steady };
 
+    fn on_behalf_of(&self, app: u64) {
+        self.keep.on_behalf_of(app)
+    }
+
     fn failures(&self) -> u64 {
         self.keep.failures()
     }

@@ -52,6 +52,9 @@ pub trait Keep: Drop {
     /// What is said of it: what it holds, what a crash leaves, and what is counted.
     ghost terms: { Terms Self };
 
+    /// Whose call what follows is part of: an application's number. Nothing changes. A keeper that logs what is done takes note.
+    fn on_behalf_of(&self, _app: u64) {}
+
     /// How often the device has failed. At its greatest value the count stays.
     fn failures(&self) -> u64
         ensures { result ≡ terms.failures self.now };

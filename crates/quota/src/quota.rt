@@ -76,6 +76,10 @@ impl<K: Keep> Keep for Quota<K> {
 
     ghost sure = { λ k steady. absurd steady };
 
+    fn on_behalf_of(&self, app: u64) {
+        self.keep.on_behalf_of(app)
+    }
+
     fn failures(&self) -> u64 {
         self.keep.failures().saturating_add(self.refused)
     }
