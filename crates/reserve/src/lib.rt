@@ -1,0 +1,14 @@
+//! Room on the store's disk that is set aside for PINs and removals.
+//!
+//! Whoever makes objects fills a disk. `Reserved` is a keeper that makes or changes none unless some room is set aside. Where a change
+//! of the record, a removal or a reset then fails by the device, it gives that room up and tries once more. `Explains` is what a keeper can
+//! report of a failure.
+#![tactic(auto)]
+
+mod explains;
+mod reserved;
+mod room;
+
+pub use explains::Explains;
+pub use reserved::Reserved;
+pub use room::SpareRoom;
