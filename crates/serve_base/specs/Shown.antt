@@ -1,5 +1,5 @@
 -- The view that a token's parts refine: the one place where ids become handles.
-use Rattle.std.specs.Prelude.{◌≡◌, ℕ, ◌≤◌, Bool, not, List, [], ◌∷◌, map, filter, Option, Some}
+use Rattle.std.specs.Prelude.{◌≡◌, ◌≢◌, ℕ, ◌≤◌, Bool, not, List, [], ◌∷◌, map, filter, Option, Some, Result, Ok, Err}
 use Rattle.std.proofs.Common.{zero, suc}
 use Rattle.std.specs.Option.{option_map}
 use Rattle.std.specs.List.{AllByRecursion, remove}
@@ -106,6 +106,11 @@ said_of (Ask job) = Asks (question_of job)
 abbrev pub IsReply : Out → Type 0
 IsReply (OutReply reply) = Unit {0}
 IsReply (Ask job) = ⊥
+
+-- It is a reply, or a refusal other than an allocation failure: no job, which takes memory.
+abbrev pub RepliesAtOnce : {E : Type 0} → E → Result Out E → Type 0
+RepliesAtOnce memory (Ok out) = IsReply out
+RepliesAtOnce memory (Err refusal) = refusal ≢ memory
 
 -- a job of it is the application's
 abbrev pub IsFor : ℕ → Out → Type 0

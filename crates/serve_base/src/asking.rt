@@ -1,10 +1,12 @@
 //! Jobs of a call.
 
-ghost use Rattle.std.specs.Prelude.{◌≡◌, ℕ, ◌<◌, ◌^◌, IfErr, IfOk, IsTrue, Some, length};
+ghost use Rattle.std.specs.Prelude.{◌≡◌, ℕ, ◌<◌, ◌^◌, IfErr, IfOk, IsTrue, None, Some, length};
 ghost use Rattle.desk.specs.Desks.{with_question};
 ghost use Rattle.keep.specs.Contents.{Contents};
 ghost use Rattle.desk.specs.Jobs.{is_runnable};
-ghost use Rattle.serve_base.specs.declared.out.Out.TheVariants.{Ask};
+ghost use Rattle.ck_calls.specs.declared.reply.Output.TheVariants.{Length};
+ghost use Rattle.ck_calls.specs.declared.reply.Reply.TheVariants.{Output as OutputReply};
+ghost use Rattle.serve_base.specs.declared.out.Out.TheVariants.{Ask, Reply as OutReply};
 ghost use Rattle.serve_base.specs.Asking.{asks_within};
 ghost use Rattle.serve_base.specs.Short.{IsShortSaid, IsShortTask};
 ghost use Rattle.serve_base.specs.Shown.{Fits, Gives, IsFor, question_of, said_of, task_of, view_of};
@@ -55,7 +57,7 @@ pub fn ask(
 }
 
 /// Returns a job where the output buffer has the length `wanted`, in bytes; else returns that length, and the operation
-/// stays. It allocates; where an allocation fails no call is pending.
+/// stays. With the job it allocates; where an allocation fails no call is pending.
 pub fn ask_within(
     alloc: Global,
     app: u64,
@@ -71,6 +73,7 @@ pub fn ask_within(
     ensures gives { (c : Contents) → Fits c desk.old.handles.entries → IfOk result (λ out. Gives (asks_within function session (task_of work) wanted buffer_len (view_of c desk.old)) desk.old.sessions.login c (said_of out) c desk.new) }
     ensures asker { IfOk result (IsFor app) }
     ensures refused { IfErr result (λ error. desk.new ≡ desk.old) }
+    ensures length { buffer_len ≡ None → result ≡ Ok (OutReply (OutputReply (Length wanted))) }
     ensures short { ((n : ℕ) → buffer_len ≡ Some n → IsShortTask (task_of work)) → IfOk result (λ out. IsShortSaid (said_of out)) }
 {
     let Some(buffer_len) = buffer_len else {

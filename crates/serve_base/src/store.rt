@@ -66,6 +66,11 @@ impl<K: Keep> Store<K> {
         keep
     }
 
+    /// Has the keeper know whose call what follows is part of: an application's number.
+    pub fn on_behalf_of(&self, app: u64) {
+        self.keep.on_behalf_of(app)
+    }
+
     /// The record. It is held in memory, so nothing is read or allocated.
     pub fn get_record(&self) -> Record
         ensures { (c : Contents) → Has K.terms self.now c → result ≡ c.token_record }

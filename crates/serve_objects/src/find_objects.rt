@@ -1,6 +1,6 @@
 //! C_FindObjects and C_FindObjectsFinal (PKCS #11 v3.1, 5.7.8 and 5.7.9).
 
-ghost use Rattle.std.specs.Prelude.{◌≡◌, option_copied, take};
+ghost use Rattle.std.specs.Prelude.{◌≡◌, ◌≢◌, option_copied, take};
 ghost use Rattle.std.specs.Option.{option_map};
 ghost use Rattle.sessions.specs.Sessions.{session_at};
 ghost use Rattle.ops.specs.Operations.{search_in};
@@ -43,7 +43,8 @@ fn next_found(desk: &Desk, session: u64, count: usize) -> Option<&[u64]>
 /// C_FindObjectsFinal (PKCS #11 v3.1, 5.7.9).
 /// Codes: the checks of C_FindObjectsFinal (`precede`). Ends a search.
 pub fn serve_final(desk: &mut Desk, session: u64) -> Result<Reply, Refusal>
-    ensures { AtDesk Replies (λ v. find_objects_final v session) desk.old result desk.new }
+    ensures serves { AtDesk Replies (λ v. find_objects_final v session) desk.old result desk.new }
+    ensures small { result ≢ Err Refusal.Memory }
 {
     let _ = desk.state(session).ok_or(Condition::NoSession)?;
     let _ = desk.search(session).ok_or(Condition::NoOperation)?;

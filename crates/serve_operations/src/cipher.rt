@@ -12,7 +12,7 @@ ghost use Rattle.model_answers.specs.Cipher.{cipher_final, cipher_single, cipher
 ghost use Rattle.model_answers.specs.CipherInit.{place_for};
 ghost use Rattle.serve_base.specs.Refusing.{AtDesk, AtDeskIf};
 ghost use Rattle.serve_base.specs.Short.{IsShortData};
-ghost use Rattle.serve_base.specs.Shown.{IsFor, said_of};
+ghost use Rattle.serve_base.specs.Shown.{IsFor, RepliesAtOnce, said_of};
 
 use crate::directions::{final_function, place_for, refused_row, single_function, update_function};
 use aes_modes::Direction;
@@ -42,6 +42,7 @@ pub fn single(
     requires { desk.old.next_question < 2 ^ 63 }
     ensures serves { AtDeskIf (IsShortData input buffer_len) said_of (λ v. cipher_single direction v session input buffer_len) desk.old result desk.new }
     ensures asker { IfOk result (IsFor app) }
+    ensures small { buffer_len ≡ None → RepliesAtOnce Refusal.Memory result }
 {
     let place = place_for(direction);
     let _ = desk.state(session).ok_or(Condition::NoSession)?;
@@ -89,6 +90,7 @@ pub fn update(
     requires { desk.old.next_question < 2 ^ 63 }
     ensures serves { AtDeskIf (IsShortData input buffer_len) said_of (λ v. cipher_update direction v session input buffer_len) desk.old result desk.new }
     ensures asker { IfOk result (IsFor app) }
+    ensures small { buffer_len ≡ None → RepliesAtOnce Refusal.Memory result }
 {
     let place = place_for(direction);
     let _ = desk.state(session).ok_or(Condition::NoSession)?;
@@ -130,6 +132,7 @@ pub fn last(
     requires { desk.old.next_question < 2 ^ 63 }
     ensures serves { AtDesk said_of (λ v. cipher_final direction v session buffer_len) desk.old result desk.new }
     ensures asker { IfOk result (IsFor app) }
+    ensures small { buffer_len ≡ None → RepliesAtOnce Refusal.Memory result }
 {
     let place = place_for(direction);
     let _ = desk.state(session).ok_or(Condition::NoSession)?;

@@ -1,6 +1,6 @@
 //! C_EncryptInit and C_DecryptInit (PKCS #11 v3.1, 5.8 and 5.10).
 
-ghost use Rattle.std.specs.Prelude.{◌≡◌};
+ghost use Rattle.std.specs.Prelude.{◌≡◌, ◌≢◌, None};
 ghost use Rattle.sessions.specs.Sessions.{session_at};
 ghost use Rattle.model_answers.specs.CipherInit.{cipher_init};
 ghost use Rattle.model_views.specs.Answering.{Replies};
@@ -33,7 +33,8 @@ pub fn serve<K: Keep>(
     mechanism: Option<Mechanism>,
     key: u64,
 ) -> Result<Reply, Refusal>
-    ensures { IsDone K.terms 0 (λ v. cipher_init direction v session mechanism key) store.old store.new desk.old result desk.new }
+    ensures done { IsDone K.terms 0 (λ v. cipher_init direction v session mechanism key) store.old store.new desk.old result desk.new }
+    ensures small { mechanism ≡ None → result ≢ Err Refusal.Memory }
 {
     begin(alloc, desk, store, direction, session, &mechanism, key)
 }
@@ -47,7 +48,8 @@ fn begin<K: Keep>(
     mechanism: &Option<Mechanism>,
     key: u64,
 ) -> Result<Reply, Refusal>
-    ensures { IsDone K.terms 0 (λ v. cipher_init direction v session mechanism.now key) store.old store.new desk.old result desk.new }
+    ensures done { IsDone K.terms 0 (λ v. cipher_init direction v session mechanism.now key) store.old store.new desk.old result desk.new }
+    ensures small { mechanism.now ≡ None → result ≢ Err Refusal.Memory }
 {
     let _ = desk.state(session).ok_or(Condition::NoSession)?;
     let Some(mechanism) = mechanism else {

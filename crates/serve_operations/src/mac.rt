@@ -11,7 +11,7 @@ ghost use Rattle.precede.specs.Condition.{code_of};
 ghost use Rattle.model_answers.specs.Mac.{mac_update, sign, sign_final, verify, verify_final};
 ghost use Rattle.serve_base.specs.declared.out.Out.TheVariants.{Reply as OutReply};
 ghost use Rattle.serve_base.specs.Refusing.{AtDesk};
-ghost use Rattle.serve_base.specs.Shown.{IsFor, said_of};
+ghost use Rattle.serve_base.specs.Shown.{IsFor, RepliesAtOnce, said_of};
 
 use crate::places::update_function;
 use ck_calls::{Function, Output, Reply};
@@ -39,6 +39,7 @@ pub fn sign(
     requires { desk.old.next_question < 2 ^ 63 }
     ensures serves { AtDesk said_of (λ v. sign v session input buffer_len) desk.old result desk.new }
     ensures asker { IfOk result (IsFor app) }
+    ensures small { buffer_len ≡ None → RepliesAtOnce Refusal.Memory result }
 {
     let _ = desk.state(session).ok_or(Condition::NoSession)?;
     let mac = desk
@@ -75,6 +76,7 @@ pub fn sign_final(
     requires { desk.old.next_question < 2 ^ 63 }
     ensures serves { AtDesk said_of (λ v. sign_final v session buffer_len) desk.old result desk.new }
     ensures asker { IfOk result (IsFor app) }
+    ensures small { buffer_len ≡ None → RepliesAtOnce Refusal.Memory result }
 {
     let _ = desk.state(session).ok_or(Condition::NoSession)?;
     let mac = desk

@@ -1,6 +1,6 @@
 //! C_SignInit and C_VerifyInit (PKCS #11 v3.1, 5.13 and 5.15).
 
-ghost use Rattle.std.specs.Prelude.{◌≡◌};
+ghost use Rattle.std.specs.Prelude.{◌≡◌, ◌≢◌, None};
 ghost use Rattle.sessions.specs.Sessions.{session_at};
 ghost use Rattle.model_answers.specs.MacInit.{mac_init};
 ghost use Rattle.model_views.specs.Answering.{Replies};
@@ -32,7 +32,8 @@ pub fn serve<K: Keep>(
     mechanism: Option<Mechanism>,
     key: u64,
 ) -> Result<Reply, Refusal>
-    ensures { IsDone K.terms 0 (λ v. mac_init place v session mechanism key) store.old store.new desk.old result desk.new }
+    ensures done { IsDone K.terms 0 (λ v. mac_init place v session mechanism key) store.old store.new desk.old result desk.new }
+    ensures small { mechanism ≡ None → result ≢ Err Refusal.Memory }
 {
     begin(alloc, desk, store, place, session, &mechanism, key)
 }
@@ -46,7 +47,8 @@ fn begin<K: Keep>(
     mechanism: &Option<Mechanism>,
     key: u64,
 ) -> Result<Reply, Refusal>
-    ensures { IsDone K.terms 0 (λ v. mac_init place v session mechanism.now key) store.old store.new desk.old result desk.new }
+    ensures done { IsDone K.terms 0 (λ v. mac_init place v session mechanism.now key) store.old store.new desk.old result desk.new }
+    ensures small { mechanism.now ≡ None → result ≢ Err Refusal.Memory }
 {
     let _ = desk.state(session).ok_or(Condition::NoSession)?;
     let Some(mechanism) = mechanism else {

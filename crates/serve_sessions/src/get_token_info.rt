@@ -1,5 +1,6 @@
 //! C_GetTokenInfo (PKCS #11 v3.1, 5.5).
 
+ghost use Rattle.std.specs.Prelude.{◌≢◌};
 ghost use Rattle.model_session_answers.specs.GetTokenInfo.{get_token_info};
 ghost use Rattle.serve_base.specs.Refusing.{IsDone};
 
@@ -15,7 +16,8 @@ use serve_base::{Refusal, Store};
 /// Codes: the checks of C_GetTokenInfo (`precede`). Returns the token's label and flags, and how many sessions the application has. Changes
 /// nothing.
 pub fn serve<K: Keep>(desk: &Desk, store: &Store<K>, slot: u64) -> Result<Reply, Refusal>
-    ensures { IsDone K.terms 0 (λ v. get_token_info v slot) store.now store.now desk.now result desk.now }
+    ensures done { IsDone K.terms 0 (λ v. get_token_info v slot) store.now store.now desk.now result desk.now }
+    ensures small { result ≢ Err Refusal.Memory }
 {
     if slot != SLOT {
         return Err(Refusal::Condition(Condition::NoSlot));

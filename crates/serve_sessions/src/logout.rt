@@ -1,5 +1,6 @@
 //! C_Logout (PKCS #11 v3.1, 5.6).
 
+ghost use Rattle.std.specs.Prelude.{◌≢◌};
 ghost use Rattle.model_views.specs.Answering.{Replies};
 ghost use Rattle.model_session_answers.specs.Logout.{logout};
 ghost use Rattle.serve_base.specs.Refusing.{AtDesk};
@@ -14,7 +15,8 @@ use serve_base::Refusal;
 /// Codes: the checks of C_Logout (`precede`). Logs out, which ends all operations, destroys private session objects, and retires the
 /// handles of private token objects.
 pub fn serve(desk: &mut Desk, session: u64) -> Result<Reply, Refusal>
-    ensures { AtDesk Replies (λ v. logout v session) desk.old result desk.new }
+    ensures serves { AtDesk Replies (λ v. logout v session) desk.old result desk.new }
+    ensures small { result ≢ Err Refusal.Memory }
 {
     let _ = desk.state(session).ok_or(Condition::NoSession)?;
     let _ = desk.logged_in().ok_or(Condition::NobodyLoggedIn)?;

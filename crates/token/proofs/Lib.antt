@@ -3,4 +3,5 @@ mod Shortness
 pub mod Endings
 pub mod Dispatching
 pub mod Refused
+pub mod Memory
 pub mod States

@@ -82,3 +82,9 @@ served-from terms f old new before met desk (Ok out) same served = subst (λ d. 
 served-from terms f old new before met desk (Err fault) same served = λ sure c h fits.
     let k = subst (λ d. Served terms {T = Out} said_of f old new d d (Err fault) desk) same served sure c h fits in
     record { has = k.has; same = k.same; leaves = k.leaves }
+
+-- a failure with which nothing has changed but capacities is served
+pub served-failed : {K : Type 0} (terms : Terms K) (f : View → Answer) (store : StoreState K) (before desk : DeskState) (r : Result Out Fault) → IfOk r (λ out. ⊥) → SameDesk before desk
+    → Served terms said_of f store store before before r desk
+served-failed terms f store before desk (Ok out) none same = absurd none
+served-failed terms f store before desk (Err fault) none same = λ sure c h fits. record { has = h; same = same; leaves = λ left may. inl may }

@@ -1,3 +1,4 @@
 pub mod Dispatching
 pub mod Endings
+pub mod Memory
 pub mod States

@@ -19,6 +19,7 @@
 #![tactic(auto)]
 
 mod ending;
+mod no_memory;
 mod ran;
 mod serving;
 mod token;

@@ -1,14 +1,15 @@
 //! One call of an application, at its desk: the one place where a call finds the function that serves it.
 
-ghost use Rattle.std.specs.Prelude.{◌≡◌, false, length};
+ghost use Rattle.std.specs.Prelude.{◌≡◌, false, length, true};
 ghost use Rattle.ck_calls.specs.Need.{random_bytes};
 ghost use Rattle.desk.specs.Desks.{is_busy};
 ghost use Rattle.model_worlds.specs.Worlds.{reveal_by_call};
 ghost use Rattle.model_answers.specs.Answers.{answer, answer_to};
 ghost use Rattle.token.specs.Dispatching.{is_on_sessions, noted_at};
+ghost use Rattle.token.specs.Memory.{takes_no_memory};
 ghost use Rattle.serve_base.specs.Refusing.{IsServedIf};
 ghost use Rattle.serve_base.specs.Short.{IsShortCall};
-ghost use Rattle.serve_base.specs.Shown.{IsFor};
+ghost use Rattle.serve_base.specs.Shown.{IsFor, RepliesAtOnce};
 
 use aes_modes::Direction;
 use ck_calls::{Call, Reply};
@@ -43,7 +44,8 @@ pub(crate) fn serve<K: Keep>(
     others_have_sessions: bool,
 ) -> Result<Out, Fault>
     requires { length random.now ≡ random_bytes call }
-    ensures { IsServedIf (IsShortCall call) K.terms (IsFor app) (λ v. answer v call random.now (reveal_by_call call others_have_sessions)) store.old store.new desk.old result desk.new }
+    ensures served { IsServedIf (IsShortCall call) K.terms (IsFor app) (λ v. answer v call random.now (reveal_by_call call others_have_sessions)) store.old store.new desk.old result desk.new }
+    ensures small { takes_no_memory call ≡ true → RepliesAtOnce Fault.Memory result }
 {
     if desk.is_busy() {
         return Ok(Out::Reply(Reply::Code(Condition::Busy.code(Rv::Ok))));
@@ -66,7 +68,8 @@ fn serve_taken<K: Keep>(
 ) -> Result<Out, Fault>
     requires random { length random.now ≡ random_bytes call }
     requires free { is_busy desk.old ≡ false }
-    ensures { IsServedIf (IsShortCall call) K.terms (IsFor app) (λ v. answer_to v call random.now (reveal_by_call call others_have_sessions)) store.old store.new desk.old result desk.new }
+    ensures served { IsServedIf (IsShortCall call) K.terms (IsFor app) (λ v. answer_to v call random.now (reveal_by_call call others_have_sessions)) store.old store.new desk.old result desk.new }
+    ensures small { takes_no_memory call ≡ true → RepliesAtOnce Fault.Memory result }
 {
     match call {
         // Session management (PKCS #11 v3.1, 5.6).
@@ -101,7 +104,8 @@ fn dispatch<K: Keep>(
     requires random { length random.now ≡ random_bytes call }
     requires free { is_busy desk.old ≡ false }
     requires other { is_on_sessions call ≡ false }
-    ensures { IsServedIf (IsShortCall call) K.terms (IsFor app) (λ v. answer_to v call random.now (reveal_by_call call others_have_sessions)) store.old store.new desk.old result desk.new }
+    ensures served { IsServedIf (IsShortCall call) K.terms (IsFor app) (λ v. answer_to v call random.now (reveal_by_call call others_have_sessions)) store.old store.new desk.old result desk.new }
+    ensures small { takes_no_memory call ≡ true → RepliesAtOnce Fault.Memory result }
 {
     match call {
         // Slot and token management (PKCS #11 v3.1, 5.5).

@@ -1,12 +1,12 @@
 //! The token: one event at a time.
 
-ghost use Rattle.std.specs.Prelude.{◌≡◌, ◌≢◌, ◌∷◌, ◌++◌, [], ℕ, ◌<◌, ◌≤◌, ◌==◌, ◌&&◌, true, not, All, IfErr, IfOk, IsErrOf, IsSome, None, OnErr, OnOk, Option, count_by, length, map, option_map, option_to_list, reverse, vec_capacity, vec_len};
+ghost use Rattle.std.specs.Prelude.{◌≡◌, ◌≢◌, ◌⊎◌, ◌∷◌, ◌++◌, [], ℕ, ◌<◌, ◌≤◌, ◌==◌, ◌&&◌, true, not, All, IfErr, IfOk, IsErrOf, IsSome, None, OnErr, OnOk, Option, count_by, length, map, option_map, option_to_list, reverse, vec_capacity, vec_len};
 ghost use Rattle.std.specs.List.{position};
 ghost use Rattle.std.specs.BTreeMap.{get};
 ghost use Rattle.std.specs.Ordering.{nat_cmp};
 ghost use Rattle.ck_calls.specs.declared.reply.Reply.TheVariants.{Code};
 ghost use Rattle.ck_calls.specs.Need.{random_bytes};
-ghost use Rattle.ck_types.specs.declared.rv.Rv.TheVariants.{DeviceError, FunctionFailed};
+ghost use Rattle.ck_types.specs.declared.rv.Rv.TheVariants.{DeviceError, FunctionFailed, HostMemory};
 ghost use Rattle.ck_types.specs.declared.user_type.UserType.{UserType as Who};
 ghost use Rattle.desk.specs.Desks.{SameDesk, empty_desk, over};
 ghost use Rattle.keep.specs.Contents.{Contents};
@@ -23,14 +23,17 @@ ghost use Rattle.model_answers.specs.Answers.{answer};
 ghost use Rattle.model_views.specs.Refusals.{is_refusal, is_refused, resource_error_in, refusal, resource_error};
 ghost use Rattle.model_worlds.specs.Worlds.{World, called, list_change, checks_of, goes, happens, is_init_token, others_checking, reply_to, reveal_by_call, says_called, without_checks};
 ghost use Rattle.model_worlds.specs.Tries.{IsSound};
-ghost use Rattle.serve_base.specs.Shown.{IsFor, question_of, said_of, task_of};
+ghost use Rattle.serve_base.specs.Shown.{IsFor, IsReply, RepliesAtOnce, question_of, said_of, task_of};
 ghost use Rattle.serve_base.specs.Short.{IsShort, IsShortCall, IsShortSaid, IsShortTask};
 ghost use Rattle.token.specs.Dispatching.{Stands};
+ghost use Rattle.token.specs.Memory.{takes_no_memory};
 ghost use Rattle.model_runs.specs.Applications.{Finishes, HasJobs, reveal_by_job, checks_after, has_session_at, are_others_in_session, HasNumbers, IsOpen, IsOther, TakesJob, answer_by, desk_at, is_answer, move_of, opening, told_as, told_result, Shows, ShowsAfter, StandsAtDesk, StandsOverDesk};
+ghost use Rattle.serve_base.specs.Refusing.{IsServedIf};
 ghost use Rattle.serve_base.specs.Stores.{FailsForIds, LacksId, Served};
 ghost use Rattle.model_runs.specs.Runs.{AccountsFor, Advances, BlamesForIds, HasIds, IsRun, IsStep, IsTakenBy, Lasting, LeavesBy, LeftBy, MayLeave, blames, call_change};
 
 use crate::ending::{Others, finish_at};
+use crate::no_memory::takes_no_memory;
 use crate::ran::Ran;
 use crate::serving::serve;
 use ck_calls::{Call, Function, Reply};
@@ -118,9 +121,12 @@ impl<K: Keep> Token<K> {
         ensures stays { IsSome (resource_error_in (said_of result)) → SameDesk (desk_at self.old.desks app) (desk_at self.new.desks app) }
         // A refusal leaves what the application has, but for an operation that it ends, whatever is kept, and store faithful or not.
         ensures refused { is_refused (said_of result) ≡ true → StandsAtDesk call (desk_at self.old.desks app) (desk_at self.new.desks app) }
+        // A call that takes no memory is never answered CKR_HOST_MEMORY.
+        ensures small { takes_no_memory call ≡ true → result ≢ OutReply (Code HostMemory) }
         // A call with data that fits into a frame returns something as short, or a job for it.
         ensures short { IsShortCall call → IsShortSaid (said_of result) }
     {
+        self.store.on_behalf_of(app);
         told_as(serve_app(
             alloc,
             app,
@@ -166,6 +172,7 @@ impl<K: Keep> Token<K> {
         if !is_pending_job(&self.desks, app, &done) {
             return Reply::Code(Rv::FunctionFailed);
         }
+        self.store.on_behalf_of(app);
         let reply = told_result(finish_app(
             &mut self.desks,
             &mut self.store,
@@ -341,15 +348,28 @@ fn serve_app<K: Keep>(
     ensures plain { IfOk result (λ out. resource_error_in (said_of out) ≡ None) }
     ensures stays { IfErr result (λ fault. SameDesk (desk_at desks.old.entries app) (desk_at desks.new.entries app)) }
     ensures refused { Stands (λ v. answer v call random.now (reveal_by_call call (are_others_in_session desks.old.entries app))) (desk_at desks.old.entries app) result (desk_at desks.new.entries app) }
+    ensures small { takes_no_memory call ≡ true → RepliesAtOnce Fault.Memory result }
     ensures short { IsShortCall call → IfOk result (λ out. IsShortSaid (said_of out)) }
 {
-    checks.reserve(1)?;
+    reserve_check(checks, &call)?;
     let others_have_sessions = is_in_use_for(desks, app, &call);
     let outcome = serve_seated(alloc, app, desks, store, call, random, others_have_sessions);
     if let Ok(out) = &outcome {
         note_check(checks, app, out);
     }
     outcome
+}
+
+/// Reserves memory for a check that the call may begin.
+fn reserve_check(checks: &mut Vec<Check>, call: &Call) -> Result<(), AllocError>
+    ensures same { checks.new.items ≡ checks.old.items }
+    ensures room { OnOk result ((takes_no_memory call.now ≡ true) ⊎ (vec_len checks.new < vec_capacity checks.new)) }
+    ensures small { takes_no_memory call.now ≡ true → IfErr result (λ error. ⊥) }
+{
+    if takes_no_memory(call) {
+        return Ok(());
+    }
+    checks.reserve(1)
 }
 
 /// One call, where it is known whether another application has a session.
@@ -372,13 +392,44 @@ fn serve_seated<K: Keep>(
     ensures plain { IfOk result (λ out. resource_error_in (said_of out) ≡ None) }
     ensures stays { IfErr result (λ fault. SameDesk (desk_at desks.old.entries app) (desk_at desks.new.entries app)) }
     ensures refused { Stands (λ v. answer v call random.now (reveal_by_call call others_have_sessions)) (desk_at desks.old.entries app) result (desk_at desks.new.entries app) }
+    ensures small { takes_no_memory call ≡ true → RepliesAtOnce Fault.Memory result }
     ensures short { IsShortCall call → IfOk result (λ out. IsShortSaid (said_of out)) }
 {
+    if !desks.contains_key(&app) && takes_no_memory(&call) {
+        return serve_unseated(alloc, app, store, call, random, others_have_sessions);
+    }
     add_desk(alloc, desks, app)?;
     match desks.get_mut(&app) {
         Some(desk) => serve(alloc, app, desk, store, call, random, others_have_sessions),
         None => unreachable!(),
     }
+}
+
+/// One call that takes no memory, of an application that has no desk. It is given none, since such a call leaves an empty desk as it is.
+fn serve_unseated<K: Keep>(
+    alloc: Global,
+    app: u64,
+    store: &mut Store<K>,
+    call: Call,
+    random: &[u8],
+    others_have_sessions: bool,
+) -> Result<Out, Fault>
+    requires random { length random.now ≡ random_bytes call }
+    requires small { takes_no_memory call ≡ true }
+    ensures served { IsServedIf (IsShortCall call) K.terms (IsFor app)
+        (λ v. answer v call random.now (reveal_by_call call others_have_sessions)) store.old store.new empty_desk result empty_desk }
+    ensures small { RepliesAtOnce Fault.Memory result }
+{
+    let mut desk = Desk::new(alloc);
+    serve(
+        alloc,
+        app,
+        &mut desk,
+        store,
+        call,
+        random,
+        others_have_sessions,
+    )
 }
 
 /// Whether another application has a session, where the call depends on it.
@@ -412,7 +463,7 @@ fn has_session_at(desks: &BTreeMap<u64, Desk>, app: u64) -> bool
 
 /// A check that a call has begun is in progress.
 fn note_check(checks: &mut Vec<Check>, app: u64, out: &Out)
-    requires { vec_len checks.old < vec_capacity checks.old }
+    requires { IsReply out.now ⊎ (vec_len checks.old < vec_capacity checks.old) }
     ensures { checks.new.items ≡ checks.old.items ++ checks_of app (pin_checked_in (said_of out.now)) }
 {
     if let Some(user) = pin_checked(out) {
@@ -445,6 +496,7 @@ fn pin_checked(out: &Out) -> Option<UserType>
 fn add_desk(alloc: Global, desks: &mut BTreeMap<u64, Desk>, app: u64) -> Result<(), Fault>
     ensures same { (b : ℕ) → SameDesk (desk_at desks.old.entries b) (desk_at desks.new.entries b) }
     ensures there { OnOk result (IsSome (get nat_cmp desks.new app)) }
+    ensures small { IsSome (get nat_cmp desks.old app) → IfErr result (λ fault. ⊥) }
     ensures cause { IfErr result (λ fault. fault ≡ Fault.Memory) }
 {
     if !desks.contains_key(&app) {

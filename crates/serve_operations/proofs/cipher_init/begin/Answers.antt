@@ -19,15 +19,15 @@ for-mechanism g c x =
     let s = in_session _ _ c.state.result _ c.state.ensures c.in_ok-ok_or.ensures.ok_part in
     ap (λ m. cipher_init c.args.direction v c.args.session m c.args.key) c.in-Some.is ∙ init-is v c.args.session c.in-Some.mechanism c.args.key (ap is_none s.1) c.args.direction c.cipher_for.result (sym c.cipher_for.ensures)
 
-pub returns-in_err-cipher : goal.returns-in_err-cipher
-returns-in_err-cipher g c =
+pub returns-in_err-cipher-clause-done : goal.returns-in_err-cipher-clause-done
+returns-in_err-cipher-clause-done g c =
     let d = c.args.desk.now in
     let row = c.in_err-cipher.field-0.0 in
     done-row-first g.K.Keep.terms (λ x. Replies x) (λ v. cipher_init c.args.direction v c.args.session c.args.mechanism.now c.args.key) c.args.store.now d c.from_residual-in_err-cipher.result row c.from_residual-in_err-cipher.ensures.1
-    (λ x. for-mechanism g (goal.at.returns-in_err-cipher g c).After-cipher_for x ∙ ap (λ r. begins_by c.args.direction (view_of x d) c.args.session r (object_at (view_of x d) c.args.key)) c.in_err-cipher.was)
+    (λ x. for-mechanism g (goal.at.returns-in_err-cipher-clause-done g c).After-cipher_for x ∙ ap (λ r. begins_by c.args.direction (view_of x d) c.args.session r (object_at (view_of x d) c.args.key)) c.in_err-cipher.was)
 
-pub returns-in_err-found : goal.returns-in_err-found
-returns-in_err-found g c =
+pub returns-in_err-found-clause-done : goal.returns-in_err-found-clause-done
+returns-in_err-found-clause-done g c =
     let d = c.args.desk.now in
     let row = c.in_err-found.field-0.0 in
     done-row g.K.Keep.terms (λ x. Replies x) (λ v. cipher_init c.args.direction v c.args.session c.args.mechanism.now c.args.key) c.args.store.now c.find.new.store d c.from_residual-in_err-found.result row c.from_residual-in_err-found.ensures.1
@@ -35,13 +35,13 @@ returns-in_err-found g c =
     (λ sure x h fits.
     let v = view_of x d in
     let found = subst (λ o. IsFound x d c.args.key o) c.in_err-found.ensures.ok_part (c.in_ok-find.ensures.found sure x h fits) in
-    for-mechanism g (goal.at.returns-in_err-found g c).After-cipher_for x
+    for-mechanism g (goal.at.returns-in_err-found-clause-done g c).After-cipher_for x
     ∙ ap (λ r. begins_by c.args.direction v c.args.session r (object_at v c.args.key)) c.in_ok-cipher.was
     ∙ ap (begins_by c.args.direction v c.args.session (Ok c.in_ok-cipher.cipher)) found
     ∙ ap (refuses_by v) (sym (row-of c.in_ok-find.field-0 NoKey row c.in_err-found.ensures.value)))
 
-pub returns : goal.returns
-returns g c =
+pub returns-clause-done : goal.returns-clause-done
+returns-clause-done g c =
     let d = c.args.desk.now in
     let o = c.in_ok-found.found.object in
     let cipher = c.in_ok-cipher.cipher in
@@ -53,7 +53,7 @@ returns g c =
     (λ sure x h fits.
     let v = view_of x d in
     let found = subst (λ y. IsFound x d c.args.key y) c.in_ok-found.ensures.ok_part (c.in_ok-find.ensures.found sure x h fits) in
-    for-mechanism g (goal.at.returns g c).After-cipher_for x
+    for-mechanism g (goal.at.returns-clause-done g c).After-cipher_for x
     ∙ ap (λ r. begins_by c.args.direction v c.args.session r (object_at v c.args.key)) c.in_ok-cipher.was
     ∙ ap (begins_by c.args.direction v c.args.session (Ok cipher)) found.0)
     c.begin_under.ensures

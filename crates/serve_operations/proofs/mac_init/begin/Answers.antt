@@ -21,15 +21,15 @@ chosen g c x =
     let s = in_session _ _ c.state.result _ c.state.ensures c.in_ok-ok_or.ensures.ok_part in
     ap (λ m. mac_init c.args.place v c.args.session m c.args.key) c.in-Some.is ∙ init-is v c.args.session c.in-Some.mechanism c.args.key (ap is_none s.1) c.args.place c.mac_mechanism_for.result (sym c.mac_mechanism_for.ensures)
 
-pub returns-in_err-kind : goal.returns-in_err-kind
-returns-in_err-kind g c =
+pub returns-in_err-kind-clause-done : goal.returns-in_err-kind-clause-done
+returns-in_err-kind-clause-done g c =
     let d = c.args.desk.now in
     let row = c.in_err-kind.field-0.0 in
     done-row-first g.K.Keep.terms (λ x. Replies x) (λ v. mac_init c.args.place v c.args.session c.args.mechanism.now c.args.key) c.args.store.now d c.from_residual-in_err-kind.result row c.from_residual-in_err-kind.ensures.1
-    (λ x. chosen g (goal.at.returns-in_err-kind g c).After-mac_mechanism_for x ∙ ap (λ r. begins_by c.args.place (view_of x d) c.args.session r (object_at (view_of x d) c.args.key)) c.in_err-kind.was)
+    (λ x. chosen g (goal.at.returns-in_err-kind-clause-done g c).After-mac_mechanism_for x ∙ ap (λ r. begins_by c.args.place (view_of x d) c.args.session r (object_at (view_of x d) c.args.key)) c.in_err-kind.was)
 
-pub returns-in_err-found : goal.returns-in_err-found
-returns-in_err-found g c =
+pub returns-in_err-found-clause-done : goal.returns-in_err-found-clause-done
+returns-in_err-found-clause-done g c =
     let d = c.args.desk.now in
     let row = c.in_err-found.field-0.0 in
     done-row g.K.Keep.terms (λ x. Replies x) (λ v. mac_init c.args.place v c.args.session c.args.mechanism.now c.args.key) c.args.store.now c.find.new.store d c.from_residual-in_err-found.result row c.from_residual-in_err-found.ensures.1
@@ -37,7 +37,7 @@ returns-in_err-found g c =
     (λ sure x h fits.
     let v = view_of x d in
     let found = subst (λ o. IsFound x d c.args.key o) c.in_err-found.ensures.ok_part (c.in_ok-find.ensures.found sure x h fits) in
-    chosen g (goal.at.returns-in_err-found g c).After-mac_mechanism_for x
+    chosen g (goal.at.returns-in_err-found-clause-done g c).After-mac_mechanism_for x
     ∙ ap (λ r. begins_by c.args.place v c.args.session r (object_at v c.args.key)) c.in_ok-kind.was
     ∙ ap (begins_by c.args.place v c.args.session (Ok (c.in_ok-kind.kind, c.in_ok-kind.mac_mechanism))) found
     ∙ ap (refuses_by v) (sym (row-of c.in_ok-find.field-0 NoKey row c.in_err-found.ensures.value)))
@@ -45,8 +45,8 @@ returns-in_err-found g c =
 pub begin_under-requires : goal.begin_under-requires
 begin_under-requires g c = chosen-is (is_some (mac_in (session_at c.args.desk.now.sessions.sessions c.args.session) c.args.place)) c.in-Some.mechanism c.in_ok-kind.kind c.in_ok-kind.mac_mechanism (sym c.mac_mechanism_for.ensures ∙ c.in_ok-kind.was)
 
-pub returns : goal.returns
-returns g c =
+pub returns-clause-done : goal.returns-clause-done
+returns-clause-done g c =
     let d = c.args.desk.now in
     let o = c.in_ok-found.found.object in
     let kind = c.in_ok-kind.kind in
@@ -59,7 +59,7 @@ returns g c =
     (λ sure x h fits.
     let v = view_of x d in
     let found = subst (λ y. IsFound x d c.args.key y) c.in_ok-found.ensures.ok_part (c.in_ok-find.ensures.found sure x h fits) in
-    chosen g (goal.at.returns g c).After-mac_mechanism_for x
+    chosen g (goal.at.returns-clause-done g c).After-mac_mechanism_for x
     ∙ ap (λ r. begins_by c.args.place v c.args.session r (object_at v c.args.key)) c.in_ok-kind.was
     ∙ ap (begins_by c.args.place v c.args.session (Ok (kind, mac_mechanism))) found.0)
     c.begin_under.ensures

@@ -4,8 +4,8 @@ use Rattle.serve_base.proofs.InSession.{in_session}
 use Rattle.serve_sessions.proofs.Closing.{gives-closed}
 use Rattle.serve_sessions.proofs.close_session.serve.Goals as goal
 
-pub returns : goal.returns
-returns c = record {
+pub returns-clause-serves : goal.returns-clause-serves
+returns-clause-serves c = record {
   serves = λ k fits.
       let there = in_session _ _ c.state.result _ c.state.ensures c.in_ok-ok_or.ensures.ok_part in
       rw c.close.ensures (gives-closed k c.args.desk.now c.args.session (ap is_none there.1) fits);

@@ -1,6 +1,7 @@
 use Rattle.std.proofs.Common.{sym, ◌∙◌}
 use Rattle.model_runs.specs.Applications.{desk_at}
 use Rattle.model_runs.proofs.Called.{lacks-called, next-called, shows-called, says-called, leaves-called, blames-device, stays-called, short-called}
+use Rattle.token.proofs.Memory.{never-memory}
 use Rattle.token.proofs.Refused.{stands-called}
 use Rattle.token.proofs.token.Token.call.Goals as goal
 
@@ -43,3 +44,8 @@ returns-clause-steady g c =
     rw (← c.self.view_is) (λ steady is w s.
     let blamed = blames-device c.serve_app.result c.serve_app.ensures.plain (sym c.told_as.ensures ∙ is) in
     lacks-called g.K.Keep.terms _ c.serve_app.new.store _ c.serve_app.new.desks.entries _ c.args.app c.args.call c.args.random.now w s c.serve_app.ensures.others (c.serve_app.ensures.steady steady blamed s.contents s.has (s.fits c.args.app)))
+
+-- ---- memory
+
+pub returns-clause-small : goal.returns-clause-small
+returns-clause-small g c = λ small. rw c.told_as.ensures (never-memory c.serve_app.result c.serve_app.ensures.plain (c.serve_app.ensures.small small))
