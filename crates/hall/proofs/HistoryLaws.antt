@@ -4,10 +4,10 @@ use Rattle.model_views.specs.Views.{mask}
 use Rattle.model_worlds.specs.Worlds.{World, happens, after}
 use Rattle.model_worlds.specs.Traces.{replies_to, replies_told, trace}
 use Rattle.model_worlds.proofs.Told.{is_told}
-use Rattle.hall_channels.specs.Lists.{of}
-use Rattle.hall_channels.proofs.Rows.{of-append, of-one}
-use Rattle.hall.specs.Exchanges.{Exchange, app_of}
-use Rattle.hall.specs.Histories.{AllProper, History, Tells, Unfolds, move_in, moves_in, told_in}
+use Rattle.hall_log.specs.Lists.{of}
+use Rattle.hall_log.proofs.Lists.{of-append, of-one}
+use Rattle.hall_log.specs.Histories.{Exchange, app_of, History}
+use Rattle.hall.specs.Histories.{AllProper, Tells, Unfolds, move_in, moves_in, told_in}
 use Rattle.hall.proofs.MoreHistory.{replied_is}
 
 pub unfolds_at : (w : World) (before : History) (x : ℕ × Exchange) (rest : History) → Unfolds w (before ++ x ∷ rest) → Tells (after w (moves_in before)) x.1.0 x.1.1

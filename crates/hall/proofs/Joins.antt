@@ -4,22 +4,23 @@ use Rattle.std.specs.List.{slice_get}
 use Rattle.ck_calls.specs.declared.reply.Reply.{Reply as ReplyType}
 use Rattle.crossbeam_channel.specs.Claims.{view}
 use Rattle.serve_base.specs.declared.out.Out.{Out}
-use Rattle.hall_channels.specs.Lists.{of, last}
+use Rattle.hall_log.specs.Lists.{of, last}
 use Rattle.hall_channels.specs.Inward.{seats_of, taken_of, ended_of, IsTaking, SentInAll}
 use Rattle.hall_channels.specs.Outward.{given_of}
 use Rattle.hall_channels.specs.declared.inward.InwardView.{InwardView}
 use Rattle.hall_channels.specs.declared.inward.InwardView.TheVariants.{Taking, Sending, Spent}
 use Rattle.hall_channels.specs.declared.outward.OutwardView.{OutwardView}
-use Rattle.hall_channels.specs.declared.messages.Event.{Event}
-use Rattle.hall_channels.specs.declared.messages.Event.TheVariants.{Call, Finish, Gone}
+use Rattle.hall_log.specs.declared.event.Event.{Event}
+use Rattle.hall_log.specs.declared.event.Event.TheVariants.{Call, Finish, Gone}
 use Rattle.hall_channels.specs.declared.inbox.Inbox.{Inbox}
 use Rattle.hall_channels.specs.declared.outbox.Outbox.{Outbox}
 use Rattle.hall.specs.declared.seats.SeatEvent.{SeatEvent}
 use Rattle.hall.specs.declared.seat_thread.Joined.{Joined}
 use Rattle.hall.specs.declared.worker.Worker.{Worker}
-use Rattle.hall.specs.Exchanges.{Exchange, events, answers, listed, pending, Suits, AllSuit, Answered, Unanswered, IsProper}
+use Rattle.hall_log.specs.Histories.{Exchange, events, History}
+use Rattle.hall.specs.Exchanges.{answers, listed, pending, Suits, AllSuit, Answered, Unanswered, IsProper}
 use Rattle.hall.specs.SeatEvents.{asked_in, heard_in}
-use Rattle.hall.specs.Histories.{History, taken_in, HistorySuits}
+use Rattle.hall.specs.Histories.{taken_in, HistorySuits}
 use Rattle.hall.specs.Held.{HasEnded, IsKnown, IsPartOf, Interleaves}
 use Rattle.hall.specs.Outboxes.{OutboxesGave}
 use Rattle.hall.specs.Tells.{Grows}

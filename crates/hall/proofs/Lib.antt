@@ -4,3 +4,4 @@ pub mod Joins
 pub mod MoreHistory
 pub mod PendingJobs
 pub mod ProperExchanges
+pub mod Sparing

@@ -1,5 +1,5 @@
 -- One event more in a history.
-use Rattle.std.proofs.Common.{◌≡◌, ◌≢◌, ℕ, ◌%◌, zero, suc, ◌⊎◌, List, [], ◌∷◌, ◌++◌, map, sym, refl, ap, ◌∙◌, subst, inl, inr, ⊎_elim, append_assoc, append-nil, arith, Option, Some, None, set}
+use Rattle.std.proofs.Common.{◌+◌, ◌≡◌, ◌≢◌, ℕ, ◌%◌, zero, suc, ◌⊎◌, List, [], ◌∷◌, ◌++◌, map, sym, refl, ap, ◌∙◌, subst, inl, inr, ⊎_elim, append_assoc, append-nil, arith, Option, Some, None, set}
 use Rattle.std.specs.List.{slice_get}
 use Rattle.std.proofs.lemmas.List.{map-append}
 use Rattle.std.proofs.lemmas.Bool.{cases_eq}
@@ -12,18 +12,19 @@ use Rattle.model_worlds.specs.Worlds.{World, event_of, happens, after, replies}
 use Rattle.model_worlds.proofs.Told.{is_told}
 use Rattle.model_worlds.proofs.Tries.{sound-run}
 use Rattle.serve_base.specs.declared.out.Out.{Out}
-use Rattle.token.specs.States.{HasJobs, asked_by, jobs_of, AccountsFor, Lasting, LeftAfter}
-use Rattle.token.proofs.States.{accounts-more, accounts-none, after-append, left-append, left-more}
-use Rattle.hall_channels.specs.Lists.{of, last}
+use Rattle.token.specs.States.{HasJobs, asked_by, jobs_of, AccountsFor, Lasting, LeftAfter, blames}
+use Rattle.token.proofs.States.{accounts-more, accounts-none, after-append, blames-more, left-append, left-more}
+use Rattle.hall_log.specs.Lists.{of, last}
 use Rattle.hall_channels.specs.Outward.{given_of}
-use Rattle.hall_channels.specs.declared.messages.Event.{Event}
+use Rattle.hall_log.specs.declared.event.Event.{Event}
 use Rattle.hall_channels.specs.declared.outbox.Outbox.{Outbox}
-use Rattle.hall_channels.proofs.Rows.{of-append, of-one, of-other}
-use Rattle.hall.specs.Exchanges.{Exchange, app_of, answers, listed, pending, Suits, Follows, IsProper}
-use Rattle.hall.specs.Histories.{Allowed, AllProper, Counts, HasServed, History, HistorySuits, IsHistory, RunSoFar, Takes, Tells, Unfolds, as_event, model_events, move_in, moved_by, moves_in, own_job, replies_in, taken_in, told_by, told_in, waiting}
+use Rattle.hall_log.proofs.Lists.{of-append, of_here, of_else, last_snoc}
+use Rattle.hall_log.specs.Histories.{Exchange, app_of, History}
+use Rattle.hall.specs.Exchanges.{answers, listed, pending, Suits, Follows, IsProper}
+use Rattle.hall.specs.Histories.{Allowed, AllProper, Counts, HasServed, HistorySuits, IsHistory, RunSoFar, Spends, SpendsOver, Takes, Tells, Unfolds, as_event, ids_by, ids_in, model_events, move_in, moved_by, moves_in, own_job, replies_in, taken_in, told_by, told_in, waiting}
 use Rattle.hall.specs.Outboxes.{OutboxesGave, SameOutboxes}
 use Rattle.hall.proofs.PendingJobs.{allowed_after, event_moved_by, jobs_after, other_after, out_after, own_after, tells_is}
-use Rattle.hall.proofs.ProperExchanges.{answers-append, last_snoc, proper_front}
+use Rattle.hall.proofs.ProperExchanges.{answers-append, proper_front}
 
 -- ---- a history that is one longer
 
@@ -35,6 +36,10 @@ told_in-append : (ts : History) (t : ℕ × Exchange) → told_in (ts ++ t ∷ [
 told_in-append [] t = append-nil (told_by (app_of t.1.0) t.1.1)
 told_in-append (x ∷ xs) t = ap (λ l. told_by (app_of x.1.0) x.1.1 ++ l) (told_in-append xs t) ∙ sym (append_assoc (told_by (app_of x.1.0) x.1.1) (told_in xs) (told_by (app_of t.1.0) t.1.1))
 
+ids_in-append : (ts : History) (t : ℕ × Exchange) → ids_in (ts ++ t ∷ []) ≡ ids_in ts + ids_by t.1.0
+ids_in-append [] t = omega arith
+ids_in-append (x ∷ xs) t = let more = ids_in-append xs t in omega (arith, more)
+
 HistorySuits-append : (ts : History) (t : ℕ × Exchange) → HistorySuits ts → Suits t.1.0 t.1.1 → HistorySuits (ts ++ t ∷ [])
 HistorySuits-append [] t a b = (b, tt)
 HistorySuits-append (x ∷ xs) t a b = (a.0, HistorySuits-append xs t a.1 b)
@@ -42,12 +47,6 @@ HistorySuits-append (x ∷ xs) t a b = (a.0, HistorySuits-append xs t a.1 b)
 unfolds-append : (w : World) (ts : History) (t : ℕ × Exchange) → Unfolds w ts → Tells (after w (moves_in ts)) t.1.0 t.1.1 → Unfolds w (ts ++ t ∷ [])
 unfolds-append w [] t u tells = (tells, tt)
 unfolds-append w (x ∷ xs) t u tells = (u.0, unfolds-append (happens w (move_in x.1)) xs t u.1 tells)
-
-of_here : (ts : History) (s : ℕ) (d : Exchange) → of s (ts ++ (s, d) ∷ []) ≡ of s ts ++ d ∷ []
-of_here ts s d = of-append s ts ((s, d) ∷ []) ∙ ap (λ l. of s ts ++ l) (of-one s s d refl)
-
-of_else : (ts : History) (s t : ℕ) (d : Exchange) → t ≢ s → of s (ts ++ (t, d) ∷ []) ≡ of s ts
-of_else ts s t d ne = of-append s ts ((t, d) ∷ []) ∙ ap (λ l. of s ts ++ l) (of-other s t d ne) ∙ append-nil (of s ts)
 
 -- the front of a history of proper seats is one
 proper_before : (ts : History) (t : ℕ × Exchange) → AllProper (ts ++ t ∷ []) → AllProper ts
@@ -131,11 +130,38 @@ history_is showing prior left w ts settled so =
 
 -- ---- what has been served
 
-module _ {T : Type 0} (doubt failures : T → ℕ) (shows : T → World → Type 0) (leaves : T → Option Lasting → Type 0) where
-  pub served_more : (m n k : T) (ts : History) (s : ℕ) (e : Event) (o : Option Out) → HasServed doubt failures shows leaves m n ts → Suits e o
+module _ {T : Type 0} (doubt failures : T → ℕ) (shows : T → World → Type 0) (leaves : T → Option Lasting → Type 0) (spare : T → World → ℕ → Type 0) where
+  -- what a machine that has ids to spare is known by
+  abbrev pub SpareLaw : Type 0
+  SpareLaw = (m : T) (w : World) (count : ℕ) → spare m w count → (doubt m ≡ 0) × shows m w
+
+  -- one event more while there are ids
+  spends_more : (m n k : T) (ts : History) (s : ℕ) (e : Event) (o : Option Out) → HasServed doubt failures shows leaves spare m n ts → SpareLaw
+      → ((w : World) → Allowed w e → Spends (spare n) (spare k) w e o) → AllProper (ts ++ (s, (e, o)) ∷ []) → SpendsOver spare m k (ts ++ (s, (e, o)) ∷ [])
+  spends_more m n k ts s e o was law spends proper w count has idle =
+      let front = proper_before ts (s, (e, o)) proper in
+      let f = proper_last ts s (e, o) proper in
+      let v = after w (moves_in ts) in
+      let all : count + ids_in (ts ++ (s, (e, o)) ∷ []) ≡ (count + ids_by e) + ids_in ts = let more = ids_in-append ts (s, (e, o)) in omega (arith, more) in
+      let had : spare m w ((count + ids_by e) + ids_in ts) = subst (λ (n : ℕ). spare m w n) all has in
+      let so_far = was.spends front w (count + ids_by e) had idle in
+      let so = was.runs (law n v (count + ids_by e) so_far.1).0 w (law m w ((count + ids_by e) + ids_in ts) had).1 idle front in
+      let owns : jobs_of (app_of e) so.out ≡ waiting (app_of e) (last (of s ts)) = so.waits (app_of e) ∙ ap (λ n. waiting (app_of e) (last (of n ts))) f.1 in
+      let last_one = spends v (allowed_after v so.out so.jobs (last (of s ts)) e f.0 owns) count so_far.1 in
+      let moves : moves_in (ts ++ (s, (e, o)) ∷ []) ≡ moves_in ts ++ moved_by (as_event e) o ∷ [] = map-push (λ x. move_in x.1) ts (s, (e, o)) in
+      let next : after w (moves_in (ts ++ (s, (e, o)) ∷ [])) ≡ happens v (moved_by (as_event e) o) = ap (after w) moves ∙ after-append w (moves_in ts) (moved_by (as_event e) o) in
+      let told : replies_in (told_in (ts ++ (s, (e, o)) ∷ [])) ≡ replies_in (told_in ts) ++ replies_in (told_by (app_of e) o) = ap replies_in (told_in-append ts (s, (e, o))) ∙ map-append (λ r. r.1) (told_in ts) (told_by (app_of e) o) in (
+        subst (λ (l : List ReplyType). blames l ≡ 0) (sym told) (blames-more (replies_in (told_in ts)) (replies_in (told_by (app_of e) o)) 0 so_far.0 last_one.0),
+        subst (λ (u : World). spare k u count) (sym next) last_one.1,
+      )
+
+  spends_none : (m : T) → SpendsOver spare m m []
+  spends_none m w count has idle = (refl, subst (λ (n : ℕ). spare m w n) (omega arith) has)
+
+  pub served_more : (m n k : T) (ts : History) (s : ℕ) (e : Event) (o : Option Out) → HasServed doubt failures shows leaves spare m n ts → Suits e o
       → Counts (doubt n) (doubt k) (failures n) (failures k) (replies_in (told_by (app_of e) o))
-      → (doubt k ≡ 0 → (w : World) → shows n w → Allowed w e → Takes (shows k) (leaves n) (leaves k) w e o) → HasServed doubt failures shows leaves m k (ts ++ (s, (e, o)) ∷ [])
-  served_more m n k ts s e o was suits counts turn = record {
+      → (doubt k ≡ 0 → (w : World) → shows n w → Allowed w e → Takes (shows k) (leaves n) (leaves k) w e o) → SpareLaw → ((w : World) → Allowed w e → Spends (spare n) (spare k) w e o) → HasServed doubt failures shows leaves spare m k (ts ++ (s, (e, o)) ∷ [])
+  served_more m n k ts s e o was suits counts turn law spends = record {
     suited = HistorySuits-append ts (s, (e, o)) was.suited suits;
     counts = record {
       doubt = let a = was.counts.doubt in let b = counts.doubt in omega (arith, a, b);
@@ -147,13 +173,15 @@ module _ {T : Type 0} (doubt failures : T → ℕ) (shows : T → World → Type
         let honest : doubt n ≡ 0 = let b = counts.doubt in omega (arith, b, sure) in
         let f = proper_last ts s (e, o) proper in
         run_more (shows n) (shows k) (leaves m) (leaves n) (leaves k) w ts s e o (turn sure) f.0 f.1 (was.runs honest w sh idle (proper_before ts (s, (e, o)) proper));
+    spends = spends_more m n k ts s e o was law spends;
   }
 
-  pub served_none : (m : T) → HasServed doubt failures shows leaves m m []
+  pub served_none : (m : T) → HasServed doubt failures shows leaves spare m m []
   served_none m = record {
     suited = tt;
     counts = record { doubt = omega arith; failures = omega arith; accounts = accounts-none (failures m) (failures m) (omega arith) };
     runs = λ sure w sh idle proper. run_none (shows m) (leaves m) w sh idle;
+    spends = λ proper. spends_none m;
   }
 
 -- ---- the token's ends of the outward channels

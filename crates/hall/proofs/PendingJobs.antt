@@ -18,9 +18,10 @@ use Rattle.serve_base.specs.declared.out.Out.TheVariants.{Reply, Ask}
 use Rattle.serve_base.specs.Shown.{said_of}
 use Rattle.token.specs.States.{HasJobs, TakesJob, jobs_of, moved, IsStep, Lasting, LeavesBy, LeftBy, call_change}
 use Rattle.token.proofs.States.{open_is, step_reply, step_ask, step_finish, step_gone}
-use Rattle.hall_channels.specs.declared.messages.Event.{Event}
-use Rattle.hall_channels.specs.declared.messages.Event.TheVariants.{Call, Finish, Gone}
-use Rattle.hall.specs.Exchanges.{Exchange, app_of, asks, pending, Follows}
+use Rattle.hall_log.specs.declared.event.Event.{Event}
+use Rattle.hall_log.specs.declared.event.Event.TheVariants.{Call, Finish, Gone}
+use Rattle.hall_log.specs.Histories.{Exchange, app_of}
+use Rattle.hall.specs.Exchanges.{asks, pending, Follows}
 use Rattle.hall.specs.Histories.{Allowed, Tells, TellsResult, as_event, moved_by, own_job, told_by, waiting}
 
 -- ---- moves

@@ -7,26 +7,24 @@ use Rattle.mech.specs.declared.job.Job.{Job}
 use Rattle.mech.specs.declared.done.Done.{Done}
 use Rattle.serve_base.specs.declared.out.Out.{Out}
 use Rattle.serve_base.specs.declared.out.Out.TheVariants.{Reply, Ask}
-use Rattle.hall_channels.specs.Lists.{last}
+use Rattle.hall_log.specs.Lists.{last}
 use Rattle.hall_channels.specs.Inward.{sent_of}
 use Rattle.hall_channels.specs.Outward.{got_of}
-use Rattle.hall_channels.specs.declared.messages.AppCall.{AppCall}
-use Rattle.hall_channels.specs.declared.messages.Event.{Event}
-use Rattle.hall_channels.specs.declared.messages.Event.TheVariants.{Call, Finish, Gone}
+use Rattle.hall_log.specs.declared.event.AppCall.{AppCall}
+use Rattle.hall_log.specs.declared.event.Event.{Event}
+use Rattle.hall_log.specs.declared.event.Event.TheVariants.{Call, Finish, Gone}
 use Rattle.hall_channels.specs.declared.port.Port.{Port}
 use Rattle.hall.specs.declared.seats.SeatEvent.{SeatEvent}
 use Rattle.hall.specs.declared.seats.SeatEvent.TheVariants.{Call as SeatCall, Gone as SeatGone}
-use Rattle.hall.specs.Exchanges.{Exchange, app_of, events, answers, listed, pending, AllSuit, Follows, IsThere, IsProper}
+use Rattle.hall_log.specs.Histories.{Exchange, app_of, events}
+use Rattle.hall_log.proofs.Lists.{last_snoc}
+use Rattle.hall_log.proofs.Logs.{events-append}
+use Rattle.hall.specs.Exchanges.{answers, listed, pending, AllSuit, Follows, IsThere, IsProper}
 use Rattle.hall.specs.SeatEvents.{seat_app, Notes, asked_by, asked_in, heard_by, heard_in, IsTurn}
 use Rattle.hall.specs.SeatDoings.{Did, PortDid, AllNoted}
 use Rattle.hall.specs.Tells.{Adds, Grows}
 
 module _ {A : Type 0} where
-  pub last_snoc : (xs : List A) (x : A) → last (xs ++ x ∷ []) ≡ Some x
-  last_snoc [] x = refl
-  last_snoc (y ∷ []) x = refl
-  last_snoc (y ∷ z ∷ zs) x = last_snoc (z ∷ zs) x
-
   no_middle : (xs : List A) (d : A) (ys : List A) → [] ≢ xs ++ d ∷ ys
   no_middle [] d ys e = cc
   no_middle (x ∷ xs) d ys e = cc
@@ -65,10 +63,6 @@ AllSuit-append (x ∷ xs) ys a b = (a.0, AllSuit-append xs ys a.1 b)
 pub IsThere-append : (app : ℕ) (xs ys : List Exchange) → IsThere app xs → IsThere app ys → IsThere app (xs ++ ys)
 IsThere-append app [] ys a b = b
 IsThere-append app (x ∷ xs) ys a b = (a.0, IsThere-append app xs ys a.1 b)
-
-pub events-append : (xs ys : List Exchange) → events (xs ++ ys) ≡ events xs ++ events ys
-events-append [] ys = refl
-events-append (x ∷ xs) ys = ap (λ l. x.0 ∷ l) (events-append xs ys)
 
 pub answers-append : (xs ys : List Exchange) → answers (xs ++ ys) ≡ answers xs ++ answers ys
 answers-append [] ys = refl

@@ -3,21 +3,10 @@ use Rattle.std.specs.Prelude.{◌≡◌, ◌≢◌, ℕ, ◌%◌, List, [], ◌�
 use Rattle.mech.specs.declared.job.Job.{Job}
 use Rattle.serve_base.specs.declared.out.Out.{Out}
 use Rattle.serve_base.specs.declared.out.Out.TheVariants.{Reply, Ask}
-use Rattle.hall_channels.specs.Lists.{last}
-use Rattle.hall_channels.specs.declared.messages.Event.{Event}
-use Rattle.hall_channels.specs.declared.messages.Event.TheVariants.{Call, Finish, Gone}
-
-abbrev pub Exchange : Type 0
-Exchange = Event × Option Out
-
-abbrev pub app_of : Event → ℕ
-app_of (Call c) = c.app
-app_of (Finish app done) = app
-app_of (Gone app) = app
-
-abbrev pub events : List Exchange → List Event
-events [] = []
-events (x ∷ xs) = x.0 ∷ events xs
+use Rattle.hall_log.specs.Lists.{last}
+use Rattle.hall_log.specs.declared.event.Event.{Event}
+use Rattle.hall_log.specs.declared.event.Event.TheVariants.{Call, Finish, Gone}
+use Rattle.hall_log.specs.Histories.{Exchange, app_of}
 
 abbrev pub listed : Option Out → List Out
 listed None = []

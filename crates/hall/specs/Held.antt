@@ -5,16 +5,17 @@ use Rattle.model_worlds.specs.Worlds.{World}
 use Rattle.token.specs.States.{HasJobs, Lasting}
 use Rattle.crossbeam_channel.specs.Claims.{view}
 use Rattle.serve_base.specs.declared.out.Out.{Out}
-use Rattle.hall_channels.specs.Lists.{of, last}
+use Rattle.hall_log.specs.Lists.{of, last}
 use Rattle.hall_channels.specs.Inward.{taken_of, ended_of}
 use Rattle.hall_channels.specs.Outward.{got_of, given_of}
-use Rattle.hall_channels.specs.declared.messages.Event.{Event}
+use Rattle.hall_log.specs.declared.event.Event.{Event}
 use Rattle.hall_channels.specs.declared.inward.InwardView.{InwardView}
 use Rattle.hall_channels.specs.declared.outward.OutwardView.{OutwardView}
 use Rattle.hall_channels.specs.declared.inbox.Inbox.{Inbox}
 use Rattle.hall.specs.SeatEvents.{asked_in, heard_in}
-use Rattle.hall.specs.Exchanges.{Exchange, IsProper, AllSuit, events, answers, pending}
-use Rattle.hall.specs.Histories.{History, AllProper, Counts, IsHistory, replies_in, taken_in, told_in}
+use Rattle.hall_log.specs.Histories.{Exchange, events, History}
+use Rattle.hall.specs.Exchanges.{IsProper, AllSuit, answers, pending}
+use Rattle.hall.specs.Histories.{AllProper, Counts, IsHistory, SpendsOver, replies_in, taken_in, told_in}
 use Rattle.hall.specs.Tells.{Grows}
 use Rattle.hall.specs.declared.seats.SeatEvent.{SeatEvent}
 use Rattle.hall.specs.declared.seat_thread.Joined.{Joined}
@@ -71,8 +72,9 @@ pub record Interleaves (history : History) (pass : InwardView) : Type 0 where
 
 -- What four seats put was one history, which the machine took: each seat got what the history has of it. Seats and the machine
 -- are given as they were and as they are now. Where the machine's store is faithful and no call was pending, the history is a
--- run from the world that the machine refined.
-pub record WereHeld {S T : Type 0} (asked : S → Option (List SeatEvent)) (heard : S → Option (List (ℕ × Reply))) (doubt failures : T → ℕ) (shows : T → World → Type 0) (leaves : T → Option Lasting → Type 0)
+-- run from the world that the machine refined. While the machine had an id for each object to come, no answer was
+-- CKR_DEVICE_ERROR.
+pub record WereHeld {S T : Type 0} (asked : S → Option (List SeatEvent)) (heard : S → Option (List (ℕ × Reply))) (doubt failures : T → ℕ) (shows : T → World → Type 0) (leaves : T → Option Lasting → Type 0) (spare : T → World → ℕ → Type 0)
     (inward : InwardView) (outward0 outward1 outward2 outward3 : OutwardView) (old new : S × S × S × S) (before after : T) : Type 0 where
   pub history : History
   pub interleaves : Interleaves history inward
@@ -82,3 +84,4 @@ pub record WereHeld {S T : Type 0} (asked : S → Option (List SeatEvent)) (hear
   pub part3 : IsPartOf history 3 outward3 (asked old.3) (asked new.3) (heard old.3) (heard new.3)
   pub counts : Counts (doubt before) (doubt after) (failures before) (failures after) (replies_in (told_in history))
   pub runs : doubt after ≡ 0 → (w : World) → shows before w → HasJobs w [] → IsHistory (shows after) (leaves before) (leaves after) w history
+  pub spends : SpendsOver spare before after history

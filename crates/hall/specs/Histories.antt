@@ -1,6 +1,6 @@
 -- Histories: events of all seats in one order, each with its seat and what it was answered; and what the token's model says
 -- of them.
-use Rattle.std.specs.Prelude.{◌≡◌, ◌==◌, if◌then◌else◌, ℕ, ◌%◌, ◌≤◌, List, [], ◌∷◌, ◌++◌, map, Option, Some, None}
+use Rattle.std.specs.Prelude.{◌≡◌, ◌==◌, if◌then◌else◌, ℕ, ◌+◌, ◌%◌, ◌≤◌, List, [], ◌∷◌, ◌++◌, map, Option, Some, None}
 use Rattle.ck_calls.specs.declared.reply.Reply.{Reply as ReplyType}
 use Rattle.mech.specs.declared.job.Job.{Job}
 use Rattle.model_views.specs.Refusals.{resource_error_in}
@@ -10,16 +10,14 @@ use Rattle.model_worlds.specs.Worlds.{World, Move, Goes, says_called, reply_to, 
 use Rattle.serve_base.specs.declared.out.Out.{Out}
 use Rattle.serve_base.specs.declared.out.Out.TheVariants.{Reply, Ask}
 use Rattle.serve_base.specs.Shown.{IsFor, said_of}
-use Rattle.token.specs.States.{HasJobs, IsOpen, jobs_of, moved, AccountsFor, IsRun, Lasting, LeftAfter, LeftBy}
-use Rattle.hall_channels.specs.Lists.{of, last}
-use Rattle.hall_channels.specs.declared.messages.Event.{Event}
-use Rattle.hall_channels.specs.declared.messages.Event.TheVariants.{Call, Finish, Gone}
-use Rattle.hall.specs.Exchanges.{Exchange, IsProper, Suits, app_of, pending}
+use Rattle.token.specs.States.{HasJobs, IsOpen, jobs_of, moved, AccountsFor, IsRun, Lasting, LeftAfter, LeftBy, blames}
+use Rattle.hall_log.specs.Lists.{of, last}
+use Rattle.hall_log.specs.declared.event.Event.{Event}
+use Rattle.hall_log.specs.declared.event.Event.TheVariants.{Call, Finish, Gone}
+use Rattle.hall_log.specs.Histories.{Exchange, History, app_of}
+use Rattle.hall.specs.Exchanges.{IsProper, Suits, pending}
 
-abbrev pub History : Type 0
-History = List (ℕ × Exchange)
-
--- its events, each with its seat
+-- the events of a history, each with its seat
 abbrev pub taken_in : History → List (ℕ × Event)
 taken_in [] = []
 taken_in (x ∷ xs) = (x.0, x.1.0) ∷ taken_in xs
@@ -107,6 +105,28 @@ pub record Counts (doubt_old doubt_new failures_old failures_new : ℕ) (said : 
 abbrev pub replies_in : List (ℕ × ReplyType) → List ReplyType
 replies_in told = map (λ r. r.1) told
 
+-- ---- ids for objects to come
+
+-- how many ids an event may take: a call one at most, and a result one
+abbrev pub ids_by : Event → ℕ
+ids_by (Call c) = 1
+ids_by (Finish app done) = 1
+ids_by (Gone app) = 0
+
+-- and a history
+abbrev pub ids_in : History → ℕ
+ids_in [] = 0
+ids_in (x ∷ xs) = ids_by x.1.0 + ids_in xs
+
+-- What had the ids that the event may take and so many more blames the device in no reply, and has so many after it.
+abbrev pub Spends : (World → ℕ → Type 0) → (World → ℕ → Type 0) → World → Event → Option Out → Type 0
+Spends had has w event answer = (count : ℕ) → had w (count + ids_by event) → (blames (replies_in (told_by (app_of event) answer)) ≡ 0) × has (happens w (moved_by (as_event event) answer)) count
+
+-- A machine that had an id for each call and each result of the history answered none by CKR_DEVICE_ERROR, where no call was
+-- pending before. It has as many left as it had beyond these.
+abbrev pub SpendsOver : {T : Type 0} → (T → World → ℕ → Type 0) → T → T → History → Type 0
+SpendsOver spare old new history = (w : World) (count : ℕ) → spare old w (count + ids_in history) → HasJobs w [] → (blames (replies_in (told_in history)) ≡ 0) × spare new (after w (moves_in history)) count
+
 -- ---- the jobs that seats have
 
 abbrev pub own_job : ℕ → Option (ℕ × Job) → List Job
@@ -126,11 +146,13 @@ pub record RunSoFar (showing : World → Type 0) (prior left : Option Lasting �
   pub jobs : HasJobs (after w (moves_in history)) out
   pub waits : (app : ℕ) → jobs_of app out ≡ waiting app (last (of (app % 4) history))
 
--- what became of a machine by a history: where no call was pending and the seats did as they should, it unfolded
-pub record HasServed {T : Type 0} (doubt failures : T → ℕ) (shows : T → World → Type 0) (leaves : T → Option Lasting → Type 0) (old new : T) (history : History) : Type 0 where
+-- What became of a machine by a history: where no call was pending and the seats did as they should, it unfolded. While there was
+-- an id for each object to come, no answer was CKR_DEVICE_ERROR.
+pub record HasServed {T : Type 0} (doubt failures : T → ℕ) (shows : T → World → Type 0) (leaves : T → Option Lasting → Type 0) (spare : T → World → ℕ → Type 0) (old new : T) (history : History) : Type 0 where
   pub suited : HistorySuits history
   pub counts : Counts (doubt old) (doubt new) (failures old) (failures new) (replies_in (told_in history))
   pub runs : doubt new ≡ 0 → (w : World) → shows old w → HasJobs w [] → AllProper history → RunSoFar (shows new) (leaves old) (leaves new) w history
+  pub spends : AllProper history → SpendsOver spare old new history
 
 -- A whole history from the world: each event was answered as the model says at its place, and all is a run of the token's
 -- (`IsRun`). After it no call is pending. So each application got what its own trace determines.

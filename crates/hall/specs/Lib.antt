@@ -6,4 +6,5 @@ pub mod Outboxes
 pub mod Ready
 pub mod SeatDoings
 pub mod SeatEvents
+pub mod SpareIds
 pub mod Tells

@@ -2,11 +2,11 @@
 use Rattle.std.specs.Prelude.{◌≡◌, ℕ, List, Some, map, slice_get}
 use Rattle.crossbeam_channel.specs.Claims.{view}
 use Rattle.crossbeam_channel.specs.Ends.{sends_on}
-use Rattle.hall_channels.specs.Lists.{of}
+use Rattle.hall_log.specs.Lists.{of}
 use Rattle.hall_channels.specs.Outward.{given_of}
 use Rattle.hall_channels.specs.declared.outbox.Outbox.{Outbox}
 use Rattle.hall.specs.Exchanges.{answers}
-use Rattle.hall.specs.Histories.{History}
+use Rattle.hall_log.specs.Histories.{History}
 
 -- each seat was given its answers in this history
 abbrev pub OutboxesGave : List Outbox → History → Type 0

@@ -4,7 +4,7 @@ use Rattle.ck_calls.specs.declared.reply.Reply.{Reply}
 use Rattle.crossbeam_channel.specs.Claims.{Pass, view}
 use Rattle.crossbeam_channel.specs.declared.flavors.array.ruled.Sending.{Sending}
 use Rattle.crossbeam_channel.specs.declared.flavors.array.ruled.Receiving.{Receiving}
-use Rattle.hall_channels.specs.Lists.{last}
+use Rattle.hall_log.specs.Lists.{last}
 use Rattle.hall_channels.specs.Inward.{sent_of}
 use Rattle.hall_channels.specs.Outward.{got_of}
 use Rattle.hall_channels.specs.declared.inward.InwardView.{InwardView}
@@ -15,7 +15,8 @@ use Rattle.hall_channels.specs.declared.port.Ends.{Ends}
 use Rattle.hall_channels.specs.declared.port.Port.{Port}
 use Rattle.hall.specs.declared.seats.SeatEvent.{SeatEvent}
 use Rattle.hall.specs.SeatEvents.{asked_in, heard_in}
-use Rattle.hall.specs.Exchanges.{Exchange, IsProper, AllSuit, gone_by, pending, events, answers}
+use Rattle.hall_log.specs.Histories.{Exchange, events}
+use Rattle.hall.specs.Exchanges.{IsProper, AllSuit, gone_by, pending, answers}
 use Rattle.hall.specs.Tells.{Grows}
 use Rattle.std.specs.Prelude.{Some, [], ◌∷◌}
 

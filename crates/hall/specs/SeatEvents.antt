@@ -5,9 +5,9 @@ use Rattle.mech.specs.declared.job.Job.{Job}
 use Rattle.mech.specs.declared.done.Done.{Done}
 use Rattle.serve_base.specs.declared.out.Out.{Out}
 use Rattle.serve_base.specs.declared.out.Out.TheVariants.{Reply as OutReply, Ask}
-use Rattle.hall_channels.specs.declared.messages.Event.{Event}
-use Rattle.hall_channels.specs.declared.messages.Event.TheVariants.{Call, Finish, Gone}
-use Rattle.hall.specs.Exchanges.{Exchange, app_of}
+use Rattle.hall_log.specs.declared.event.Event.{Event}
+use Rattle.hall_log.specs.declared.event.Event.TheVariants.{Call, Finish, Gone}
+use Rattle.hall_log.specs.Histories.{Exchange, app_of}
 use Rattle.hall.specs.declared.seats.SeatEvent.{SeatEvent}
 use Rattle.hall.specs.declared.seats.SeatEvent.TheVariants.{Call as SeatCall, Gone as SeatGone}
 

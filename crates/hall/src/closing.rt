@@ -2,7 +2,7 @@
 
 ghost use Rattle.std.specs.Prelude.{◌≡◌, ◌≤◌, [], ℕ, IfSome};
 ghost use Rattle.crossbeam_channel.specs.Claims.{view};
-ghost use Rattle.hall_channels.specs.Lists.{of};
+ghost use Rattle.hall_log.specs.Lists.{of};
 ghost use Rattle.hall_channels.specs.Inward.{seats_of, taken_of, ended_of};
 ghost use Rattle.hall.specs.Held.{IsKnown};
 ghost use Rattle.hall.specs.Ready.{Ready};

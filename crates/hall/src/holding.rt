@@ -9,6 +9,7 @@ ghost use Rattle.hall_channels.specs.Outward.{given_of};
 ghost use Rattle.hall.specs.Given.{IsLed};
 ghost use Rattle.hall.specs.Held.{WereHeld};
 ghost use Rattle.hall.specs.Ready.{Ready};
+ghost use Rattle.hall.specs.SpareIds.{HasSpareIds};
 
 use crate::closing::{Closed, Passes, close_all};
 use crate::fault::HallFault;
@@ -88,7 +89,7 @@ fn serve_all<M: Machine + Drop, S: Seat + Drop + Send + 'static, R: Threads + Wa
         × (S.fixed h.seats.1 ≡ S.fixed started.worker1.thread.promise.seat.value)
         × (S.fixed h.seats.2 ≡ S.fixed started.worker2.thread.promise.seat.value)
         × (S.fixed h.seats.3 ≡ S.fixed started.worker3.thread.promise.seat.value)) }
-    ensures held { IfOk result (λ h. WereHeld S.asked S.heard M.doubt M.failures M.shows M.leaves (view h.passes.inward)
+    ensures held { IfOk result (λ h. WereHeld S.asked S.heard M.doubt M.failures M.shows M.leaves M.spare (view h.passes.inward)
         (view h.passes.outward0) (view h.passes.outward1) (view h.passes.outward2) (view h.passes.outward3) (
           started.worker0.thread.promise.seat.value,
           started.worker1.thread.promise.seat.value,
@@ -96,7 +97,7 @@ fn serve_all<M: Machine + Drop, S: Seat + Drop + Send + 'static, R: Threads + Wa
           started.worker3.thread.promise.seat.value,
         ) h.seats machine h.token) }
     ensures thread { IfErr result (λ e. e.0 ≡ HallFault.Thread) }
-    ensures led { IfErr result (λ e. IsLed M.doubt M.failures M.shows M.leaves machine e.1) }
+    ensures led { IfErr result (λ e. IsLed M.doubt M.failures M.shows M.leaves M.spare machine e.1) }
 {
     let Started {
         mut inbox,
@@ -154,11 +155,11 @@ pub(crate) fn hold_machine<
     ensures over { IfOk result (λ h. S.over h.seats.0 × S.over h.seats.1 × S.over h.seats.2 × S.over h.seats.3) }
     ensures fixed { IfOk result (λ h. (S.fixed h.seats.0 ≡ S.fixed seats.0) × (S.fixed h.seats.1 ≡ S.fixed seats.1)
         × (S.fixed h.seats.2 ≡ S.fixed seats.2) × (S.fixed h.seats.3 ≡ S.fixed seats.3)) }
-    ensures held { IfOk result (λ h. WereHeld S.asked S.heard M.doubt M.failures M.shows M.leaves (view h.passes.inward)
+    ensures held { IfOk result (λ h. WereHeld S.asked S.heard M.doubt M.failures M.shows M.leaves M.spare (view h.passes.inward)
         (view h.passes.outward0) (view h.passes.outward1) (view h.passes.outward2) (view h.passes.outward3)
         seats h.seats machine h.token) }
     ensures memory { IfErr result (λ e. e.0 ≡ HallFault.Memory → e.1 ≡ machine) }
-    ensures led { IfErr result (λ e. IsLed M.doubt M.failures M.shows M.leaves machine e.1) }
+    ensures led { IfErr result (λ e. IsLed M.doubt M.failures M.shows M.leaves M.spare machine e.1) }
 {
     let Ok(opened) = open(alloc) else {
         return Err((HallFault::Memory, machine));
@@ -196,14 +197,14 @@ pub fn hold<
         × (S.fixed h.seats.2 ≡ S.fixed seats.2) × (S.fixed h.seats.3 ≡ S.fixed seats.3)) }
     // What the four seats put is one history, which is a run of the token's: each seat got what the model gives it there.
     ensures held { IfOk result (λ h. WereHeld S.asked S.heard (λ t. K.terms.doubt t.store.keep)
-        (λ t. K.terms.failures t.store.keep) (Shows K.terms) (MayLeave K.terms) (view h.passes.inward)
+        (λ t. K.terms.failures t.store.keep) (Shows K.terms) (MayLeave K.terms) (HasSpareIds K.terms) (view h.passes.inward)
         (view h.passes.outward0) (view h.passes.outward1) (view h.passes.outward2) (view h.passes.outward3)
         seats h.seats token h.token) }
     // Where an allocation failed, the token is as it was.
     ensures memory { IfErr result (λ e. e.0 ≡ HallFault.Memory → e.1 ≡ token) }
     // At any fault some history leads to the token that is returned.
     ensures led { IfErr result (λ e. IsLed (λ t. K.terms.doubt t.store.keep) (λ t. K.terms.failures t.store.keep)
-        (Shows K.terms) (MayLeave K.terms) token e.1) }
+        (Shows K.terms) (MayLeave K.terms) (HasSpareIds K.terms) token e.1) }
 {
     hold_machine(rt, alloc, token, seats, gate, (0, 0, 0, 0))
 }
@@ -231,14 +232,14 @@ pub fn hold_with<
         × (S.fixed h.seats.2 ≡ S.fixed seats.2) × (S.fixed h.seats.3 ≡ S.fixed seats.3)) }
     // What the four seats put is one history, which is a run of the token's: each seat got what the model gives it there.
     ensures held { IfOk result (λ h. WereHeld S.asked S.heard (λ t. K.terms.doubt t.store.keep)
-        (λ t. K.terms.failures t.store.keep) (Shows K.terms) (MayLeave K.terms) (view h.passes.inward)
+        (λ t. K.terms.failures t.store.keep) (Shows K.terms) (MayLeave K.terms) (HasSpareIds K.terms) (view h.passes.inward)
         (view h.passes.outward0) (view h.passes.outward1) (view h.passes.outward2) (view h.passes.outward3)
         seats h.seats token h.token) }
     // Where an allocation failed, the token is as it was.
     ensures memory { IfErr result (λ e. e.0 ≡ HallFault.Memory → e.1 ≡ token) }
     // At any fault some history leads to the token that is returned.
     ensures led { IfErr result (λ e. IsLed (λ t. K.terms.doubt t.store.keep) (λ t. K.terms.failures t.store.keep)
-        (Shows K.terms) (MayLeave K.terms) token e.1) }
+        (Shows K.terms) (MayLeave K.terms) (HasSpareIds K.terms) token e.1) }
 {
     hold_machine(rt, alloc, token, seats, gate, stacks)
 }

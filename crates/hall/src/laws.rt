@@ -1,15 +1,15 @@
 //! Laws of histories: what `hold` promises, in a reader's words. They speak of the definitions alone.
 
-ghost use Rattle.std.specs.Prelude.{◌≡◌, ℕ, ◌%◌, List, [], ◌∷◌, ◌++◌};
+ghost use Rattle.std.specs.Prelude.{◌≡◌, ℕ, ◌+◌, ◌%◌, List, [], ◌∷◌, ◌++◌};
 ghost use Rattle.model_views.specs.Views.{mask};
 ghost use Rattle.model_worlds.specs.Worlds.{World, after, replies};
 ghost use Rattle.model_worlds.specs.Traces.{replies_to, replies_told, trace};
-ghost use Rattle.token.specs.States.{HasJobs};
-ghost use Rattle.hall_channels.specs.declared.messages.Event.{Event};
+ghost use Rattle.token.specs.States.{HasJobs, blames};
+ghost use Rattle.hall_log.specs.declared.event.Event.{Event};
 ghost use Rattle.hall_channels.specs.declared.outbox.Outbox.{Outbox};
-ghost use Rattle.hall.specs.Exchanges.{Exchange, app_of};
+ghost use Rattle.hall_log.specs.Histories.{Exchange, app_of, History};
 ghost use Rattle.hall.specs.Given.{HasGiven};
-ghost use Rattle.hall.specs.Histories.{AllProper, History, IsHistory, Tells, Unfolds, moves_in, told_in};
+ghost use Rattle.hall.specs.Histories.{AllProper, IsHistory, Tells, Unfolds, ids_in, moves_in, replies_in, told_in};
 
 use crate::machine::Machine;
 
@@ -48,6 +48,14 @@ pub fn whole_history<M: Machine>()
 /// seat kept to its order.
 pub fn given_so_far<M: Machine>()
     ensures { (m n : M) (taken : List (ℕ × Event)) (outboxes : List Outbox) (w : World)
-        (so : HasGiven M.doubt M.failures M.shows M.leaves m n taken outboxes)
+        (so : HasGiven M.doubt M.failures M.shows M.leaves M.spare m n taken outboxes)
         → M.doubt n ≡ 0 → M.shows m w → HasJobs w [] → AllProper so.history → Unfolds w so.history }
+{}
+
+/// No answer that was given to a seat at any moment is CKR_DEVICE_ERROR, where the machine had an id for each call and each result
+/// that it had taken, and each seat kept to its order.
+pub fn spared_so_far<M: Machine>()
+    ensures { (m n : M) (taken : List (ℕ × Event)) (outboxes : List Outbox) (w : World) (count : ℕ)
+        (so : HasGiven M.doubt M.failures M.shows M.leaves M.spare m n taken outboxes)
+        → M.spare m w (count + ids_in so.history) → HasJobs w [] → AllProper so.history → blames (replies_in (told_in so.history)) ≡ 0 }
 {}

@@ -15,7 +15,8 @@
 //!
 //! The token that is returned is where the history ends. It refines the world that the history made; a crash leaves no more of
 //! it than the changes that were acknowledged and perhaps one tried since; and the whole is a run of the token's (`IsRun`,
-//! crate `token`). Failures of the keeper are counted, and account for each `CKR_DEVICE_ERROR`.
+//! crate `token`). Failures of the keeper are counted, and account for each `CKR_DEVICE_ERROR`. Over a steady keeper, as one in
+//! memory, none is answered while there is an id for each call and each result (`SpendsOver`).
 //!
 //! Before the end, too, no seat is given anything else: each answer is given under a clause that says so (`MayGive`,
 //! `specs/Given.antt`). With it the answers given to all seats are those of a history that the token has served, of just the
@@ -47,7 +48,7 @@ mod worker;
 
 pub use closing::Passes;
 pub use fault::HallFault;
-pub use hall_channels::messages::AppCall;
+pub use hall_log::AppCall;
 pub use holding::{Held, hold, hold_with};
 pub use machine::Machine;
 pub use seats::{Gate, Seat, SeatEvent};

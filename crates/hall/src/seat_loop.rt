@@ -7,17 +7,17 @@ ghost use Rattle.serve_base.specs.declared.out.Out.TheVariants.{Reply as OutRepl
 ghost use Rattle.hall_channels.specs.Inward.{sent_of};
 ghost use Rattle.hall_channels.specs.Outward.{got_of};
 ghost use Rattle.hall_channels.specs.Same.{SamePort};
-ghost use Rattle.hall_channels.specs.declared.messages.Event.TheVariants.{Finish, Gone};
+ghost use Rattle.hall_log.specs.declared.event.Event.TheVariants.{Finish, Gone};
 ghost use Rattle.hall.specs.SeatEvents.{heard_in, IsReady, IsTurn};
-ghost use Rattle.hall.specs.Exchanges.{Exchange};
+ghost use Rattle.hall_log.specs.Histories.{Exchange};
 ghost use Rattle.hall.specs.SeatDoings.{Did, PortDid};
 ghost use Rattle.hall.specs.Tells.{Grows};
 ghost use Rattle.hall.specs.declared.seats.SeatEvent.TheVariants.{Call as SeatCall};
 
 use crate::seats::{Gate, Seat, SeatEvent};
 use ck_calls::Reply;
-use hall_channels::messages::{AppCall, Event};
 use hall_channels::port::Port;
+use hall_log::{AppCall, Event};
 use std::alloc::Global;
 use std::sync::Wait;
 use std::time::Clock;

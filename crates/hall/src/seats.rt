@@ -6,7 +6,7 @@ ghost use Rattle.hall.specs.Tells.{Adds};
 ghost use Rattle.hall.specs.SeatEvents.{seat_app, Notes, IsReady};
 
 use ck_calls::Reply;
-use hall_channels::messages::AppCall;
+use hall_log::AppCall;
 
 /// What a seat puts before the token of itself.
 #[derive(Drop)]

@@ -10,8 +10,9 @@ ghost use Rattle.hall.specs.Outboxes.{OutboxesGave, SameOutboxes};
 use crate::machine::Machine;
 use hall_channels::inbox::Inbox;
 use hall_channels::licence::Licence;
-use hall_channels::messages::{Event, Inward, Message};
+use hall_channels::messages::{Inward, Message};
 use hall_channels::outbox::Outbox;
+use hall_log::Event;
 use std::alloc::Global;
 use std::snapshot::Snapshot;
 use std::sync::Wait;
@@ -29,7 +30,7 @@ pub(crate) struct Serving<M> {
 impl<M: Machine> Licence for Serving<M> {
     ghost use Rattle.hall.specs.Given.{HasAnswered};
 
-    ghost allows = { λ serving out. HasAnswered M.doubt M.failures M.shows M.leaves serving.began.value serving.machine out };
+    ghost allows = { λ serving out. HasAnswered M.doubt M.failures M.shows M.leaves M.spare serving.began.value serving.machine out };
 }
 
 /// Gives a seat its answer. False where the channel has ended. It is required that the answers given so far, with this one, are
@@ -44,10 +45,10 @@ fn give<M: Machine, R: Wait>(
     out: Out,
 ) -> bool
     requires within { seat < length outboxes.old }
-    requires may { MayGive M.doubt M.failures M.shows M.leaves serving.now.began.value serving.now.machine
+    requires may { MayGive M.doubt M.failures M.shows M.leaves M.spare serving.now.began.value serving.now.machine
         (taken_of (view _inbox.now.inward_pass)) outboxes.old seat out }
     ensures same { SameOutboxes outboxes.old outboxes.new }
-    ensures given { IsTrue result → HasGiven M.doubt M.failures M.shows M.leaves serving.now.began.value serving.now.machine
+    ensures given { IsTrue result → HasGiven M.doubt M.failures M.shows M.leaves M.spare serving.now.began.value serving.now.machine
         (taken_of (view _inbox.now.inward_pass)) outboxes.new }
 {
     outboxes[seat].answer(rt, serving, message, out)
@@ -64,13 +65,13 @@ fn serve<M: Machine, R: Wait>(
     mut message: Box<Message>,
 ) -> bool
     requires within { seat < length outboxes.old }
-    requires taken { HasTaken M.doubt M.failures M.shows M.leaves serving.old.began.value serving.old.machine
+    requires taken { HasTaken M.doubt M.failures M.shows M.leaves M.spare serving.old.began.value serving.old.machine
         (taken_of (view inbox.now.inward_pass)) outboxes.old seat message.value.event }
     ensures began { serving.new.began.value ≡ serving.old.began.value }
     ensures same { SameOutboxes outboxes.old outboxes.new }
-    ensures given { IsTrue result → HasGiven M.doubt M.failures M.shows M.leaves serving.new.began.value serving.new.machine
+    ensures given { IsTrue result → HasGiven M.doubt M.failures M.shows M.leaves M.spare serving.new.began.value serving.new.machine
         (taken_of (view inbox.now.inward_pass)) outboxes.new }
-    ensures led { IsLed M.doubt M.failures M.shows M.leaves serving.new.began.value serving.new.machine }
+    ensures led { IsLed M.doubt M.failures M.shows M.leaves M.spare serving.new.began.value serving.new.machine }
 {
     match message.take_event() {
         Event::Call(call) => {
@@ -106,9 +107,9 @@ pub(crate) fn serve_seats<M: Machine, R: Wait + Clock>(
     ensures seats { seats_of (view inbox.new.inward_pass) ≡ seats_of (view inbox.old.inward_pass) }
     ensures ended { ended_of (view inbox.new.inward_pass) ≡ ended_of (view inbox.old.inward_pass) }
     ensures outboxes { SameOutboxes outboxes.old outboxes.new }
-    ensures given { IsTrue result → HasGiven M.doubt M.failures M.shows M.leaves serving.new.began.value serving.new.machine
+    ensures given { IsTrue result → HasGiven M.doubt M.failures M.shows M.leaves M.spare serving.new.began.value serving.new.machine
         (taken_of (view inbox.new.inward_pass)) outboxes.new }
-    ensures led { IsLed M.doubt M.failures M.shows M.leaves serving.new.began.value serving.new.machine }
+    ensures led { IsLed M.doubt M.failures M.shows M.leaves M.spare serving.new.began.value serving.new.machine }
 {
     let mut ended: u64 = 0;
     for _ in rt.forever() {

@@ -2,10 +2,11 @@
 
 ghost use Rattle.keep.specs.Keeping.{Terms};
 ghost use Rattle.token.specs.States.{Shows, MayLeave};
+ghost use Rattle.hall.specs.SpareIds.{HasSpareIds};
 
 use crate::machine::Machine;
 use ck_calls::Reply;
-use hall_channels::messages::AppCall;
+use hall_log::AppCall;
 use keep::Keep;
 use std::alloc::Global;
 use token::{Done, Out, Token};
@@ -18,6 +19,8 @@ impl<K: Keep> Machine for Token<K> {
     ghost shows = { λ t w. Shows K.terms t w };
 
     ghost leaves = { λ t l. MayLeave K.terms t l };
+
+    ghost spare = { λ t w n. HasSpareIds K.terms t w n };
 
     fn call(&mut self, alloc: Global, call: AppCall) -> Out {
         let AppCall { app, call, words } = call;
@@ -33,4 +36,6 @@ impl<K: Keep> Machine for Token<K> {
     fn gone(&mut self, app: u64) {
         Token::gone(self, app);
     }
+
+    ghost sure = { λ t w n s. (K.sure t.store.keep s.steady, s.shows) };
 }

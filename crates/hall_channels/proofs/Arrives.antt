@@ -7,10 +7,11 @@ use mathlib.Core.Option.{some, some-ne-none}
 use lib.ListN.{get_elem?}
 use Rattle.crossbeam_channel.specs.Fifo.{Pushes, Pops, Forks, Merges, Learns}
 use Rattle.atomic_table.proofs.Lists.{at_set, at_snoc}
-use Rattle.hall_channels.specs.Lists.{of}
+use Rattle.hall_log.specs.Lists.{of}
 use Rattle.hall_channels.specs.Inward.{from, said, each_of, happened, all_happened, after_put, after_take, one_more, next_sending, sent_of, seats_of, taken_of, ended_of, IsTaking, with_ended, Fits, InwardRule, SentInAll}
-use Rattle.hall_channels.proofs.Rows.{Each, each_set, each_more, of-append, of-one, of-other, get_more, no_index}
-use Rattle.hall_channels.specs.declared.messages.Event.{Event}
+use Rattle.hall_log.proofs.Lists.{of-append, of-one, of-other, get_more}
+use Rattle.hall_channels.proofs.Rows.{Each, each_set, each_more, no_index}
+use Rattle.hall_log.specs.declared.event.Event.{Event}
 use Rattle.hall_channels.specs.declared.messages.Inward.{Inward}
 use Rattle.hall_channels.specs.declared.inward.InwardView.{InwardView}
 use Rattle.hall_channels.specs.declared.inward.InwardView.TheVariants.{Taking, Sending, Spent}

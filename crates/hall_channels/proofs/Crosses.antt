@@ -38,7 +38,7 @@ use Rattle.mech.specs.contracts.done.Done as Done
 use Rattle.ck_calls.specs.contracts.call.Call as Call
 use Rattle.ck_calls.specs.contracts.reply.Reply as Reply
 use Rattle.serve_base.specs.contracts.out.Out as Out
-use Rattle.hall_channels.specs.contracts.messages.Event as Event
+use Rattle.hall_log.specs.contracts.event.Event as Event
 use Rattle.hall_channels.specs.contracts.messages.Message as Message
 use Rattle.hall_channels.specs.contracts.messages.Answered as Answered
 use Rattle.hall_channels.specs.contracts.messages.Inward as Inward
@@ -46,7 +46,7 @@ use Rattle.hall_channels.specs.contracts.messages.Outward as Outward
 use Rattle.lists.specs.contracts.ghost_bytes.GhostBytes as GhostBytes
 use Rattle.streams.specs.contracts.stream.Stream.TheInside as Inside
 use Rattle.aes_vector.specs.contracts.Key as Key
-use Rattle.hall_channels.specs.contracts.messages.AppCall as AppCall
+use Rattle.hall_log.specs.contracts.event.AppCall as AppCall
 
 kept_send : IsSend Kept.the_row
 kept_send = search sendable depth 8

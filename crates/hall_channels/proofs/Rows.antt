@@ -1,11 +1,8 @@
--- Lists of numbered elements, and the views of passes.
-use Rattle.std.proofs.Common.{◌≡◌, ◌≢◌, ℕ, zero, suc, ◌+◌, ◌<◌, ◌≤◌, ◌⊎◌, Bool, true, false, cond, nat_eq, List, [], ◌∷◌, ◌++◌, length, set, sym, refl, ap, ◌∙◌, subst, inl, inr, ⊎_elim, append_assoc, arith, Option, Some, None}
-use Rattle.std.specs.List.{slice_get}
-use Rattle.std.proofs.lemmas.Bool.Decides.{nat_tests}
+-- Lists, and the views of passes.
+use Rattle.std.proofs.Common.{◌≡◌, ◌≢◌, ℕ, zero, suc, ◌⊎◌, List, [], ◌∷◌, ◌++◌, length, set, sym, refl, ap, subst, inl, inr, ⊎_elim}
 use mathlib.Core.Option.{some, some-ne-none}
 use lib.ListN.{get_elem?}
 use Rattle.atomic_table.proofs.Lists.{at_set, at_snoc}
-use Rattle.hall_channels.specs.Lists.{of}
 
 module _ {A : Type 0} where
   pub at_end : (l : List A) (a b : A) (j : ℕ) → get_elem? l j ≢ some b → get_elem? (l ++ a ∷ []) j ≡ some b → j ≡ length l
@@ -35,20 +32,3 @@ module _ {A : Type 0} where
   pub no_index : (l : List A) (x : A) → get_elem? l (length l) ≢ some x
   no_index [] x e = some-ne-none x (sym e)
   no_index (y ∷ ys) x e = no_index ys x e
-
-  pub of-append : (s : ℕ) (xs ys : List (ℕ × A)) → of s (xs ++ ys) ≡ of s xs ++ of s ys
-  of-append s [] ys = refl
-  of-append s (x ∷ xs) ys = elim (nat_eq x.0 s) as (λ b. cond b (x.1 ∷ of s (xs ++ ys)) (of s (xs ++ ys)) ≡ cond b (x.1 ∷ of s xs) (of s xs) ++ of s ys)
-      [ true ↦ ap (λ l. x.1 ∷ l) (of-append s xs ys) | false ↦ of-append s xs ys ]
-
-  pub of-one : (s : ℕ) (t : ℕ) (a : A) → t ≡ s → of s ((t, a) ∷ []) ≡ a ∷ []
-  of-one s t a e = grind (arith, nat_tests)
-
-  pub of-other : (s : ℕ) (t : ℕ) (a : A) → t ≢ s → of s ((t, a) ∷ []) ≡ []
-  of-other s t a e = grind (arith, nat_tests)
-
-  pub get_more : (xs : List A) (a b : A) (k : ℕ) → slice_get (xs ++ a ∷ []) k ≡ Some b → (slice_get xs k ≡ Some b) ⊎ ((k ≡ length xs) × (a ≡ b))
-  get_more [] a b zero e = inr (refl, cc)
-  get_more [] a b (suc k) e = cc
-  get_more (x ∷ xs) a b zero e = inl e
-  get_more (x ∷ xs) a b (suc k) e = ⊎_elim inl (λ (t : (k ≡ length xs) × (a ≡ b)). inr (ap suc t.0, t.1)) (get_more xs a b k e)

@@ -2,8 +2,8 @@
 use Rattle.std.specs.Prelude.{◌≡◌, ℕ, ◌+◌, ◌≤◌, List, [], ◌∷◌, ◌++◌, Option, Some, None, slice_get}
 use mathlib.Core.Option.{some}
 use lib.ListN.{get_elem?}
-use Rattle.hall_channels.specs.Lists.{of}
-use Rattle.hall_channels.specs.declared.messages.Event.{Event}
+use Rattle.hall_log.specs.Lists.{of}
+use Rattle.hall_log.specs.declared.event.Event.{Event}
 use Rattle.hall_channels.specs.declared.messages.Inward.{Inward}
 use Rattle.hall_channels.specs.declared.messages.Inward.TheVariants.{Put, End}
 use Rattle.hall_channels.specs.declared.inward.InwardView.{InwardView}

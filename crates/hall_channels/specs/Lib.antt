@@ -1,5 +1,4 @@
 pub mod Inward
-pub mod Lists
 pub mod Outward
 pub mod Same
 pub mod Sound

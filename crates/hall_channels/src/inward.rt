@@ -2,8 +2,9 @@
 
 ghost use Rattle.std.specs.Prelude.{◌≡◌};
 
-use crate::messages::{Event, Inward};
+use crate::messages::Inward;
 use crossbeam_channel::protocol::{Join, Lesson, Outcome, Protocol, Split};
+use hall_log::Event;
 use std::collections::LinkedList;
 
 /// What a pass of the inward channel knows. No value of it is made: it is for contracts alone.

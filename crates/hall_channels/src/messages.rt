@@ -1,33 +1,12 @@
 //! What passes between the seats and the token.
 
-ghost use Rattle.std.specs.Prelude.{◌≡◌, length};
-ghost use Rattle.ck_calls.specs.Need.{random_bytes};
+ghost use Rattle.std.specs.Prelude.{◌≡◌};
 
-use ck_calls::{Call, Reply};
-use mech::Done;
+use ck_calls::Reply;
+use hall_log::Event;
 use serve_base::Out;
 use std::alloc::{AllocError, Global};
 use std::mem;
-
-/// A call of an application, with as many random bytes as `ck_calls::need` returns.
-#[derive(Drop)]
-pub struct AppCall {
-    pub app: u64,
-    pub call: Call,
-    pub words: Vec<u8>,
-    pub ghost random: { length words.items ≡ random_bytes call },
-}
-
-/// What a seat puts before the token.
-#[derive(Drop)]
-pub enum Event {
-    /// A call of an application.
-    Call(AppCall),
-    /// The result of the job that was the answer to a call of the application.
-    Finish { app: u64, done: Done },
-    /// A disconnect of an application. It is not answered.
-    Gone { app: u64 },
-}
 
 /// Where an event lies on its way to the token, and its answer on the way back. Each seat has one, which is allocated once.
 /// So a channel passes a pointer, and a call allocates nothing for it. In which field to look says the type of what passes.

@@ -9,10 +9,11 @@ ghost use Rattle.hall_channels.specs.Sound.{AreSound};
 ghost use Rattle.hall_channels.specs.Takings.{Got};
 
 use crate::inward::Puts;
-use crate::messages::{Answered, Event, Inward, Outward};
+use crate::messages::{Answered, Inward, Outward};
 use crate::outward::Gets;
 use crate::patience::Patience;
 use crate::port::{Ends, Port, SeatEnds};
+use hall_log::Event;
 use serve_base::Out;
 use std::sync::Wait;
 use std::time::Clock;

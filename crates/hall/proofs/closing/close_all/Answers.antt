@@ -1,6 +1,6 @@
 use Rattle.std.proofs.Common.{◌++◌, ◌∷◌, [], ◌∙◌, ap, length}
 use Rattle.crossbeam_channel.specs.Claims.{view}
-use Rattle.hall.specs.Exchanges.{events}
+use Rattle.hall_log.specs.Histories.{events}
 use Rattle.hall.proofs.Joins.{four_sent, surely}
 use Rattle.hall.proofs.closing.close_all.Goals as goal
 

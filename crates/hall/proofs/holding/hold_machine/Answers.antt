@@ -10,10 +10,10 @@ not_memory (Ok a) m h = tt
 not_memory (Err e) m h = λ is. absurd (let x : Memory ≡ Thread = sym is ∙ h in cc)
 
 pub returns-in_default-clause-led : goal.returns-in_default-clause-led
-returns-in_default-clause-led g c = led_none g.M.Machine.doubt g.M.Machine.failures g.M.Machine.shows g.M.Machine.leaves c.args.machine
+returns-in_default-clause-led g c = led_none g.M.Machine.doubt g.M.Machine.failures g.M.Machine.shows g.M.Machine.leaves g.M.Machine.spare c.args.machine
 
 pub returns-in-Err-clause-led : goal.returns-in-Err-clause-led
-returns-in-Err-clause-led g c = led_none g.M.Machine.doubt g.M.Machine.failures g.M.Machine.shows g.M.Machine.leaves c.args.machine
+returns-in-Err-clause-led g c = led_none g.M.Machine.doubt g.M.Machine.failures g.M.Machine.shows g.M.Machine.leaves g.M.Machine.spare c.args.machine
 
 pub returns-in-Ok-start_all-clause-memory : goal.returns-in-Ok-start_all-clause-memory
 returns-in-Ok-start_all-clause-memory g c = not_memory c.serve_all.result c.args.machine c.serve_all.ensures.thread

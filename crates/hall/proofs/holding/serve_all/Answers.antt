@@ -9,7 +9,7 @@ use Rattle.hall.proofs.holding.serve_all.Goals as goal
 
 pub returns-in-Some-clause-held : goal.returns-in-Some-clause-held
 returns-in-Some-clause-held g c =
-    let t = given_from g.M.Machine.doubt g.M.Machine.failures g.M.Machine.shows g.M.Machine.leaves _ c.args.machine _ _ _ (c.serve_seats.ensures.began ∙ c.of-began.ensures) (c.serve_seats.ensures.given c.if-not-serve_seats.false) in
+    let t = given_from g.M.Machine.doubt g.M.Machine.failures g.M.Machine.shows g.M.Machine.leaves g.M.Machine.spare _ c.args.machine _ _ _ (c.serve_seats.ensures.began ∙ c.of-began.ensures) (c.serve_seats.ensures.given c.if-not-serve_seats.false) in
     let s = c.in-Some.ensures in
     let r = c.in-Some.closed in
     let a = g.S.Seat.asked in
@@ -26,10 +26,11 @@ returns-in-Some-clause-held g c =
       part3 = subst (λ x. IsPartOf t.history 3 (view r.passes.outward3) (a x.promise.seat.value) (a r.seats.3) (h x.promise.seat.value) (h r.seats.3)) (c.worker-4.ensures.1 ∙ c.permit-outbox3.ensures.thread) all.4;
       counts = t.served.counts;
       runs = λ sure w shows idle. history_is _ _ _ w t.history all.0.settled (t.served.runs sure w shows idle all.0.proper);
+      spends = t.served.spends all.0.proper;
     }
 
 pub returns-clause-led : goal.returns-clause-led
-returns-clause-led g c = led_from g.M.Machine.doubt g.M.Machine.failures g.M.Machine.shows g.M.Machine.leaves _ c.args.machine _ (c.serve_seats.ensures.began ∙ c.of-began.ensures) c.serve_seats.ensures.led
+returns-clause-led g c = led_from g.M.Machine.doubt g.M.Machine.failures g.M.Machine.shows g.M.Machine.leaves g.M.Machine.spare _ c.args.machine _ (c.serve_seats.ensures.began ∙ c.of-began.ensures) c.serve_seats.ensures.led
 
 pub returns-then-not-serve_seats-clause-led : goal.returns-then-not-serve_seats-clause-led
-returns-then-not-serve_seats-clause-led g c = led_from g.M.Machine.doubt g.M.Machine.failures g.M.Machine.shows g.M.Machine.leaves _ c.args.machine _ (c.serve_seats.ensures.began ∙ c.of-began.ensures) c.serve_seats.ensures.led
+returns-then-not-serve_seats-clause-led g c = led_from g.M.Machine.doubt g.M.Machine.failures g.M.Machine.shows g.M.Machine.leaves g.M.Machine.spare _ c.args.machine _ (c.serve_seats.ensures.began ∙ c.of-began.ensures) c.serve_seats.ensures.led

@@ -2,7 +2,7 @@ use Rattle.std.proofs.Common.{◌≡◌, ◌∙◌, ◌∷◌, [], ◌++◌, ref
 use Rattle.crossbeam_channel.specs.Claims.{view}
 use Rattle.hall_channels.specs.Outward.{got_of}
 use Rattle.serve_base.specs.declared.out.Out.TheVariants.{Reply, Ask}
-use Rattle.hall_channels.specs.declared.messages.Event.TheVariants.{Call, Finish}
+use Rattle.hall_log.specs.declared.event.Event.TheVariants.{Call, Finish}
 use Rattle.hall.proofs.ProperExchanges.{if_some, two_more}
 use Rattle.hall.proofs.seat_loop.ask.Goals as goal
 

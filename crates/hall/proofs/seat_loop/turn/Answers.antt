@@ -1,8 +1,8 @@
 use Rattle.std.proofs.Common.{◌∙◌, ap, sym, subst, List, ◌∷◌, [], refl, Some, None, append-nil}
-use Rattle.hall_channels.specs.declared.messages.Event.TheVariants.{Gone}
+use Rattle.hall_log.specs.declared.event.Event.TheVariants.{Gone}
 use Rattle.hall.specs.declared.seats.SeatEvent.{SeatEvent}
 use Rattle.hall.specs.SeatEvents.{IsTurn}
-use Rattle.hall.specs.Exchanges.{Exchange}
+use Rattle.hall_log.specs.Histories.{Exchange}
 use Rattle.hall.proofs.seat_loop.turn.Goals as goal
 
 pub returns-in-Gone-clause-exchanges : goal.returns-in-Gone-clause-exchanges

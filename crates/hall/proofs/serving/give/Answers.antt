@@ -6,7 +6,7 @@ use Rattle.hall.proofs.serving.give.Goals as goal
 
 pub answer-requires : goal.answer-requires
 answer-requires g c = record {
-  allowed = answered g.M.Machine.doubt g.M.Machine.failures g.M.Machine.shows g.M.Machine.leaves _ _ _ _ c.args.seat c.args.out c.requires.may;
+  allowed = answered g.M.Machine.doubt g.M.Machine.failures g.M.Machine.shows g.M.Machine.leaves g.M.Machine.spare _ _ _ _ c.args.seat c.args.out c.requires.may;
 }
 
 pub returns-clause-same : goal.returns-clause-same
@@ -19,4 +19,4 @@ pub returns-clause-given : goal.returns-clause-given
 returns-clause-given g c = λ t.
     let outbox = get_or c.args.outboxes.now c.args.seat c.index-outboxes-seat.result in
     let at = slice_get-get_or c.args.outboxes.now c.args.seat c.index-outboxes-seat.result c.requires.within in
-    given_more g.M.Machine.doubt g.M.Machine.failures g.M.Machine.shows g.M.Machine.leaves _ _ _ c.args.outboxes.now c.args.seat c.args.out outbox c.answer.new.self c.requires.may at (c.answer.ensures.given t)
+    given_more g.M.Machine.doubt g.M.Machine.failures g.M.Machine.shows g.M.Machine.leaves g.M.Machine.spare _ _ _ c.args.outboxes.now c.args.seat c.args.out outbox c.answer.new.self c.requires.may at (c.answer.ensures.given t)

@@ -11,12 +11,12 @@ loop-init g c = (
   refl,
   refl,
   refl,
-  given_from g.M.Machine.doubt g.M.Machine.failures g.M.Machine.shows g.M.Machine.leaves c.args.serving.now.machine _ _ _ _ (sym c.requires.began) (given_none g.M.Machine.doubt g.M.Machine.failures g.M.Machine.shows g.M.Machine.leaves c.args.serving.now.machine _ _ c.requires.taken c.requires.given),
+  given_from g.M.Machine.doubt g.M.Machine.failures g.M.Machine.shows g.M.Machine.leaves g.M.Machine.spare c.args.serving.now.machine _ _ _ _ (sym c.requires.began) (given_none g.M.Machine.doubt g.M.Machine.failures g.M.Machine.shows g.M.Machine.leaves g.M.Machine.spare c.args.serving.now.machine _ _ c.requires.taken c.requires.given),
 )
 
 pub serve-requires-clause-taken : goal.serve-requires-clause-taken
 serve-requires-clause-taken g c =
-    has_taken g.M.Machine.doubt g.M.Machine.failures g.M.Machine.shows g.M.Machine.leaves _ _ _ _ _ c.in-Some-Put.seat c.in-Some-Put.message.value.event c.loop.invariant.7 (rw c.in-Some-Put.field-0-is at c.in-Some-Put.ensures.took.0)
+    has_taken g.M.Machine.doubt g.M.Machine.failures g.M.Machine.shows g.M.Machine.leaves g.M.Machine.spare _ _ _ _ _ c.in-Some-Put.seat c.in-Some-Put.message.value.event c.loop.invariant.7 (rw c.in-Some-Put.field-0-is at c.in-Some-Put.ensures.took.0)
 
 pub loop-preserved : goal.loop-preserved
 loop-preserved g c =

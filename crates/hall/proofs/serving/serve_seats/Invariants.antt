@@ -14,4 +14,4 @@ invariant-loop g l =
     × (ended_of (view l.inbox.inward_pass) ≡ ended_of (view l.fn.inbox.inward_pass))
     × SameOutboxes l.fn.outboxes l.outboxes
     × (l.serving.began.value ≡ l.fn.serving.began.value)
-    × HasGiven g.M.Machine.doubt g.M.Machine.failures g.M.Machine.shows g.M.Machine.leaves l.serving.began.value l.serving.machine (taken_of (view l.inbox.inward_pass)) l.outboxes
+    × HasGiven g.M.Machine.doubt g.M.Machine.failures g.M.Machine.shows g.M.Machine.leaves g.M.Machine.spare l.serving.began.value l.serving.machine (taken_of (view l.inbox.inward_pass)) l.outboxes

@@ -1,0 +1,6 @@
+pub mod Beginnings
+pub mod Lists
+pub mod Logs
+pub mod Mays
+pub mod Steps
+pub mod Telling

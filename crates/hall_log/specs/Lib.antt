@@ -1,0 +1,5 @@
+pub mod Counting
+pub mod Histories
+pub mod Lists
+pub mod Log
+pub mod SeatLogs

@@ -1,0 +1,42 @@
+//! Which log it is.
+
+ghost use Rattle.std.specs.Prelude.{ℕ, List};
+
+use std::marker::Brand;
+
+/// Which log it is, and which histories were served in it. Its members are for contracts alone: each call of a program that begins a
+/// log picks them.
+pub trait Naming {
+    ghost use Rattle.logbook.specs.Pages.{Book};
+    ghost use Rattle.hall_log.specs.Histories.{AllOwn, Exchange, History};
+    ghost use Rattle.hall_log.specs.declared.event.Event.{Event};
+
+    /// The book that the log is of.
+    ghost book: { Book };
+
+    /// The reader of this application has given these bytes, at some moment.
+    ghost given: { ℕ → List ℕ → Type 0 };
+
+    /// A seat may put this event after these exchanges of its own.
+    ghost may: { ℕ → List Exchange → Event → Type 0 };
+
+    /// The machine has served this history.
+    ghost served: { History → Type 0 };
+
+    /// Each event of such a history is of an application of its own seat.
+    ghost own: { (h : History) → served h → AllOwn h };
+}
+
+impl Naming for Brand {
+    ghost use Rattle.hall_log.specs.Histories.{AllOwn};
+
+    ghost book = { record { number = 0; log_name = 0; cells_name = 0 } };
+
+    ghost given = { λ app bytes. Unit {0} };
+
+    ghost may = { λ seat before event. Unit {0} };
+
+    ghost served = { λ history. AllOwn history };
+
+    ghost own = { λ history own. own };
+}
