@@ -7,13 +7,13 @@ use Rattle.rand_chacha.specs.ChaCha.{ChaCha}
 use Rattle.ck_calls.specs.declared.reply.Reply.{Reply as ReplyType}
 use Rattle.serve_base.specs.declared.out.Out.{Out}
 use Rattle.serve_base.specs.declared.out.Out.TheVariants.{Reply, Ask as AskOut}
-use Rattle.hall_channels.specs.Lists.{of}
-use Rattle.hall_channels.specs.declared.messages.AppCall.{AppCall}
-use Rattle.hall_channels.specs.declared.messages.Event.{Event}
-use Rattle.hall_channels.specs.declared.messages.Event.TheVariants.{Call, Finish, Gone}
-use Rattle.hall_channels.proofs.Rows.{of-append, of-one, of-other}
-use Rattle.hall.specs.Exchanges.{Exchange, app_of}
-use Rattle.hall.specs.Histories.{AllProper, History, told_by, told_in}
+use Rattle.hall_log.specs.Lists.{of}
+use Rattle.hall_log.specs.declared.event.AppCall.{AppCall}
+use Rattle.hall_log.specs.declared.event.Event.{Event}
+use Rattle.hall_log.specs.declared.event.Event.TheVariants.{Call, Finish, Gone}
+use Rattle.hall_log.proofs.Lists.{of-append, of-one, of-other}
+use Rattle.hall_log.specs.Histories.{Exchange, app_of, History}
+use Rattle.hall.specs.Histories.{AllProper, told_by, told_in}
 use Rattle.hall.specs.SeatEvents.{asked_in, heard_by, heard_in}
 use Rattle.hall.specs.Held.{IsPartOf, WereHeld}
 use Rattle.hall.specs.Tells.{Grows}
@@ -174,11 +174,11 @@ module _ (stop : StopLaw) (leave : LeaveLaw) (own : OwnLaw) where
       was_served stop leave own seed new s history (first-of _ _ _ _ fixed ∙ fresh.0) (rest-of _ _ _ _ fixed ∙ fresh.1) (grown old.asked.items new.asked.items (asked_in (of s history)) fresh.5 part.asked)
       (grown old.clients.told.items new.clients.told.items (heard_in (of s history)) fresh.4 part.heard) proper
 
-  were_served : {L C T : Type 0} (doubt failures : T → ℕ) (shows : T → World → Type 0) (leaves : T → Option Lasting → Type 0) (seed : List ℕ) (inward : InwardView) (o0 o1 o2 o3 : OutwardView)
+  were_served : {L C T : Type 0} (doubt failures : T → ℕ) (shows : T → World → Type 0) (leaves : T → Option Lasting → Type 0) (spare : T → World → ℕ → Type 0) (seed : List ℕ) (inward : InwardView) (o0 o1 o2 o3 : OutwardView)
       (old new : SocketSeat L C × SocketSeat L C × SocketSeat L C × SocketSeat L C) (before after : T) → AreNew seed old
       → (fixed_of new.0 ≡ fixed_of old.0) × (fixed_of new.1 ≡ fixed_of old.1) × (fixed_of new.2 ≡ fixed_of old.2) × (fixed_of new.3 ≡ fixed_of old.3)
-      → WereHeld (λ (s : SocketSeat L C). Some s.asked.items) (λ (s : SocketSeat L C). Some s.clients.told.items) doubt failures shows leaves inward o0 o1 o2 o3 old new before after → WereServed doubt failures shows leaves seed inward new before after
-  were_served doubt failures shows leaves seed inward o0 o1 o2 o3 old new before after fresh fixed held = record {
+      → WereHeld (λ (s : SocketSeat L C). Some s.asked.items) (λ (s : SocketSeat L C). Some s.clients.told.items) doubt failures shows leaves spare inward o0 o1 o2 o3 old new before after → WereServed doubt failures shows leaves spare seed inward new before after
+  were_served doubt failures shows leaves spare seed inward o0 o1 o2 o3 old new before after fresh fixed held = record {
     history = held.history;
     interleaves = held.interleaves;
     seat0 = one_served seed 0 held.history o0 old.0 new.0 held.interleaves.proper fresh.0 fixed.0 held.part0;
@@ -187,14 +187,15 @@ module _ (stop : StopLaw) (leave : LeaveLaw) (own : OwnLaw) where
     seat3 = one_served seed 3 held.history o3 old.3 new.3 held.interleaves.proper fresh.3 fixed.3 held.part3;
     counts = held.counts;
     runs = held.runs;
+    spends = held.spends;
   }
 
   -- where they were held
-  pub served_by : {L C T E : Type 0} (doubt failures : T → ℕ) (shows : T → World → Type 0) (leaves : T → Option Lasting → Type 0) (seed : List ℕ) (old : SocketSeat L C × SocketSeat L C × SocketSeat L C × SocketSeat L C) (before : T)
+  pub served_by : {L C T E : Type 0} (doubt failures : T → ℕ) (shows : T → World → Type 0) (leaves : T → Option Lasting → Type 0) (spare : T → World → ℕ → Type 0) (seed : List ℕ) (old : SocketSeat L C × SocketSeat L C × SocketSeat L C × SocketSeat L C) (before : T)
       (r : Result (Held T (SocketSeat L C)) E) → AreNew seed old
       → IfOk r (λ h. (fixed_of h.seats.0 ≡ fixed_of old.0) × (fixed_of h.seats.1 ≡ fixed_of old.1) × (fixed_of h.seats.2 ≡ fixed_of old.2) × (fixed_of h.seats.3 ≡ fixed_of old.3))
-      → IfOk r (λ h. WereHeld (λ (s : SocketSeat L C). Some s.asked.items) (λ (s : SocketSeat L C). Some s.clients.told.items) doubt failures shows leaves (view h.passes.inward) (view h.passes.outward0) (view h.passes.outward1) (view h.passes.outward2) (view h.passes.outward3) old h.seats before h.token)
-      → IfOk r (λ h. WereServed doubt failures shows leaves seed (view h.passes.inward) h.seats before h.token)
-  served_by doubt failures shows leaves seed old before (Ok h) fresh fixed held =
-      were_served doubt failures shows leaves seed (view h.passes.inward) (view h.passes.outward0) (view h.passes.outward1) (view h.passes.outward2) (view h.passes.outward3) old h.seats before h.token fresh fixed held
-  served_by doubt failures shows leaves seed old before (Err e) fresh fixed held = tt
+      → IfOk r (λ h. WereHeld (λ (s : SocketSeat L C). Some s.asked.items) (λ (s : SocketSeat L C). Some s.clients.told.items) doubt failures shows leaves spare (view h.passes.inward) (view h.passes.outward0) (view h.passes.outward1) (view h.passes.outward2) (view h.passes.outward3) old h.seats before h.token)
+      → IfOk r (λ h. WereServed doubt failures shows leaves spare seed (view h.passes.inward) h.seats before h.token)
+  served_by doubt failures shows leaves spare seed old before (Ok h) fresh fixed held =
+      were_served doubt failures shows leaves spare seed (view h.passes.inward) (view h.passes.outward0) (view h.passes.outward1) (view h.passes.outward2) (view h.passes.outward3) old h.seats before h.token fresh fixed held
+  served_by doubt failures shows leaves spare seed old before (Err e) fresh fixed held = tt

@@ -11,7 +11,9 @@ use Rattle.mio.specs.contracts.Events as Events
 use Rattle.lists.specs.contracts.ghost_list.GhostList as GhostList
 use Rattle.line_places.specs.contracts.places.Places as Places
 use Rattle.line_places.proofs.Crosses.{places_send}
+use Rattle.hall_sockets.specs.contracts.audit.Audited as Audited
 use Rattle.hall_sockets.specs.contracts.loads.Loads as Loads
+use Rattle.hall_sockets.specs.contracts.sockets.Sockets as Sockets
 use Rattle.hall_sockets.specs.contracts.seat.SocketSeat as SocketSeat
 
 stream_send : IsSend UnixStream.the_row
@@ -29,6 +31,15 @@ loads_send = search (sendable, crosses) depth 30
 loads_sync : IsSync Loads.the_row
 loads_sync = search (sendable, crosses) depth 30
 
+sockets_send : IsSend Sockets.the_row
+sockets_send = search (sendable, crosses) depth 30
+
+sockets_sync : IsSync Sockets.the_row
+sockets_sync = search (sendable, crosses) depth 30
+
+audited_send : IsSend Audited.the_row
+audited_send = search sendable depth 20
+
 pub seat_send : (L C : RattleType) → IsSend L → IsSend C → IsSend (SocketSeat.the_row L C)
 seat_send L C l c = declared_send (SocketSeat.the_type L C) (
   search sendable depth 8,
@@ -41,48 +52,66 @@ seat_send L C l c = declared_send (SocketSeat.the_type L C) (
         (
           search (loads_send, loads_sync, sendable, crosses) depth 30,
           (
-            listener_send,
+            search (sockets_send, sockets_sync, sendable, crosses) depth 30,
             (
-              search (sendable, crosses) depth 30 fits 20000,
+              search (listener_send, sendable, crosses) depth 30,
               (
-                search (sendable, crosses) depth 30 fits 20000,
+                search sendable depth 8,
                 (
-                  clients_send,
+                  search (sendable, crosses) depth 30 fits 20000,
                   (
-                    search sendable depth 8,
+                    search (sendable, crosses) depth 30 fits 20000,
                     (
-                      search sendable depth 8,
+                      clients_send,
                       (
-                        search sendable depth 20,
+                        search sendable depth 8,
                         (
-                          search sendable depth 20,
+                          search sendable depth 8,
                           (
                             search sendable depth 20,
                             (
-                              search (sendable, crosses) depth 30,
+                              search sendable depth 20,
                               (
                                 search sendable depth 20,
                                 (
-                                  search sendable depth 8,
+                                  search sendable depth 20,
                                   (
-                                    search sendable depth 8,
+                                    search (sendable, crosses) depth 30,
                                     (
-                                      search sendable depth 8,
+                                      search sendable depth 20,
                                       (
-                                        search (sendable, crosses) depth 30,
+                                        search sendable depth 8,
                                         (
                                           search sendable depth 8,
                                           (
-                                            search (sendable, crosses) depth 30,
+                                            search (audited_send, sendable, crosses) depth 30,
                                             (
-                                              search sendable depth 20,
+                                              search sendable depth 8,
                                               (
-                                                search sendable depth 20,
+                                                search (sendable, crosses) depth 30,
                                                 (
-                                                  search sendable depth 20,
+                                                  search sendable depth 8,
                                                   (
-                                                    search sendable depth 8,
-                                                    (search sendable depth 8, (search sendable depth 8, tt)),
+                                                    search (sendable, crosses) depth 30,
+                                                    (
+                                                      search sendable depth 20,
+                                                      (
+                                                        search sendable depth 20,
+                                                        (
+                                                          search sendable depth 20,
+                                                          (
+                                                            search sendable depth 8,
+                                                            (
+                                                              search sendable depth 8,
+                                                              (
+                                                                search sendable depth 8,
+                                                                tt,
+                                                              ),
+                                                            ),
+                                                          ),
+                                                        ),
+                                                      ),
+                                                    ),
                                                   ),
                                                 ),
                                               ),

@@ -2,7 +2,7 @@
 use Rattle.std.specs.Option.{IfSome}
 use Rattle.std.proofs.Common.{◌≡◌, ℕ, ◌%◌, List, [], ◌∷◌, ◌++◌, map, sym, refl, ap, ◌∙◌, subst, Option, Some, None}
 use Rattle.std.proofs.lemmas.List.{map-append}
-use Rattle.hall_channels.specs.declared.messages.AppCall.{AppCall}
+use Rattle.hall_log.specs.declared.event.AppCall.{AppCall}
 use Rattle.hall.specs.SeatEvents.{seat_app}
 use Rattle.hall.specs.declared.seats.SeatEvent.{SeatEvent}
 use Rattle.hall.specs.declared.seats.SeatEvent.TheVariants.{Call, Gone}

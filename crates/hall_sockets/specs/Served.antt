@@ -3,11 +3,12 @@ use Rattle.std.specs.Prelude.{◌≡◌, ◌≢◌, ℕ, ◌%◌, List, [], ◌�
 use Rattle.std.specs.declared.net.unix.UnixStream.{UnixStream}
 use Rattle.model_worlds.specs.Worlds.{World}
 use Rattle.token.specs.States.{HasJobs, Lasting}
-use Rattle.hall_channels.specs.Lists.{of}
-use Rattle.hall_channels.specs.declared.messages.Event.{Event}
-use Rattle.hall_channels.specs.declared.messages.Event.TheVariants.{Call, Finish, Gone}
+use Rattle.hall_log.specs.Lists.{of}
+use Rattle.hall_log.specs.declared.event.Event.{Event}
+use Rattle.hall_log.specs.declared.event.Event.TheVariants.{Call, Finish, Gone}
 use Rattle.hall_channels.specs.declared.inward.InwardView.{InwardView}
-use Rattle.hall.specs.Histories.{History, Counts, IsHistory, replies_in, told_in}
+use Rattle.hall_log.specs.Histories.{History}
+use Rattle.hall.specs.Histories.{Counts, IsHistory, SpendsOver, replies_in, told_in}
 use Rattle.hall.specs.Held.{Interleaves}
 use Rattle.hall.specs.SeatEvents.{asked_in}
 use Rattle.line.specs.Turns.{Ask}
@@ -49,7 +50,8 @@ pub record WasServed {L C : Type 0} (seed : List ℕ) (seat : SocketSeat L C) (s
 
 -- Four seats on a socket were held before a machine: what they put is one history, which the machine took, and each connection was
 -- served by it. Where the machine's store is faithful and no call was pending, it is a run from the world that the machine refined.
-pub record WereServed {L C T : Type 0} (doubt failures : T → ℕ) (shows : T → World → Type 0) (leaves : T → Option Lasting → Type 0) (seed : List ℕ)
+-- While the machine had an id for each object to come, no answer was CKR_DEVICE_ERROR.
+pub record WereServed {L C T : Type 0} (doubt failures : T → ℕ) (shows : T → World → Type 0) (leaves : T → Option Lasting → Type 0) (spare : T → World → ℕ → Type 0) (seed : List ℕ)
     (inward : InwardView) (seats : SocketSeat L C × SocketSeat L C × SocketSeat L C × SocketSeat L C) (before after : T) : Type 0 where
   pub history : History
   pub interleaves : Interleaves history inward
@@ -59,3 +61,4 @@ pub record WereServed {L C T : Type 0} (doubt failures : T → ℕ) (shows : T �
   pub seat3 : ∥ WasServed seed seats.3 3 history ∥₁
   pub counts : Counts (doubt before) (doubt after) (failures before) (failures after) (replies_in (told_in history))
   pub runs : doubt after ≡ 0 → (w : World) → shows before w → HasJobs w [] → IsHistory (shows after) (leaves before) (leaves after) w history
+  pub spends : SpendsOver spare before after history

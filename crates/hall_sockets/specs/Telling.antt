@@ -1,6 +1,6 @@
 -- What a seat gave and took.
 use Rattle.std.specs.Prelude.{◌≡◌, ℕ, List, [], ◌∷◌, map, length}
-use Rattle.hall_channels.specs.declared.messages.AppCall.{AppCall}
+use Rattle.hall_log.specs.declared.event.AppCall.{AppCall}
 use Rattle.hall.specs.declared.seats.SeatEvent.{SeatEvent}
 use Rattle.hall.specs.declared.seats.SeatEvent.TheVariants.{Call, Gone}
 use Rattle.line_places.specs.declared.client.Client.{Client}

@@ -4,7 +4,7 @@ ghost use Rattle.hall_sockets.specs.Staying.{Stays};
 
 use crate::seat::SocketSeat;
 use crate::waiting::{LISTENER, PATIENCE};
-use log::{Log, error, warn};
+use log::{Log, info, warn};
 use mio::unix::SourceFd;
 use mio::{Interest, Token};
 use std::io::{self, ErrorKind};
@@ -84,29 +84,69 @@ impl<L: Log, C: Clock> SocketSeat<L, C> {
         self.is_leaving = true;
     }
 
-    /// Has the next wait report whether somebody waits to be accepted.
+    /// Has the next wait report whether somebody waits to be accepted by a listener.
     pub(crate) fn ask_listener(&mut self)
         ensures { Stays self.old self.new }
     {
         self.is_leaving = false;
-        let fd = self.listener.as_raw_fd();
-        let registry = self.poll.registry();
-        let renewed = registry.reregister(&mut SourceFd(&fd), Token(LISTENER), Interest::READABLE);
-        if renewed.is_err() {
+        if self.renew_listeners().is_err() {
             self.has_failed = true;
         }
+    }
+
+    fn renew_listeners(&self) -> io::Result<()> {
+        let registry = self.poll.registry();
+        for (listener, at) in self.listeners.iter().zip(LISTENER..) {
+            let fd = listener.as_raw_fd();
+            registry.reregister(&mut SourceFd(&fd), Token(at), Interest::READABLE)?;
+        }
+        Ok(())
     }
 
     /// Accepts one, to stand at a place.
     fn accept_at(&mut self, place: usize)
         ensures { Stays self.old self.new }
     {
-        match self.listener.accept() {
-            Ok((stream, _)) => match self.halves(place, stream) {
+        match self.accept_one() {
+            Ok(stream) => match self.halves(place, stream) {
                 Ok((reader, writer)) => self.seat_at(place, reader, writer),
-                Err(error) => warn!(self.log; "a connection is not accepted: {error}"),
+                Err(error) => self.say_unaccepted(&error),
             },
             Err(error) => self.not_accepted(error),
+        }
+    }
+
+    /// Accepts one by a listener, which is noted.
+    fn accept_one(&mut self) -> io::Result<UnixStream>
+        ensures { Stays self.old self.new }
+    {
+        let (stream, listener) = self.accept_by_any()?;
+        self.last_listener = listener;
+        Ok(stream)
+    }
+
+    /// Accepts one by the listener behind that of the last connection, or by the next one that has somebody.
+    fn accept_by_any(&self) -> io::Result<(UnixStream, usize)> {
+        let count = self.listeners.len();
+        let mut at = self.last_listener;
+        for _ in 0..count {
+            let next = at.saturating_add(1);
+            at = if next < count { next } else { 0 };
+            if let Some(listener) = self.listeners.get(at) {
+                match listener.accept() {
+                    Ok((stream, _)) => return Ok((stream, at)),
+                    Err(error) if error.kind() == ErrorKind::WouldBlock => {}
+                    Err(error) => return Err(error),
+                }
+            }
+        }
+        Err(ErrorKind::WouldBlock.into())
+    }
+
+    /// Logs that a connection is not accepted, once a minute; the others are counted.
+    fn say_unaccepted(&self, error: &io::Error) {
+        if self.loads.unaccepted.add(self.time.as_secs()) {
+            warn!(self.log; "a connection is not accepted: {error}");
         }
     }
 
@@ -146,17 +186,28 @@ impl<L: Log, C: Clock> SocketSeat<L, C> {
         ensures { Stays self.old self.new }
     {
         self.clients.open(self.alloc, place, reader, writer);
-        if let (Some(stuck), Some(used)) = (
+        if let (Some(stuck), Some(used), Some(came_by)) = (
             self.is_stuck.get_mut(place),
             self.used.get_mut(place),
+            self.came_by.get_mut(place),
         ) {
             *stuck = false;
             *used = self.time;
+            *came_by = self.last_listener;
         }
         self.left = self.left.saturating_sub(1);
         self.count = self.count.saturating_add(1);
         self.tell_load();
         self.note(place);
+        self.say_begun(place);
+    }
+
+    #[inline(never)]
+    fn say_begun(&self, place: usize) {
+        if let Some(client) = self.clients.client(place) {
+            let title = self.sockets.title_at(client.app, self.last_listener);
+            info!(self.log; "{title} begins");
+        }
     }
 
     /// Shows the other seats how many connections there are.
@@ -184,7 +235,7 @@ impl<L: Log, C: Clock> SocketSeat<L, C> {
                 if is_short {
                     // Who waits is accepted once somebody else connects, or a connection ends.
                     self.may_accept = false;
-                    error!(self.log; "a connection is not accepted: {error}");
+                    self.say_unaccepted(&error);
                 } else {
                     self.has_failed = true;
                 }

@@ -6,7 +6,9 @@ ghost use Rattle.line_places.specs.Keeping.{HasGone};
 ghost use Rattle.hall_sockets.specs.Staying.{Asks, Gives, Stays};
 
 use crate::asked::Asked;
+use crate::audit::Audited;
 use crate::seat::SocketSeat;
+use crate::sockets::Title;
 use hall::SeatEvent;
 use line::Ending;
 use line_places::Came;
@@ -39,9 +41,12 @@ impl<L: Log, C: Clock> SocketSeat<L, C> {
         self.asked_since = self.asked_since.saturating_add(1);
         match self.clients.next_call(self.alloc, place, &mut self.piece) {
             Came::Call(call) => {
+                let audited = Audited::of(&call.call);
                 let event = SeatEvent::Call(call);
                 self.asked.push(&event);
                 self.answering = place;
+                self.audited = audited;
+                self.show_socket(place);
                 // Asked again until a read would block: its event may have been of what is still to come, as the end.
                 self.note(place);
                 Asked::Call(event)
@@ -49,6 +54,19 @@ impl<L: Log, C: Clock> SocketSeat<L, C> {
             Came::Nothing => Asked::Nothing,
             Came::Ended(ending) => Asked::Ended(ending),
         }
+    }
+
+    /// Shows by which socket the connection at a place came.
+    fn show_socket(&self, place: usize) {
+        if let Some(socket) = self.came_by.get(place) {
+            self.sockets.serve(self.clients.number, *socket);
+        }
+    }
+
+    /// How a line names the connection at a place.
+    fn title(&self, app: u64, place: usize) -> Title<'_> {
+        self.sockets
+            .title_at(app, self.came_by.get(place).copied().unwrap_or(0))
     }
 
     /// Whether bytes of replies are to be written yet at a place.
@@ -98,11 +116,16 @@ impl<L: Log, C: Clock> SocketSeat<L, C> {
             self.looked = self.time;
             return None;
         };
-        if let Some(client) = self.clients.client(place) {
-            let app = client.app;
-            info!(self.log; "connection {app} is ended: nothing came of it for too long");
-        }
+        self.say_idle(place);
         self.end(place)
+    }
+
+    #[inline(never)]
+    fn say_idle(&self, place: usize) {
+        if let Some(client) = self.clients.client(place) {
+            let title = self.title(client.app, place);
+            info!(self.log; "{title} is ended: nothing came of it for too long");
+        }
     }
 
     /// Logs why a connection ends.
@@ -111,17 +134,16 @@ impl<L: Log, C: Clock> SocketSeat<L, C> {
         let Some(client) = self.clients.client(place) else {
             return;
         };
-        let app = client.app;
+        let title = self.title(client.app, place);
         match ending {
-            Ending::Closed => {}
+            Ending::Closed => info!(self.log; "{title} ends"),
             Ending::TooLong | Ending::Cut => {
-                warn!(self.log; "connection {app} is refused: {ending}");
+                if self.loads.refused.add(self.time.as_secs()) {
+                    warn!(self.log; "{title} is refused: {ending}");
+                }
             }
-            Ending::Memory | Ending::Reply =>
-                error!(self.log; "connection {app} is ended: {ending}"),
-            Ending::Read(_) | Ending::Write(_) => {
-                info!(self.log; "connection {app} is ended: {ending}");
-            }
+            Ending::Memory | Ending::Reply => error!(self.log; "{title} is ended: {ending}"),
+            Ending::Read(_) | Ending::Write(_) => info!(self.log; "{title} is ended: {ending}"),
         }
     }
 }

@@ -4,6 +4,7 @@ ghost use Rattle.std.specs.Prelude.{◌≡◌, IfOk, IfErr};
 ghost use Rattle.crossbeam_channel.specs.Claims.{view};
 ghost use Rattle.token.specs.States.{Shows, MayLeave};
 ghost use Rattle.hall.specs.Given.{IsLed};
+ghost use Rattle.hall.specs.SpareIds.{HasSpareIds};
 ghost use Rattle.hall_sockets.specs.Served.{WereServed};
 ghost use Rattle.hall_sockets.specs.Staying.{AreNew};
 
@@ -34,6 +35,8 @@ pub type Seats<L, C> = (
 /// that the history has to them, in that order, with the answers to what is no call at their places. Where the connection ended
 /// otherwise than by its reader or by a frame that is too long, that is a beginning of it.
 ///
+/// Over a steady keeper, as one in memory, no answer is `CKR_DEVICE_ERROR` while there is an id for each call and each result.
+///
 /// # Errors
 ///
 /// As `hall::hold`.
@@ -53,12 +56,12 @@ pub fn hold_sockets<
     requires { AreNew seats.0.clients.seed seats }
     // Each connection was served by one history, which is a run of the token's.
     ensures served { IfOk result (λ h. WereServed (λ t. K.terms.doubt t.store.keep) (λ t. K.terms.failures t.store.keep)
-        (Shows K.terms) (MayLeave K.terms) seats.0.clients.seed (view h.passes.inward) h.seats token h.token) }
+        (Shows K.terms) (MayLeave K.terms) (HasSpareIds K.terms) seats.0.clients.seed (view h.passes.inward) h.seats token h.token) }
     // Where an allocation failed, the token is as it was.
     ensures memory { IfErr result (λ e. e.0 ≡ HallFault.Memory → e.1 ≡ token) }
     // At any fault some history leads to the token that is returned.
     ensures led { IfErr result (λ e. IsLed (λ t. K.terms.doubt t.store.keep) (λ t. K.terms.failures t.store.keep)
-        (Shows K.terms) (MayLeave K.terms) token e.1) }
+        (Shows K.terms) (MayLeave K.terms) (HasSpareIds K.terms) token e.1) }
 {
     accounts();
     own_seat();

@@ -9,7 +9,11 @@
 //! `idle` is ended. One that ends within a frame, or because of a fault, is logged. Once the daemon is to end, a seat accepts and
 //! reads no more, and the applications of its connections disconnect.
 //!
-//! The four seats have one listener. `Loads` has how many connections each has: a seat accepts one only while no other has fewer.
+//! The four seats have the same listeners, one or more. `Loads` has how many connections each has: a seat accepts one only while no
+//! other has fewer.
+//!
+//! The log has a line where a connection begins and ends, and where a call initialises the token, sets a PIN, or gives a wrong or a
+//! locked one. `Sockets` names the connection there. What anybody may cause, as bad frames, is counted (`Tally`).
 //!
 //! `hold_sockets` is `hall::hold` over four of them, with what that means for the bytes of each connection (`specs/Served.antt`).
 //! For each application, the bytes that its writer took are the frames of the answers that the token's model gives its calls in one
@@ -21,12 +25,15 @@
 mod accepting;
 mod asked;
 mod asking;
+mod audit;
 mod holding;
 mod idling;
 mod loads;
 mod opening;
 mod seat;
 mod serving;
+mod sockets;
+mod tally;
 mod turns;
 mod waiting;
 
@@ -34,3 +41,5 @@ pub use holding::{Seats, hold_sockets};
 pub use loads::Loads;
 pub use opening::Shared;
 pub use seat::{MAX_CLIENTS, Settings, SocketSeat};
+pub use sockets::{Sockets, Title};
+pub use tally::Tally;

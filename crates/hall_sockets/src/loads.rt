@@ -1,5 +1,6 @@
 //! What the seats show of themselves.
 
+use crate::tally::Tally;
 use std::sync::atomic::{AtomicBool, AtomicU64, AtomicUsize, Ordering};
 
 /// How many connections each of the four seats has, so that a new one comes to a seat with the fewest. Also when each looked round
@@ -11,6 +12,10 @@ pub struct Loads {
     is_closed: [AtomicBool; 4],
     /// Seconds of the seats' clock.
     looks: [AtomicU64; 4],
+    /// Connections that were refused for their frames.
+    pub refused: Tally,
+    /// Connections that were not accepted.
+    pub unaccepted: Tally,
 }
 
 impl Loads {
@@ -35,6 +40,8 @@ impl Loads {
                 AtomicU64::new(0),
                 AtomicU64::new(0),
             ],
+            refused: Tally::new(),
+            unaccepted: Tally::new(),
         }
     }
 

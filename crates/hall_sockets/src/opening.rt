@@ -5,6 +5,7 @@ ghost use Rattle.hall_sockets.specs.Staying.{IsNew};
 
 use crate::loads::Loads;
 use crate::seat::{MAX_CLIENTS, READ_LEN, Settings, SocketSeat};
+use crate::sockets::Sockets;
 use crate::waiting::LISTENER;
 use line_places::Places;
 use lists::GhostList;
@@ -27,7 +28,20 @@ pub struct Shared {
     /// The daemon is to end: then its seats accept and read no more.
     pub is_stopping: Arc<AtomicBool, Global>,
     pub loads: Arc<Loads, Global>,
-    pub listener: UnixListener,
+    pub sockets: Arc<Sockets, Global>,
+    /// One for each of them, at least one.
+    pub listeners: Vec<UnixListener>,
+}
+
+/// Has a wait report who is to be accepted by one of the listeners.
+fn listen_to(poll: &Poll, listeners: &[UnixListener]) -> io::Result<()> {
+    for (listener, at) in listeners.iter().zip(LISTENER..) {
+        listener.set_nonblocking(true)?;
+        let fd = listener.as_raw_fd();
+        poll.registry()
+            .register(&mut SourceFd(&fd), Token(at), Interest::READABLE)?;
+    }
+    Ok(())
 }
 
 impl<L: Log + Drop, C: Clock + Drop> SocketSeat<L, C> {
@@ -49,16 +63,14 @@ impl<L: Log + Drop, C: Clock + Drop> SocketSeat<L, C> {
         requires clients { settings.now.clients ≤ 64 }
         ensures { IfOk result (λ seat. IsNew seat settings.now.seed number) }
     {
-        shared.listener.set_nonblocking(true)?;
         let poll = Poll::new(net)?;
-        let fd = shared.listener.as_raw_fd();
-        poll.registry()
-            .register(&mut SourceFd(&fd), Token(LISTENER), Interest::READABLE)?;
+        listen_to(&poll, &shared.listeners)?;
         let time = clock.monotonic()?;
         let Shared {
             is_stopping,
             loads,
-            listener,
+            sockets,
+            listeners,
         } = shared;
         Ok(SocketSeat {
             alloc,
@@ -66,19 +78,23 @@ impl<L: Log + Drop, C: Clock + Drop> SocketSeat<L, C> {
             log,
             is_stopping,
             loads,
-            listener,
+            sockets,
             poll,
-            events: Events::with_capacity(alloc, MAX_CLIENTS + 1)?,
+            events: Events::with_capacity(alloc, MAX_CLIENTS.saturating_add(listeners.len()))?,
+            listeners,
+            last_listener: 0,
             clients: Places::new(alloc, settings.seed, number, settings.clients)?,
             count: 0,
             left: settings.connections,
             descriptors: [-1; MAX_CLIENTS],
+            came_by: [0; MAX_CLIENTS],
             is_stuck: [false; MAX_CLIENTS],
             used: [Duration::ZERO; MAX_CLIENTS],
             due: VecDeque::with_capacity(alloc, MAX_CLIENTS)?,
             is_due: [false; MAX_CLIENTS],
             asked_since: 0,
             answering: 0,
+            audited: None,
             may_accept: true,
             left_since: None,
             is_leaving: false,

@@ -3,7 +3,9 @@
 ghost use Rattle.std.specs.Prelude.{◌≡◌, map};
 ghost use Rattle.hall_sockets.specs.Telling.{calls_in, gone_in, apps_of};
 
+use crate::audit::Audited;
 use crate::loads::Loads;
+use crate::sockets::Sockets;
 use hall::SeatEvent;
 use line_places::Places;
 use lists::GhostList;
@@ -43,7 +45,10 @@ pub struct SocketSeat<L, C> {
     /// The daemon is to end.
     pub(crate) is_stopping: Arc<AtomicBool, Global>,
     pub(crate) loads: Arc<Loads, Global>,
-    pub(crate) listener: UnixListener,
+    pub(crate) sockets: Arc<Sockets, Global>,
+    pub(crate) listeners: Vec<UnixListener>,
+    /// The listener by which the last connection came.
+    pub(crate) last_listener: usize,
     pub(crate) poll: Poll,
     pub(crate) events: Events<Global>,
     pub clients: Places<UnixStream, UnixStream>,
@@ -53,6 +58,8 @@ pub struct SocketSeat<L, C> {
     pub(crate) left: u64,
     /// The descriptor of each connection, by its place.
     pub(crate) descriptors: [i32; MAX_CLIENTS],
+    /// The listener by which it came.
+    pub(crate) came_by: [usize; MAX_CLIENTS],
     /// Whether its peer is waited for until it takes more.
     pub(crate) is_stuck: [bool; MAX_CLIENTS],
     /// When something last came of it.
@@ -64,6 +71,8 @@ pub struct SocketSeat<L, C> {
     pub(crate) asked_since: usize,
     /// The place of the last call.
     pub(crate) answering: usize,
+    /// What the last call is, if its outcome may be a line.
+    pub(crate) audited: Option<Audited>,
     /// Somebody may wait to be accepted.
     pub(crate) may_accept: bool,
     /// Since when somebody who waits is left to a seat with fewer connections.

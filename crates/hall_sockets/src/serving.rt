@@ -35,6 +35,9 @@ impl<L: Log, C: Clock + Drop> Seat for SocketSeat<L, C> {
 
     fn take(&mut self, app: u64, reply: Reply) {
         let place = self.answering;
+        if let Some(call) = self.audited {
+            self.log_outcome(app, call, &reply);
+        }
         self.clients.reply(self.alloc, place, app, reply);
         if self.is_pending(place) {
             self.watch(place, true);

@@ -10,7 +10,7 @@ use std::collections::VecDeque;
 use std::io::ErrorKind;
 use std::time::{Clock, Duration};
 
-/// The token of the listener; that of a connection is its place.
+/// The token of the first listener, behind which come those of the others; that of a connection is its place.
 pub(crate) const LISTENER: usize = MAX_CLIENTS;
 
 /// How many seconds a wait lasts at most, before a seat looks whether the daemon is to end.
@@ -57,7 +57,7 @@ impl<L, C: Clock> SocketSeat<L, C> {
     {
         'events: for event in self.events.iter() {
             let Token(place) = event.token();
-            if place == LISTENER {
+            if place >= LISTENER {
                 self.may_accept = true;
             } else {
                 if let Some(used) = self.used.get_mut(place) {

@@ -5,9 +5,9 @@ use Rattle.std.proofs.lemmas.List.{length-append, length-set}
 use Rattle.std.proofs.lemmas.Option.{slice_get_within}
 use Rattle.std.proofs.Math.Nat.{add-mul-mod_self_left, mod-eq_of_lt}
 use Rattle.ck_calls.specs.declared.reply.Reply.{Reply}
-use Rattle.hall_channels.specs.Lists.{of}
-use Rattle.hall_channels.specs.declared.messages.AppCall.{AppCall}
-use Rattle.hall_channels.proofs.Rows.{get_more}
+use Rattle.hall_log.specs.Lists.{of}
+use Rattle.hall_log.specs.declared.event.AppCall.{AppCall}
+use Rattle.hall_log.proofs.Lists.{get_more}
 use Rattle.line.specs.Words.{words_for}
 use Rattle.line_places.specs.declared.client.Client.{Client}
 use Rattle.line_places.specs.declared.place.Place.{Place}

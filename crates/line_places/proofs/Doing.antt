@@ -10,8 +10,8 @@ use mathlib.Core.HLevel.{¬_prop, ×_prop}
 use native.Mathlib.Nat.{ℕ_set}
 use native.Mathlib.Bridge.{le_prop}
 use Rattle.ck_calls.specs.declared.reply.Reply.{Reply}
-use Rattle.hall_channels.specs.Lists.{of}
-use Rattle.hall_channels.specs.declared.messages.AppCall.{AppCall}
+use Rattle.hall_log.specs.Lists.{of}
+use Rattle.hall_log.specs.declared.event.AppCall.{AppCall}
 use Rattle.line_places.specs.declared.client.Came.TheVariants.{Call}
 use Rattle.line_places.specs.declared.client.Client.{Client}
 use Rattle.line_places.specs.declared.place.Place.{Place}

@@ -6,9 +6,9 @@ use Rattle.std.proofs.lemmas.Option.{slice_get_within}
 use Rattle.std.proofs.lemmas.Nat.{div-mul-add, mod-mul-add}
 use Rattle.std.proofs.Math.Nat.{mul_comm}
 use Rattle.ck_calls.specs.declared.reply.Reply.{Reply}
-use Rattle.hall_channels.specs.Lists.{of}
-use Rattle.hall_channels.specs.declared.messages.AppCall.{AppCall}
-use Rattle.hall_channels.proofs.Rows.{of-append, of-one, of-other}
+use Rattle.hall_log.specs.Lists.{of}
+use Rattle.hall_log.specs.declared.event.AppCall.{AppCall}
+use Rattle.hall_log.proofs.Lists.{of-append, of-one, of-other}
 use Rattle.line.specs.Words.{words_for}
 use Rattle.line_places.specs.declared.client.Client.{Client}
 use Rattle.line_places.specs.declared.place.Place.{Place}

@@ -2,7 +2,7 @@
 use Rattle.std.specs.Prelude.{List, map, Bool, true, false, Option, Some, None}
 use Rattle.rand_chacha.specs.ChaCha.{ChaCha}
 use Rattle.ck_calls.specs.declared.reply.Reply.{Reply}
-use Rattle.hall_channels.specs.declared.messages.AppCall.{AppCall}
+use Rattle.hall_log.specs.declared.event.AppCall.{AppCall}
 use Rattle.line.specs.declared.ending.Ending.{Ending}
 use Rattle.line.specs.State.{Connected}
 use Rattle.line.specs.Turns.{Ask}

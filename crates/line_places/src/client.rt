@@ -3,7 +3,7 @@
 ghost use Rattle.line_places.specs.Standing.{Stands};
 
 use ck_calls::Reply;
-use hall_channels::messages::AppCall;
+use hall_log::AppCall;
 use line::{Connection, Ending, Words};
 use lists::GhostList;
 use std::snapshot::Snapshot;

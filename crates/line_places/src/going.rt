@@ -5,7 +5,7 @@ ghost use Rattle.line_places.specs.Coming.{Gave, SameApp, Takes};
 
 use crate::client::{Came, Client};
 use ck_calls::Reply;
-use hall_channels::messages::AppCall;
+use hall_log::AppCall;
 use line::{Connection, Given, Next, Words, accounts};
 use lists::GhostList;
 use std::alloc::Global;

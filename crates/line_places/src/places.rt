@@ -6,7 +6,7 @@ ghost use Rattle.line_places.specs.Keeping.{Kept};
 use crate::client::Client;
 use crate::place::Place;
 use ck_calls::Reply;
-use hall_channels::messages::AppCall;
+use hall_log::AppCall;
 use lists::GhostList;
 
 /// The clients of one worker, at most one at each of its places, and for contracts alone all that it ever had, with what they

@@ -11,4 +11,4 @@ hold-requires-send-S g c κs within = param_send 1 (lts.arg-2-1 g.row.K g.row.L 
     (arg_send _ exits.no _ (seat_send _ _ c.type_bounds.send-L c.type_bounds.send-C))
 
 pub returns-clause-served : goal.returns-clause-served
-returns-clause-served g c = served_by c.accounts.ensures.stopped c.accounts.ensures.left c.own_seat.ensures _ _ _ _ c.args.seats.0.clients.seed c.args.seats c.args.token c.hold.result c.requires c.hold.ensures.fixed c.hold.ensures.held
+returns-clause-served g c = served_by c.accounts.ensures.stopped c.accounts.ensures.left c.own_seat.ensures _ _ _ _ _ c.args.seats.0.clients.seed c.args.seats c.args.token c.hold.result c.requires c.hold.ensures.fixed c.hold.ensures.held
