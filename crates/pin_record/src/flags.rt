@@ -12,21 +12,25 @@ const CKF_RNG: u64 = 0x1;
 
 const CKF_LOGIN_REQUIRED: u64 = 0x4;
 
-const CKF_USER_PIN_INITIALIZED: u64 = 0x8;
+/// The user's PIN is set (PKCS #11 v3.1, 3.2: `CK_TOKEN_INFO`).
+pub const CKF_USER_PIN_INITIALIZED: u64 = 0x8;
 
-const CKF_TOKEN_INITIALIZED: u64 = 0x400;
+/// The token is initialised (PKCS #11 v3.1, 3.2: `CK_TOKEN_INFO`).
+pub const CKF_TOKEN_INITIALIZED: u64 = 0x400;
 
 const CKF_USER_PIN_COUNT_LOW: u64 = 0x10000;
 
 const CKF_USER_PIN_FINAL_TRY: u64 = 0x20000;
 
-const CKF_USER_PIN_LOCKED: u64 = 0x40000;
+/// The user's PIN is locked (PKCS #11 v3.1, 3.2: `CK_TOKEN_INFO`).
+pub const CKF_USER_PIN_LOCKED: u64 = 0x40000;
 
 const CKF_SO_PIN_COUNT_LOW: u64 = 0x100000;
 
 const CKF_SO_PIN_FINAL_TRY: u64 = 0x200000;
 
-const CKF_SO_PIN_LOCKED: u64 = 0x400000;
+/// The security officer's PIN is locked (PKCS #11 v3.1, 3.2: `CK_TOKEN_INFO`).
+pub const CKF_SO_PIN_LOCKED: u64 = 0x400000;
 
 fn flag_if(condition: bool, flag: u64) -> u64
     ensures { result ≡ (if condition then flag else 0) }

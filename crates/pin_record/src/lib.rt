@@ -32,7 +32,10 @@ mod version;
 
 pub use checks::{begin_check, end_check};
 pub use fault::DecodeFault;
-pub use flags::token_flags;
+pub use flags::{
+    CKF_SO_PIN_LOCKED, CKF_TOKEN_INITIALIZED, CKF_USER_PIN_INITIALIZED, CKF_USER_PIN_LOCKED,
+    token_flags,
+};
 pub use pin::TRIES_LIMIT;
 pub use record::Record;
 pub use stored::{decode, decode_old, encode};
