@@ -18,7 +18,7 @@ fn token_of(rt: &HostRuntime, path: &str) -> io::Result<FileToken> {
     let keep = match SqlKeep::open(rt, path, Wary) {
         Ok(keep) => keep,
         Err(refused) => {
-            drop(refused.put_back(rt.alloc()));
+            drop(refused.given_back(rt.alloc()));
             return Err(failed());
         }
     };

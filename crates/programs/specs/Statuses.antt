@@ -2,8 +2,6 @@
 use Rattle.std.specs.Prelude.{◌≡◌, ℕ, ◌⊎◌}
 use Rattle.programs.specs.declared.failure.Failure.{Failure}
 use Rattle.programs.specs.declared.failure.Failure.TheVariants as failures
-use Rattle.programs.specs.declared.standing.Standing.{Standing}
-use Rattle.programs.specs.declared.standing.Standing.TheVariants as standings
 
 abbrev pub status_of : Failure → ℕ
 status_of failures.CommandLine = 2
@@ -13,16 +11,6 @@ status_of failures.Socket = 4
 status_of failures.BadInput = 5
 status_of failures.Memory = 6
 status_of failures.Line = 7
-
--- of a daemon that is asked for its status
-abbrev pub status_of_standing : Standing → ℕ
-status_of_standing (standings.Serves info) = 0
-status_of_standing standings.Silent = 8
-status_of_standing (standings.Forbidden allowed) = 9
-status_of_standing standings.NobodyListens = 4
-status_of_standing standings.NoFile = 4
-status_of_standing standings.NoSocket = 4
-status_of_standing (standings.Failed error) = 4
 
 -- 0 where it ended as asked, 2 for a command line that is refused, or that of a failure or of a daemon that doesn't serve
 abbrev pub IsStatus : ℕ → Type 0

@@ -26,10 +26,22 @@ pub(crate) enum Cause {
     StoreFile(io::Error),
     #[error("--store cannot be kept from other users: {0}")]
     StoreMode(io::Error),
-    #[error("another program has the store open")]
+    #[error("another program has the store open: stop a daemon by systemctl stop tokend.socket tokend, or its instance's units")]
     StoreBusy,
-    #[error("a daemon or another program has the store open: stop it first (systemctl stop tokend), and start it again afterwards")]
+    #[error("the store changes while it is read, and who changes it keeps no copies of its log: stop that program first")]
     CopyBusy,
+    #[error("another backup of it is being made")]
+    OtherBackup,
+    #[error("it belongs to the user {0}, and the daemon runs as the user {1}: change its owner (chown), and that of its log")]
+    Foreign(u32, u32),
+    #[error("its log belongs to the user {0}, and the daemon runs as the user {1}: change its owner (chown)")]
+    ForeignLog(u32, u32),
+    #[error("its file has another name, a hard link: remove one of them")]
+    HardLink,
+    #[error("it is malformed: restore a copy that tokend backup made (tokend restore), and keep this file; tokend check says more of it")]
+    Malformed,
+    #[error("the PIN isn't set")]
+    NoPin,
     #[error("the store's folder or its log cannot be used: {0}")]
     StoreFolder(io::Error),
     #[error("the store was in use, and its log is missing: put the log (its file's name with -wal) back beside it, or restore a copy that tokend backup made")]
@@ -54,7 +66,7 @@ pub(crate) enum Cause {
     Socket(io::Error),
     #[error("another program listens on --socket, or its file is no socket")]
     SocketTaken,
-    #[error("LISTEN_FDS hands over {0} sockets, and one is wanted")]
+    #[error("LISTEN_FDS hands over {0} sockets, more than 64")]
     HandedOver(u64),
     #[error("what LISTEN_FDS hands over is no Unix socket: {0}")]
     HandedOverSocket(io::Error),

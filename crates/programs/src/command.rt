@@ -11,6 +11,9 @@ pub(crate) const VERSION: &str = "0.1.0";
 /// The texts of a level, the least detailed first.
 static LEVELS: [&str; 4] = ["off", "error", "warn", "info"];
 
+/// The texts of the two users: the security officer, and the token's user.
+static USERS: [&str; 2] = ["so", "user"];
+
 /// How many connections each seat of the daemon accepts at most, and where no number is given.
 pub(crate) const MAX_CONNECTIONS: u64 = (1 << 61) - 1;
 
@@ -29,7 +32,9 @@ pub(crate) fn command<'a>(alloc: Global) -> Result<Command<'a>, Error> {
     let command = with_subcommand(command, status(alloc))?;
     let command = with_subcommand(command, check(alloc))?;
     let command = with_subcommand(command, backup(alloc))?;
-    with_subcommand(command, compact(alloc))
+    let command = with_subcommand(command, compact(alloc))?;
+    let command = with_subcommand(command, restore(alloc))?;
+    with_subcommand(command, unlock(alloc))
 }
 
 /// The command with a subcommand.
@@ -84,7 +89,7 @@ fn status<'a>(alloc: Global) -> Result<Command<'a>, Error> {
 fn check<'a>(alloc: Global) -> Result<Command<'a>, Error> {
     Ok(
         Command::new(alloc, "check")
-            .about("Looks through a store that no daemon has open, and changes nothing")
+            .about("Looks through a store, and changes nothing")
             .arg(needed(alloc, "store", "The path of the store's file"))?,
     )
 }
@@ -93,7 +98,7 @@ fn check<'a>(alloc: Global) -> Result<Command<'a>, Error> {
 fn backup<'a>(alloc: Global) -> Result<Command<'a>, Error> {
     Ok(
         Command::new(alloc, "backup")
-            .about("Copies the rows of a store that no daemon has open to a new file")
+            .about("Copies the rows of a store to a new file, also while a daemon serves it")
             .arg(needed(alloc, "store", "The path of the store's file"))?
             .arg(needed(alloc, "to", "The path of the copy, where no file is yet"))?,
     )
@@ -110,6 +115,31 @@ fn compact<'a>(alloc: Global) -> Result<Command<'a>, Error> {
     )
 }
 
+/// The command that puts a copy in a store's place.
+fn restore<'a>(alloc: Global) -> Result<Command<'a>, Error> {
+    Ok(
+        Command::new(alloc, "restore")
+            .about("Puts a copy in the place of a store that no daemon has open")
+            .arg(needed(alloc, "from", "The path of the copy, which stays"))?
+            .arg(needed(
+                alloc,
+                "to",
+                "The path of the store's file, which is replaced, or made where there is none",
+            ))?,
+    )
+}
+
+/// The command that forgets the tries of a PIN.
+fn unlock<'a>(alloc: Global) -> Result<Command<'a>, Error> {
+    let user = needed(alloc, "user", "Whose PIN it is").value_parser(ValueParser::Names(&USERS));
+    Ok(
+        Command::new(alloc, "unlock")
+            .about("Sets the tries of a PIN to 0, in a store that no daemon has open")
+            .arg(needed(alloc, "store", "The path of the store's file"))?
+            .arg(user)?,
+    )
+}
+
 /// The daemon's command.
 fn serve<'a>(alloc: Global) -> Result<Command<'a>, Error> {
     Ok(
@@ -120,11 +150,7 @@ fn serve<'a>(alloc: Global) -> Result<Command<'a>, Error> {
                 "store",
                 "The path of the store's file, which is made where there is none; \":memory:\" keeps it in memory",
             ))?
-            .arg(needed(
-                alloc,
-                "socket",
-                "The path of the socket, which is made, unless a service manager hands one over (LISTEN_FDS)",
-            ))?
+            .arg(sockets(alloc))?
             .arg(chosen(
                 alloc,
                 "seed-file",
@@ -141,6 +167,16 @@ fn serve<'a>(alloc: Global) -> Result<Command<'a>, Error> {
             .arg(max_objects(alloc))?
             .arg(connections(alloc))?,
     )
+}
+
+/// The option of where the daemon listens.
+fn sockets<'a>(alloc: Global) -> Arg<'a> {
+    needed(
+        alloc,
+        "socket",
+        "The path of a socket, which is made, unless a service manager hands some over (LISTEN_FDS); several may be given",
+    )
+    .action(ArgAction::Append)
 }
 
 /// The option of what is logged on standard error while the daemon serves.

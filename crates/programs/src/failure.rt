@@ -80,14 +80,26 @@ impl Fault {
         self.cause
     }
 
-    /// Writes the failure as a line, and its cause as the next one, and returns the exit status.
-    pub(crate) fn report<E: Write>(&self, errors: &mut E) -> u8
+    /// The options that may name the file which it is about, the first that is given.
+    pub(crate) fn options(&self) -> [&'static str; 2] {
+        match self.failure {
+            Failure::Store => ["store", "from"],
+            Failure::Copy => ["to", "to"],
+            _ => ["", ""],
+        }
+    }
+
+    /// Writes the failure as a line, and its cause as the next one, with the file that it is about. Returns the exit status.
+    pub(crate) fn report<E: Write>(&self, errors: &mut E, file: Option<&str>) -> u8
         ensures value { result ≡ status_of self.now.failure }
         ensures known { IsStatus result }
     {
         let _ = writeln!(errors, "tokend: {}", self.failure);
         if let Some(cause) = &self.cause {
-            let _ = writeln!(errors, "tokend: because {cause}");
+            let _ = match file {
+                Some(file) => writeln!(errors, "tokend: because {file}: {cause}"),
+                None => writeln!(errors, "tokend: because {cause}"),
+            };
         }
         self.status()
     }
@@ -152,6 +164,9 @@ impl From<Error> for Fault {
             Error::SqliteFailure(ErrorCode::OutOfMemory) => Failure::Memory.into(),
             Error::SqliteFailure(ErrorCode::DatabaseBusy) => Failure::Store.because(
                 Cause::StoreBusy,
+            ),
+            Error::SqliteFailure(ErrorCode::DatabaseCorrupt) => Failure::Store.because(
+                Cause::Malformed,
             ),
             _ => Failure::Store.because(Cause::Sqlite(error)),
         }

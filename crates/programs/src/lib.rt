@@ -14,14 +14,15 @@
 //! own arguments can't be read.
 //!
 //! The daemon is four seats (`hall_sockets::SocketSeat`) before one token. `Journal` is a log on standard error, as a journal reads
-//! it. `Reported` is a keeper that logs what becomes of its store. `Marked` is one that lifts a mark before a value is destroyed.
+//! it. `Reported` is a keeper that logs what becomes of its store. `Marked` is one that lifts a mark before a value is destroyed. `Ballast`
+//! is room on the store's disk that is given up for PINs and removals.
 //!
 //! This crate is safe and tested. What it states is that it holds the seats as `hall_sockets::hold_sockets` asks, with the seed
 //! of the command line or of the file, and which exit status a failure has.
 #![tactic(auto)]
 
-mod address;
 mod args;
+mod ballast;
 mod cause;
 mod command;
 mod copying;
@@ -29,7 +30,6 @@ mod cores;
 mod environment;
 mod examining;
 mod failure;
-mod groups;
 mod health;
 mod journal;
 mod listening;
@@ -41,20 +41,24 @@ mod options;
 mod p11call;
 mod renewal;
 mod reported;
+mod restoring;
 mod run;
 mod seed;
 mod serve;
-mod standing;
+mod snapshot;
+mod spare_logs;
 mod status;
 mod store;
+mod unlocking;
 mod upkeep;
 mod writing;
 
 pub use args::refuse_args;
+pub use ballast::Ballast;
 pub use health::Health;
 pub use journal::Journal;
 pub use mark::Mark;
 pub use marked::Marked;
 pub use p11call::ask;
-pub use reported::{Explains, Reported};
+pub use reported::Reported;
 pub use run::tokend_with;

@@ -1,4 +1,4 @@
-//! The daemon's socket.
+//! The daemon's sockets.
 
 use crate::cause::Cause;
 use crate::environment::{names_us, number_in};
@@ -10,23 +10,68 @@ use std::net::Net;
 use std::os::fd::{AsFd, AsRawFd};
 use std::os::unix::fs::{FileTypeExt, PermissionsExt};
 use std::os::unix::net::{SocketAddr, UnixListener, UnixStream};
-use std::{fs, io};
+use std::{env, fs, io};
 
 /// As many connections may wait to be accepted as the system allows.
 const BACKLOG: i32 = -1;
 
-/// The descriptor that a service manager hands over (sd_listen_fds(3)).
+/// The first descriptor that a service manager hands over (sd_listen_fds(3)).
 const HANDED_OVER: i32 = 3;
 
-/// The socket that a service manager hands over, or one at a path, with these permission bits from its first moment.
-pub(crate) fn daemon_socket(
+/// How many sockets there are at most.
+const MAX_SOCKETS: u64 = 64;
+
+/// The sockets that a service manager hands over, or one at each path, with these permission bits from its first moment.
+pub(crate) fn daemon_sockets(
     rt: &HostRuntime,
-    path: &str,
+    paths: &[&str],
     mode: u32,
-) -> Result<UnixListener, Fault> {
+) -> Result<Vec<UnixListener>, Fault> {
+    let mut listeners = Vec::new(rt.alloc());
     match handed_over(rt)? {
-        Some(listener) => Ok(listener),
-        None => listen(rt, path, mode),
+        Some(count) => {
+            for at in 0..count {
+                let fd = i32::try_from(at).unwrap_or(i32::MAX);
+                add(&mut listeners, listener_at(fd.saturating_add(HANDED_OVER))?)?;
+            }
+        }
+        None => {
+            for path in paths {
+                add(&mut listeners, listen(rt, path, mode)?)?;
+            }
+        }
+    }
+    Ok(listeners)
+}
+
+/// The names of the sockets: their paths, or, where several are handed over, the names that they have there (LISTEN_FDNAMES).
+pub(crate) fn socket_names(rt: &HostRuntime, paths: &[&str]) -> Result<Vec<String>, Fault> {
+    let handed_over = handed_over(rt)?;
+    let count = match handed_over {
+        Some(count) => count as usize,
+        None => paths.len(),
+    };
+    let given = match env::var(rt, "LISTEN_FDNAMES") {
+        Ok(text) if count > 1 && handed_over.is_some() => text,
+        _ => String::new(rt.alloc()),
+    };
+    let mut names = Vec::new(rt.alloc());
+    for at in 0..count {
+        let given = given.split(':').nth(at).unwrap_or("");
+        let path = paths.get(at).copied().unwrap_or("a socket without a name");
+        let name = if given.is_empty() { path } else { given };
+        let Ok(name) = format!(in rt.alloc(); "{name}") else {
+            return Err(Failure::Memory.into());
+        };
+        add(&mut names, name)?;
+    }
+    Ok(names)
+}
+
+fn add<T: Drop>(list: &mut Vec<T>, item: T) -> Result<(), Fault> {
+    match list.push(item) {
+        Ok(()) => Ok(()),
+        Err(_) => Err(Failure::Memory.into()),
     }
 }
 
@@ -39,24 +84,30 @@ fn last_error() -> io::Error {
     io::Error::from_raw_os_error(os::errno())
 }
 
-/// The listening socket that was handed over to this process, if one was.
-fn handed_over(rt: &HostRuntime) -> Result<Option<UnixListener>, Fault> {
+/// How many listening sockets were handed over to this process, if any were.
+fn handed_over(rt: &HostRuntime) -> Result<Option<u64>, Fault> {
     if !names_us(rt, "LISTEN_PID") {
         return Ok(None);
     }
     match number_in(rt, "LISTEN_FDS") {
         None | Some(0) => Ok(None),
-        Some(1) => {
-            let listener = unsafe { UnixListener::from_raw_fd(HANDED_OVER) };
-            let checked = listener
-                .local_addr()
-                .and_then(|_| listener.set_nonblocking(false));
-            match checked {
-                Ok(()) => Ok(Some(listener)),
-                Err(error) => Err(Failure::Socket.because(Cause::HandedOverSocket(error))),
-            }
-        }
+        Some(count) if count <= MAX_SOCKETS => Ok(Some(count)),
         Some(count) => Err(Failure::Socket.because(Cause::HandedOver(count))),
+    }
+}
+
+/// The socket that was handed over as a descriptor.
+fn listener_at(fd: i32) -> Result<UnixListener, Fault> {
+    if fd < 0 {
+        return Err(Failure::Socket.because(Cause::HandedOver(0)));
+    }
+    let listener = unsafe { UnixListener::from_raw_fd(fd) };
+    let checked = listener
+        .local_addr()
+        .and_then(|_| listener.set_nonblocking(false));
+    match checked {
+        Ok(()) => Ok(listener),
+        Err(error) => Err(Failure::Socket.because(Cause::HandedOverSocket(error))),
     }
 }
 

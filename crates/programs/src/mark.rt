@@ -3,7 +3,9 @@
 //! It is a file without bytes, `token.db-clean` beside `token.db`. Where it is missing, the next start writes the store's file anew.
 //! So whatever loses the mark costs time, and keeps nothing.
 
+use crate::journal::Journal;
 use crate::writing::{sync_folder, write_like};
+use log::{LevelFilter, warn};
 use std::rt::HostRuntime;
 use std::{fs, io};
 
@@ -17,12 +19,14 @@ pub struct Mark {
     rt: HostRuntime,
     store: String,
     name: String,
+    level: LevelFilter,
     is_there: bool,
+    has_said: bool,
 }
 
 impl Mark {
-    /// The mark, set or not.
-    pub(crate) fn find(rt: &HostRuntime, path: &str) -> io::Result<Mark> {
+    /// The mark, set or not. What becomes of it is logged up to a level.
+    pub(crate) fn find(rt: &HostRuntime, path: &str, level: LevelFilter) -> io::Result<Mark> {
         let real = fs::canonicalize(rt, path)?;
         let store = format!(in rt.alloc(); "{}", real.as_str())?;
         let name = name_of(rt, store.as_str())?;
@@ -31,7 +35,9 @@ impl Mark {
             rt: *rt,
             store,
             name,
+            level,
             is_there,
+            has_said: false,
         })
     }
 
@@ -48,10 +54,23 @@ impl Mark {
         Ok(())
     }
 
-    /// Takes it away, for good before this returns. Where that fails it is tried again the next time.
+    /// Takes it away, for good before this returns. Where that fails it is logged, and tried again the next time.
     pub(crate) fn lift(&mut self) {
         if self.is_there {
-            self.is_there = self.remove().is_err();
+            match self.remove() {
+                Ok(()) => self.is_there = false,
+                Err(error) => self.say_left(error),
+            }
+        }
+    }
+
+    /// Logs once that it is there still.
+    fn say_left(&mut self, error: io::Error) {
+        if !self.has_said {
+            self.has_said = true;
+            let log = Journal::new(self.rt.stderr(), self.level);
+            let name = self.name.as_str();
+            warn!(log; "{name} cannot be removed, so what is destroyed may stay in the store: {error}");
         }
     }
 

@@ -92,6 +92,7 @@ impl Monitor {
         self.look_at_token(second);
         self.look_at_places(second);
         self.look_at_objects(second);
+        self.say_counts(second);
         self.tell_manager();
     }
 
@@ -120,6 +121,16 @@ impl Monitor {
         if self.health.objects() >= most && is_due(self.said_limit, second) {
             self.said_limit = Some(second);
             warn!(self.log; "there are {most} objects, as many as --max-objects allows: a new one is refused until one is destroyed");
+        }
+    }
+
+    /// Logs once a minute how often there was what anybody may cause.
+    fn say_counts(&self, second: u64) {
+        if let Some(count) = self.loads.refused.take_due(second) {
+            warn!(self.log; "{count} more connections were refused for their frames");
+        }
+        if let Some(count) = self.loads.unaccepted.take_due(second) {
+            warn!(self.log; "{count} more times a connection was not accepted");
         }
     }
 

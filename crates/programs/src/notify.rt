@@ -2,9 +2,9 @@
 
 ghost use Rattle.std.specs.Prelude.{◌≤◌};
 
-use crate::address::write_address;
 use crate::environment::{is_ours, number_in};
 use libc::net::{AF_UNIX, MSG_DONTWAIT, MSG_NOSIGNAL, SOCK_CLOEXEC, SOCK_DGRAM, sendto, socket};
+use standing::write_address;
 use std::env;
 
 /// The socket of the service manager that started the daemon.

@@ -4,8 +4,8 @@ use crate::cause::Cause;
 use crate::failure::{Failure, Fault};
 use crate::writing::{sync_folder, write_like};
 use keep_sql::SqlKeep;
-use sql_vacuum::vacuumed;
-use sqlite::{FileFrom, FileStore, Files};
+use sql_vacuum::{emptied, vacuumed};
+use sqlite::{Error, FileFrom, FileStore, Files};
 use sqlite_disk::{Disk, Wary};
 use std::io::{ErrorKind, Read};
 use std::{fs, io};
@@ -36,20 +36,27 @@ pub(crate) fn file_is_in_use(rt: &HostRuntime, path: &str) -> io::Result<bool> {
 }
 
 /// Writes the file of an open store anew, and puts it in the old one's place. Whatever stops this, the old file or the new one is
-/// there, and both hold the same: the log is emptied before, and no other program can open the old file until it has lost its name.
+/// there, and both hold the same: the log is copied into the old file and emptied before, and no other program can open that one until it
+/// has lost its name. Where the log can't be copied, nothing is written.
 pub(crate) fn renew(
     rt: &HostRuntime,
     path: &str,
     keep: SqlKeep<FileStore<FileFrom<Wary>>>,
 ) -> Result<(), Fault> {
     let mut store = keep.close().into_store();
-    let made = vacuumed(rt.alloc(), &mut store, IN_USE);
+    let made = in_file(rt, &mut store);
     let files = store.close();
     let bytes = made?;
     match put_in_place(rt, path, files, &bytes) {
         Ok(()) => Ok(()),
         Err(error) => Err(Failure::Store.because(Cause::Renewal(error))),
     }
+}
+
+/// The new file's bytes, once the old file alone has all that they are made of.
+fn in_file(rt: &HostRuntime, store: &mut FileStore<FileFrom<Wary>>) -> Result<Vec<u8>, Error> {
+    emptied(store)?;
+    vacuumed(rt.alloc(), store, IN_USE)
 }
 
 /// The files, and so their locks, are held until the new one has the name.

@@ -6,49 +6,18 @@ ghost use Rattle.keep.specs.Keeping.{Counted, Stays};
 use crate::health::Health;
 use attrs::Object;
 use ck_types::UserType;
-use keep::{Keep, KeepFault, ListKeep};
-use keep_sql::SqlKeep;
-use log::{Log, error, warn};
+use hall_sockets::{Sockets, Title};
+use keep::{Keep, KeepFault};
+use log::{Log, error, info, warn};
 use pin_record::Record;
-use sqlite::{Alter, Error};
+use reserve::Explains;
 use std::alloc::Global;
 use std::sync::Arc;
-use std::sync::atomic::{AtomicBool, Ordering};
-
-/// A keeper that can report more of a failure than that there was one.
-pub trait Explains: Keep {
-    /// Why its device refused something last, where it knows that.
-    fn cause(&self) -> Option<Error>;
-
-    /// Whether each later call fails by the device.
-    fn is_shut(&mut self) -> bool
-        ensures same { Stays Self.Keep.terms self.old self.new }
-        ensures counts { Counted Self.Keep.terms self.old self.new 0 0 }
-        ensures failures { Self.Keep.terms.failures self.new ≡ Self.Keep.terms.failures self.old };
-}
-
-impl Explains for ListKeep {
-    fn cause(&self) -> Option<Error> {
-        None
-    }
-
-    fn is_shut(&mut self) -> bool {
-        false
-    }
-}
-
-impl<S: Alter + Drop> Explains for SqlKeep<S> {
-    fn cause(&self) -> Option<Error> {
-        SqlKeep::cause(self)
-    }
-
-    fn is_shut(&mut self) -> bool {
-        SqlKeep::is_shut(self)
-    }
-}
+use std::sync::atomic::{AtomicBool, AtomicU64, Ordering};
 
 /// A keeper that returns what the one behind it does, and logs what becomes of that one's store. It logs the first failure after
-/// a change that succeeded, that the store is shut, and a PIN's tenth check. No value, PIN or label is logged.
+/// a change that succeeded, that the store is shut, a PIN's tenth check, and each object that is made, changed or destroyed, with the
+/// connection whose call it is. No value, PIN or label is logged.
 #[derive(Drop)]
 pub struct Reported<K, L> {
     keep: K,
@@ -57,15 +26,20 @@ pub struct Reported<K, L> {
     is_stopping: Arc<AtomicBool, Global>,
     health: Arc<Health, Global>,
     has_failed: bool,
+    sockets: Arc<Sockets, Global>,
+    /// The application whose call is served.
+    app: AtomicU64,
 }
 
 impl<K: Explains, L: Log + Drop> Reported<K, L> {
-    /// The keeper, which sets `is_stopping` where its store is shut. `health` counts what comes and goes.
+    /// The keeper, which sets `is_stopping` where its store is shut. `health` counts what comes and goes, and `sockets` has how a line
+    /// names a connection.
     pub fn new(
         keep: K,
         log: L,
         is_stopping: Arc<AtomicBool, Global>,
         health: Arc<Health, Global>,
+        sockets: Arc<Sockets, Global>,
     ) -> Reported<K, L>
         ensures { result.keep ≡ keep }
     {
@@ -75,6 +49,8 @@ impl<K: Explains, L: Log + Drop> Reported<K, L> {
             is_stopping,
             health,
             has_failed: false,
+            sockets,
+            app: AtomicU64::new(0),
         }
     }
 
@@ -121,12 +97,24 @@ impl<K: Explains, L: Log + Drop> Reported<K, L> {
 
     /// Logs that a PIN had its tenth check, if this record is the first that counts it.
     fn say_locked(&self, before: &Record, now: &Record) {
+        let title = self.title();
         if now.is_locked(UserType::User) && !before.is_locked(UserType::User) {
-            warn!(self.log; "the user's PIN had its tenth check: unless that one was right, it is locked");
+            warn!(self.log; "{title}: the user's PIN had its tenth check: unless that one was right, it is locked");
         }
         if now.is_locked(UserType::So) && !before.is_locked(UserType::So) {
-            warn!(self.log; "the security officer's PIN had its tenth check: unless that one was right, it is locked");
+            warn!(self.log; "{title}: the security officer's PIN had its tenth check: unless that one was right, it is locked");
         }
+    }
+
+    /// How a line names the connection whose call is served.
+    fn title(&self) -> Title<'_> {
+        self.sockets.title(self.app.load(Ordering::SeqCst))
+    }
+
+    /// Logs what became of an object.
+    fn say_object(&self, id: u64, what: &str) {
+        let title = self.title();
+        info!(self.log; "{title}: object {id} is {what}");
     }
 }
 
@@ -138,6 +126,11 @@ impl<K: Explains, L: Log + Drop> Keep for Reported<K, L> {
     ghost survives = { λ k sure. K.Keep.survives k.keep sure };
 
     ghost sure = { λ k steady. K.Keep.sure k.keep steady };
+
+    fn on_behalf_of(&self, app: u64) {
+        self.app.store(app, Ordering::SeqCst);
+        self.keep.on_behalf_of(app)
+    }
 
     fn failures(&self) -> u64 {
         self.keep.failures()
@@ -180,6 +173,7 @@ impl<K: Explains, L: Log + Drop> Keep for Reported<K, L> {
                 self.health.succeed(self.has_failed);
                 self.has_failed = false;
                 self.health.add_object();
+                self.say_object(id, "made");
                 Ok(id)
             }
             Err(fault) => Err(self.report(fault)),
@@ -191,6 +185,7 @@ impl<K: Explains, L: Log + Drop> Keep for Reported<K, L> {
             Ok(()) => {
                 self.health.succeed(self.has_failed);
                 self.has_failed = false;
+                self.say_object(id, "changed");
                 Ok(())
             }
             Err(fault) => Err(self.report(fault)),
@@ -203,6 +198,7 @@ impl<K: Explains, L: Log + Drop> Keep for Reported<K, L> {
                 self.health.succeed(self.has_failed);
                 self.has_failed = false;
                 self.health.remove_object();
+                self.say_object(id, "destroyed");
                 Ok(())
             }
             Err(fault) => Err(self.report(fault)),

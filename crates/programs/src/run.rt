@@ -8,9 +8,11 @@ use crate::cause::Cause;
 use crate::command::command;
 use crate::failure::{Failure, Fault};
 use crate::p11call::ask_all;
+use crate::restoring::restore;
 use crate::seed::trial_seed;
 use crate::serve::serve;
 use crate::status::status;
+use crate::unlocking::unlock;
 use crate::upkeep::{backup, check, compact};
 use clap::error::ErrorKind;
 use clap::{ArgMatches, Error};
@@ -80,6 +82,8 @@ fn run<R: Threads + Wait + Clock + Copy + Send + Drop + 'static, I: Read, O: Wri
         Some(("check", matches)) => check(rt, matches, output),
         Some(("backup", matches)) => backup(rt, matches),
         Some(("compact", matches)) => compact(rt, matches),
+        Some(("restore", matches)) => restore(rt, matches),
+        Some(("unlock", matches)) => unlock(rt, matches),
         _ => Err(Failure::BadInput.into()),
     }
 }
@@ -137,6 +141,13 @@ pub fn tokend_with<
     }
     match run(rt, threads, &matches, input, output, errors) {
         Ok(()) => 0,
-        Err(fault) => fault.report(errors),
+        Err(fault) => fault.report(errors, file_of(&fault, &matches)),
     }
+}
+
+/// The file that a fault is about, as the command line names it.
+fn file_of<'a>(fault: &Fault, matches: &ArgMatches<'a>) -> Option<&'a str> {
+    let (_, matches) = matches.subcommand()?;
+    let [first, second] = fault.options();
+    matches.get_str(first).or(matches.get_str(second))
 }

@@ -1,4 +1,4 @@
-//! `tokend serve`: a daemon on a Unix socket.
+//! `tokend serve`: a daemon on Unix sockets.
 
 ghost use Rattle.std.specs.Prelude.{◌≡◌, ◌<◌, ◌≤◌, IfOk};
 ghost use Rattle.hall_sockets.specs.Staying.{AreNew, IsNew};
@@ -9,21 +9,24 @@ use crate::cores::leave_cores_empty;
 use crate::failure::{Failure, Fault};
 use crate::health::Health;
 use crate::journal::{Journal, note};
-use crate::listening::daemon_socket;
+use crate::listening::{daemon_sockets, socket_names};
 use crate::monitor::{Monitor, Watching};
 use crate::notify::Manager;
 use crate::options::{level_in, mode_in};
-use crate::reported::{Explains, Reported};
+use crate::reported::Reported;
 use crate::seed::daemon_seed;
-use crate::store::{FileKeep, keep_private, open_store};
+use crate::store::{FileKeep, is_in_open_folder, keep_private, open_store, room_beside, see_owner};
 use cache::Cached;
 use clap::ArgMatches;
 use hall::Gate;
-use hall_sockets::{Loads, MAX_CLIENTS, Seats, Settings, Shared, SocketSeat, hold_sockets};
+use hall_sockets::{
+    Loads, MAX_CLIENTS, Seats, Settings, Shared, SocketSeat, Sockets, hold_sockets,
+};
 use keep::{Keep, ListKeep};
 use log::{Level, LevelFilter, Log};
 use pin_record::Record;
 use quota::Quota;
+use reserve::{Explains, Reserved};
 use std::alloc::Global;
 use std::io::{Stderr, Write};
 use std::num::NonZeroUsize;
@@ -58,7 +61,8 @@ impl Gate for OpenGate {
 #[derive(Drop)]
 struct Served<'a> {
     store: &'a str,
-    socket: &'a str,
+    /// The paths of its sockets.
+    paths: Vec<&'a str>,
     socket_mode: u32,
     /// How many objects the store may have.
     max_objects: u64,
@@ -69,6 +73,7 @@ struct Served<'a> {
     is_stopping: Arc<AtomicBool, Global>,
     loads: Arc<Loads, Global>,
     health: Arc<Health, Global>,
+    sockets: Arc<Sockets, Global>,
     ghost few: { settings.clients ≤ 64 },
 }
 
@@ -127,9 +132,10 @@ fn serve_file<
     errors: &mut E,
 ) -> Result<K, Fault> {
     let log = Journal::new(rt.stderr(), served.level);
-    let keep = with_reports(keep, log, served)?;
+    let room = room_beside(rt, served.store, served.level)?;
+    let keep = with_reports(Reserved::new(keep, room), log, served)?;
     let keep = serve_limited(rt, threads, keep, served, output, errors)?;
-    Ok(keep.into_keep())
+    Ok(keep.into_keep().into_keep())
 }
 
 /// Opens the store, and keeps it from other users.
@@ -138,7 +144,22 @@ fn open_private<E: Write>(
     served: &Served<'_>,
     errors: &mut E,
 ) -> Result<FileKeep, Fault> {
-    let keep = open_store(rt, served.store)?;
+    see_owner(rt, served.store)?;
+    let keep = open_store(rt, served.store, served.level)?;
+    with_modes(rt, served, errors, keep)
+}
+
+/// The keeper, once its files are kept from other users. That others may write the folder is a line.
+fn with_modes<K: Drop, E: Write>(
+    rt: &HostRuntime,
+    served: &Served<'_>,
+    errors: &mut E,
+    keep: K,
+) -> Result<K, Fault> {
+    if is_in_open_folder(rt, served.store) {
+        let text = "others may write the store's folder, and so put another store in its place";
+        note(errors, served.level, Level::Warn, &text);
+    }
     if keep_private(rt, served.store)? {
         let text =
             "other users could read the store or its log: their modes are those of their owner now";
@@ -148,7 +169,7 @@ fn open_private<E: Write>(
 }
 
 /// Closes a store at a clean end: its log is copied into its file.
-fn close_store(keep: FileKeep) -> Result<(), Fault> {
+pub(crate) fn close_store(keep: FileKeep) -> Result<(), Fault> {
     match keep.close().close() {
         Ok(()) => Ok(()),
         Err(error) => Err(error.into()),
@@ -164,8 +185,15 @@ fn with_reports<K: Explains, L: Log + Drop>(
     match (
         Arc::try_clone(&served.is_stopping),
         Arc::try_clone(&served.health),
+        Arc::try_clone(&served.sockets),
     ) {
-        (Ok(is_stopping), Ok(health)) => Ok(Reported::new(keep, log, is_stopping, health)),
+        (Ok(is_stopping), Ok(health), Ok(sockets)) => Ok(Reported::new(
+            keep,
+            log,
+            is_stopping,
+            health,
+            sockets,
+        )),
         _ => Err(Failure::Memory.into()),
     }
 }
@@ -196,22 +224,24 @@ fn read_options<'a, E: Write>(
     };
     let level = level_in(matches.get_str("log").unwrap_or("warn"));
     let store = matches.get_str("store").ok_or(Failure::Store)?;
-    let socket = matches.get_str("socket").ok_or(Failure::Socket)?;
+    let paths = paths_in(rt.alloc(), matches)?;
     let max_objects: Option<u64> = matches.get_one("max-objects");
     if max_objects.is_some() && store == IN_MEMORY {
         return Err(Failure::CommandLine.because(Cause::MaxObjects));
     }
     let seed = seed_from(rt, matches.get_str("seed-file"), level, errors)?;
-    let (Ok(is_stopping), Ok(loads), Ok(health)) = (
+    let names = socket_names(rt, &paths)?;
+    let (Ok(is_stopping), Ok(loads), Ok(health), Ok(sockets)) = (
         Arc::new(rt.alloc(), AtomicBool::new(false)),
         Arc::new(rt.alloc(), Loads::new()),
         Arc::new(rt.alloc(), Health::new()),
+        Arc::new(rt.alloc(), Sockets::new(names)),
     ) else {
         return Err(Failure::Memory.into());
     };
     Ok(Served {
         store,
-        socket,
+        paths,
         socket_mode,
         max_objects: max_objects.unwrap_or(u64::MAX),
         settings: settings_of(matches, seed),
@@ -220,7 +250,17 @@ fn read_options<'a, E: Write>(
         is_stopping,
         loads,
         health,
+        sockets,
     })
+}
+
+/// The paths of the sockets that the command line names.
+fn paths_in<'a>(alloc: Global, matches: &ArgMatches<'a>) -> Result<Vec<&'a str>, Fault> {
+    let paths = matches.get_strs("socket").ok_or(Failure::Socket)?;
+    match Vec::from_slice(alloc, paths) {
+        Ok(paths) => Ok(paths),
+        Err(_) => Err(Failure::Memory.into()),
+    }
 }
 
 /// What the seats have in common, by the command line.
@@ -247,8 +287,9 @@ fn seed_from<E: Write>(
 ) -> Result<[u8; 32], Fault> {
     let seed = daemon_seed(rt, path)?;
     if seed.comes_again {
-        let text = "--seed-file is a regular file: the same file at two starts gives the same keys";
-        note(errors, level, Level::Info, &text);
+        let text =
+            "--seed-file is a regular file: each start with it makes the same keys and random bytes again";
+        note(errors, level, Level::Warn, &text);
     }
     let bytes = seed.bytes;
     Ok(bytes)
@@ -358,11 +399,13 @@ fn monitor_of(rt: &HostRuntime, served: &Served<'_>) -> Result<Monitor, Fault> {
 
 /// Reports that the daemon serves, on standard error and to a service manager.
 fn say_ready<E: Write>(served: &Served<'_>, errors: &mut E) {
-    let (store, socket, objects) = (served.store, served.socket, served.health.objects());
-    let text = format_args!(
-        "version {VERSION} serves the store {store} with {objects} objects on {socket}"
-    );
-    note(errors, served.level, Level::Info, &text);
+    let (store, objects) = (served.store, served.health.objects());
+    for socket in served.sockets.names() {
+        let text = format_args!(
+            "version {VERSION} serves the store {store} with {objects} objects on {socket}"
+        );
+        note(errors, served.level, Level::Info, &text);
+    }
     if !served.manager.tell("READY=1\nSTATUS=serving\n") {
         note(
             errors,
@@ -373,7 +416,7 @@ fn say_ready<E: Write>(served: &Served<'_>, errors: &mut E) {
     }
 }
 
-/// The four seats on the socket, once the daemon listens and has reported so.
+/// The four seats on the sockets, once the daemon listens and has reported so.
 fn ready_seats<O: Write>(
     rt: &HostRuntime,
     served: &Served<'_>,
@@ -381,9 +424,9 @@ fn ready_seats<O: Write>(
 ) -> Result<Seats<Journal<Stderr>, HostRuntime>, Fault>
     ensures { IfOk result (λ seats. AreNew served.now.settings.seed seats) }
 {
-    let listener = daemon_socket(rt, served.socket, served.socket_mode)?;
+    let listeners = daemon_sockets(rt, &served.paths, served.socket_mode)?;
     let log = Journal::new(rt.stderr(), served.level);
-    let seats = seats_on(rt, log, listener, served)?;
+    let seats = seats_on(rt, log, listeners, served)?;
     match writeln!(output, "ready").and_then(|()| output.flush()) {
         Ok(()) => Ok(seats),
         Err(error) => Err(Failure::Line.because(Cause::Output(error))),
@@ -406,20 +449,20 @@ fn seats_ended<L: Log, C: Clock>(seats: &Seats<L, C>, served: &Served<'_>) -> Re
     }
 }
 
-/// The four seats, all on one socket.
+/// The four seats, all on the same sockets.
 fn seats_on<L: Log + Copy + Drop>(
     rt: &HostRuntime,
     log: L,
-    listener: UnixListener,
+    listeners: Vec<UnixListener>,
     served: &Served<'_>,
 ) -> Result<Seats<L, HostRuntime>, Fault>
     ensures { IfOk result (λ seats. AreNew served.now.settings.seed seats) }
 {
-    let second = again(&listener)?;
-    let third = again(&listener)?;
-    let fourth = again(&listener)?;
+    let second = again(rt.alloc(), &listeners)?;
+    let third = again(rt.alloc(), &listeners)?;
+    let fourth = again(rt.alloc(), &listeners)?;
     Ok((
-        seat_on(rt, log, listener, 0, served)?,
+        seat_on(rt, log, listeners, 0, served)?,
         seat_on(rt, log, second, 1, served)?,
         seat_on(rt, log, third, 2, served)?,
         seat_on(rt, log, fourth, 3, served)?,
@@ -430,23 +473,25 @@ fn seats_on<L: Log + Copy + Drop>(
 fn seat_on<L: Log + Drop>(
     rt: &HostRuntime,
     log: L,
-    listener: UnixListener,
+    listeners: Vec<UnixListener>,
     number: u64,
     served: &Served<'_>,
 ) -> Result<SocketSeat<L, HostRuntime>, Fault>
     requires { number < 4 }
     ensures { IfOk result (λ seat. IsNew seat served.now.settings.seed number) }
 {
-    let (Ok(is_stopping), Ok(loads)) = (
+    let (Ok(is_stopping), Ok(loads), Ok(sockets)) = (
         Arc::try_clone(&served.is_stopping),
         Arc::try_clone(&served.loads),
+        Arc::try_clone(&served.sockets),
     ) else {
         return Err(Failure::Memory.into());
     };
     let shared = Shared {
         is_stopping,
         loads,
-        listener,
+        sockets,
+        listeners,
     };
     match SocketSeat::new(rt, rt.alloc(), *rt, log, shared, &served.settings, number) {
         Ok(seat) => Ok(seat),
@@ -454,10 +499,17 @@ fn seat_on<L: Log + Drop>(
     }
 }
 
-/// The same socket once more.
-fn again(listener: &UnixListener) -> Result<UnixListener, Fault> {
-    match listener.try_clone() {
-        Ok(again) => Ok(again),
-        Err(error) => Err(Failure::Socket.because(Cause::Socket(error))),
+/// The same sockets once more.
+fn again(alloc: Global, listeners: &[UnixListener]) -> Result<Vec<UnixListener>, Fault> {
+    let mut same = Vec::new(alloc);
+    for listener in listeners {
+        match listener.try_clone() {
+            Ok(again) => match same.push(again) {
+                Ok(()) => {}
+                Err(_) => return Err(Failure::Memory.into()),
+            },
+            Err(error) => return Err(Failure::Socket.because(Cause::Socket(error))),
+        }
     }
+    Ok(same)
 }

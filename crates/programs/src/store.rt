@@ -1,16 +1,20 @@
 //! The daemon's store in a file: kept from other users, opened, and why it can't be.
 
+use crate::ballast::{Ballast, remove_ballast};
 use crate::cause::Cause;
-use crate::copying::{is_busy, read_store};
+use crate::copying::is_busy;
 use crate::examining::examine;
 use crate::failure::{Failure, Fault};
 use crate::journal::Journal;
 use crate::mark::Mark;
 use crate::marked::Marked;
 use crate::renewal::{file_is_in_use, renew};
+use crate::snapshot::read_store;
+use crate::spare_logs::SpareLogs;
 use keep::KeepFault;
-use keep_sql::{OWN_MODE, OpenFault, SqlKeep};
+use keep_sql::{OpenFault, SqlKeep, own_mode};
 use log::{LevelFilter, Log, warn};
+use reserve::{Explains, SpareRoom};
 use sqlite::{Error, ErrorCode, FileFrom, FileStore};
 use sqlite_disk::Wary;
 use std::fs::{File, OpenOptions, Permissions};
@@ -26,6 +30,9 @@ type OpenKeep = SqlKeep<FileStore<FileFrom<Wary>>>;
 
 /// The permission bits of group and others.
 const SHARED_BITS: u32 = 0o077;
+
+/// The bits by which group and others may write.
+const WRITE_BITS: u32 = 0o022;
 
 fn refused(error: io::Error) -> Fault {
     Failure::Store.because(Cause::StoreFile(error))
@@ -57,9 +64,40 @@ fn narrow(rt: &HostRuntime, path: &str) -> Result<bool, Fault> {
     if !found.is_file() || mode & SHARED_BITS == 0 {
         return Ok(false);
     }
-    match fs::set_permissions(rt, path, Permissions::from_mode(mode & OWN_MODE)) {
+    match fs::set_permissions(rt, path, Permissions::from_mode(mode & own_mode())) {
         Ok(()) => Ok(true),
         Err(error) => Err(Failure::Store.because(Cause::StoreMode(error))),
+    }
+}
+
+/// Refused where the store or its log belongs to another user than the process runs as.
+pub(crate) fn see_owner(rt: &HostRuntime, path: &str) -> Result<(), Fault> {
+    let user = libc::geteuid();
+    if let Ok(found) = fs::metadata(rt, path) {
+        if found.uid() != user {
+            return Err(Failure::Store.because(Cause::Foreign(found.uid(), user)));
+        }
+    }
+    let Ok(log) = log_of(rt, path) else {
+        return Ok(());
+    };
+    if let Ok(found) = fs::symlink_metadata(rt, log.as_str()) {
+        if found.uid() != user {
+            return Err(Failure::Store.because(Cause::ForeignLog(found.uid(), user)));
+        }
+    }
+    Ok(())
+}
+
+/// Whether others than the owner may write the folder of a store that is open.
+pub(crate) fn is_in_open_folder(rt: &HostRuntime, path: &str) -> bool {
+    let Ok(mut folder) = fs::canonicalize(rt, path) else {
+        return false;
+    };
+    folder.pop();
+    match fs::metadata(rt, folder.as_str()) {
+        Ok(found) => found.permissions().mode() & WRITE_BITS != 0,
+        Err(_) => false,
     }
 }
 
@@ -67,51 +105,79 @@ fn narrow(rt: &HostRuntime, path: &str) -> Result<bool, Fault> {
 ///
 /// A store whose mark is missing, or whose file doesn't say that it is in use, is written anew first. Where that can't be done, as
 /// on a disk that is full, it is opened all the same, and a line reports it.
-pub(crate) fn open_store(rt: &HostRuntime, path: &str) -> Result<FileKeep, Fault> {
-    let keep = open_once(rt, path)?;
-    if is_clean(rt, path)? {
-        return marked(rt, path, keep);
+pub(crate) fn open_store(
+    rt: &HostRuntime,
+    path: &str,
+    level: LevelFilter,
+) -> Result<FileKeep, Fault> {
+    let (keep, is_clean) = seen_clean(rt, path, open_once(rt, path)?)?;
+    if is_clean {
+        return watched(rt, path, level, keep);
     }
     if let Err(fault) = renew(rt, path, keep) {
-        say_kept(rt, &fault);
-        return marked(rt, path, open_once(rt, path)?);
+        say_kept(rt, level, &fault);
+        return watched(rt, path, level, open_once(rt, path)?);
     }
     let keep = open_once(rt, path)?;
-    set_mark(rt, path)?;
-    marked(rt, path, keep)
+    watched(rt, path, level, marked(rt, path, keep)?)
 }
 
 /// Reports that a store's file stays as it is, with what was destroyed.
-fn say_kept(rt: &HostRuntime, fault: &Fault) {
-    let log = Journal::new(rt.stderr(), LevelFilter::Warn);
+fn say_kept(rt: &HostRuntime, level: LevelFilter, fault: &Fault) {
+    let log = Journal::new(rt.stderr(), level);
     match fault.cause() {
         Some(cause) => warn!(log; "what was destroyed may still be in the store: {cause}"),
         None => warn!(log; "what was destroyed may still be in the store: out of memory"),
     }
 }
 
-/// Writes the file of a store anew. An empty file, which the daemon would make a new store of, is none.
-pub(crate) fn renew_store(rt: &HostRuntime, path: &str) -> Result<(), Fault> {
+/// Refused where there is no store: an empty file, which the daemon would make a new store of, is none.
+fn see_store(rt: &HostRuntime, path: &str) -> Result<(), Fault> {
     match fs::metadata(rt, path) {
-        Ok(found) if found.len() > 0 => {}
-        Ok(_) => return Err(OpenFault::NoTables.into()),
-        Err(error) => return Err(refused(error)),
+        Ok(found) if found.len() > 0 => Ok(()),
+        Ok(_) => Err(OpenFault::NoTables.into()),
+        Err(error) => Err(refused(error)),
     }
+}
+
+/// Opens a store that is there.
+pub(crate) fn open_there(rt: &HostRuntime, path: &str) -> Result<FileKeep, Fault> {
+    see_store(rt, path)?;
+    open_store(rt, path, LevelFilter::Warn)
+}
+
+/// Writes the file of a store anew.
+pub(crate) fn renew_store(rt: &HostRuntime, path: &str) -> Result<(), Fault> {
+    see_store(rt, path)?;
     renew(rt, path, open_once(rt, path)?)?;
     set_mark(rt, path)
 }
 
 /// Whether nothing was destroyed since the file was written anew.
 fn is_clean(rt: &HostRuntime, path: &str) -> Result<bool, Fault> {
-    match Mark::find(rt, path).and_then(|mark| Ok(mark.is_set() && file_is_in_use(rt, path)?)) {
+    match Mark::find(rt, path, LevelFilter::Off).and_then(|mark| Ok(
+        mark.is_set() && file_is_in_use(rt, path)?,
+    )) {
         Ok(is_clean) => Ok(is_clean),
         Err(error) => Err(refused(error)),
     }
 }
 
+/// The keeper of an open store, and whether nothing was destroyed since its file was written anew.
+fn seen_clean<K: Drop>(rt: &HostRuntime, path: &str, keep: K) -> Result<(K, bool), Fault> {
+    let is_clean = is_clean(rt, path)?;
+    Ok((keep, is_clean))
+}
+
+/// The keeper of a store whose file was written anew, which is marked so.
+fn marked<K: Drop>(rt: &HostRuntime, path: &str, keep: K) -> Result<K, Fault> {
+    set_mark(rt, path)?;
+    Ok(keep)
+}
+
 fn set_mark(rt: &HostRuntime, path: &str) -> Result<(), Fault> {
     // (without it the next start takes longer)
-    match Mark::find(rt, path) {
+    match Mark::find(rt, path, LevelFilter::Off) {
         Ok(mut mark) => {
             let _ = mark.set();
             Ok(())
@@ -120,9 +186,30 @@ fn set_mark(rt: &HostRuntime, path: &str) -> Result<(), Fault> {
     }
 }
 
-fn marked(rt: &HostRuntime, path: &str, keep: OpenKeep) -> Result<FileKeep, Fault> {
-    match Mark::find(rt, path) {
-        Ok(mark) => Ok(Marked::new(keep, mark)),
+/// The keeper, which looks after what stands beside the store.
+fn watched<K: Explains>(
+    rt: &HostRuntime,
+    path: &str,
+    level: LevelFilter,
+    keep: K,
+) -> Result<Marked<K>, Fault> {
+    match (Mark::find(rt, path, level), SpareLogs::find(rt, path)) {
+        (Ok(mark), Ok(logs)) => Ok(Marked::new(keep, mark, logs)),
+        (Err(error), _) | (_, Err(error)) => Err(refused(error)),
+    }
+}
+
+/// The room beside a store, which is set aside now where there is some.
+pub(crate) fn room_beside(
+    rt: &HostRuntime,
+    path: &str,
+    level: LevelFilter,
+) -> Result<Ballast, Fault> {
+    match Ballast::find(rt, path, level) {
+        Ok(mut room) => {
+            let _ = room.fill();
+            Ok(room)
+        }
         Err(error) => Err(refused(error)),
     }
 }
@@ -142,17 +229,41 @@ fn open_once(rt: &HostRuntime, path: &str) -> Result<OpenKeep, Fault> {
         return Err(Failure::Store.because(Cause::LogLost));
     }
     let before = file_named(rt, path);
-    match SqlKeep::open(rt, path, Wary) {
+    match open_in_room(rt, path) {
         Ok(keep) => {
             if before.is_some() && before != file_named(rt, path) {
                 return Err(Failure::Store.because(Cause::StoreBusy));
             }
             Ok(keep)
         }
-        Err(refused) => {
-            let fault = refused.put_back(rt.alloc());
-            Err(why_refused(rt, path, fault))
-        }
+        Err(fault) => Err(why_refused(rt, path, fault)),
+    }
+}
+
+/// Opens the store. Where the disk has no room for that, the room beside the store is given up first.
+fn open_in_room(rt: &HostRuntime, path: &str) -> Result<OpenKeep, OpenFault> {
+    let fault = match open_files_at(rt, path) {
+        Ok(keep) => return Ok(keep),
+        Err(fault) => fault,
+    };
+    if is_full(fault) && remove_ballast(rt, path).unwrap_or(false) {
+        open_files_at(rt, path)
+    } else {
+        Err(fault)
+    }
+}
+
+fn is_full(fault: OpenFault) -> bool {
+    matches!(
+        fault,
+        OpenFault::Sqlite(Error::SqliteFailure(ErrorCode::DiskFull))
+    )
+}
+
+fn open_files_at(rt: &HostRuntime, path: &str) -> Result<OpenKeep, OpenFault> {
+    match SqlKeep::open(rt, path, Wary) {
+        Ok(keep) => Ok(keep),
+        Err(refused) => Err(refused.given_back(rt.alloc()).fault),
     }
 }
 
@@ -199,7 +310,7 @@ fn open_or_make(rt: &HostRuntime, path: &str) -> io::Result<File> {
         .read(true)
         .write(true)
         .create_new(!is_there)
-        .mode(OWN_MODE)
+        .mode(own_mode())
         .open(rt, path)
 }
 
@@ -210,6 +321,9 @@ fn why_shut_out(rt: &HostRuntime, path: &str) -> Fault {
         Ok(file) => {
             if is_busy(&file) {
                 return Failure::Store.because(Cause::StoreBusy);
+            }
+            if file.metadata().is_ok_and(|found| found.nlink() > 1) {
+                return Failure::Store.because(Cause::HardLink);
             }
             match can_have_log(rt, path) {
                 Err(error) => Failure::Store.because(Cause::StoreFolder(error)),
@@ -228,7 +342,7 @@ fn can_have_log(rt: &HostRuntime, path: &str) -> io::Result<()> {
         .read(true)
         .write(true)
         .create(true)
-        .mode(OWN_MODE)
+        .mode(own_mode())
         .open(rt, &log);
     opened.map(|_| ())
 }

@@ -1,10 +1,10 @@
-//! `tokend check`, `tokend backup` and `tokend compact`: a store that no daemon has open is looked through, copied from its rows, or
-//! written anew from them.
+//! `tokend check`, `tokend backup` and `tokend compact`: a store is looked through, copied from its rows, or written anew from them.
+//! A daemon may serve it meanwhile, but where it is written anew.
 
 use crate::cause::Cause;
-use crate::copying::read_store;
 use crate::examining::{Findings, examine};
 use crate::failure::{Failure, Fault};
+use crate::snapshot::read_store;
 use crate::store::renew_store;
 use crate::writing::write_new;
 use clap::ArgMatches;

@@ -1,7 +1,7 @@
 //! Whole files that are written and synced. Their owner may read and write them, and nobody else.
 
-use keep_sql::OWN_MODE;
-use std::fs::{File, OpenOptions};
+use keep_sql::own_mode;
+use std::fs::{File, Metadata, OpenOptions};
 use std::io::Write;
 use std::os::unix::fs::{MetadataExt, OpenOptionsExt, fchown};
 use std::{fs, io};
@@ -20,8 +20,18 @@ pub(crate) fn write_like(
     bytes: &[u8],
 ) -> io::Result<()> {
     let owner = fs::metadata(rt, other)?;
+    write_owned(rt, path, &owner, bytes)
+}
+
+/// The same, and the file has this owner and group.
+pub(crate) fn write_owned(
+    rt: &HostRuntime,
+    path: &str,
+    owner: &Metadata,
+    bytes: &[u8],
+) -> io::Result<()> {
     let file = make(rt, path)?;
-    if let Err(error) = fchown(&file, Some(owner.uid()), Some(owner.gid())) {
+    if let Err(error) = give_to(&file, owner) {
         drop(file);
         let _ = fs::remove_file(rt, path);
         return Err(error);
@@ -29,11 +39,17 @@ pub(crate) fn write_like(
     settle(rt, path, file, bytes)
 }
 
-fn make(rt: &HostRuntime, path: &str) -> io::Result<File> {
+/// Gives the file to the owner and the group of another one.
+pub(crate) fn give_to(file: &File, owner: &Metadata) -> io::Result<()> {
+    fchown(file, Some(owner.uid()), Some(owner.gid()))
+}
+
+/// Makes a file where none is, for its owner alone.
+pub(crate) fn make(rt: &HostRuntime, path: &str) -> io::Result<File> {
     OpenOptions::new()
         .write(true)
         .create_new(true)
-        .mode(OWN_MODE)
+        .mode(own_mode())
         .open(rt, path)
 }
 
@@ -46,6 +62,11 @@ fn settle(rt: &HostRuntime, path: &str, mut file: File, bytes: &[u8]) -> io::Res
         let _ = fs::remove_file(rt, path);
     }
     written
+}
+
+/// Writes the bytes of a file, which the disk may get later.
+pub(crate) fn fill(mut file: File, bytes: &[u8]) -> io::Result<()> {
+    file.write_all(bytes)
 }
 
 /// Writes the names in the folder of a file to the disk.

@@ -200,7 +200,7 @@ const REFUSED: &[(&[&str], &[u8])] = &[
     (
         &[],
         b"error: 'tokend' requires a subcommand but one was not provided
-  [subcommands: stdio, serve, p11call, status, check, backup, compact, help]
+  [subcommands: stdio, serve, p11call, status, check, backup, compact, restore, unlock, help]
 
 Usage: tokend <COMMAND>
 

@@ -68,10 +68,12 @@ fn serve_with<'a, R: Threads + Wait + Clock + Copy + Send + Drop + 'static>(
         clients,
         "--connections",
         connections,
+        "--log",
+        "error",
         "--idle",
         idle,
     ];
-    let count = if idle.is_empty() { 11 } else { 13 };
+    let count = if idle.is_empty() { 13 } else { 15 };
     run(rt, threads, words.get(..count).unwrap_or(&[]), b"")
 }
 

@@ -108,6 +108,8 @@ fn serve_for<R: Threads + Wait + Clock + Copy + Send + Drop + 'static>(
         seed,
         "--connections",
         connections,
+        "--log",
+        "error",
     ];
     run(rt, threads, &words, b"")
 }
@@ -201,7 +203,7 @@ fn a_store_in_a_file_stays(rt: HostRuntime) -> Result<(), Fail> {
         second,
         3,
         "cannot open the store",
-        "another program has the store open",
+        "stays.store: another program has the store open: stop a daemon by systemctl stop tokend.socket tokend, or its instance's units",
     )?;
     let third = serve(&rt, rt, ":memory:", "stays.sock", "stays.seed")?;
     expect_refusal(&rt, third, 4, "cannot use the socket", TAKEN)?;
@@ -238,7 +240,8 @@ fn a_daemon_is_refused_for_its_first_fault(rt: HostRuntime) -> Result<(), Fail> 
     expect_refusal(&rt, seed, 5, "bad input", missing)?;
     fs::write(&rt, "faults.seed", &[0u8; 32])?;
     let store = serve(&rt, rt, "no.store", nowhere, "faults.seed")?;
-    let no_database = "sqlite refuses the store: file is not a database that obeys its schema";
+    let no_database =
+        "no.store: sqlite refuses the store: file is not a database that obeys its schema";
     expect_refusal(&rt, store, 3, "cannot open the store", no_database)?;
     let socket = serve(&rt, rt, ":memory:", nowhere, "faults.seed")?;
     let missing = "--socket cannot be used: No such file or directory (os error 2)";

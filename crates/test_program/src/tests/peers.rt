@@ -4,7 +4,7 @@ use super::daemon::{clear, connect, expect, expect_end, start_for};
 use super::{OPEN_SESSION, SESSION_ONE};
 use ck_calls::Reply;
 use hall::{Seat, SeatEvent};
-use hall_sockets::{Loads, Settings, Shared, SocketSeat};
+use hall_sockets::{Loads, Settings, Shared, SocketSeat, Sockets};
 use log::sink::Discard;
 use std::alloc::Global;
 use std::io::{Read, Write};
@@ -118,10 +118,13 @@ fn seat_on(
     is_stopping: Arc<AtomicBool, Global>,
 ) -> Result<SocketSeat<Discard, HostRuntime>, Fail> {
     let alloc = rt.alloc();
+    let mut listeners = Vec::new(alloc);
+    listeners.push(UnixListener::bind(rt, path)?)?;
     let shared = Shared {
         is_stopping,
         loads: Arc::new(alloc, Loads::new())?,
-        listener: UnixListener::bind(rt, path)?,
+        sockets: Arc::new(alloc, Sockets::new(Vec::new(alloc)))?,
+        listeners,
     };
     let settings = Settings {
         seed: [0; 32],
