@@ -18,6 +18,10 @@ import tempfile
 import threading
 import time
 
+sys.dont_write_bytecode = True
+
+from frames import call, data, number, parts, template
+
 PROGRAM = os.path.abspath(sys.argv[1]) if len(sys.argv) == 2 else sys.exit(__doc__)
 if not os.access(PROGRAM, os.X_OK):
     sys.exit(f"daemon.py: no program: {PROGRAM}")
@@ -62,22 +66,6 @@ def see(is_so, *why):
         raise Failed(" ".join(str(it) for it in why))
 
 
-def number(n):
-    return struct.pack(">Q", n)
-
-
-def data(bytes_):
-    return struct.pack(">I", len(bytes_)) + bytes_
-
-
-def template(*entries):
-    return struct.pack(">I", len(entries)) + b"".join(number(n) + data(value) for n, value in entries)
-
-
-def call(function, *fields):
-    return struct.pack(">H", function) + b"".join(fields)
-
-
 SESSION = number(1)
 OPEN_SESSION = call(7, number(0), number(6))
 PUBLIC_TOKEN_OBJECT = ((0x1, b"\x01"), (0x2, b"\x00"))
@@ -109,8 +97,7 @@ class Client:
 
     def hear(self):
         """The code of the next reply, and its fields."""
-        reply = self.take(struct.unpack(">I", self.take(4))[0])
-        return struct.unpack(">Q", reply[:8])[0], reply[8:]
+        return parts(self.take(struct.unpack(">I", self.take(4))[0]))
 
     def take(self, count):
         got = b""
@@ -264,17 +251,6 @@ def a_folder_as_store_is_refused(folder):
 
 
 @check
-def a_store_that_is_not_ours_to_narrow_is_refused(folder):
-    as_root()
-    os.chmod(folder, 0o777)
-    filled(folder)
-    for name in ("token.db", "token.db-wal"):
-        os.chmod(os.path.join(folder, name), 0o666)
-    os.remove(os.path.join(folder, "s"))
-    refused(folder, 3, b"cannot open the store", b"cannot be kept from other users", user=NOBODY, group=NOBODY)
-
-
-@check
 def the_socket_has_its_mode_from_its_first_moment(folder):
     for words, mask, wanted in (((), 0, 0o600), (("--socket-mode", "660"), 0o077, 0o660), (("--socket-mode", "0600"), 0o177, 0o600)):
         seen, is_over = set(), threading.Event()
@@ -392,10 +368,12 @@ def without_a_seed_file_no_two_starts_have_the_same_random_bytes(folder):
 def a_regular_seed_file_is_warned_of(folder):
     with open(os.path.join(folder, "seed"), "wb") as it:
         it.write(bytes(32))
-    words = "--seed-file", "seed", "--log", "info"
+    words = "--seed-file", "seed"
     first, second = random_bytes(folder, *words), random_bytes(folder, *words)
     see(first[0] == second[0], "other bytes came of the same seed")
-    see(b"<6>tokend: --seed-file is a regular file" in first[1], first[1])
+    for said in first[1], second[1]:
+        see(b"<4>tokend: --seed-file is a regular file: each start with it makes the same keys" in said, said)
+    see(not random_bytes(folder, *words, "--log", "error")[1], "at error too")
     see(b"regular" not in random_bytes(folder, "--seed-file", "/dev/urandom", "--log", "info")[1], "of a device too")
 
 
@@ -427,6 +405,7 @@ def a_connection_refused_for_its_frames_is_said(folder):
         see(client.stream.recv(1) == b"", "it goes on")
         said = daemon.errors(b"too long")
         see(said.startswith(b"<4>tokend: connection ") and said.endswith(b"is refused: a frame is too long\n"), said)
+    with Daemon(folder, store=":memory:") as daemon:
         client = daemon.client()
         client.stream.sendall(b"\x00\x00\x00\x12\x00")
         client.close()
@@ -449,10 +428,11 @@ def a_pin_that_had_its_tenth_check_is_said(folder):
         for _ in range(9):
             client.expect(call(11, SESSION, number(1), data(b"wrong")), PIN_INCORRECT)
         see(b"PIN" not in daemon.errors(), daemon.said)
+        begun = len(daemon.said)
         client.expect(call(11, SESSION, number(1), data(b"wrong")), PIN_INCORRECT)
         client.expect(call(11, SESSION, number(1), data(b"secret")), PIN_LOCKED)
-        said = daemon.errors(b"PIN")
-        see(said.count(b"\n") == 1 and said.startswith(b"<4>tokend: the user's PIN") and b"wrong" not in said and b"secret" not in said, said)
+        said = daemon.errors(b"PIN")[begun:]
+        see(said.count(b"\n") == 1 and re.match(rb"<4>tokend: connection \d+: the user's PIN", said) and b"wrong" not in said and b"secret" not in said, said)
 
 
 def handing_over(folder, listener, fds="1", pid="$$", path="nowhere/s", **how):
@@ -486,11 +466,12 @@ def a_socket_for_another_process_is_not_used(folder):
 
 @check
 def what_is_handed_over_wrongly_is_said(folder):
-    for fds, because in (("2", b"LISTEN_FDS hands over 2 sockets"),):
+    for fds, because in (("65", b"LISTEN_FDS hands over 65 sockets, more than 64"), ("2", b"what LISTEN_FDS hands over is no Unix socket")):
         with listening(folder) as listener:
             daemon = handing_over(folder, listener, fds=fds)
             status, said = daemon.end()
             see(status == 4 and said.startswith(b"tokend: cannot use the socket\ntokend: because " + because), status, said)
+        os.remove(os.path.join(folder, "handed"))
     with open(os.path.join(folder, "file"), "wb") as file:
         daemon = handing_over(folder, file)
         status, said = daemon.end()
@@ -521,7 +502,7 @@ def a_store_is_looked_through_and_left_as_it_is(folder):
     see({"format: 2", "data objects: 2", "secret keys: 1", "rows that are no token object's: 0"} <= set(lines), lines)
     see((contents(*paths), sorted(os.listdir(folder)), [os.stat(it).st_mtime_ns for it in paths]) == before, "it was changed")
     status, output, errors = ran(folder, "check", "--store", "none")
-    see(status == 3 and errors.startswith(b"tokend: cannot open the store\ntokend: because --store cannot be used: No such file"), status, errors)
+    see(status == 3 and errors.startswith(b"tokend: cannot open the store\ntokend: because none: --store cannot be used: No such file"), status, errors)
     see(not os.path.exists(os.path.join(folder, "none")), "it was made")
 
 
@@ -589,18 +570,8 @@ def a_backup_is_whole_and_its_owners_alone(folder):
         see(found(daemon) == 3, "it has other objects")
     copy = contents(os.path.join(folder, "copy.db"))
     status, _, errors = ran(folder, "backup", "--store", "token.db", "--to", "copy.db")
-    see(status == 3 and errors.startswith(b"tokend: cannot write the copy\ntokend: because --to cannot be written: File exists"), status, errors)
+    see(status == 3 and errors.startswith(b"tokend: cannot write the copy\ntokend: because copy.db: --to cannot be written: File exists"), status, errors)
     see(contents(os.path.join(folder, "copy.db")) == copy, "it was overwritten")
-
-
-@check
-def a_store_that_a_daemon_has_is_not_copied(folder):
-    filled(folder)
-    with Daemon(folder) as daemon:
-        for words in (("backup", "--to", "copy"), ("check",)):
-            status, _, errors = ran(folder, words[0], "--store", "token.db", *words[1:])
-            see(status == 3 and b"because a daemon or another program has the store open: stop it first" in errors, status, errors)
-        see(not os.path.exists(os.path.join(folder, "copy")) and found(daemon) == 3, "it was changed")
 
 
 @contextlib.contextmanager
@@ -608,7 +579,7 @@ def small_disk(folder, size):
     as_root()
     disk = os.path.join(folder, "disk")
     os.mkdir(disk)
-    if subprocess.run(["mount", "-t", "tmpfs", "-o", f"size={size}", "none", disk], capture_output=True, check=False).returncode:
+    if subprocess.run(["mount", "-t", "tmpfs", "-o", f"size={size},mode=700", "none", disk], capture_output=True, check=False).returncode:
         raise Skipped("no file system can be mounted")
     try:
         yield disk
@@ -672,7 +643,7 @@ def a_store_that_is_shut_ends_the_daemon(folder):
 def the_version_is_the_changelogs_and_the_modules(folder):
     status, out, _ = ran(folder, "--version")
     with open(os.path.join(TOP, "CHANGELOG.md"), encoding="utf-8") as file:
-        newest = re.search(r"^## (.*)$", file.read(), re.M).group(1)
+        newest = re.search(r"^## ([0-9][0-9.]*)", file.read(), re.M).group(1)
     with open(os.path.join(TOP, "clients/pkcs11/Cargo.toml"), encoding="utf-8") as file:
         module = re.search(r'^version = "(.*)"$', file.read(), re.M).group(1)
     see(status == 0 and out == f"tokend {newest}\n".encode() and newest == module, status, out, newest, module)

@@ -73,7 +73,7 @@ def waits(daemon, count):
 
 @check
 def a_new_connection_is_served_beside_clients_that_never_pause(folder):
-    load = compiled(folder, os.path.join(TOP, "tests/load.c"), "load", "-pthread")
+    load = compiled(folder, os.path.join(TOP, "tests/measure/load.c"), "load", "-pthread")
     everywhere = os.sched_getaffinity(0)
     for cores in ({min(everywhere)}, everywhere):
         for clients in 16, 64:
@@ -97,7 +97,7 @@ def connections_that_come_at_once_are_spread_and_served(folder):
 
 @check
 def an_idle_connection_is_ended_beside_one_that_never_pauses(folder):
-    load = compiled(folder, os.path.join(TOP, "tests/load.c"), "load", "-pthread")
+    load = compiled(folder, os.path.join(TOP, "tests/measure/load.c"), "load", "-pthread")
     with Daemon(folder, "--clients", "2", "--idle", "2", store=":memory:") as daemon:
         idle = [daemon.client() for _ in range(4)]
         for client in idle:

@@ -42,7 +42,8 @@ def an_object_beyond_the_limit_is_refused_and_all_else_goes_on(folder):
         client.expect(call(11, SESSION, number(0), data(b"officer")))
         client.expect(call(5, SESSION, data(b"secret")))
         client.expect(call(12, SESSION))
-        see(daemon.errors(MANY) == b"<4>tokend: there are 3 " + MANY, daemon.said)
+        said = daemon.errors(MANY).splitlines(True)
+        see(said[1:] == [b"<4>tokend: there are 3 " + MANY] and b"C_InitToken" in said[0], said)
         client.expect(destroy(1))
         client.expect(data_object())
         client.expect(data_object(), DEVICE_ERROR)
@@ -66,7 +67,7 @@ def an_object_beyond_the_limit_is_refused_and_all_else_goes_on(folder):
 
 @check
 def a_limit_keeps_the_disk_from_being_full(folder):
-    with small_disk(folder, "1m") as disk, Daemon(disk, "--max-objects", "100") as daemon:
+    with small_disk(folder, "2m") as disk, Daemon(disk, "--max-objects", "100") as daemon:
         client = daemon.client()
         client.expect(OPEN_SESSION)
         codes = [client.ask(data_object(bytes(1000)))[0] for _ in range(200)]

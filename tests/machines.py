@@ -244,14 +244,15 @@ class Play:
         self.listens("token")
 
     def takeover(self):
-        self.next("token", "systemctl stop tokend.socket tokend")
+        self.next("token", "tokend backup")
         self.listens("token")
         self.application.call(f"{TOOL} --login --pin 9999 -O", 1)
         self.token.call(f"{TOOL} --write-object /etc/hostname --type data --label after")
         found = self.slots()
         self.check("takeover: a wrong PIN counts on the first token", "user PIN count low" in found, found)
-        self.carry("token", "/var/lib/tokend/token.copy", "second", "/var/lib/tokend/token.db")
-        found = self.next("second", "tokend check")
+        self.carry("token", "/var/lib/tokend/token.copy", "second", "/var/lib/tokend/token.copy")
+        self.next("second", "systemctl stop tokend.socket tokend")
+        found = self.second.call("tokend check --store /var/lib/tokend/token.db")
         self.check("takeover: the copy is whole", "secret key" in found, found)
         self.listens("second")
         # (to the second machine by the same way as to the first; here by a second ssh)

@@ -71,7 +71,7 @@ def installed(prefix):
 
 def newest():
     with open(f"{machine.TOP}/CHANGELOG.md", encoding="utf-8") as it:
-        return re.search(r"^## (.*)$", it.read(), re.M).group(1)
+        return re.search(r"^## ([0-9][0-9.]*)", it.read(), re.M).group(1)
 
 
 def slots(it, module, user="member"):
@@ -176,7 +176,7 @@ def purged_nothing_is_left_but_the_store():
         it.sh("printf '%s\n' 000700000000000000000000000000000006 | tokend p11call --socket /run/tokend-one/tokend.sock")
         is_used(it)
         it.sh(PURGE)
-        stores = r"/var/lib/(private/)?tokend(-one)?(/token\.db(-wal|-clean)?)?$"
+        stores = r"/var/lib/(private/)?tokend(-one)?(/token\.db(-wal|-clean|-reserve)?)?$"
         left = {path for path in everything(it) - before if not re.match(stores, path)}
         see(not left, "left:", sorted(left))
         see(it.run("getent", "group", "tokend").returncode == 2, "the group is left")

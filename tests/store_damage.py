@@ -8,22 +8,16 @@ Every STEP-th bit of the file is flipped, and every STEP-th length of it is a cu
 STEP_OF_LOG-th (without it as of the file).
 
 A start has to end with status 3 and leave both files byte for byte. Or the store has to be the whole one, the one at its last checkpoint
-where the log was touched, or the one before its last commits. It prints how many of how many were which, and ends with status 1 where one
-was anything else. As many starts run side by side as there are processors, each in a folder of its own.
+where the log was touched, or the one before its last commits. Each kind of damage is one test, and a line, `ok KIND: N starts: ..` or
+`FAILED KIND: ..`: how many of how many starts were which. It has failed where one start was anything else, or where there was none. The
+last line is the sum, `N passed, M failed`. As many starts run side by side as there are processors, each in a folder of its own.
 """
 import concurrent.futures, itertools, os, shutil, socket, struct, subprocess, sys, tempfile, threading
 
+sys.dont_write_bytecode = True
 
-def n(value):
-    return struct.pack(">Q", value)
-
-
-def blob(data):
-    return struct.pack(">I", len(data)) + data
-
-
-def template(*entries):
-    return struct.pack(">I", len(entries)) + b"".join(n(kind) + blob(value) for kind, value in entries)
+import frames
+from frames import buffer, number, template
 
 
 class Token:
@@ -43,11 +37,8 @@ class Token:
             self.socket.connect(self.path)
 
     def call(self, function, *fields):
-        payload = struct.pack(">H", function) + b"".join(fields)
-        self.socket.sendall(struct.pack(">I", len(payload)) + payload)
-        length = struct.unpack(">I", self.take(4))[0]
-        reply = self.take(length)
-        return struct.unpack(">Q", reply[:8])[0], reply[8:]
+        self.socket.sendall(frames.data(frames.call(function, *fields)))
+        return frames.parts(self.take(struct.unpack(">I", self.take(4))[0]))
 
     def take(self, count):
         data = b""
@@ -60,23 +51,23 @@ class Token:
 
     def contents(self):
         """The objects' values and the token's label, or the code of a refusal."""
-        code, reply = self.call(7, n(0), n(6))
+        code, reply = self.call(7, number(0), number(6))
         if code:
             return code
         session = reply
-        code, info = self.call(1, n(0))
+        code, info = self.call(1, number(0))
         if code:
             return code
         found = [info[:32]]
         code, _ = self.call(19, session, template())
         if code:
             return code
-        code, reply = self.call(20, session, n(100))
+        code, reply = self.call(20, session, number(100))
         if code:
             return code
         for at in range(struct.unpack(">I", reply[:4])[0]):
             handle = reply[4 + 8 * at:12 + 8 * at]
-            code, value = self.call(17, session, handle, struct.pack(">I", 1) + n(0x11) + b"\1" + n(64))
+            code, value = self.call(17, session, handle, struct.pack(">I", 1) + number(0x11) + buffer(64))
             if code:
                 return code
             found.append(value)
@@ -92,9 +83,9 @@ class Token:
 
 
 def add(token, value):
-    code, reply = token.call(7, n(0), n(6))
+    code, reply = token.call(7, number(0), number(6))
     assert code == 0, code
-    code, _ = token.call(13, reply, template((0, n(0)), (1, b"\1"), (2, b"\0"), (0x11, value)))
+    code, _ = token.call(13, reply, template((0, number(0)), (1, b"\1"), (2, b"\0"), (0x11, value)))
     assert code == 0, code
 
 
@@ -168,7 +159,7 @@ def main():
     later = states[4:-1]
     db, log = files(folder)
     print("database file %d bytes, log %d bytes" % (len(db), len(log)))
-    bad = tried = 0
+    sums = {"ok": 0, "FAILED": 0, "skipped": 0}
 
     def try_one(change):
         if not hasattr(own, "folder"):
@@ -181,8 +172,7 @@ def main():
             yield from pool.map(try_one, some)
 
     def run(name, changes, is_log):
-        nonlocal bad, tried
-        counts = {}
+        counts, bad = {}, 0
         for what, found in outcomes(iter(changes)):
             if found == "refused":
                 kind = "refused, unchanged"
@@ -200,8 +190,10 @@ def main():
                 bad += 1
                 print("%s, %s: %s" % (name, what, kind))
             counts[kind] = counts.get(kind, 0) + 1
-            tried += 1
-        print("%s: %d starts: %s" % (name, sum(counts.values()), ", ".join("%d %s" % (counts[k], k) for k in sorted(counts))), flush=True)
+        outcome = "ok" if counts and not bad else "FAILED"
+        sums[outcome] += 1
+        found = ", ".join("%d %s" % (counts[k], k) for k in sorted(counts))
+        print("%s %s: %d starts: %s" % (outcome, name, sum(counts.values()), found), flush=True)
 
     run("flips of the file", ((w, (d, log)) for w, d in flips(db, step)), False)
     run("flips of the log", ((w, (db, d)) for w, d in flips(log, step_of_log)), True)
@@ -219,11 +211,12 @@ def main():
         connection.close()
         run("another program's file", [("whole", (open(other, "rb").read(), None))], False)
     except ImportError:
-        print("another program's file: not tried, since there is no sqlite3 here")
+        sums["skipped"] += 1
+        print("skipped another program's file: Python has no sqlite3 here")
     run("a text", [("whole", (b"no database at all\n" * 40, None))], False)
     shutil.rmtree(room)
-    print("%d passed, %d failed" % (tried - bad, bad))
-    return 1 if bad else 0
+    print("%d passed, %d failed, %d skipped" % tuple(sums.values()))
+    return 1 if sums["FAILED"] else 0
 
 
 if __name__ == "__main__":

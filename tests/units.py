@@ -156,7 +156,7 @@ def a_backup_is_restored_as_the_document_has_it(it):
     answered(it, MAKE)
     it.sh(of_document("docs/OPERATING.md", "sh", "tokend backup"))
     answered(it, MAKE)
-    it.sh(of_document("docs/OPERATING.md", "sh", "token.copy /var"))
+    it.sh(of_document("docs/OPERATING.md", "sh", "tokend restore"))
     found = answered(it, FIND)[-1]
     see(found == ONE, "found", found)
 
