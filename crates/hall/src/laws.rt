@@ -1,17 +1,20 @@
 //! Laws of histories: what `hold` promises, in a reader's words. They speak of the definitions alone.
 
-ghost use Rattle.std.specs.Prelude.{◌≡◌, ℕ, ◌+◌, ◌%◌, List, [], ◌∷◌, ◌++◌};
+ghost use Rattle.std.specs.Prelude.{◌≡◌, ℕ, ◌+◌, ◌≤◌, ◌%◌, List, [], ◌∷◌, ◌++◌};
 ghost use Rattle.model_views.specs.Views.{mask};
 ghost use Rattle.model_worlds.specs.Worlds.{World, after, replies};
 ghost use Rattle.model_worlds.specs.Traces.{replies_to, replies_told, trace};
-ghost use Rattle.token.specs.States.{HasJobs, blames};
+ghost use Rattle.keep.specs.Contents.{Contents, greatest_id};
+ghost use Rattle.token.specs.States.{HasJobs, ShowsAfter, TokenState, blames, opening};
 ghost use Rattle.hall_log.specs.declared.event.Event.{Event};
 ghost use Rattle.hall_channels.specs.declared.outbox.Outbox.{Outbox};
 ghost use Rattle.hall_log.specs.Histories.{Exchange, app_of, History};
 ghost use Rattle.hall.specs.Given.{HasGiven};
 ghost use Rattle.hall.specs.Histories.{AllProper, IsHistory, Tells, Unfolds, ids_in, moves_in, replies_in, told_in};
+ghost use Rattle.hall.specs.SpareIds.{HasSpareIds};
 
 use crate::machine::Machine;
+use keep::Keep;
 
 /// In a history that unfolds from a world, each event was answered as the token's model says at its place: in the world that the
 /// events before it made.
@@ -58,4 +61,10 @@ pub fn spared_so_far<M: Machine>()
     ensures { (m n : M) (taken : List (ℕ × Event)) (outboxes : List Outbox) (w : World) (count : ℕ)
         (so : HasGiven M.doubt M.failures M.shows M.leaves M.spare m n taken outboxes)
         → M.spare m w (count + ids_in so.history) → HasJobs w [] → AllProper so.history → blames (replies_in (told_in so.history)) ≡ 0 }
+{}
+
+/// A new token over a steady keeper has an id for each of so many calls and results, if its keeper has.
+pub fn spared_at_first<K: Keep>()
+    ensures { (t : TokenState K) (c : Contents) (count : ℕ) → ShowsAfter K.terms c 0 t (opening c) → K.terms.is_steady t.store.keep
+        → c.last_id + count ≤ greatest_id → HasSpareIds K.terms t (opening c) count }
 {}

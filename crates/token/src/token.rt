@@ -70,6 +70,8 @@ impl<K: Keep> Token<K> {
     pub fn new(alloc: Global, keep: K) -> Result<Token<K>, (KeepFault, K)>
         // It refines what the keeper holds, with no application.
         ensures shows { (c : Contents) → K.terms.holds keep c → IfOk result (λ t. K.terms.doubt t.store.keep ≡ 0 → Shows K.terms t (opening c)) }
+        // It has given no id: all that the keeper had are to come.
+        ensures ids { (c : Contents) → K.terms.holds keep c → IfOk result (λ t. K.terms.doubt t.store.keep ≡ 0 → ShowsAfter K.terms c 0 t (opening c)) }
         // The ten tries begin.
         ensures sound { IfOk result (λ t. (w : World) → Shows K.terms t w → ((who : Who) → tries_of (w.token_record) who ≤ tries_limit) → IsSound (tries_of (w.token_record)) w) }
         // No call is pending.
