@@ -7,6 +7,7 @@ use crate::run::{KEY, Run, Unit, key_of};
 use aes_modes::{Direction, ecb};
 use ck_calls::{Call, Mechanism};
 use ck_types::{AttrType, Bytes, Entry, KeyType, MechType, ObjectClass, Template};
+use door::{Free, Sink, Source};
 use keep::ListKeep;
 use line::{Words, serve_one};
 use pin_record::Record;
@@ -132,7 +133,7 @@ fn stream_of(alloc: Global, text_len: u32, count: u32) -> io::Result<Vec<u8>> {
 }
 
 // How many calls a new token is given by a line.
-fn serve_new<R: Read, W: Write>(
+fn serve_new<R: Source, W: Sink<Free>>(
     alloc: Global,
     reader: &mut Watched<R>,
     writer: &mut Watched<W>,
@@ -161,18 +162,18 @@ pub(crate) fn frames(
     count: u32,
 ) -> io::Result<Run> {
     let stream = stream_of(alloc, text_len, count)?;
-    let mut reader = Watched::new(Pieces {
+    let mut reader = Watched::of_std(Pieces {
         rest: &stream,
         most,
     });
-    let mut writer = Watched::new(Tally {
+    let mut writer = Watched::of_std(Tally {
         written: 0,
         last: 0,
     });
     let start = rt.thread_cpu_time()?;
     let replies = serve_new(alloc, &mut reader, &mut writer)?;
     let time = rt.thread_cpu_time()?.saturating_sub(start);
-    let tally = writer.into_inner();
+    let tally = writer.into_std();
     let sum = u128::from(tally.written) << 64 | u128::from(replies) << 8 | u128::from(tally.last);
     Ok(Run {
         what,

@@ -1,5 +1,5 @@
 -- From the history of four seats to the bytes of their connections.
-use Rattle.std.proofs.Common.{◌≡◌, ◌≢◌, ℕ, ◌<◌, ◌%◌, ◌⊎◌, ⊎_elim, nat_eq, cond, Bool, true, false, List, [], ◌∷◌, ◌++◌, map, sym, refl, ap, ◌∙◌, subst, append_assoc, arith, Option, Some, None, Result, Ok, Err}
+use Rattle.std.proofs.Common.{◌≡◌, ◌≢◌, ℕ, ◌<◌, ◌%◌, ⊎_elim, nat_eq, cond, Bool, true, false, List, [], ◌∷◌, ◌++◌, sym, refl, ap, ◌∙◌, subst, append_assoc, arith, Option, Some, None, Result, Ok, Err}
 use Rattle.std.specs.Prelude.{IfOk}
 use Rattle.std.proofs.Math.Logic.{∥∥₁_map}
 use Rattle.std.proofs.lemmas.Bool.Decides.{nat_tests}
@@ -11,14 +11,13 @@ use Rattle.hall_log.specs.Lists.{of}
 use Rattle.hall_log.specs.declared.event.AppCall.{AppCall}
 use Rattle.hall_log.specs.declared.event.Event.{Event}
 use Rattle.hall_log.specs.declared.event.Event.TheVariants.{Call, Finish, Gone}
-use Rattle.hall_log.proofs.Lists.{of-append, of-one, of-other}
+use Rattle.hall_log.proofs.Lists.{of-append, of-other}
 use Rattle.hall_log.specs.Histories.{Exchange, app_of, History}
 use Rattle.hall.specs.Histories.{AllProper, told_by, told_in}
 use Rattle.hall.specs.SeatEvents.{asked_in, heard_by, heard_in}
 use Rattle.hall.specs.Held.{IsPartOf, WereHeld}
 use Rattle.hall.specs.Tells.{Grows}
 use Rattle.hall.specs.declared.holding.Held.{Held}
-use Rattle.hall.specs.declared.seats.SeatEvent.{SeatEvent}
 use Rattle.hall_channels.specs.declared.inward.InwardView.{InwardView}
 use Rattle.hall_channels.specs.declared.outward.OutwardView.{OutwardView}
 use Rattle.crossbeam_channel.specs.Claims.{view}
@@ -29,11 +28,11 @@ use Rattle.line.specs.Turns.{Ask}
 use Rattle.line.specs.Whole.{Lived, LeaveLaw, StopLaw}
 use Rattle.line.specs.Words.{words_for}
 use Rattle.line_places.specs.declared.client.Client.{Client}
-use Rattle.line_places.specs.Keeping.{app_at, asked_by, IsAmong, IsAt, IsLife, Kept}
+use Rattle.line_places.specs.Keeping.{asked_by, IsAmong, IsAt, IsLife, Kept}
 use Rattle.line_places.specs.Standing.{ask_in, asks_in, Stands, StandsBy}
 use Rattle.line_places.proofs.Changing.{own-app}
 use Rattle.hall_sockets.specs.declared.seat.SocketSeat.{SocketSeat}
-use Rattle.hall_sockets.specs.Served.{called, called_in, Connection, Has, WasServed, WereServed}
+use Rattle.hall_sockets.specs.Served.{called, called_in, WasServed, WereServed}
 use Rattle.hall_sockets.specs.Staying.{AreNew, IsNew}
 use Rattle.hall_sockets.specs.Telling.{calls_in, gone_in}
 
@@ -135,6 +134,7 @@ module _ {L C : Type 0} (stop : StopLaw) (leave : LeaveLaw) (own : OwnLaw) (seed
 
   served : Kept seat.clients.seed seat.clients.number seat.clients.places.items seat.clients.past.items seat.clients.asked.items seat.clients.told.items → WasServed seed seat s history
   served k = record {
+    number = named;
     each = λ it has.
         let mine = life-app seat.clients.seed seat.clients.number seat.clients.places.items seat.clients.past.items seat.clients.asked.items seat.clients.told.items seat.clients.worker k it has ∙ named in
         let parts = k.parts it has in
@@ -142,6 +142,7 @@ module _ {L C : Type 0} (stop : StopLaw) (leave : LeaveLaw) (own : OwnLaw) (seed
         ∥∥₁_map it.stands (λ h. subst (λ (z : ChaCha × List Ask × List ReplyType). Lived z.0 it.connection z.1 z.2)
         (λ i. (words i, (ap asks_in (sym parts.0) ∙ called-own it.app mine) i, (sym parts.1 ∙ told-own it.app mine) i))
         (lived stop leave it.first.value it.connection it.is_owed it.asked.items it.told.items h));
+    tied = λ it has. ∥∥₁_map seat.tied (λ all_tied. all_tied it has);
     others = λ app is none. let no = k.others app none in (sym (called-own app is) ∙ ap asks_in no.0, sym (told-own app is) ∙ no.1);
     left = sym seat.gone ∙ ap gone_in asked;
   }

@@ -1,14 +1,12 @@
 -- A seat may cross to another thread: it owns all that it has, and what it shares may be shared.
-use Rattle.std.proofs.Crossing.{crosses, Arc-send, Arc-sync}
+use Rattle.std.proofs.Crossing.{crosses}
 use denote.RattleType.{RattleType}
 use denote.Param.Send.{IsSend, IsSync, sendable}
 use denote.Struct.Field.{row_field}
 use denote.Param.SendFields.{declared_send, as_row_send}
-use Rattle.std.specs.contracts.net.unix.UnixStream as UnixStream
-use Rattle.std.specs.contracts.net.unix.UnixListener as UnixListener
-use Rattle.mio.specs.contracts.Poll as Poll
-use Rattle.mio.specs.contracts.Events as Events
-use Rattle.lists.specs.contracts.ghost_list.GhostList as GhostList
+use Rattle.door.specs.contracts.socket.Reader as Reader
+use Rattle.door.specs.contracts.socket.Writer as Writer
+use Rattle.door.proofs.Crosses.{door_send, reader_send, writer_send}
 use Rattle.line_places.specs.contracts.places.Places as Places
 use Rattle.line_places.proofs.Crosses.{places_send}
 use Rattle.hall_sockets.specs.contracts.audit.Audited as Audited
@@ -16,14 +14,8 @@ use Rattle.hall_sockets.specs.contracts.loads.Loads as Loads
 use Rattle.hall_sockets.specs.contracts.sockets.Sockets as Sockets
 use Rattle.hall_sockets.specs.contracts.seat.SocketSeat as SocketSeat
 
-stream_send : IsSend UnixStream.the_row
-stream_send = search sendable depth 16
-
-listener_send : IsSend UnixListener.the_row
-listener_send = search sendable depth 16
-
-clients_send : IsSend (Places.the_row UnixStream.the_row UnixStream.the_row)
-clients_send = places_send UnixStream.the_row UnixStream.the_row stream_send stream_send
+clients_send : IsSend (Places.the_row Reader.the_row Writer.the_row)
+clients_send = places_send Reader.the_row Writer.the_row reader_send writer_send
 
 loads_send : IsSend Loads.the_row
 loads_send = search (sendable, crosses) depth 30
@@ -54,19 +46,19 @@ seat_send L C l c = declared_send (SocketSeat.the_type L C) (
           (
             search (sockets_send, sockets_sync, sendable, crosses) depth 30,
             (
-              search (listener_send, sendable, crosses) depth 30,
+              door_send,
               (
-                search sendable depth 8,
+                search (sendable, crosses) depth 30 fits 20000,
                 (
                   search (sendable, crosses) depth 30 fits 20000,
                   (
-                    search (sendable, crosses) depth 30 fits 20000,
+                    clients_send,
                     (
-                      clients_send,
+                      search sendable depth 8,
                       (
                         search sendable depth 8,
                         (
-                          search sendable depth 8,
+                          search sendable depth 20,
                           (
                             search sendable depth 20,
                             (
@@ -74,41 +66,32 @@ seat_send L C l c = declared_send (SocketSeat.the_type L C) (
                               (
                                 search sendable depth 20,
                                 (
-                                  search sendable depth 20,
+                                  search (sendable, crosses) depth 30,
                                   (
-                                    search (sendable, crosses) depth 30,
+                                    search sendable depth 20,
                                     (
-                                      search sendable depth 20,
+                                      search sendable depth 8,
                                       (
                                         search sendable depth 8,
                                         (
-                                          search sendable depth 8,
+                                          search (audited_send, sendable, crosses) depth 30,
                                           (
-                                            search (audited_send, sendable, crosses) depth 30,
+                                            search sendable depth 8,
                                             (
-                                              search sendable depth 8,
+                                              search (sendable, crosses) depth 30,
                                               (
-                                                search (sendable, crosses) depth 30,
+                                                search sendable depth 8,
                                                 (
-                                                  search sendable depth 8,
+                                                  search (sendable, crosses) depth 30,
                                                   (
-                                                    search (sendable, crosses) depth 30,
+                                                    search sendable depth 20,
                                                     (
                                                       search sendable depth 20,
                                                       (
                                                         search sendable depth 20,
                                                         (
-                                                          search sendable depth 20,
-                                                          (
-                                                            search sendable depth 8,
-                                                            (
-                                                              search sendable depth 8,
-                                                              (
-                                                                search sendable depth 8,
-                                                                tt,
-                                                              ),
-                                                            ),
-                                                          ),
+                                                          search sendable depth 8,
+                                                          (search sendable depth 8, (search sendable depth 8, (search sendable depth 8, tt))),
                                                         ),
                                                       ),
                                                     ),

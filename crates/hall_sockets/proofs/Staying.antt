@@ -1,17 +1,25 @@
 -- What a seat does, one thing after the other.
-use Rattle.std.specs.Option.{IfSome}
-use Rattle.std.proofs.Common.{◌≡◌, ℕ, ◌%◌, List, [], ◌∷◌, ◌++◌, map, sym, refl, ap, ◌∙◌, subst, Option, Some, None}
+use Rattle.std.specs.Option.{IfSome, IfNone, is_some}
+use Rattle.std.proofs.Common.{◌≡◌, ◌≢◌, ◌⊎◌, inl, inr, ⊎_elim, ℕ, ◌+◌, ◌<◌, ◌≤◌, arith, length, true, false, List, [], ◌∷◌, ◌++◌, sym, refl, ap, ◌∙◌, subst, Option, Some, None}
 use Rattle.std.proofs.lemmas.List.{map-append}
+use Rattle.std.proofs.lemmas.Option.{slice_get_within}
+use Rattle.std.proofs.Math.Logic.{∥∥₁_map}
+use Rattle.door.specs.Coming.{AreEnds}
+use Rattle.door.specs.Ends.{Reading, Writing}
 use Rattle.hall_log.specs.declared.event.AppCall.{AppCall}
 use Rattle.hall.specs.SeatEvents.{seat_app}
 use Rattle.hall.specs.declared.seats.SeatEvent.{SeatEvent}
 use Rattle.hall.specs.declared.seats.SeatEvent.TheVariants.{Call, Gone}
 use Rattle.line_places.specs.declared.client.Client.{Client}
 use Rattle.line_places.specs.declared.place.Place.{Place}
-use Rattle.line_places.specs.Keeping.{HasGone, IsAmong, IsOwed}
-use Rattle.line_places.proofs.Keeping.{among-last, among-more}
+use Rattle.line_places.specs.declared.places.Places.{Places}
+use Rattle.line_places.specs.Arriving.{AllCame, HasCome, KeepsCome}
+use Rattle.line_places.specs.Keeping.{HasGone, IsAmong, IsAt, IsOwed}
+use Rattle.line_places.specs.Tying.{AllTied, AreEndsOf}
+use Rattle.line_places.proofs.Arriving.{all-came, all-more}
+use Rattle.line_places.proofs.Keeping.{among-last, among-more, same_or}
 use Rattle.hall_sockets.specs.declared.seat.SocketSeat.{SocketSeat}
-use Rattle.hall_sockets.specs.Staying.{Stays, IsThere, IsNoted, Gives}
+use Rattle.hall_sockets.specs.Staying.{Stays, IsEmptyAt, IsNobodyLeft, IsStill, Gives}
 use Rattle.hall_sockets.specs.Telling.{calls_in, gone_in, apps_of}
 
 -- ---- lists
@@ -83,3 +91,44 @@ module _ {L C : Type 0} (a b : SocketSeat L C) where
   pub gives-gone : (e : Option SeatEvent) → Gives a b e → (app : ℕ) → HasGone a.clients.past.items app → HasGone b.clients.past.items app
   gives-gone None x app h = gone-same a.clients.past.items b.clients.past.items x.2 app h
   gives-gone (Some e) x app h = x.6 app h
+
+-- ---- where there is no event
+
+pub of-none : {A : Type 0} (o : Option A) (P : Type 0) → o ≡ None → P → IfNone o P
+of-none o P is p = subst (λ o. IfNone o P) (sym is) p
+
+pub and-none : {A : Type 0} (o : Option A) (P Q : Type 0) → (P → Q) → IfNone o P → IfNone o Q
+and-none None P Q f p = f p
+and-none (Some x) P Q f p = tt
+
+pub if-none : {A : Type 0} (o : Option A) (P : Type 0) → is_some o ≡ false → IfNone o P → P
+if-none None P none p = p
+if-none (Some x) P none p = absurd (let clash : true ≡ false = none in cc)
+
+pub gives-none : {L C : Type 0} (a b : SocketSeat L C) (e : Option SeatEvent) → is_some e ≡ false → Gives a b e → Stays a b
+gives-none a b None none y = y
+gives-none a b (Some e) none y = absurd (let clash : true ≡ false = none in cc)
+
+-- nobody is at the places that were looked at, nor at the next one
+pub empty-more : {L C : Type 0} (old new : SocketSeat L C) (n : ℕ) → ((j : ℕ) → j < n → IsEmptyAt old j) → IsStill old new → IsEmptyAt new n → (j : ℕ) → j < n + 1 → IsEmptyAt new j
+empty-more old new n empty still here j less = by (same_or j n) where
+  by : (j ≡ n) ⊎ (j ≢ n) → IsEmptyAt new j
+  by (inl e) = subst (IsEmptyAt new) (sym e) here
+  by (inr n') = let inside : j < n = omega (arith, less, n') in subst (λ k. (c : Client Reading Writing) → ¬ IsAt k.places.items j c) (sym still.0) (empty j inside)
+
+-- beyond the last place is nobody
+pub empty-all : {L C : Type 0} (seat : SocketSeat L C) (n : ℕ) → length seat.clients.places.items ≤ n → ((j : ℕ) → j < n → IsEmptyAt seat j) → IsNobodyLeft seat
+empty-all seat n all empty j c at = let within = slice_get_within seat.clients.places.items j at.place at.at in let inside : j < n = omega (arith, within, all) in empty j inside c at
+
+-- ---- who comes by the door
+
+pub ends-of : (app : ℕ) (r : Reading) (w : Writing) → AreEnds app (r, w) → AreEndsOf app r w
+ends-of app r w are = record { reader = ap (λ (x : Reading). x.app) are.0; writer = ap (λ (x : Writing). x.app) are.1; gave = ap (λ (x : Reading). x.gave) are.0; took = ap (λ (x : Writing). x.took) are.1 }
+
+-- whoever came before has come, and now this application
+pub came-more : (old new : Places Reading Writing) (door door' : List ℕ) (app : ℕ) → KeepsCome old new → HasCome new.number new.places.items app → door' ≡ door ++ app ∷ [] → ∥ AllCame old.number old.places.items door ∥₁ → ∥ AllCame new.number new.places.items door' ∥₁
+came-more old new door door' app keeps come more came = ∥∥₁_map came (λ all. subst (AllCame new.number new.places.items) (sym more) (all-more new.number new.places.items door app (all-came old new keeps door all) come))
+
+-- nobody has read or written yet
+pub none-tied : (places : List (Place Reading Writing)) (past : List (Client Reading Writing)) → past ≡ [] → ((j : ℕ) (c : Client Reading Writing) → ¬ IsAt places j c) → AllTied (λ r. r) (λ w. w) places past
+none-tied places past none empty c life = ⊎_elim (λ (x : IsAmong c past). absurd (subst (IsAmong c) none x)) (λ (x : (j : ℕ) × IsAt places j c). absurd (empty x.0 c x.1)) life

@@ -1,7 +1,7 @@
 -- What the connections of four seats read and wrote, by the history of their calls.
 use Rattle.std.specs.Prelude.{◌≡◌, ◌≢◌, ℕ, ◌%◌, List, [], ◌∷◌, ◌++◌, Option}
-use Rattle.std.specs.declared.net.unix.UnixStream.{UnixStream}
 use Rattle.model_worlds.specs.Worlds.{World}
+use Rattle.door.specs.Ends.{Reading, Writing}
 use Rattle.token.specs.States.{HasJobs, Lasting}
 use Rattle.hall_log.specs.Lists.{of}
 use Rattle.hall_log.specs.declared.event.Event.{Event}
@@ -17,6 +17,7 @@ use Rattle.line.specs.Words.{words_for}
 use Rattle.line_places.specs.declared.client.Client.{Client}
 use Rattle.line_places.specs.Keeping.{IsLife}
 use Rattle.line_places.specs.Standing.{ask_in}
+use Rattle.line_places.specs.Tying.{Tied}
 use Rattle.hall_sockets.specs.declared.seat.SocketSeat.{SocketSeat}
 use Rattle.hall_sockets.specs.Telling.{apps_of, gone_in}
 
@@ -32,7 +33,7 @@ called_in (x ∷ xs) = called x.1.0 ++ called_in xs
 
 -- a connection with its application, and what was read and written of it
 abbrev pub Connection : Type 0
-Connection = Client UnixStream UnixStream
+Connection = Client Reading Writing
 
 -- a connection that this seat has or had
 abbrev pub Has : {L C : Type 0} → SocketSeat L C → Connection → Type 0
@@ -42,9 +43,12 @@ Has seat it = IsLife seat.clients.places.items seat.clients.past.items it
 -- with the words of its application under the seed from the first on. What its writer took is the frames of the replies to them in
 -- that history, in order, with the answers to what is no call at their places, or a beginning of that (`Lived`). An application of
 -- this seat without a connection is none of the history's. The connections that are there no more are those whose applications
--- disconnected there, in that order.
+-- disconnected there, in that order. What was read of a connection its own reader gave, and what was written its own writer took: both
+-- are ends of the one connection that came for its application (`Tied`).
 pub record WasServed {L C : Type 0} (seed : List ℕ) (seat : SocketSeat L C) (s : ℕ) (history : History) : Type 0 where
+  pub number : seat.clients.number ≡ s
   pub each : (it : Connection) → Has seat it → ∥ Lived (words_for seed it.app) it.connection (of it.app (called_in history)) (of it.app (told_in history)) ∥₁
+  pub tied : (it : Connection) → Has seat it → ∥ Tied (λ r. r) (λ w. w) it ∥₁
   pub others : (app : ℕ) → app % 4 ≡ s → ((it : Connection) → Has seat it → it.app ≢ app) → (of app (called_in history) ≡ []) × (of app (told_in history) ≡ [])
   pub left : apps_of seat.clients.past.items ≡ gone_in (asked_in (of s history))
 

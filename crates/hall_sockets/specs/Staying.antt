@@ -1,9 +1,11 @@
 -- What a seat does.
-use Rattle.std.specs.Prelude.{◌≡◌, ◌%◌, ◌∷◌, [], ◌++◌, ℕ, List, Option, Some, None}
+use Rattle.std.specs.Prelude.{◌≡◌, ◌⊎◌, ◌%◌, ◌∷◌, [], ◌++◌, ℕ, List, Option, Some, None, true}
+use Rattle.door.specs.Ends.{Reading, Writing}
 use Rattle.hall.specs.SeatEvents.{seat_app}
 use Rattle.hall.specs.declared.seats.SeatEvent.{SeatEvent}
 use Rattle.hall.specs.declared.seats.SeatEvent.TheVariants.{Call, Gone}
-use Rattle.line_places.specs.Keeping.{HasGone, IsOwed}
+use Rattle.line_places.specs.declared.client.Client.{Client}
+use Rattle.line_places.specs.Keeping.{HasGone, IsAt, IsOwed}
 use Rattle.hall_sockets.specs.declared.asked.Asked.{Asked}
 use Rattle.hall_sockets.specs.declared.asked.Asked.TheVariants as asked
 use Rattle.hall_sockets.specs.declared.seat.SocketSeat.{SocketSeat}
@@ -27,6 +29,26 @@ Stays old new =
     × (new.clients.asked.items ≡ old.clients.asked.items)
     × (new.clients.told.items ≡ old.clients.told.items)
     × (new.asked.items ≡ old.asked.items)
+
+-- It may end: it failed, or was told to, or has had its connections.
+abbrev pub MayEnd : {L C : Type 0} → SocketSeat L C → Type 0
+MayEnd seat = (seat.has_failed ≡ true) ⊎ ((seat.was_told ≡ true) ⊎ ((seat.left ≡ 0) × (seat.count ≡ 0)))
+
+-- nobody is at a place
+abbrev pub IsEmptyAt : {L C : Type 0} → SocketSeat L C → ℕ → Type 0
+IsEmptyAt seat j = (c : Client Reading Writing) → ¬ IsAt seat.clients.places.items j c
+
+-- nobody is at any
+abbrev pub IsNobodyLeft : {L C : Type 0} → SocketSeat L C → Type 0
+IsNobodyLeft seat = (j : ℕ) → IsEmptyAt seat j
+
+-- it has ended: it might, and nobody is left
+abbrev pub IsDone : {L C : Type 0} → SocketSeat L C → Type 0
+IsDone seat = MayEnd seat × IsNobodyLeft seat
+
+-- nobody went, and nothing changed by which it may end
+abbrev pub IsStill : {L C : Type 0} → SocketSeat L C → SocketSeat L C → Type 0
+IsStill old new = (new.clients ≡ old.clients) × (MayEnd old → MayEnd new)
 
 -- the application of an event is of this seat, and is there
 abbrev pub IsThere : {L C : Type 0} → SocketSeat L C → ℕ → Type 0

@@ -1,5 +1,5 @@
 -- What a seat gave and took.
-use Rattle.std.specs.Prelude.{◌≡◌, ℕ, List, [], ◌∷◌, map, length}
+use Rattle.std.specs.Prelude.{ℕ, List, [], ◌∷◌, map}
 use Rattle.hall_log.specs.declared.event.AppCall.{AppCall}
 use Rattle.hall.specs.declared.seats.SeatEvent.{SeatEvent}
 use Rattle.hall.specs.declared.seats.SeatEvent.TheVariants.{Call, Gone}

@@ -1,15 +1,15 @@
 //! How a seat comes to its connections.
 
+ghost use Rattle.std.specs.Prelude.{◌≡◌, IsTrue};
 ghost use Rattle.hall_sockets.specs.Staying.{Stays};
 
 use crate::seat::SocketSeat;
 use crate::waiting::{LISTENER, PATIENCE};
 use log::{Log, info, warn};
 use mio::unix::SourceFd;
-use mio::{Interest, Token};
+use mio::{Interest, Poll, Token};
 use std::io::{self, ErrorKind};
-use std::os::fd::AsRawFd;
-use std::os::unix::net::UnixStream;
+use std::os::fd::{AsRawFd, RawFd};
 use std::sync::atomic::Ordering;
 use std::time::{Clock, Duration};
 
@@ -20,13 +20,21 @@ const LEFT_FOR: u64 = 10;
 /// EMFILE, ENFILE, ENOBUFS and ENOMEM: no more descriptors or memory at the moment.
 const SHORTAGES: [i32; 4] = [24, 23, 105, 12];
 
+/// Has a wait report what comes of the connection at a place.
+fn wait_for(poll: &Poll, place: usize, fd: RawFd) -> io::Result<()> {
+    poll.registry()
+        .register(&mut SourceFd(&fd), Token(place), Interest::READABLE)
+}
+
 impl<L: Log, C: Clock> SocketSeat<L, C> {
     pub(crate) fn is_stopping(&self) -> bool {
         self.is_stopping.load(Ordering::SeqCst)
     }
 
     /// Whether no connection is there, and none comes any more.
-    pub(crate) fn is_over(&self) -> bool {
+    pub(crate) fn is_over(&self) -> bool
+        ensures { IsTrue result → (self.now.left ≡ 0) × (self.now.count ≡ 0) }
+    {
         self.left == 0 && self.count == 0
     }
 
@@ -96,51 +104,46 @@ impl<L: Log, C: Clock> SocketSeat<L, C> {
 
     fn renew_listeners(&self) -> io::Result<()> {
         let registry = self.poll.registry();
-        for (listener, at) in self.listeners.iter().zip(LISTENER..) {
+        for (listener, at) in self.door.listeners().iter().zip(LISTENER..) {
             let fd = listener.as_raw_fd();
             registry.reregister(&mut SourceFd(&fd), Token(at), Interest::READABLE)?;
         }
         Ok(())
     }
 
-    /// Accepts one, to stand at a place.
+    /// Accepts one, to stand at a place that is free.
     fn accept_at(&mut self, place: usize)
         ensures { Stays self.old self.new }
     {
-        match self.accept_one() {
-            Ok(stream) => match self.halves(place, stream) {
-                Ok((reader, writer)) => self.seat_at(place, reader, writer),
-                Err(error) => self.say_unaccepted(&error),
-            },
+        match self.seat_at(place) {
+            Ok(Some(fd)) => self.begin(place, fd),
+            Ok(None) => {}
             Err(error) => self.not_accepted(error),
         }
     }
 
-    /// Accepts one by a listener, which is noted.
-    fn accept_one(&mut self) -> io::Result<UnixStream>
+    /// Accepts one for a place, whom the seat waits for from now on, and returns the connection's descriptor. None where nobody may come
+    /// to the place, and where whoever came can't be waited for.
+    fn seat_at(&mut self, place: usize) -> io::Result<Option<RawFd>>
         ensures { Stays self.old self.new }
     {
-        let (stream, listener) = self.accept_by_any()?;
-        self.last_listener = listener;
-        Ok(stream)
-    }
-
-    /// Accepts one by the listener behind that of the last connection, or by the next one that has somebody.
-    fn accept_by_any(&self) -> io::Result<(UnixStream, usize)> {
-        let count = self.listeners.len();
-        let mut at = self.last_listener;
-        for _ in 0..count {
-            let next = at.saturating_add(1);
-            at = if next < count { next } else { 0 };
-            if let Some(listener) = self.listeners.get(at) {
-                match listener.accept() {
-                    Ok((stream, _)) => return Ok((stream, at)),
-                    Err(error) if error.kind() == ErrorKind::WouldBlock => {}
-                    Err(error) => return Err(error),
-                }
+        let Some(app) = self.clients.next_app(place) else {
+            return Ok(None);
+        };
+        let patience = self.patience();
+        let (reader, writer) = self.door.accept(self.alloc, app, patience)?;
+        let fd = reader.descriptor();
+        match wait_for(&self.poll, place, fd) {
+            Ok(()) => {
+                self.clients.open(self.alloc, place, reader, writer);
+                Ok(Some(fd))
+            }
+            Err(error) => {
+                self.clients.pass(place);
+                self.say_unaccepted(&error);
+                Ok(None)
             }
         }
-        Err(ErrorKind::WouldBlock.into())
     }
 
     /// Logs that a connection is not accepted, once a minute; the others are counted.
@@ -155,37 +158,22 @@ impl<L: Log, C: Clock> SocketSeat<L, C> {
         self.clients.len() == 1 && self.idle.is_none()
     }
 
-    /// Lets a read and a write of a new connection wait for a second, where there is no other. Otherwise they never wait.
-    fn let_wait(&self, stream: &UnixStream) -> io::Result<()> {
+    /// For how long a read and a write of a new connection wait, where there is no other. Otherwise they never wait.
+    fn patience(&self) -> Option<Duration> {
         if self.is_single() {
-            let longest = Some(Duration::from_secs(PATIENCE));
-            stream.set_read_timeout(longest)?;
-            stream.set_write_timeout(longest)
+            Some(Duration::from_secs(PATIENCE))
         } else {
-            stream.set_nonblocking(true)
+            None
         }
     }
 
-    /// Both halves of a new connection, which is waited for from now on.
-    fn halves(&mut self, place: usize, stream: UnixStream) -> io::Result<(UnixStream, UnixStream)>
+    /// A connection has come to a place.
+    fn begin(&mut self, place: usize, fd: RawFd)
         ensures { Stays self.old self.new }
     {
-        self.let_wait(&stream)?;
-        let writer = stream.try_clone()?;
-        let fd = stream.as_raw_fd();
-        self.poll
-            .registry()
-            .register(&mut SourceFd(&fd), Token(place), Interest::READABLE)?;
         if let Some(known) = self.descriptors.get_mut(place) {
             *known = fd;
         }
-        Ok((stream, writer))
-    }
-
-    fn seat_at(&mut self, place: usize, reader: UnixStream, writer: UnixStream)
-        ensures { Stays self.old self.new }
-    {
-        self.clients.open(self.alloc, place, reader, writer);
         if let (Some(stuck), Some(used), Some(came_by)) = (
             self.is_stuck.get_mut(place),
             self.used.get_mut(place),
@@ -193,7 +181,7 @@ impl<L: Log, C: Clock> SocketSeat<L, C> {
         ) {
             *stuck = false;
             *used = self.time;
-            *came_by = self.last_listener;
+            *came_by = self.door.last();
         }
         self.left = self.left.saturating_sub(1);
         self.count = self.count.saturating_add(1);
@@ -205,7 +193,7 @@ impl<L: Log, C: Clock> SocketSeat<L, C> {
     #[inline(never)]
     fn say_begun(&self, place: usize) {
         if let Some(client) = self.clients.client(place) {
-            let title = self.sockets.title_at(client.app, self.last_listener);
+            let title = self.sockets.title_at(client.app, self.door.last());
             info!(self.log; "{title} begins");
         }
     }

@@ -3,12 +3,13 @@
 ghost use Rattle.std.specs.Prelude.{◌≡◌, ◌%◌, ◌∷◌, [], ◌++◌, ℕ, IfSome, IfNone};
 ghost use Rattle.hall.specs.SeatEvents.{seat_app};
 ghost use Rattle.line_places.specs.Keeping.{HasGone};
-ghost use Rattle.hall_sockets.specs.Staying.{Asks, Gives, Stays};
+ghost use Rattle.hall_sockets.specs.Staying.{Asks, Gives, IsEmptyAt, IsNobodyLeft, IsStill, MayEnd, Stays};
 
 use crate::asked::Asked;
 use crate::audit::Audited;
 use crate::seat::SocketSeat;
 use crate::sockets::Title;
+use door::Free;
 use hall::SeatEvent;
 use line::Ending;
 use line_places::Came;
@@ -39,7 +40,10 @@ impl<L: Log, C: Clock> SocketSeat<L, C> {
         ensures { Asks self.old self.new result }
     {
         self.asked_since = self.asked_since.saturating_add(1);
-        match self.clients.next_call(self.alloc, place, &mut self.piece) {
+        match self
+            .clients
+            .next_call(self.alloc, place, &Free, &mut self.piece)
+        {
             Came::Call(call) => {
                 let audited = Audited::of(&call.call);
                 let event = SeatEvent::Call(call);
@@ -80,7 +84,8 @@ impl<L: Log, C: Clock> SocketSeat<L, C> {
     /// The connection at a place ends, and its application disconnects.
     #[inline(never)]
     pub(crate) fn end(&mut self, place: usize) -> Option<SeatEvent>
-        ensures { Gives self.old self.new result }
+        ensures gives { Gives self.old self.new result }
+        ensures none { IfNone result (IsStill self.old self.new × IsEmptyAt self.new place) }
     {
         let app = self.clients.close(place)?;
         let event = SeatEvent::Gone { app };
@@ -91,13 +96,13 @@ impl<L: Log, C: Clock> SocketSeat<L, C> {
         Some(event)
     }
 
-    /// No more is accepted. One of the connections ends, if there is one.
+    /// One of the connections ends, if there is one, and the others need not wait for this seat to accept anybody.
     #[inline(never)]
     pub(crate) fn leave(&mut self) -> Option<SeatEvent>
-        ensures { Gives self.old self.new result }
+        ensures gives { Gives self.old self.new result }
+        ensures none { IfNone result ((MayEnd self.old → MayEnd self.new) × IsNobodyLeft self.new) }
     {
-        self.left = 0;
-        self.tell_load();
+        self.loads.close(self.clients.number);
         'places: for place in 0..self.clients.len() {
             let event = self.end(place);
             if event.is_some() {

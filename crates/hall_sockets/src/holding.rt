@@ -6,7 +6,7 @@ ghost use Rattle.token.specs.States.{Shows, MayLeave};
 ghost use Rattle.hall.specs.Given.{IsLed};
 ghost use Rattle.hall.specs.SpareIds.{HasSpareIds};
 ghost use Rattle.hall_sockets.specs.Served.{WereServed};
-ghost use Rattle.hall_sockets.specs.Staying.{AreNew};
+ghost use Rattle.hall_sockets.specs.Staying.{AreNew, IsDone};
 
 use crate::seat::SocketSeat;
 use hall::laws::own_seat;
@@ -57,6 +57,8 @@ pub fn hold_sockets<
     // Each connection was served by one history, which is a run of the token's.
     ensures served { IfOk result (λ h. WereServed (λ t. K.terms.doubt t.store.keep) (λ t. K.terms.failures t.store.keep)
         (Shows K.terms) (MayLeave K.terms) (HasSpareIds K.terms) seats.0.clients.seed (view h.passes.inward) h.seats token h.token) }
+    // Each seat ended where it might: it failed, or was told to, or had its connections. Nobody is left at a place of it.
+    ensures over { IfOk result (λ h. IsDone h.seats.0 × IsDone h.seats.1 × IsDone h.seats.2 × IsDone h.seats.3) }
     // Where an allocation failed, the token is as it was.
     ensures memory { IfErr result (λ e. e.0 ≡ HallFault.Memory → e.1 ≡ token) }
     // At any fault some history leads to the token that is returned.

@@ -17,7 +17,9 @@
 //!
 //! `hold_sockets` is `hall::hold` over four of them, with what that means for the bytes of each connection (`specs/Served.antt`).
 //! For each application, the bytes that its writer took are the frames of the answers that the token's model gives its calls in one
-//! history, with the answers to what is no call at their places.
+//! history, with the answers to what is no call at their places. Reader and writer are the two ends of the one connection that came by
+//! the door for it (`tied`, `came`). A seat ends only where it has had its connections, was told to, or failed (`MayEnd`), and then nobody
+//! is left at a place.
 //!
 //! No clause says that a wait ends, that a peer is served in turn, or that an idle one is ended.
 #![tactic(auto)]

@@ -7,6 +7,7 @@ use crate::loads::Loads;
 use crate::seat::{MAX_CLIENTS, READ_LEN, Settings, SocketSeat};
 use crate::sockets::Sockets;
 use crate::waiting::LISTENER;
+use door::Door;
 use line_places::Places;
 use lists::GhostList;
 use log::Log;
@@ -81,8 +82,7 @@ impl<L: Log + Drop, C: Clock + Drop> SocketSeat<L, C> {
             sockets,
             poll,
             events: Events::with_capacity(alloc, MAX_CLIENTS.saturating_add(listeners.len()))?,
-            listeners,
-            last_listener: 0,
+            door: Door::new(listeners),
             clients: Places::new(alloc, settings.seed, number, settings.clients)?,
             count: 0,
             left: settings.connections,
@@ -103,6 +103,7 @@ impl<L: Log + Drop, C: Clock + Drop> SocketSeat<L, C> {
             looked: time,
             piece: [0; READ_LEN],
             has_ended: false,
+            was_told: false,
             has_failed: false,
             asked: GhostList::new(),
         })

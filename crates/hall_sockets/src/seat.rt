@@ -1,18 +1,20 @@
 //! A seat on a socket.
 
 ghost use Rattle.std.specs.Prelude.{◌≡◌, map};
+ghost use Rattle.line_places.specs.Arriving.{AllCame};
+ghost use Rattle.line_places.specs.Tying.{AllTied};
 ghost use Rattle.hall_sockets.specs.Telling.{calls_in, gone_in, apps_of};
 
 use crate::audit::Audited;
 use crate::loads::Loads;
 use crate::sockets::Sockets;
+use door::{Door, Reader, Writer};
 use hall::SeatEvent;
 use line_places::Places;
 use lists::GhostList;
 use mio::{Events, Poll};
 use std::alloc::Global;
 use std::collections::VecDeque;
-use std::os::unix::net::{UnixListener, UnixStream};
 use std::sync::Arc;
 use std::sync::atomic::AtomicBool;
 use std::time::Duration;
@@ -46,12 +48,10 @@ pub struct SocketSeat<L, C> {
     pub(crate) is_stopping: Arc<AtomicBool, Global>,
     pub(crate) loads: Arc<Loads, Global>,
     pub(crate) sockets: Arc<Sockets, Global>,
-    pub(crate) listeners: Vec<UnixListener>,
-    /// The listener by which the last connection came.
-    pub(crate) last_listener: usize,
+    pub door: Door,
     pub(crate) poll: Poll,
     pub(crate) events: Events<Global>,
-    pub clients: Places<UnixStream, UnixStream>,
+    pub clients: Places<Reader, Writer>,
     /// How many connections there are.
     pub(crate) count: usize,
     /// How many may be accepted yet.
@@ -86,10 +86,16 @@ pub struct SocketSeat<L, C> {
     /// A buffer for what is read at once.
     pub(crate) piece: [u8; READ_LEN],
     pub(crate) has_ended: bool,
+    /// It was told to end.
+    pub(crate) was_told: bool,
     /// The listener or the wait failed.
     pub(crate) has_failed: bool,
     /// What it gave, for contracts alone.
     pub asked: GhostList<SeatEvent>,
     pub ghost calls: { calls_in asked.items ≡ clients.asked.items },
     pub ghost gone: { gone_in asked.items ≡ apps_of clients.past.items },
+    /// What a connection read its own reader gave, and what it wrote its own writer took.
+    pub ghost tied: { ∥ AllTied (λ r. r) (λ w. w) clients.places.items clients.past.items ∥₁ },
+    /// Each connection that came by the door had a place.
+    pub ghost came: { ∥ AllCame clients.number clients.places.items door ∥₁ },
 }

@@ -2,9 +2,11 @@
 
 ghost use Rattle.std.specs.Prelude.{◌≡◌, ◌∷◌, Some, true};
 ghost use Rattle.line_places.specs.Keeping.{HasGone, IsOwed};
+ghost use Rattle.hall_sockets.specs.Staying.{IsDone};
 
 use crate::seat::SocketSeat;
 use ck_calls::Reply;
+use door::Free;
 use hall::{Seat, SeatEvent};
 use log::Log;
 use std::time::Clock;
@@ -14,7 +16,7 @@ impl<L: Log, C: Clock + Drop> Seat for SocketSeat<L, C> {
 
     ghost fixed = { λ s. s.clients.number ∷ s.clients.seed };
 
-    ghost over = { λ s. s.has_ended ≡ true };
+    ghost over = { λ s. (s.has_ended ≡ true) × IsDone s };
 
     ghost gone = { λ s app. HasGone s.clients.past.items app };
 
@@ -38,7 +40,7 @@ impl<L: Log, C: Clock + Drop> Seat for SocketSeat<L, C> {
         if let Some(call) = self.audited {
             self.log_outcome(app, call, &reply);
         }
-        self.clients.reply(self.alloc, place, app, reply);
+        self.clients.reply(self.alloc, place, &Free, app, reply);
         if self.is_pending(place) {
             self.watch(place, true);
         }

@@ -1,6 +1,7 @@
 //! A seat's turns: its connections, one after the other.
 
-ghost use Rattle.hall_sockets.specs.Staying.{Gives, Stays};
+ghost use Rattle.std.specs.Prelude.{IfNone, IsTrue};
+ghost use Rattle.hall_sockets.specs.Staying.{Gives, IsDone, MayEnd, Stays};
 
 use crate::seat::SocketSeat;
 use crate::waiting::PATIENCE;
@@ -17,7 +18,8 @@ const SHORT_WAIT: u64 = 1;
 impl<L: Log, C: Clock> SocketSeat<L, C> {
     /// The next event. None once the seat has had its connections, or is to end, or failed, and no connection is there.
     pub(crate) fn next_event(&mut self) -> Option<SeatEvent>
-        ensures { Gives self.old self.new result }
+        ensures gives { Gives self.old self.new result }
+        ensures done { IfNone result (IsDone self.new) }
     {
         match self.turns() {
             Some(event) => Some(event),
@@ -27,10 +29,11 @@ impl<L: Log, C: Clock> SocketSeat<L, C> {
 
     /// Turns until there is an event. None once the seat has had its connections, or is to end, or failed.
     fn turns(&mut self) -> Option<SeatEvent>
-        ensures { Gives self.old self.new result }
+        ensures gives { Gives self.old self.new result }
+        ensures may { IfNone result (MayEnd self.new) }
     {
         'turns: for _ in 0..u64::MAX {
-            if self.has_failed || self.is_stopping() || self.is_over() {
+            if self.is_to_end() {
                 return None;
             }
             let event = self.turn();
@@ -38,7 +41,19 @@ impl<L: Log, C: Clock> SocketSeat<L, C> {
                 return event;
             }
         }
+        self.has_failed = true;
         None
+    }
+
+    /// Whether the seat has had its connections, or was told to end, or failed.
+    fn is_to_end(&mut self) -> bool
+        ensures stays { Stays self.old self.new }
+        ensures may { IsTrue result → MayEnd self.new }
+    {
+        if self.is_stopping() {
+            self.was_told = true;
+        }
+        self.has_failed || self.was_told || self.is_over()
     }
 
     /// Asks the connection that is next, or looks round: after so many turns, and where none is to be asked.

@@ -1,5 +1,5 @@
 -- What becomes of a connection by one step, and by more.
-use Rattle.std.proofs.Common.{◌≡◌, ℕ, ◌+◌, ◌≤◌, List, [], ◌∷◌, ◌++◌, length, Option, Some, None, refl, sym, ap, subst, ◌∙◌, append_assoc, arith, inl, inr}
+use Rattle.std.proofs.Common.{◌≡◌, ℕ, List, [], ◌∷◌, ◌++◌, Option, Some, None, refl, sym, ap, subst, ◌∙◌, append_assoc, arith, inl, inr}
 use Rattle.std.specs.List.{flat_map}
 use Rattle.std.proofs.lemmas.List.{append-nil, append_cancel_left, length-append}
 use Rattle.std.proofs.lemmas.List.Concat.{flat_map-cons, flat_map-append}
@@ -16,11 +16,12 @@ use Rattle.line.specs.declared.next.Given.{Given}
 use Rattle.line.specs.declared.next.Next.{Next}
 use Rattle.line.specs.declared.next.Next.TheVariants as next
 use Rattle.line.specs.declared.asked.Piece.TheVariants as piece
+use Rattle.door.specs.Ends.{Reading, Writing}
 use Rattle.watched.specs.Noting.{Noting, Unfailing, Settles, HasFailed}
 use Rattle.line.specs.Turns.{refusal_in, refusal_of, reply_frame}
 use Rattle.line.specs.Asking.{IsCall, IsRefused, Lets, Gave, Took, Fed, Takes, PieceBy}
 use Rattle.line.specs.State.{Connected, output}
-use Rattle.line.specs.Connecting.{refusal_frame, IsNoCall, Advances, Gives, Tail, Waits, Why, Halts, Does, AtEnd, ReadsTo, WritesTo, Comes, IsHeard, Hears, standing, Answers, Omits, SendsBy, Tells, SendsTo, Sends, FlushesBy, Moves, Flushes}
+use Rattle.line.specs.Connecting.{refusal_frame, IsNoCall, Advances, Tail, Why, Halts, Does, AtEnd, ReadsTo, WritesTo, Comes, IsHeard, Hears, standing, Answers, Omits, SendsBy, Tells, SendsTo, Sends, FlushesBy, Moves, Flushes}
 use Rattle.line.proofs.Lines.{gave-none, gave-then, took-none, took-then, all-append}
 use Rattle.watched.proofs.Noting.{unfailing-none, unfailing-then, failed-after, settles-none, settles-then, settles-unfailing}
 
@@ -82,22 +83,22 @@ module _ {T : Type 0} (a b c : Noting T) where
   writes-after (Some next.Nothing) (byte ∷ pending) p q = failed-after a b c (settles-unfailing a b p) q
   writes-after _ pending p q = settles-then a b c p q
 
-module _ {R W : Type 0} (remaining : R → Option (List ℕ)) (contents : W → Option (List ℕ)) where
-  pub comes-none : (r : Noting R) (w : Noting W) (a : Connected) → a.ended ≡ None → a.pending ≡ [] → Comes remaining contents r r w w a a None
+module _ {R W : Type 0} (reading : R → Reading) (writing : W → Writing) where
+  pub comes-none : (r : Noting R) (w : Noting W) (a : Connected) → a.ended ≡ None → a.pending ≡ [] → Comes reading writing r r w w a a None
   comes-none r w a going clear = record {
     does = (advances-none a, going, clear);
-    gave = gave-none (remaining r.inner) a.read;
-    took = took-none (contents w.inner) a.written a.written refl;
+    gave = gave-none (reading r.inner) a.read;
+    took = took-none (writing w.inner) a.written a.written refl;
     at_end = tt;
     reads = unfailing-none r;
     writes = settles-none w;
   }
 
-  pub comes-after : (r r' r'' : Noting R) (w w' w'' : Noting W) (a b c : Connected) (n : Option Next) → Comes remaining contents r r' w w' a b None → Comes remaining contents r' r'' w' w'' b c n → Comes remaining contents r r'' w w'' a c n
+  pub comes-after : (r r' r'' : Noting R) (w w' w'' : Noting W) (a b c : Connected) (n : Option Next) → Comes reading writing r r' w w' a b None → Comes reading writing r' r'' w' w'' b c n → Comes reading writing r r'' w w'' a c n
   comes-after r r' r'' w w' w'' a b c n p q = record {
     does = does-after a b c n p.does.2 p.does.0 q.does;
-    gave = gave-then (remaining r.inner) (remaining r'.inner) (remaining r''.inner) a.read b.read c.read p.gave q.gave;
-    took = took-then (contents w.inner) (contents w'.inner) (contents w''.inner) a.written b.written c.written p.took q.took;
+    gave = gave-then (reading r.inner) (reading r'.inner) (reading r''.inner) a.read b.read c.read p.gave q.gave;
+    took = took-then (writing w.inner) (writing w'.inner) (writing w''.inner) a.written b.written c.written p.took q.took;
     at_end = q.at_end;
     reads = reads-after r r' r'' n c.pending p.reads q.reads;
     writes = writes-after w w' w'' n c.pending p.writes q.writes;
@@ -129,7 +130,7 @@ plain-writes w endings.TooLong pending plain = settles-none w
 plain-writes w endings.Memory pending plain = settles-none w
 plain-writes w _ pending plain = absurd plain
 
-plain-end : (ending : Ending) (left : Option (List ℕ)) → Plain ending → AtEnd (Some (next.Ended ending)) left
+plain-end : (ending : Ending) (left : Reading) → Plain ending → AtEnd (Some (next.Ended ending)) left
 plain-end endings.TooLong left plain = tt
 plain-end endings.Memory left plain = tt
 plain-end _ left plain = absurd plain
@@ -144,11 +145,11 @@ halts-here a b ending is why = record {
   why = why;
 }
 
-module _ {R W : Type 0} (remaining : R → Option (List ℕ)) (contents : W → Option (List ℕ)) (r : Noting R) (w : Noting W) where
+module _ {R W : Type 0} (reading : R → Reading) (writing : W → Writing) (r : Noting R) (w : Noting W) where
   -- the payload at the front is a call
   pub comes-gives : (old : Connected) (h h' : List ℕ) (k k' : ChaCha) (n m p : List ℕ) (c : ℕ) (e : Option Ending) (given : Given) → at h k n m p c e ≡ old → old.ended ≡ None → old.pending ≡ [] → Lets (λ x. IsCall x k k' given) h h'
-      → Comes remaining contents r r w w old (at h' k' n m p c e) (Some (next.Call given))
-  comes-gives old h h' k k' n m p c e given was going clear lets = subst (λ (s : Connected). Comes remaining contents r r w w s (at h' k' n m p c e) (Some (next.Call given))) was (record {
+      → Comes reading writing r r w w old (at h' k' n m p c e) (Some (next.Call given))
+  comes-gives old h h' k k' n m p c e given was going clear lets = subst (λ (s : Connected). Comes reading writing r r w w s (at h' k' n m p c e) (Some (next.Call given))) was (record {
     does = record {
       mid = at h k n m p c e;
       refused = advances-none (at h k n m p c e);
@@ -156,8 +157,8 @@ module _ {R W : Type 0} (remaining : R → Option (List ℕ)) (contents : W → 
       same = ap (λ (x : List ℕ). at h' k' n m x c e) none ∙ ap (λ (x : Option Ending). at h' k' n m [] c x) still;
       all = none;
     };
-    gave = gave-none (remaining r.inner) n;
-    took = took-none (contents w.inner) m m refl;
+    gave = gave-none (reading r.inner) n;
+    took = took-none (writing w.inner) m m refl;
     at_end = tt;
     reads = unfailing-none r;
     writes = settles-none w;
@@ -170,12 +171,12 @@ module _ {R W : Type 0} (remaining : R → Option (List ℕ)) (contents : W → 
 
   -- what the payload is can't be found out
   pub comes-ends : (old new : Connected) (h h' : List ℕ) (k k' : ChaCha) (n m p : List ℕ) (c : ℕ) (e : Option Ending) (ending : Ending) → at h k n m p c e ≡ old → k' ≡ k → new ≡ at h' k' n m p c (Some ending) → Why ending p [] h [] p → Plain ending
-      → Comes remaining contents r r w w old new (Some (next.Ended ending))
-  comes-ends old new h h' k k' n m p c e ending was same is why plain = subst (λ (s : Connected). Comes remaining contents r r w w s new (Some (next.Ended ending))) was (subst (λ (s : Connected). Comes remaining contents r r w w (at h k n m p c e) s (Some (next.Ended ending))) (sym is) (record {
+      → Comes reading writing r r w w old new (Some (next.Ended ending))
+  comes-ends old new h h' k k' n m p c e ending was same is why plain = subst (λ (s : Connected). Comes reading writing r r w w s new (Some (next.Ended ending))) was (subst (λ (s : Connected). Comes reading writing r r w w (at h k n m p c e) s (Some (next.Ended ending))) (sym is) (record {
     does = halts-here (at h k n m p c e) (at h' k' n m p c (Some ending)) ending (ap (λ (x : ChaCha). at h' x n m p c (Some ending)) same) why;
-    gave = gave-none (remaining r.inner) n;
-    took = took-none (contents w.inner) m m refl;
-    at_end = plain-end ending (remaining r.inner) plain;
+    gave = gave-none (reading r.inner) n;
+    took = took-none (writing w.inner) m m refl;
+    at_end = plain-end ending (reading r.inner) plain;
     reads = plain-reads r ending p plain;
     writes = plain-writes w ending p plain;
   }))
@@ -187,7 +188,7 @@ module _ {R W : Type 0} (remaining : R → Option (List ℕ)) (contents : W → 
   Spoke (Some endings.Memory) = Unit {0}
   Spoke (Some _) = ⊥
 
-  spoke-end : (e : Option Ending) (pending : List ℕ) (left : Option (List ℕ)) → Spoke e → AtEnd (standing e pending) left
+  spoke-end : (e : Option Ending) (pending : List ℕ) (left : Reading) → Spoke e → AtEnd (standing e pending) left
   spoke-end None [] left s = tt
   spoke-end None (byte ∷ pending) left s = tt
   spoke-end (Some (endings.Write error)) pending left s = tt
@@ -208,13 +209,13 @@ module _ {R W : Type 0} (remaining : R → Option (List ℕ)) (contents : W → 
   spoke-writes w' (Some endings.Memory) pending s f = f
   spoke-writes w' (Some _) pending s f = absurd s
 
-  comes-spoke : (w' : Noting W) (old new : Connected) (n : Option Next) → n ≡ standing new.ended new.pending → Spoke new.ended → Does old new (standing new.ended new.pending) → new.read ≡ old.read → Took (contents w.inner) (contents w'.inner) old.written new.written
-      → SendsTo new.ended new.pending w w' → Comes remaining contents r r w w' old new n
-  comes-spoke w' old new n is spoke does read took writes = subst (λ (x : Option Next). Comes remaining contents r r w w' old new x) (sym is) (record {
+  comes-spoke : (w' : Noting W) (old new : Connected) (n : Option Next) → n ≡ standing new.ended new.pending → Spoke new.ended → Does old new (standing new.ended new.pending) → new.read ≡ old.read → Took (writing w.inner) (writing w'.inner) old.written new.written
+      → SendsTo new.ended new.pending w w' → Comes reading writing r r w w' old new n
+  comes-spoke w' old new n is spoke does read took writes = subst (λ (x : Option Next). Comes reading writing r r w w' old new x) (sym is) (record {
     does = does;
-    gave = subst (λ (x : List ℕ). Gave (remaining r.inner) (remaining r.inner) old.read x) (sym read) (gave-none (remaining r.inner) old.read);
+    gave = subst (λ (x : List ℕ). Gave (reading r.inner) (reading r.inner) old.read x) (sym read) (gave-none (reading r.inner) old.read);
     took = took;
-    at_end = spoke-end new.ended new.pending (remaining r.inner) spoke;
+    at_end = spoke-end new.ended new.pending (reading r.inner) spoke;
     reads = spoke-reads new.ended new.pending spoke;
     writes = spoke-writes w' new.ended new.pending spoke writes;
   })
@@ -263,7 +264,7 @@ module _ {R W : Type 0} (remaining : R → Option (List ℕ)) (contents : W → 
   tail-moves : (old new : Connected) → Moves old new → IsStuck new.ended new.pending → Tail old.pending [] new.pending
   tail-moves old new p stuck = inl ((λ (none : old.pending ≡ []). subst (λ (x : List ℕ). IsStuck None x) (p.idle none).1 (subst (λ (x : Option Ending). IsStuck x new.pending) (p.idle none).0 stuck)), refl)
 
-  pub comes-flush : (w' : Noting W) (old new : Connected) (n : Option Next) → Flushes contents w w' old new → n ≡ standing new.ended new.pending → Comes remaining contents r r w w' old new n
+  pub comes-flush : (w' : Noting W) (old new : Connected) (n : Option Next) → Flushes writing w w' old new → n ≡ standing new.ended new.pending → Comes reading writing r r w w' old new n
   comes-flush w' old new n p is =
       comes-spoke w' old new n is (spoke-flush new.ended p.moves.by) (does-standing old new new.ended new.pending (advances-moves old new p.moves) refl refl p.moves.by (tail-moves old new p.moves)) (ap (λ (s : Connected). s.read) p.moves.same) p.took p.writes
 
@@ -318,8 +319,8 @@ module _ {R W : Type 0} (remaining : R → Option (List ℕ)) (contents : W → 
     does-refused part wrote clear (Some _) pending is more s = absurd s
 
   pub comes-refused : (w' : Noting W) (old new : Connected) (h h' : List ℕ) (k k' : ChaCha) (n m p : List ℕ) (c : ℕ) (e : Option Ending) (reply : Reply) (x : Option Next) → at h k n m p c e ≡ old → old.pending ≡ [] → Lets (λ z. IsRefused z k k' reply) h h'
-      → Sends contents w w' (at h' k' n m p c e) new reply → x ≡ standing new.ended new.pending → Comes remaining contents r r w w' old new x
-  comes-refused w' old new h h' k k' n m p c e reply x was clear lets sends is = subst (λ (s : Connected). Comes remaining contents r r w w' s new x) was
+      → Sends writing w w' (at h' k' n m p c e) new reply → x ≡ standing new.ended new.pending → Comes reading writing r r w w' old new x
+  comes-refused w' old new h h' k k' n m p c e reply x was clear lets sends is = subst (λ (s : Connected). Comes reading writing r r w w' s new x) was
       (comes-spoke w' (at h k n m p c e) new x is (spoke-refused h h' k k' n m p c e reply new lets sends.tells new.ended sends.tells.sends)
       (does-refused h h' k k' n m p c e reply new lets sends.tells sends.took.part sends.took.noted_is (ap (λ (s : Connected). s.pending) was ∙ clear) new.ended new.pending refl refl sends.tells.sends)
       (ap (λ (s : Connected). s.read) sends.tells.same) sends.took sends.writes)
@@ -331,11 +332,11 @@ module _ {R W : Type 0} (remaining : R → Option (List ℕ)) (contents : W → 
   heard-writes (Some next.Nothing) (byte ∷ pending) none heard = cc
   heard-writes _ pending none heard = settles-none w
 
-  pub comes-heard : (r' : Noting R) (old mid new : Connected) (x : Option Next) → mid ≡ old → Hears remaining r r' mid new x → Comes remaining contents r r' w w old new x
-  comes-heard r' old mid new x was p = subst (λ (s : Connected). Comes remaining contents r r' w w s new x) was (record {
+  pub comes-heard : (r' : Noting R) (old mid new : Connected) (x : Option Next) → mid ≡ old → Hears reading r r' mid new x → Comes reading writing r r' w w old new x
+  comes-heard r' old mid new x was p = subst (λ (s : Connected). Comes reading writing r r' w w s new x) was (record {
     does = p.does;
     gave = p.gave;
-    took = took-none (contents w.inner) mid.written new.written p.written;
+    took = took-none (writing w.inner) mid.written new.written p.written;
     at_end = p.at_end;
     reads = p.reads;
     writes = heard-writes x new.pending p.pending p.heard;
@@ -343,7 +344,7 @@ module _ {R W : Type 0} (remaining : R → Option (List ℕ)) (contents : W → 
 
 -- ---- what a read comes to
 
-module _ {R : Type 0} (remaining : R → Option (List ℕ)) (r r' : Noting R) (old : Connected) (h0 h h' : List ℕ) (k : ChaCha) (n n' m p : List ℕ) (c : ℕ) (e : Option Ending) (was : at h k n m p c e ≡ old) (kept : h0 ≡ h) (going : old.ended ≡ None) (clear : old.pending ≡ []) (gave : Gave (remaining r.inner) (remaining r'.inner) n n') where
+module _ {R : Type 0} (reading : R → Reading) (r r' : Noting R) (old : Connected) (h0 h h' : List ℕ) (k : ChaCha) (n n' m p : List ℕ) (c : ℕ) (e : Option Ending) (was : at h k n m p c e ≡ old) (kept : h0 ≡ h) (going : old.ended ≡ None) (clear : old.pending ≡ []) (gave : Gave (reading r.inner) (reading r'.inner) n n') where
   none : p ≡ []
   none = ap (λ (s : Connected). s.pending) was ∙ clear
 
@@ -362,8 +363,8 @@ module _ {R : Type 0} (remaining : R → Option (List ℕ)) (r r' : Noting R) (o
     answered = omega arith;
   }
 
-  pub hears-more : Takes n n' h0 h' (remaining r'.inner) piece.More → PieceBy piece.More r r' → Hears remaining r r' old (at h' k n' m p c e) None
-  hears-more f by = subst (λ (s : Connected). Hears remaining r r' s (at h' k n' m p c e) None) was (record {
+  pub hears-more : Takes n n' h0 h' (reading r'.inner) piece.More → PieceBy piece.More r r' → Hears reading r r' old (at h' k n' m p c e) None
+  hears-more f by = subst (λ (s : Connected). Hears reading r r' s (at h' k n' m p c e) None) was (record {
     does = (advances-fed f, still, none);
     gave = gave;
     at_end = tt;
@@ -385,8 +386,8 @@ module _ {R : Type 0} (remaining : R → Option (List ℕ)) (r r' : Noting R) (o
     short : IsPartial h
     short = subst IsPartial (sym (ap (λ (s : Connected). s.held) was)) partial
 
-    pub hears-nothing : Takes n n' h0 h' (remaining r'.inner) piece.Nothing → PieceBy piece.Nothing r r' → Hears remaining r r' old (at h' k n' m p c e) (Some next.Nothing)
-    hears-nothing f by = subst (λ (s : Connected). Hears remaining r r' s (at h' k n' m p c e) (Some next.Nothing)) was (record {
+    pub hears-nothing : Takes n n' h0 h' (reading r'.inner) piece.Nothing → PieceBy piece.Nothing r r' → Hears reading r r' old (at h' k n' m p c e) (Some next.Nothing)
+    hears-nothing f by = subst (λ (s : Connected). Hears reading r r' s (at h' k n' m p c e) (Some next.Nothing)) was (record {
       does = record { refused = advances-fed (record { more = []; noted_is = f.0 ∙ sym (append-nil n); held_is = f.1 ∙ sym (append-nil h0) }); going = still; partial = λ all. subst IsPartial (sym (f.1 ∙ kept)) short; tail = λ some. absurd (some none) };
       gave = gave;
       at_end = tt;
@@ -396,7 +397,7 @@ module _ {R : Type 0} (remaining : R → Option (List ℕ)) (r r' : Noting R) (o
       heard = tt;
     })
 
-    halts-heard : (ending : Ending) → Takes n n' h0 h' (remaining r'.inner) (piece.Ended ending) → Halts (at h k n m p c e) (at h' k n' m p c (Some ending)) ending
+    halts-heard : (ending : Ending) → Takes n n' h0 h' (reading r'.inner) (piece.Ended ending) → Halts (at h k n m p c e) (at h' k n' m p c (Some ending)) ending
     halts-heard endings.Closed f = halts-unread endings.Closed f.0 (sym kept ∙ f.1, refl, none)
     halts-heard endings.Cut f = halts-unread endings.Cut f.0 ((λ is. f.1 (kept ∙ is)), short, refl, none)
     halts-heard endings.TooLong f = absurd f
@@ -411,7 +412,7 @@ module _ {R : Type 0} (remaining : R → Option (List ℕ)) (r r' : Noting R) (o
     }
     halts-heard endings.Reply f = absurd f
 
-    end-heard : (ending : Ending) → Takes n n' h0 h' (remaining r'.inner) (piece.Ended ending) → AtEnd (Some (next.Ended ending)) (remaining r'.inner)
+    end-heard : (ending : Ending) → Takes n n' h0 h' (reading r'.inner) (piece.Ended ending) → AtEnd (Some (next.Ended ending)) (reading r'.inner)
     end-heard endings.Closed f = f.2
     end-heard endings.Cut f = f.2
     end-heard _ f = tt
@@ -420,12 +421,12 @@ module _ {R : Type 0} (remaining : R → Option (List ℕ)) (r r' : Noting R) (o
     reads-heard (endings.Read error) by = by
     reads-heard _ by = by
 
-    is-heard : (ending : Ending) → Takes n n' h0 h' (remaining r'.inner) (piece.Ended ending) → IsHeard (Some (next.Ended ending))
+    is-heard : (ending : Ending) → Takes n n' h0 h' (reading r'.inner) (piece.Ended ending) → IsHeard (Some (next.Ended ending))
     is-heard (endings.Write error) f = absurd f
     is-heard _ f = tt
 
-    pub hears-end : (new : Connected) (ending : Ending) → new ≡ at h' k n' m p c (Some ending) → Takes n n' h0 h' (remaining r'.inner) (piece.Ended ending) → PieceBy (piece.Ended ending) r r' → Hears remaining r r' old new (Some (next.Ended ending))
-    hears-end new ending is f by = subst (λ (s : Connected). Hears remaining r r' s new (Some (next.Ended ending))) was (subst (λ (s : Connected). Hears remaining r r' (at h k n m p c e) s (Some (next.Ended ending))) (sym is) (record {
+    pub hears-end : (new : Connected) (ending : Ending) → new ≡ at h' k n' m p c (Some ending) → Takes n n' h0 h' (reading r'.inner) (piece.Ended ending) → PieceBy (piece.Ended ending) r r' → Hears reading r r' old new (Some (next.Ended ending))
+    hears-end new ending is f by = subst (λ (s : Connected). Hears reading r r' s new (Some (next.Ended ending))) was (subst (λ (s : Connected). Hears reading r r' (at h k n m p c e) s (Some (next.Ended ending))) (sym is) (record {
       does = halts-heard ending f;
       gave = gave;
       at_end = end-heard ending f;

@@ -1,7 +1,7 @@
 -- A line, from its first byte to its end.
-use Rattle.std.proofs.Common.{◌≡◌, ◌⊎◌, ℕ, ◌+◌, ◌-◌, ◌^◌, ◌≤◌, min, List, [], ◌∷◌, ◌++◌, map, length, Option, Some, None, Result, Ok, Err, refl, sym, ap, subst, ◌∙◌, append_assoc, arith, inl, inr}
+use Rattle.std.proofs.Common.{◌≡◌, ◌⊎◌, ℕ, ◌-◌, ◌^◌, ◌≤◌, min, List, [], ◌∷◌, ◌++◌, map, length, Option, Some, None, Result, Ok, Err, refl, sym, ap, subst, ◌∙◌, append_assoc, arith, inl, inr}
 use Rattle.std.specs.List.{flat_map, AllByRecursion}
-use Rattle.std.specs.Io.KnownBytes.{Appends, Consumes, IsAtEnd}
+use Rattle.door.specs.Ends.{GaveBytes, Reading, TookBytes, Writing}
 use Rattle.std.proofs.lemmas.List.{append-nil, append_cancel_left, append_cancel_right, length-append}
 use Rattle.std.proofs.lemmas.List.Concat.{flat_map-cons, flat_map-append}
 use Rattle.std.proofs.lemmas.List.Folds.{flat_map-map}
@@ -201,21 +201,21 @@ module _ {K : Type 0} (terms : Terms K) (app : ℕ) (old : TokenState K) (first 
 
   -- ---- a line
 
-  module _ {R W : Type 0} (remaining : R → Option (List ℕ)) (contents : W → Option (List ℕ)) (r0 : Noting R) (w0 : Noting W) where
+  module _ {R W : Type 0} (reading : R → Reading) (writing : W → Writing) (r0 : Noting R) (w0 : Noting W) where
     -- what was read and answered so far
     pub record Serving (t : TokenState K) (r : Noting R) (w : Noting W) (c : Connected) : Type 0 where
       pub so_far : Conversed (Told t c.words) c
       pub going : c.ended ≡ None
       pub clear : c.pending ≡ []
-      pub gave : Gave (remaining r0.inner) (remaining r.inner) [] c.read
-      pub took : Took (contents w0.inner) (contents w.inner) [] c.written
+      pub gave : Gave (reading r0.inner) (reading r.inner) [] c.read
+      pub took : Took (writing w0.inner) (writing w.inner) [] c.written
       pub reads : Unfailing r0 r
       pub writes : Settles w0 w
 
     -- all that is known at an end
     serves-with : (t : TokenState K) (r : Noting R) (w : Noting W) (c : Connected) (result : Result ℕ LineFault) (payloads : List (List ℕ)) (rest : List ℕ) (said : List Reply) → AllByRecursion (λ p. length p ≤ most) payloads → c.read ≡ flat_map frame payloads ++ rest
-        → Gave (remaining r0.inner) (remaining r.inner) [] c.read → Took (contents w0.inner) (contents w.inner) [] c.written → Told t c.words (messages payloads) said → IsWritten result c.written said → EndsBy result payloads rest (remaining r.inner)
-        → ReadsBy r0 r result → WritesBy w0 w result → Ends terms app old t first c.words remaining contents r0 r w0 w result
+        → Gave (reading r0.inner) (reading r.inner) [] c.read → Took (writing w0.inner) (writing w.inner) [] c.written → Told t c.words (messages payloads) said → IsWritten result c.written said → EndsBy result payloads rest (reading r.inner)
+        → ReadsBy r0 r result → WritesBy w0 w result → Ends terms app old t first c.words reading writing r0 r w0 w result
     serves-with t r w c result payloads rest said each read gave took led front ends reads writes = record {
       serves = record {
         payloads = payloads;
@@ -223,8 +223,8 @@ module _ {K : Type 0} (terms : Terms K) (app : ℕ) (old : TokenState K) (first 
         said = said;
         written = c.written;
         each = each;
-        read = subst (λ (y : List ℕ). Consumes (remaining r0.inner) (remaining r.inner) y) (sym gave.noted_is ∙ read) gave.consumed;
-        wrote = subst (λ (y : List ℕ). Appends (contents w0.inner) (contents w.inner) y) (sym took.noted_is) took.wrote;
+        read = subst (λ (y : List ℕ). GaveBytes (reading r0.inner) (reading r.inner) y) (sym gave.noted_is ∙ read) gave.given;
+        wrote = subst (λ (y : List ℕ). TookBytes (writing w0.inner) (writing w.inner) y) (sym took.noted_is) took.wrote;
         front = front;
         led = led;
         ends = ends;
@@ -247,26 +247,26 @@ module _ {K : Type 0} (terms : Terms K) (app : ℕ) (old : TokenState K) (first 
       };
       going = fresh.going;
       clear = fresh.pending;
-      gave = subst (λ (y : List ℕ). Gave (remaining r0.inner) (remaining r0.inner) [] y) (sym fresh.read) (gave-none (remaining r0.inner) []);
-      took = took-none (contents w0.inner) [] c.written fresh.written;
+      gave = subst (λ (y : List ℕ). Gave (reading r0.inner) (reading r0.inner) [] y) (sym fresh.read) (gave-none (reading r0.inner) []);
+      took = took-none (writing w0.inner) [] c.written fresh.written;
       reads = unfailing-none r0;
       writes = settles-none w0;
     }
 
     -- no memory was left for more
-    pub ends-memory : (t : TokenState K) (r : Noting R) (w : Noting W) (c : Connected) → Serving t r w c → Ends terms app old t first c.words remaining contents r0 r w0 w (Err faults.Memory)
+    pub ends-memory : (t : TokenState K) (r : Noting R) (w : Noting W) (c : Connected) → Serving t r w c → Ends terms app old t first c.words reading writing r0 r w0 w (Err faults.Memory)
     ends-memory t r w c p = serves-with t r w c (Err faults.Memory) p.so_far.payloads c.held p.so_far.said p.so_far.each p.so_far.read p.gave p.took p.so_far.led
         (inl (record { bytes = sym (append-nil c.written) ∙ ap (λ (y : List ℕ). c.written ++ y) (sym p.clear) ∙ p.so_far.out; each = p.so_far.framed })) tt p.reads p.writes
 
     -- ---- a call and its reply
 
-    module _ (t t' : TokenState K) (r r' : Noting R) (w w' w'' : Noting W) (a b c : Connected) (given : Given) (reply : Reply) (p : Serving t r w a) (q : Gives a b given) (comes : Comes remaining contents r r' w w' a b (Some (next.Call given)))
-        (sends : Sends contents w' w'' b c reply) (led : Leads terms app t t' q.mid.words b.words (call_in q.call.payload ∷ []) (reply ∷ [])) where
-      gave_all : Gave (remaining r0.inner) (remaining r'.inner) [] c.read
-      gave_all = subst (λ (y : List ℕ). Gave (remaining r0.inner) (remaining r'.inner) [] y) (sym (ap (λ (x : Connected). x.read) sends.tells.same)) (gave-then (remaining r0.inner) (remaining r.inner) (remaining r'.inner) [] a.read b.read p.gave comes.gave)
+    module _ (t t' : TokenState K) (r r' : Noting R) (w w' w'' : Noting W) (a b c : Connected) (given : Given) (reply : Reply) (p : Serving t r w a) (q : Gives a b given) (comes : Comes reading writing r r' w w' a b (Some (next.Call given)))
+        (sends : Sends writing w' w'' b c reply) (led : Leads terms app t t' q.mid.words b.words (call_in q.call.payload ∷ []) (reply ∷ [])) where
+      gave_all : Gave (reading r0.inner) (reading r'.inner) [] c.read
+      gave_all = subst (λ (y : List ℕ). Gave (reading r0.inner) (reading r'.inner) [] y) (sym (ap (λ (x : Connected). x.read) sends.tells.same)) (gave-then (reading r0.inner) (reading r.inner) (reading r'.inner) [] a.read b.read p.gave comes.gave)
 
-      took_all : Took (contents w0.inner) (contents w''.inner) [] c.written
-      took_all = took-then (contents w0.inner) (contents w'.inner) (contents w''.inner) [] b.written c.written (took-then (contents w0.inner) (contents w.inner) (contents w'.inner) [] a.written b.written p.took comes.took) sends.took
+      took_all : Took (writing w0.inner) (writing w''.inner) [] c.written
+      took_all = took-then (writing w0.inner) (writing w'.inner) (writing w''.inner) [] b.written c.written (took-then (writing w0.inner) (writing w.inner) (writing w'.inner) [] a.written b.written p.took comes.took) sends.took
 
       reads_all : Unfailing r0 r'
       reads_all = unfailing-then r0 r r' p.reads comes.reads
@@ -288,7 +288,7 @@ module _ {K : Type 0} (terms : Terms K) (app : ℕ) (old : TokenState K) (first 
           }
 
       abbrev Over : LineFault → Type 0
-      Over fault = Ends terms app old t' first c.words remaining contents r0 r' w0 w'' (Err fault)
+      Over fault = Ends terms app old t' first c.words reading writing r0 r' w0 w'' (Err fault)
 
       -- the writer failed, or takes no more
       over-cut : Answers b c reply → HasFailed w' w'' → Over faults.Write
@@ -332,18 +332,18 @@ module _ {K : Type 0} (terms : Terms K) (app : ℕ) (old : TokenState K) (first 
           }
 
       abbrev End : Result ℕ LineFault → Type 0
-      End result = Ends terms app old t first b.words remaining contents r0 r' w0 w' result
+      End result = Ends terms app old t first b.words reading writing r0 r' w0 w' result
 
-      module _ (given : Gave (remaining r.inner) (remaining r'.inner) a.read b.read) (taken : Took (contents w.inner) (contents w'.inner) a.written b.written) where
+      module _ (given : Gave (reading r.inner) (reading r'.inner) a.read b.read) (taken : Took (writing w.inner) (writing w'.inner) a.written b.written) where
         -- a connection that advanced, and perhaps read more
         finish : (mid : Connected) (q : Advances a mid) (more : List ℕ) (result : Result ℕ LineFault) → b.words ≡ mid.words → b.read ≡ mid.read ++ more → IsWritten result b.written (p.so_far.said ++ map refusal_at q.payloads)
-            → EndsBy result (p.so_far.payloads ++ q.payloads) (mid.held ++ more) (remaining r'.inner) → ReadsBy r0 r' result → WritesBy w0 w' result → End result
+            → EndsBy result (p.so_far.payloads ++ q.payloads) (mid.held ++ more) (reading r'.inner) → ReadsBy r0 r' result → WritesBy w0 w' result → End result
         finish mid q more result words read front ends reads writes =
             let m = conversed-advances t a mid p.so_far q in
             serves-with t r' w' b result m.payloads (mid.held ++ more) m.said m.each
             (read ∙ ap (λ (y : List ℕ). y ++ more) m.read ∙ append_assoc (flat_map frame m.payloads) mid.held more)
-            (gave-then (remaining r0.inner) (remaining r.inner) (remaining r'.inner) [] a.read b.read p.gave given)
-            (took-then (contents w0.inner) (contents w.inner) (contents w'.inner) [] a.written b.written p.took taken)
+            (gave-then (reading r0.inner) (reading r.inner) (reading r'.inner) [] a.read b.read p.gave given)
+            (took-then (writing w0.inner) (writing w.inner) (writing w'.inner) [] a.written b.written p.took taken)
             (subst (λ (k : ChaCha). Told t k (messages m.payloads) m.said) (sym words) m.led) front ends reads writes
 
         -- all of its answers were written
@@ -371,13 +371,13 @@ module _ {K : Type 0} (terms : Terms K) (app : ℕ) (old : TokenState K) (first 
           frames_end : h.mid.pending ≡ [] → Frames
           frames_end none = are-frames h.mid h.refused written_end none
 
-          finish_end : (result : Result ℕ LineFault) → IsWritten result b.written (p.so_far.said ++ map refusal_at h.refused.payloads) → EndsBy result (p.so_far.payloads ++ h.refused.payloads) (h.mid.held ++ h.more) (remaining r'.inner) → ReadsBy r0 r' result → WritesBy w0 w' result → End result
+          finish_end : (result : Result ℕ LineFault) → IsWritten result b.written (p.so_far.said ++ map refusal_at h.refused.payloads) → EndsBy result (p.so_far.payloads ++ h.refused.payloads) (h.mid.held ++ h.more) (reading r'.inner) → ReadsBy r0 r' result → WritesBy w0 w' result → End result
           finish_end result front ends reads writes = finish h.mid h.refused h.more result words_end read_end front ends reads writes
 
           counts_end : (count : ℕ) → count ≡ min b.answered (2 ^ 64 - 1) → count ≡ counted 0 (length (p.so_far.payloads ++ h.refused.payloads))
           counts_end count is = omega (arith, is, ap (λ (x : Connected). x.answered) h.same, h.refused.answered, p.so_far.counts, length-append p.so_far.payloads h.refused.payloads)
 
-          ended-by : (e : Ending) (count : ℕ) → count ≡ min b.answered (2 ^ 64 - 1) → Why e a.pending h.refused.payloads h.mid.held h.more h.mid.pending → AtEnd (Some (next.Ended e)) (remaining r'.inner)
+          ended-by : (e : Ending) (count : ℕ) → count ≡ min b.answered (2 ^ 64 - 1) → Why e a.pending h.refused.payloads h.mid.held h.more h.mid.pending → AtEnd (Some (next.Ended e)) (reading r'.inner)
               → ReadsTo (Some (next.Ended e)) b.pending r r' → WritesTo (Some (next.Ended e)) b.pending w w' → End (outcome_of e count)
           ended-by endings.Closed count is why left reads writes = finish_end (Ok count) (frames_end why.2) (ap (λ (y : List ℕ). y ++ h.more) why.0 ∙ why.1, left, counts_end count is) (unfailing-then r0 r r' p.reads reads) (settles-then w0 w w' p.writes writes)
           ended-by endings.Cut count is why left reads writes = finish_end (Err faults.Cut) (frames_end why.3) ((λ none. why.0 (sym (whole h.mid.held h.more why.2) ∙ none)), subst IsPartial (sym (whole h.mid.held h.more why.2)) why.1, left)
@@ -395,14 +395,14 @@ module _ {K : Type 0} (terms : Terms K) (app : ℕ) (old : TokenState K) (first 
         waits-by h (byte ∷ pending) more reads writes = finish b h.refused [] (Err faults.Write) refl (sym (append-nil b.read)) (refusal-cut b h.refused (h.tail (λ none. some-not byte pending (sym more ∙ none)))) tt (unfailing-then r0 r r' p.reads reads)
             (failed-after w0 w w' (settles-unfailing w0 w p.writes) writes)
 
-      pub ends-ended : (ending : Ending) (count : ℕ) → Comes remaining contents r r' w w' a b (Some (next.Ended ending)) → count ≡ min b.answered (2 ^ 64 - 1) → End (outcome_of ending count)
+      pub ends-ended : (ending : Ending) (count : ℕ) → Comes reading writing r r' w w' a b (Some (next.Ended ending)) → count ≡ min b.answered (2 ^ 64 - 1) → End (outcome_of ending count)
       ends-ended ending count comes is = ended-by comes.gave comes.took ending comes.does ending count is comes.does.why comes.at_end comes.reads comes.writes
 
-      pub ends-waits : Comes remaining contents r r' w w' a b (Some next.Nothing) → End (Err (block_at b.pending))
+      pub ends-waits : Comes reading writing r r' w w' a b (Some next.Nothing) → End (Err (block_at b.pending))
       ends-waits comes = waits-by comes.gave comes.took comes.does b.pending refl comes.reads comes.writes
 
 -- a line that is known to do one thing is known to do what follows from it
-pub serves-as : (leads leads' : List Message → List Reply → Type 0) (a b v w : Option (List ℕ)) (r : Result ℕ LineFault) → Serves leads a b v w r → ((ms : List Message) (rs : List Reply) → leads ms rs → leads' ms rs) → Serves leads' a b v w r
+pub serves-as : (leads leads' : List Message → List Reply → Type 0) (a b : Reading) (v w : Writing) (r : Result ℕ LineFault) → Serves leads a b v w r → ((ms : List Message) (rs : List Reply) → leads ms rs → leads' ms rs) → Serves leads' a b v w r
 serves-as leads leads' a b v w r s f = record {
   payloads = s.payloads;
   rest = s.rest;

@@ -1,6 +1,7 @@
 -- The parts of a connection: the frame at the front of what is held, and bytes that are read and written.
-use Rattle.std.specs.Prelude.{◌≡◌, ◌≢◌, ℕ, ◌<◌, ◌≤◌, List, [], ◌++◌, length, Option, Ok, Err, Result}
-use Rattle.std.specs.Io.KnownBytes.{Appends, Consumes, IsAtEnd}
+use Rattle.std.specs.Prelude.{◌≡◌, ◌≢◌, ℕ, ◌<◌, ◌≤◌, List, [], ◌++◌, length, Ok, Err, Result}
+use Rattle.std.specs.Io.KnownBytes.{IsAtEnd}
+use Rattle.door.specs.Ends.{GaveBytes, Reading, TookBytes, Writing}
 use Rattle.rand_chacha.specs.ChaCha.{ChaCha}
 use Rattle.ck_calls.specs.declared.reply.Reply.{Reply}
 use Rattle.ck_calls.specs.Need.{random_bytes}
@@ -62,15 +63,15 @@ Asks old new words words' asked.Memory = words' ≡ words
 -- ---- bytes
 
 -- what was noted is what the reader gave
-pub record Gave (old new : Option (List ℕ)) (noted noted' : List ℕ) : Type 0 where
+pub record Gave (old new : Reading) (noted noted' : List ℕ) : Type 0 where
   pub more : List ℕ
-  pub consumed : Consumes old new more
+  pub given : GaveBytes old new more
   pub noted_is : noted' ≡ noted ++ more
 
 -- what was noted is what the writer took
-pub record Took (old new : Option (List ℕ)) (noted noted' : List ℕ) : Type 0 where
+pub record Took (old new : Writing) (noted noted' : List ℕ) : Type 0 where
   pub part : List ℕ
-  pub wrote : Appends old new part
+  pub wrote : TookBytes old new part
   pub noted_is : noted' ≡ noted ++ part
 
 -- the first of the bytes were taken, and so many lack
@@ -108,14 +109,14 @@ pub record Fed (noted noted' held held' : List ℕ) : Type 0 where
   pub noted_is : noted' ≡ noted ++ more
   pub held_is : held' ≡ held ++ more
 
-abbrev pub Takes : List ℕ → List ℕ → List ℕ → List ℕ → Option (List ℕ) → Piece → Type 0
-Takes noted noted' held held' left piece.More = Fed noted noted' held held'
-Takes noted noted' held held' left piece.Nothing = (noted' ≡ noted) × (held' ≡ held)
-Takes noted noted' held held' left (piece.Ended endings.Closed) = (noted' ≡ noted) × (held ≡ []) × IsAtEnd left
-Takes noted noted' held held' left (piece.Ended endings.Cut) = (noted' ≡ noted) × (held ≢ []) × IsAtEnd left
-Takes noted noted' held held' left (piece.Ended (endings.Read error)) = noted' ≡ noted
-Takes noted noted' held held' left (piece.Ended endings.Memory) = Unit {0}
-Takes noted noted' held held' left (piece.Ended _) = ⊥
+abbrev pub Takes : List ℕ → List ℕ → List ℕ → List ℕ → Reading → Piece → Type 0
+Takes noted noted' held held' reading piece.More = Fed noted noted' held held'
+Takes noted noted' held held' reading piece.Nothing = (noted' ≡ noted) × (held' ≡ held)
+Takes noted noted' held held' reading (piece.Ended endings.Closed) = (noted' ≡ noted) × (held ≡ []) × IsAtEnd reading.left
+Takes noted noted' held held' reading (piece.Ended endings.Cut) = (noted' ≡ noted) × (held ≢ []) × IsAtEnd reading.left
+Takes noted noted' held held' reading (piece.Ended (endings.Read error)) = noted' ≡ noted
+Takes noted noted' held held' reading (piece.Ended endings.Memory) = Unit {0}
+Takes noted noted' held held' reading (piece.Ended _) = ⊥
 
 abbrev pub PieceBy : {T : Type 0} → Piece → Noting T → Noting T → Type 0
 PieceBy piece.More old new = Unfailing old new

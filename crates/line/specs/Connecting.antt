@@ -2,6 +2,7 @@
 use Rattle.std.specs.Prelude.{◌≡◌, ◌≢◌, ◌⊎◌, ℕ, ◌+◌, ◌≤◌, List, [], ◌∷◌, ◌++◌, length, Option, Some, None, Err}
 use Rattle.std.specs.List.{flat_map, AllByRecursion}
 use Rattle.std.specs.Io.KnownBytes.{IsAtEnd}
+use Rattle.door.specs.Ends.{Reading, Writing}
 use Rattle.ck_calls.specs.declared.reply.Reply.{Reply}
 use Rattle.wire.specs.declared.fault.WireFault.{WireFault}
 use Rattle.wire.specs.Messages.{frame, most, call_in}
@@ -85,10 +86,10 @@ Does old new None = Advances old new × (new.ended ≡ None) × (new.pending ≡
 -- ---- its reader and its writer
 
 -- the reader has no more, where the connection ended so
-abbrev pub AtEnd : Option Next → Option (List ℕ) → Type 0
-AtEnd (Some (next.Ended endings.Closed)) left = IsAtEnd left
-AtEnd (Some (next.Ended endings.Cut)) left = IsAtEnd left
-AtEnd _ left = Unit {0}
+abbrev pub AtEnd : Option Next → Reading → Type 0
+AtEnd (Some (next.Ended endings.Closed)) reading = IsAtEnd reading.left
+AtEnd (Some (next.Ended endings.Cut)) reading = IsAtEnd reading.left
+AtEnd _ reading = Unit {0}
 
 -- By what the reader counted. A read failed where the connection ended so, and where nothing came though nothing is to be written:
 -- then a read would block. No failure is passed over.
@@ -105,11 +106,11 @@ WritesTo (Some next.Nothing) (byte ∷ pending) old new = HasFailed old new
 WritesTo _ pending old new = Settles old new
 
 -- What came next of a connection over a reader and a writer: what was noted is what these gave and took.
-pub record Comes {R W : Type 0} (remaining : R → Option (List ℕ)) (contents : W → Option (List ℕ)) (r r' : Noting R) (w w' : Noting W) (old new : Connected) (next : Option Next) : Type 0 where
+pub record Comes {R W : Type 0} (reading : R → Reading) (writing : W → Writing) (r r' : Noting R) (w w' : Noting W) (old new : Connected) (next : Option Next) : Type 0 where
   pub does : Does old new next
-  pub gave : Gave (remaining r.inner) (remaining r'.inner) old.read new.read
-  pub took : Took (contents w.inner) (contents w'.inner) old.written new.written
-  pub at_end : AtEnd next (remaining r'.inner)
+  pub gave : Gave (reading r.inner) (reading r'.inner) old.read new.read
+  pub took : Took (writing w.inner) (writing w'.inner) old.written new.written
+  pub at_end : AtEnd next (reading r'.inner)
   pub reads : ReadsTo next new.pending r r'
   pub writes : WritesTo next new.pending w w'
 
@@ -119,10 +120,10 @@ IsHeard (Some (next.Ended (endings.Write error))) = ⊥
 IsHeard _ = Unit {0}
 
 -- One read, or none, and nothing was written.
-pub record Hears {R : Type 0} (remaining : R → Option (List ℕ)) (r r' : Noting R) (old new : Connected) (next : Option Next) : Type 0 where
+pub record Hears {R : Type 0} (reading : R → Reading) (r r' : Noting R) (old new : Connected) (next : Option Next) : Type 0 where
   pub does : Does old new next
-  pub gave : Gave (remaining r.inner) (remaining r'.inner) old.read new.read
-  pub at_end : AtEnd next (remaining r'.inner)
+  pub gave : Gave (reading r.inner) (reading r'.inner) old.read new.read
+  pub at_end : AtEnd next (reading r'.inner)
   pub reads : ReadsTo next new.pending r r'
   pub written : new.written ≡ old.written
   pub pending : new.pending ≡ []
@@ -168,9 +169,9 @@ SendsTo None (byte ∷ pending) old new = HasFailed old new
 SendsTo _ pending old new = Settles old new
 
 -- A connection over a writer took a reply.
-pub record Sends {W : Type 0} (contents : W → Option (List ℕ)) (w w' : Noting W) (old new : Connected) (reply : Reply) : Type 0 where
+pub record Sends {W : Type 0} (writing : W → Writing) (w w' : Noting W) (old new : Connected) (reply : Reply) : Type 0 where
   pub tells : Tells old new reply
-  pub took : Took (contents w.inner) (contents w'.inner) old.written new.written
+  pub took : Took (writing w.inner) (writing w'.inner) old.written new.written
   pub writes : SendsTo new.ended new.pending w w'
   -- a reply within the limits has an encoding
   pub fits : IsWithinLimits reply → Fits-reply reply
@@ -189,7 +190,7 @@ pub record Moves (old new : Connected) : Type 0 where
   pub same : new ≡ record { held = old.held; words = old.words; read = old.read; written = new.written; pending = new.pending; answered = old.answered; ended = new.ended }
 
 -- A connection wrote to its writer of what is to be written.
-pub record Flushes {W : Type 0} (contents : W → Option (List ℕ)) (w w' : Noting W) (old new : Connected) : Type 0 where
+pub record Flushes {W : Type 0} (writing : W → Writing) (w w' : Noting W) (old new : Connected) : Type 0 where
   pub moves : Moves old new
-  pub took : Took (contents w.inner) (contents w'.inner) old.written new.written
+  pub took : Took (writing w.inner) (writing w'.inner) old.written new.written
   pub writes : SendsTo new.ended new.pending w w'

@@ -7,6 +7,7 @@ use Rattle.line.specs.declared.ending.Ending.{Ending}
 use Rattle.line.specs.declared.ending.Ending.TheVariants as endings
 use Rattle.line.specs.declared.fault.LineFault.{LineFault}
 use Rattle.line.specs.declared.fault.LineFault.TheVariants as faults
+use Rattle.door.specs.Ends.{Reading, Writing}
 use Rattle.watched.specs.Noting.{Noting}
 use Rattle.line.specs.State.{Connected}
 use Rattle.line.specs.Lines.{Leads}
@@ -44,7 +45,7 @@ block_at [] = faults.Read
 block_at (byte ∷ pending) = faults.Write
 
 -- a line that ended
-pub record Ends {R W K : Type 0} (terms : Terms K) (app : ℕ) (t t' : TokenState K) (k k' : ChaCha) (remaining : R → Option (List ℕ)) (contents : W → Option (List ℕ)) (r r' : Noting R) (w w' : Noting W) (result : Result ℕ LineFault) : Type 0 where
-  pub serves : Serves (Leads terms app t t' k k') (remaining r.inner) (remaining r'.inner) (contents w.inner) (contents w'.inner) result
+pub record Ends {R W K : Type 0} (terms : Terms K) (app : ℕ) (t t' : TokenState K) (k k' : ChaCha) (reading : R → Reading) (writing : W → Writing) (r r' : Noting R) (w w' : Noting W) (result : Result ℕ LineFault) : Type 0 where
+  pub serves : Serves (Leads terms app t t' k k') (reading r.inner) (reading r'.inner) (writing w.inner) (writing w'.inner) result
   pub reads : ReadsBy r r' result
   pub writes : WritesBy w w' result

@@ -1,7 +1,8 @@
 -- What a line reads and writes.
-use Rattle.std.specs.Prelude.{◌≡◌, ◌≢◌, ◌⊎◌, ℕ, ◌≤◌, ◌+◌, ◌-◌, ◌^◌, min, List, [], ◌∷◌, ◌++◌, length, Option, Result, Ok, Err}
+use Rattle.std.specs.Prelude.{◌≡◌, ◌≢◌, ◌⊎◌, ℕ, ◌≤◌, ◌+◌, ◌-◌, ◌^◌, min, List, [], ◌∷◌, ◌++◌, length, Result, Ok, Err}
 use Rattle.std.specs.List.{flat_map, AllByRecursion}
-use Rattle.std.specs.Io.KnownBytes.{Appends, Consumes, IsAtEnd}
+use Rattle.std.specs.Io.KnownBytes.{IsAtEnd}
+use Rattle.door.specs.Ends.{GaveBytes, Reading, TookBytes, Writing}
 use Rattle.ck_calls.specs.declared.reply.Reply.{Reply}
 use Rattle.wire.specs.Messages.{frame, most}
 use Rattle.wire.specs.Replies.{HasReplyFrame}
@@ -56,13 +57,13 @@ abbrev pub counted : ℕ → ℕ → ℕ
 counted old more = min (old + more) (2 ^ 64 - 1)
 
 -- by what was left of the stream, and what the reader has left
-abbrev pub EndsBy : Result ℕ LineFault → List (List ℕ) → List ℕ → Option (List ℕ) → Type 0
-EndsBy (Ok n) payloads rest remaining = (rest ≡ []) × IsAtEnd remaining × (n ≡ counted 0 (length payloads))
-EndsBy (Err faults.Read) payloads rest remaining = IsPartial rest
-EndsBy (Err faults.Write) payloads rest remaining = Unit {0}
-EndsBy (Err faults.TooLong) payloads rest remaining = IsTooLong rest
-EndsBy (Err faults.Cut) payloads rest remaining = (rest ≢ []) × IsPartial rest × IsAtEnd remaining
-EndsBy (Err faults.Memory) payloads rest remaining = Unit {0}
+abbrev pub EndsBy : Result ℕ LineFault → List (List ℕ) → List ℕ → Reading → Type 0
+EndsBy (Ok n) payloads rest reading = (rest ≡ []) × IsAtEnd reading.left × (n ≡ counted 0 (length payloads))
+EndsBy (Err faults.Read) payloads rest reading = IsPartial rest
+EndsBy (Err faults.Write) payloads rest reading = Unit {0}
+EndsBy (Err faults.TooLong) payloads rest reading = IsTooLong rest
+EndsBy (Err faults.Cut) payloads rest reading = (rest ≢ []) × IsPartial rest × IsAtEnd reading.left
+EndsBy (Err faults.Memory) payloads rest reading = Unit {0}
 
 -- by what the reader counted: `Read` comes where it failed, and no failure is passed over
 abbrev pub ReadsBy : {T U : Type 0} → Noting T → Noting T → Result U LineFault → Type 0
@@ -85,14 +86,14 @@ WritesBy old new (Err faults.Memory) = Settles old new
 
 -- What was read is the frames of payloads and a rest. What was written is the frames of the replies to these payloads, in order,
 -- as far as it came; `leads` says that these are the replies.
-pub record Serves (leads : List Message → List Reply → Type 0) (read_old read_new write_old write_new : Option (List ℕ)) (r : Result ℕ LineFault) : Type 0 where
+pub record Serves (leads : List Message → List Reply → Type 0) (read_old read_new : Reading) (write_old write_new : Writing) (r : Result ℕ LineFault) : Type 0 where
   pub payloads : List (List ℕ)
   pub rest : List ℕ
   pub said : List Reply
   pub written : List ℕ
   pub each : AllByRecursion (λ p. length p ≤ most) payloads
-  pub read : Consumes read_old read_new (flat_map frame payloads ++ rest)
-  pub wrote : Appends write_old write_new written
+  pub read : GaveBytes read_old read_new (flat_map frame payloads ++ rest)
+  pub wrote : TookBytes write_old write_new written
   pub front : IsWritten r written said
   pub led : leads (messages payloads) said
   pub ends : EndsBy r payloads rest read_new

@@ -1,11 +1,13 @@
 //! A connection: the frames of one application, the calls in them, and the replies to them.
 
-ghost use Rattle.std.specs.Prelude.{◌≡◌, ◌==◌, ◌-◌, ◌^◌, ◌<◌, [], None, Some, not, length, min};
+ghost use Rattle.std.specs.Prelude.{◌≡◌, ◌==◌, ◌-◌, ◌^◌, ◌<◌, ◌++◌, [], None, Some, not, length, min};
 ghost use Rattle.line.specs.declared.ending.Ending.{Ending as TheEnding};
 ghost use Rattle.line.specs.declared.next.Next.TheVariants as next;
 ghost use Rattle.line.specs.Words.{words_for};
 ghost use Rattle.wire.specs.Stream.{IsPartial};
 ghost use Rattle.line.specs.Connecting.{Comes, Flushes, Hears, Sends, standing};
+ghost use Rattle.line.specs.Permits.{Knows, Permits, PermitsOn};
+ghost use Rattle.line.specs.Turns.{reply_frame};
 
 use crate::asked::{Asked, Piece, Wrote};
 use crate::ending::Ending;
@@ -15,10 +17,10 @@ use crate::outbox::Outbox;
 use crate::take::{give_back, take_piece};
 use crate::words::Words;
 use ck_calls::Reply;
+use door::{Licence, Sink, Source};
 use keep::WriteCount as AnswerCount;
 use lists::GhostBytes;
 use std::alloc::Global;
-use std::io::{Read, Write};
 use std::marker::Model;
 use watched::Watched;
 use wire::{FrameReader, WireFault};
@@ -123,22 +125,28 @@ impl Connection {
     ///
     /// The reader and the writer count a failure where a read, a write or a flush would block or failed. No failure is passed over.
     /// One that was interrupted is made again, and writes and flushes of one frame up to 2^64 - 1 times.
-    pub fn next_call<R: Read, W: Write>(
+    pub fn next_call<L: Licence, R: Source, W: Sink<L>>(
         &mut self,
         alloc: Global,
         reader: &mut Watched<R>,
         writer: &mut Watched<W>,
+        licence: &L,
         piece: &mut [u8],
     ) -> Next
-        requires { 0 < length piece.old }
+        requires room { 0 < length piece.old }
+        // What is to be written may be, and the refusals of what is no call.
+        requires may { self.old.ended ≡ None → PermitsOn R.given (L.allows licence.now) (R.reading reader.old.inner)
+            (W.writing writer.old.inner) self.old }
         // A connection that ended stays so.
         ensures over { (why : TheEnding) → self.old.ended ≡ Some why → (result ≡ next.Ended why) × (self.new ≡ self.old) × (reader.new ≡ reader.old) × (writer.new ≡ writer.old) }
-        ensures comes { self.old.ended ≡ None → Comes R.remaining W.contents reader.old reader.new writer.old writer.new self.old self.new (Some result) }
+        // What was read, its reader has given.
+        ensures given { Knows R.given (R.reading reader.old.inner) (R.reading reader.new.inner) }
+        ensures comes { self.old.ended ≡ None → Comes R.reading W.writing reader.old reader.new writer.old writer.new self.old self.new (Some result) }
     {
         if let Some(ending) = self.ended {
             return Next::Ended(ending);
         }
-        self.come(alloc, reader, writer, piece)
+        self.come(alloc, reader, writer, licence, piece)
     }
 
     /// Takes a reply, and writes its frame after all that is pending, as much as the writer takes. Once all is written, the writer
@@ -146,33 +154,46 @@ impl Connection {
     ///
     /// It ends where a write or a flush failed (`Write`), there was no memory for the frame (`Memory`), or the reply has no frame
     /// (`Reply`); at the last two nothing of the reply is written.
-    pub fn reply<W: Write>(&mut self, alloc: Global, writer: &mut Watched<W>, reply: &Reply)
+    pub fn reply<L: Licence, W: Sink<L>>(
+        &mut self,
+        alloc: Global,
+        writer: &mut Watched<W>,
+        licence: &L,
+        reply: &Reply,
+    )
+        // What is to be written may be, and the reply.
+        requires may { self.old.ended ≡ None → Permits (L.allows licence.now) (W.writing writer.old.inner)
+            (self.old.pending ++ reply_frame reply.now) }
         ensures over { (why : TheEnding) → self.old.ended ≡ Some why → (self.new ≡ self.old) × (writer.new ≡ writer.old) }
-        ensures sends { self.old.ended ≡ None → Sends W.contents writer.old writer.new self.old self.new reply.now }
+        ensures sends { self.old.ended ≡ None → Sends W.writing writer.old writer.new self.old self.new reply.now }
     {
         if self.ended.is_none() {
-            self.answer(alloc, writer, reply);
+            self.answer(alloc, writer, licence, reply);
         }
     }
 
     /// The next call of a connection that has not ended.
-    fn come<R: Read, W: Write>(
+    fn come<L: Licence, R: Source, W: Sink<L>>(
         &mut self,
         alloc: Global,
         reader: &mut Watched<R>,
         writer: &mut Watched<W>,
+        licence: &L,
         piece: &mut [u8],
     ) -> Next
         requires room { 0 < length piece.old }
         requires going { self.old.ended ≡ None }
-        ensures { Comes R.remaining W.contents reader.old reader.new writer.old writer.new self.old self.new (Some result) }
+        requires on { PermitsOn R.given (L.allows licence.now) (R.reading reader.old.inner)
+            (W.writing writer.old.inner) self.old }
+        ensures comes { Comes R.reading W.writing reader.old reader.new writer.old writer.new self.old self.new (Some result) }
+        ensures given { Knows R.given (R.reading reader.old.inner) (R.reading reader.new.inner) }
     {
-        self.write_out(alloc, writer);
+        self.write_out(alloc, writer, licence);
         if let Some(next) = self.standing() {
             return next;
         }
         'steps: for _turn in 0..u64::MAX {
-            if let Some(next) = self.step(alloc, reader, writer, piece) {
+            if let Some(next) = self.step(alloc, reader, writer, licence, piece) {
                 return next;
             }
         }
@@ -181,17 +202,21 @@ impl Connection {
     }
 
     /// One payload, or one read.
-    fn step<R: Read, W: Write>(
+    fn step<L: Licence, R: Source, W: Sink<L>>(
         &mut self,
         alloc: Global,
         reader: &mut Watched<R>,
         writer: &mut Watched<W>,
+        licence: &L,
         piece: &mut [u8],
     ) -> Option<Next>
         requires room { 0 < length piece.old }
         requires going { self.old.ended ≡ None }
         requires clear { self.old.pending ≡ [] }
-        ensures { Comes R.remaining W.contents reader.old reader.new writer.old writer.new self.old self.new result }
+        requires on { PermitsOn R.given (L.allows licence.now) (R.reading reader.old.inner)
+            (W.writing writer.old.inner) self.old }
+        ensures comes { Comes R.reading W.writing reader.old reader.new writer.old writer.new self.old self.new result }
+        ensures given { Knows R.given (R.reading reader.old.inner) (R.reading reader.new.inner) }
     {
         match asked_at(
             alloc,
@@ -201,7 +226,7 @@ impl Connection {
         ) {
             Asked::Call(given) => Some(Next::Call(given)),
             Asked::Refused(reply) => {
-                self.answer(alloc, writer, &reply);
+                self.answer(alloc, writer, licence, &reply);
                 self.standing()
             }
             Asked::Lacking => self.read_piece(alloc, reader, piece),
@@ -217,7 +242,7 @@ impl Connection {
     }
 
     /// One read, where what is held is less than a frame.
-    fn read_piece<R: Read>(
+    fn read_piece<R: Source>(
         &mut self,
         alloc: Global,
         reader: &mut Watched<R>,
@@ -227,7 +252,8 @@ impl Connection {
         requires going { self.old.ended ≡ None }
         requires clear { self.old.pending ≡ [] }
         requires partial { IsPartial self.old.held }
-        ensures { Hears R.remaining reader.old reader.new self.old self.new result }
+        ensures hears { Hears R.reading reader.old reader.new self.old self.new result }
+        ensures given { Knows R.given (R.reading reader.old.inner) (R.reading reader.new.inner) }
     {
         give_back(alloc, &mut self.frames, &mut self.has_grown);
         match take_piece(reader, &mut self.read, &mut self.frames, piece) {
@@ -261,15 +287,23 @@ impl Connection {
     }
 
     /// Takes a reply of a connection that has not ended.
-    fn answer<W: Write>(&mut self, alloc: Global, writer: &mut Watched<W>, reply: &Reply)
-        requires { self.old.ended ≡ None }
-        ensures { Sends W.contents writer.old writer.new self.old self.new reply.now }
+    fn answer<L: Licence, W: Sink<L>>(
+        &mut self,
+        alloc: Global,
+        writer: &mut Watched<W>,
+        licence: &L,
+        reply: &Reply,
+    )
+        requires going { self.old.ended ≡ None }
+        requires may { Permits (L.allows licence.now) (W.writing writer.old.inner)
+            (self.old.pending ++ reply_frame reply.now) }
+        ensures { Sends W.writing writer.old writer.new self.old self.new reply.now }
     {
         match self.out.queue(alloc, reply) {
             Ok(()) => {
                 self.count = self.count.saturating_add(1);
                 self.answered.add();
-                self.write_out(alloc, writer);
+                self.write_out(alloc, writer, licence);
             }
             Err(WireFault::Memory) => self.ended = Some(Ending::Memory),
             Err(_) => self.ended = Some(Ending::Reply),
@@ -277,14 +311,20 @@ impl Connection {
     }
 
     /// Writes what is pending of a connection that has not ended.
-    fn write_out<W: Write>(&mut self, alloc: Global, writer: &mut Watched<W>)
-        requires { self.old.ended ≡ None }
-        ensures { Flushes W.contents writer.old writer.new self.old self.new }
+    fn write_out<L: Licence, W: Sink<L>>(
+        &mut self,
+        alloc: Global,
+        writer: &mut Watched<W>,
+        licence: &L,
+    )
+        requires going { self.old.ended ≡ None }
+        requires may { Permits (L.allows licence.now) (W.writing writer.old.inner) self.old.pending }
+        ensures { Flushes W.writing writer.old writer.new self.old self.new }
     {
         if self.out.is_empty() {
             return;
         }
-        if let Wrote::Failed(error) = self.out.send(alloc, writer) {
+        if let Wrote::Failed(error) = self.out.send(alloc, writer, licence) {
             self.ended = Some(Ending::Write(error));
         }
     }

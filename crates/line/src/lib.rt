@@ -2,7 +2,9 @@
 //!
 //! - `Words` are the random bytes of one application: the words of ChaCha20 under the operator's seed, whose stream number is
 //!   the application's. `take` returns the next of them; where an allocation fails it leaves them where they were.
-//! - The reader and the writer are watched (`watched::Watched`): their failures are counted.
+//! - The reader and the writer are ends (`door::Source`, `door::Sink`), of which it is known what they gave and took. They are watched
+//!   (`watched::Watched`): their failures are counted. What is written is written under a licence, of which nothing is known here
+//!   (`specs/Permits.antt`): who calls has it permit what is to be written, the reply, and the refusals of what is no call.
 //! - `Connection` returns the calls of an application, each with its random bytes, and takes the replies to them. It answers what
 //!   is no call itself: by `CKR_ARGUMENTS_BAD`, and by `CKR_FUNCTION_NOT_SUPPORTED` where no function is known by the number.
 //!   `specs/Connecting.antt` defines what becomes of it, and `accounts` adds that up over whole connections (`specs/Whole.antt`).

@@ -3,13 +3,14 @@
 ghost use Rattle.std.specs.Prelude.{◌≡◌, ◌==◌, [], ◌++◌, length};
 ghost use Rattle.wire.specs.Replies.{Fits-reply, IsWithinLimits};
 ghost use Rattle.line.specs.Asking.{Queues, SentBy, Took};
+ghost use Rattle.line.specs.Permits.{Permits};
 
 use crate::asked::Wrote;
 use crate::put::{flush_out, put};
 use ck_calls::Reply;
+use door::{Licence, Sink};
 use lists::GhostBytes;
 use std::alloc::Global;
-use std::io::Write;
 use std::marker::Model;
 use watched::Watched;
 use wire::{WireFault, write_reply, write_reply_over};
@@ -86,13 +87,19 @@ impl Outbox {
 
     /// Writes what is pending, and flushes the writer once all was taken. The memory of a frame above 65,536 bytes is then given
     /// back.
-    pub(crate) fn send<W: Write>(&mut self, alloc: Global, writer: &mut Watched<W>) -> Wrote
+    pub(crate) fn send<L: Licence, W: Sink<L>>(
+        &mut self,
+        alloc: Global,
+        writer: &mut Watched<W>,
+        licence: &L,
+    ) -> Wrote
+        requires may { Permits (L.allows licence.now) (W.writing writer.old.inner) self.old.pending }
         ensures out { self.new.written ++ self.new.pending ≡ self.old.written ++ self.old.pending }
-        ensures took { Took (W.contents writer.old.inner) (W.contents writer.new.inner) self.old.written self.new.written }
+        ensures took { Took (W.writing writer.old.inner) (W.writing writer.new.inner) self.old.written self.new.written }
         ensures by { SentBy result self.new.pending writer.old writer.new }
     {
         let (_, rest) = self.frame.split_at(self.sent);
-        let put = put(writer, &mut self.written, rest);
+        let put = put(writer, licence, &mut self.written, rest);
         self.sent = self.frame.len() - put.lacking;
         match put.wrote {
             Wrote::All => {
@@ -100,7 +107,7 @@ impl Outbox {
                     self.frame = Vec::new(alloc);
                     self.sent = 0;
                 }
-                match flush_out(writer) {
+                match flush_out::<L, W>(writer) {
                     Ok(()) => Wrote::All,
                     Err(error) => Wrote::Failed(error),
                 }

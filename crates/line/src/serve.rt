@@ -15,9 +15,9 @@ use crate::fault::LineFault;
 use crate::next::Next;
 use crate::words::Words;
 use ck_calls::{Call, Reply};
+use door::{Free, Sink, Source};
 use keep::Keep;
 use std::alloc::Global;
-use std::io::{Read, Write};
 use std::mem;
 use token::{Out, Token};
 use watched::Watched;
@@ -91,7 +91,7 @@ fn block_of(connection: &Connection) -> LineFault
 }
 
 /// Answers the calls of a connection of which nothing was read yet, as `serve_one` does, for an application that stays.
-fn serve_calls<R: Read, W: Write, K: Keep>(
+fn serve_calls<R: Source, W: Sink<Free>, K: Keep>(
     alloc: Global,
     reader: &mut Watched<R>,
     writer: &mut Watched<W>,
@@ -100,14 +100,14 @@ fn serve_calls<R: Read, W: Write, K: Keep>(
     connection: &mut Connection,
 ) -> Result<u64, LineFault>
     requires { IsFresh connection.old }
-    ensures { Ends K.terms app token.old token.new connection.old.words connection.new.words R.remaining W.contents reader.old reader.new writer.old writer.new result }
+    ensures { Ends K.terms app token.old token.new connection.old.words connection.new.words R.reading W.writing reader.old reader.new writer.old writer.new result }
 {
     let mut piece = [0u8; PIECE_LEN];
     'calls: for _turn in 0..u64::MAX {
-        match connection.next_call(alloc, reader, writer, &mut piece) {
+        match connection.next_call(alloc, reader, writer, &Free, &mut piece) {
             Next::Call(given) => {
                 let reply = answer_call(alloc, token, app, given.call, given.random);
-                connection.reply(alloc, writer, &reply);
+                connection.reply(alloc, writer, &Free, &reply);
                 if let Some(fault) = fault_now(connection) {
                     return Err(fault);
                 }
@@ -120,7 +120,7 @@ fn serve_calls<R: Read, W: Write, K: Keep>(
 }
 
 /// Answers the frames of a reader, as `serve_one` does, for an application that stays. Its words are lent to a connection.
-fn serve_frames<R: Read, W: Write, K: Keep>(
+fn serve_frames<R: Source, W: Sink<Free>, K: Keep>(
     alloc: Global,
     reader: &mut Watched<R>,
     writer: &mut Watched<W>,
@@ -128,7 +128,7 @@ fn serve_frames<R: Read, W: Write, K: Keep>(
     app: u64,
     words: &mut Words,
 ) -> Result<u64, LineFault>
-    ensures { Ends K.terms app token.old token.new words.old words.new R.remaining W.contents reader.old reader.new writer.old writer.new result }
+    ensures { Ends K.terms app token.old token.new words.old words.new R.reading W.writing reader.old reader.new writer.old writer.new result }
 {
     let own = mem::replace(words, Words::for_app([0; 32], app));
     let mut connection = Connection::new(alloc, own);
@@ -160,7 +160,7 @@ fn serve_frames<R: Read, W: Write, K: Keep>(
 ///
 /// No failure of the reader or the writer is passed over. At `Read`, `TooLong` and `Cut` the replies to
 /// all whole frames before were written.
-pub fn serve_one<R: Read, W: Write, K: Keep>(
+pub fn serve_one<R: Source, W: Sink<Free>, K: Keep>(
     alloc: Global,
     reader: &mut Watched<R>,
     writer: &mut Watched<W>,
@@ -171,7 +171,7 @@ pub fn serve_one<R: Read, W: Write, K: Keep>(
     requires { (w : World) → Shows K.terms token.old w → HasJobs w [] }
     // The bytes written are the frames of the replies to the messages of the bytes read. While the store is faithful, these are a
     // run of the token from each world that it refined. It refines the world after that, without the application.
-    ensures serves { Serves (LeadsAway K.terms words.old.stream token.old token.new words.old words.new) (R.remaining reader.old.inner) (R.remaining reader.new.inner) (W.contents writer.old.inner) (W.contents writer.new.inner) result }
+    ensures serves { Serves (LeadsAway K.terms words.old.stream token.old token.new words.old words.new) (R.reading reader.old.inner) (R.reading reader.new.inner) (W.writing writer.old.inner) (W.writing writer.new.inner) result }
     // `Read` comes only where a read failed, and no failure is passed over.
     ensures reads { ReadsBy reader.old reader.new result }
     // `Write` comes only where a write or a flush failed, or after 2^64 - 1, and no failure is passed over. Else all that was written

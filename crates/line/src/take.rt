@@ -2,12 +2,14 @@
 
 ghost use Rattle.std.specs.Prelude.{◌≡◌, ◌<◌, ◌++◌, length, false, IsTrue};
 ghost use Rattle.line.specs.Asking.{Gave, PieceBy, Takes};
+ghost use Rattle.line.specs.Permits.{Knows};
 
 use crate::asked::Piece;
 use crate::ending::Ending;
+use door::Source;
 use lists::GhostBytes;
 use std::alloc::Global;
-use std::io::{ErrorKind, Read};
+use std::io::ErrorKind;
 use watched::{Watched, is_interrupted};
 use wire::FrameReader;
 
@@ -34,7 +36,7 @@ fn feed(read: &mut GhostBytes, frames: &mut FrameReader, piece: &[u8]) -> bool
 }
 
 /// Reads what has come, and notes it.
-pub(crate) fn take_piece<R: Read>(
+pub(crate) fn take_piece<R: Source>(
     reader: &mut Watched<R>,
     read: &mut GhostBytes,
     frames: &mut FrameReader,
@@ -42,8 +44,9 @@ pub(crate) fn take_piece<R: Read>(
 ) -> Piece
     requires room { 0 < length piece.old }
     requires well { frames.old.failed ≡ false }
-    ensures gave { Gave (R.remaining reader.old.inner) (R.remaining reader.new.inner) read.old.bytes read.new.bytes }
-    ensures takes { Takes read.old.bytes read.new.bytes frames.old.bytes frames.new.bytes (R.remaining reader.new.inner) result }
+    ensures gave { Gave (R.reading reader.old.inner) (R.reading reader.new.inner) read.old.bytes read.new.bytes }
+    ensures given { Knows R.given (R.reading reader.old.inner) (R.reading reader.new.inner) }
+    ensures takes { Takes read.old.bytes read.new.bytes frames.old.bytes frames.new.bytes (R.reading reader.new.inner) result }
     ensures by { PieceBy result reader.old reader.new }
     ensures well { frames.new.failed ≡ false }
 {

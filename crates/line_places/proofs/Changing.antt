@@ -132,6 +132,38 @@ module _ {R W : Type 0} (seed : List ℕ) (s : ℕ) (places : List (Place R W)) 
       others = λ a without. k.others a (λ d life. without d (stays d life));
     }
 
+  -- ---- nobody comes, and the place's next turn begins
+
+  module _ (none : p.client ≡ None) (turn : p'.turn ≡ p.turn + 1) (none' : p'.client ≡ None) where
+    no_one : (q z : Place R W) (d : Client R W) → q.client ≡ None → q ≡ z → z.client ≡ Some d → ⊥
+    no_one q z d empty one client = let two : Some d ≡ None = sym client ∙ ap (λ (z : Place R W). z.client) (sym one) ∙ empty in absurd cc
+
+    lived : (d : Client R W) → IsLife (set places j p') past d → IsLife places past d
+    lived d life = ⊎_elim (λ (x : IsAmong d past). inl x)
+        (λ (x : (i : ℕ) × IsAt (set places j p') i d). ⊎_elim
+        (λ (y : (x.0 ≡ j) × (p' ≡ x.1.place)). absurd (no_one p' x.1.place d none' y.1 x.1.client))
+        (λ (y : (x.0 ≢ j) × (slice_get places x.0 ≡ Some x.1.place)). inr (x.0, record { place = x.1.place; at = y.1; client = x.1.client }))
+        (get_set places j x.0 p' x.1.place x.1.at)) life
+
+    lives : (d : Client R W) → IsLife places past d → IsLife (set places j p') past d
+    lives d life = ⊎_elim (λ (x : IsAmong d past). inl x)
+        (λ (x : (i : ℕ) × IsAt places i d). ⊎_elim
+        (λ (e : x.0 ≡ j). absurd (no_one p x.1.place d none (sym (one_place places j x.0 p x.1.place at x.1.at e)) x.1.client))
+        (λ (n : x.0 ≢ j). inr (x.0, record { place = x.1.place; at = get_other places j x.0 p' x.1.place n x.1.at; client = x.1.client }))
+        (same_or x.0 j)) life
+
+    pub kept-pass : Kept seed s (set places j p') past asked told
+    kept-pass = record {
+      now = λ i q d at' client'. ⊎_elim
+          (λ (y : (i ≡ j) × (p' ≡ q)). absurd (no_one p' q d none' y.1 client'))
+          (λ (y : (i ≢ j) × (slice_get places i ≡ Some q)). now_else i q d y.1 client')
+          (get_set places j i p' q at');
+      before = λ d among. still_before (omega (arith, turn)) d (k.before d among);
+      words = λ d life. k.words d (lived d life);
+      parts = λ d life. k.parts d (lived d life);
+      others = λ a without. k.others a (λ d life. without d (lives d life));
+    }
+
 -- ---- no client yet
 
 pub kept-none : {R W : Type 0} (seed : List ℕ) (s : ℕ) (places : List (Place R W)) → ((j : ℕ) (p : Place R W) → slice_get places j ≡ Some p → p.client ≡ None) → Kept seed s places [] [] []

@@ -1,6 +1,11 @@
 -- What becomes of a client.
-use Rattle.std.specs.Prelude.{◌≡◌, [], ◌∷◌, ◌++◌, true, false, Some}
+use Rattle.std.specs.Prelude.{◌≡◌, [], ◌∷◌, ◌++◌, true, false, Some, None}
 use Rattle.ck_calls.specs.declared.reply.Reply.{Reply}
+use Rattle.door.specs.Ends.{Reading, Writing}
+use Rattle.line.specs.declared.ending.Ending.{Ending as EndingType}
+use Rattle.line.specs.declared.next.Next.{Next}
+use Rattle.line.specs.declared.next.Next.TheVariants as next
+use Rattle.line.specs.Connecting.{Comes, Sends}
 use Rattle.line_places.specs.declared.client.Came.{Came}
 use Rattle.line_places.specs.declared.client.Came.TheVariants.{Call, Nothing, Ended}
 use Rattle.line_places.specs.declared.client.Client.{Client}
@@ -18,3 +23,27 @@ Gave old new (Ended ending) = (new.is_owed ≡ false) × (new.connection.ended �
 -- it took a reply to its last call
 abbrev pub Takes : {R W : Type 0} → Client R W → Client R W → Reply → Type 0
 Takes old new reply = (new.is_owed ≡ false) × (new.asked.items ≡ old.asked.items) × (new.told.items ≡ old.told.items ++ reply ∷ [])
+
+-- what its connection gave
+abbrev pub next_in : Came → Next
+next_in (Call call) = next.Call (record { call = call.call; random = call.words })
+next_in Nothing = next.Nothing
+next_in (Ended ending) = next.Ended ending
+
+-- neither its connection nor its ends were touched
+pub record IsStill {R W : Type 0} (old new : Client R W) : Type 0 where
+  pub connection : new.connection ≡ old.connection
+  pub reader : new.reader ≡ old.reader
+  pub writer : new.writer ≡ old.writer
+
+-- Its connection went on over its own reader and its own writer. Nothing was done where it owes a reply, or its connection has ended.
+pub record Went {R W : Type 0} (reading : R → Reading) (writing : W → Writing) (old new : Client R W) (came : Came) : Type 0 where
+  pub goes : old.is_owed ≡ false → old.connection.ended ≡ None → Comes reading writing old.reader new.reader old.writer new.writer old.connection new.connection (Some (next_in came))
+  pub over : (why : EndingType) → old.is_owed ≡ false → old.connection.ended ≡ Some why → IsStill old new × (came ≡ Ended why)
+  pub owes : old.is_owed ≡ true → IsStill old new × (came ≡ Nothing)
+
+-- The reply went to its own writer, where its connection had not ended.
+pub record Sent {R W : Type 0} (writing : W → Writing) (old new : Client R W) (reply : Reply) : Type 0 where
+  pub sends : old.connection.ended ≡ None → Sends writing old.writer new.writer old.connection new.connection reply
+  pub over : (why : EndingType) → old.connection.ended ≡ Some why → IsStill old new
+  pub reader : new.reader ≡ old.reader

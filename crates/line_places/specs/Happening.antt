@@ -1,10 +1,13 @@
 -- What becomes of a worker's clients.
 use Rattle.std.specs.Prelude.{◌≡◌, ℕ, ◌%◌, [], ◌∷◌, ◌++◌, length, Option, Some, None, slice_get, set}
+use Rattle.ck_calls.specs.declared.reply.Reply.{Reply}
+use Rattle.door.specs.Ends.{Reading, Writing}
 use Rattle.line_places.specs.declared.client.Came.{Came}
 use Rattle.line_places.specs.declared.client.Came.TheVariants.{Call, Nothing, Ended}
 use Rattle.line_places.specs.declared.client.Client.{Client}
 use Rattle.line_places.specs.declared.place.Place.{Place}
 use Rattle.line_places.specs.declared.places.Places.{Places}
+use Rattle.line_places.specs.Coming.{Sent, Went}
 use Rattle.line_places.specs.Keeping.{app_at, HasGone, IsAt, IsOwed}
 
 module _ {R W : Type 0} where
@@ -41,3 +44,11 @@ module _ {R W : Type 0} where
   abbrev pub Closes : Places R W → Places R W → ℕ → Option ℕ → Type 0
   Closes old new j (Some app) = IsThere old app × ((c : Client R W) × (new.past.items ≡ old.past.items ++ c ∷ []) × (c.app ≡ app) × IsAt old.places.items j c)
   Closes old new j None = new ≡ old
+
+  -- by its own ends the client at this place went on
+  abbrev pub WentAt : (R → Reading) → (W → Writing) → Places R W → Places R W → ℕ → Came → Type 0
+  WentAt reading writing old new j came = (c c' : Client R W) → IsAt old.places.items j c → IsAt new.places.items j c' → Went reading writing c c' came
+
+  -- and took a reply
+  abbrev pub SentAt : (W → Writing) → Places R W → Places R W → ℕ → Reply → Type 0
+  SentAt writing old new j reply = (c c' : Client R W) → IsAt old.places.items j c → IsAt new.places.items j c' → Sent writing c c' reply

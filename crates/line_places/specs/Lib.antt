@@ -1,4 +1,7 @@
+pub mod Arriving
 pub mod Coming
 pub mod Happening
 pub mod Keeping
+pub mod Permitting
 pub mod Standing
+pub mod Tying

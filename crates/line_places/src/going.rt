@@ -1,15 +1,17 @@
 //! What a client does.
 
 ghost use Rattle.std.specs.Prelude.{◌≡◌, ◌==◌, ◌<◌, [], length, not, true, false};
-ghost use Rattle.line_places.specs.Coming.{Gave, SameApp, Takes};
+ghost use Rattle.line.specs.Permits.{Knows};
+ghost use Rattle.line_places.specs.Coming.{Gave, SameApp, Sent, Takes, Went};
+ghost use Rattle.line_places.specs.Permitting.{MayGoOn, MayTake};
 
 use crate::client::{Came, Client};
 use ck_calls::Reply;
+use door::{Licence, Sink, Source};
 use hall_log::AppCall;
 use line::{Connection, Given, Next, Words, accounts};
 use lists::GhostList;
 use std::alloc::Global;
-use std::io::{Read, Write};
 use std::snapshot::Snapshot;
 use watched::Watched;
 
@@ -21,6 +23,9 @@ impl<R, W> Client<R, W> {
         ensures asked { result.asked.items ≡ [] }
         ensures told { result.told.items ≡ [] }
         ensures idle { result.is_owed ≡ false }
+        // Its ends are these, and nothing was read or written.
+        ensures ends { (result.reader.inner ≡ reader) × (result.writer.inner ≡ writer) }
+        ensures fresh { (result.connection.read ≡ []) × (result.connection.written ≡ []) }
     {
         accounts();
         let app = words.app();
@@ -45,13 +50,20 @@ impl<R, W> Client<R, W> {
     }
 }
 
-impl<R: Read, W: Write> Client<R, W> {
+impl<R: Source, W> Client<R, W> {
     /// The next call, as `line::Connection::next_call` returns it. Where its last call is owed a reply yet, nothing is read and
     /// nothing comes.
-    pub fn next_call(&mut self, alloc: Global, piece: &mut [u8]) -> Came
-        requires { 0 < length piece.old }
+    pub fn next_call<L: Licence>(&mut self, alloc: Global, licence: &L, piece: &mut [u8]) -> Came
+    where
+        W: Sink<L>,
+        requires room { 0 < length piece.old }
+        requires may { MayGoOn R.given (L.allows licence.now) R.reading W.writing self.old }
         ensures same { SameApp self.old self.new }
         ensures gave { Gave self.old self.new result }
+        // It was read by its own reader, and what was to be written was by its own writer.
+        ensures went { Went R.reading W.writing self.old self.new result }
+        // What was read, its reader has given.
+        ensures given { Knows R.given (R.reading self.old.reader.inner) (R.reading self.new.reader.inner) }
     {
         if self.is_owed {
             return Came::Nothing;
@@ -59,7 +71,7 @@ impl<R: Read, W: Write> Client<R, W> {
         accounts();
         match self
             .connection
-            .next_call(alloc, &mut self.reader, &mut self.writer, piece)
+            .next_call(alloc, &mut self.reader, &mut self.writer, licence, piece)
         {
             Next::Call(Given { call, random }) => {
                 let call = AppCall {
@@ -77,13 +89,19 @@ impl<R: Read, W: Write> Client<R, W> {
     }
 
     /// Takes the reply to its last call, and writes as much of it as its peer takes now. Where that fails, the connection ends.
-    pub fn reply(&mut self, alloc: Global, reply: &Reply)
-        requires { self.old.is_owed ≡ true }
+    pub fn reply<L: Licence>(&mut self, alloc: Global, licence: &L, reply: &Reply)
+    where
+        W: Sink<L>,
+        requires owed { self.old.is_owed ≡ true }
+        requires may { MayTake (L.allows licence.now) W.writing self.old reply.now }
         ensures same { SameApp self.old self.new }
         ensures takes { Takes self.old self.new reply.now }
+        // It was written by its own writer.
+        ensures sent { Sent W.writing self.old self.new reply.now }
     {
         accounts();
-        self.connection.reply(alloc, &mut self.writer, reply);
+        self.connection
+            .reply(alloc, &mut self.writer, licence, reply);
         self.told.push(reply);
         self.is_owed = false;
     }

@@ -7,6 +7,10 @@
 //!   as two lists in the order in which they did; of each application, these are what its own client gave and took (`Kept`,
 //!   `specs/Keeping.antt`).
 //!
+//! Nothing is done with a client's connection but over its own reader and its own writer (`Went`, `Sent`, `specs/Coming.antt`). So what it
+//! has read its reader gave, and what it has written its writer took, if it began so (`Tied`, `specs/Tying.antt`). The clients at the other
+//! places stay as they are. The licence to write goes through to the connection (`specs/Permitting.antt`).
+//!
 //! So for each application that ever connected, the bytes that its writer took are the frames of the replies that it took, with
 //! the answers to what is no call at their places, or a beginning of that (`Stands`, `specs/Standing.antt`).
 #![tactic(auto)]

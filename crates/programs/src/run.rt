@@ -45,7 +45,7 @@ fn stdio<I: Read, O: Write>(
     let Ok(mut token) = Token::new(alloc, keep) else {
         return Err(Failure::Memory.into());
     };
-    let (mut reader, mut writer) = (Watched::new(input), Watched::new(output));
+    let (mut reader, mut writer) = (Watched::of_std(input), Watched::of_std(output));
     let served = serve_one(alloc, &mut reader, &mut writer, &mut token, &mut words);
     drop(token);
     match served {

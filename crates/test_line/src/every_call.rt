@@ -35,12 +35,12 @@ fn served(
     frames: &[u8],
     words: &mut Words,
 ) -> Result<(Result<u64, LineFault>, Vec<u8>), Fail> {
-    let mut reader = Watched::new(frames);
-    let mut writer = Watched::new(Vec::<u8>::new(alloc));
+    let mut reader = Watched::of_std(frames);
+    let mut writer = Watched::of_std(Vec::<u8>::new(alloc));
     let mut token = token_over(alloc, ListKeep::new(alloc, Record::new()))?;
     let ended = serve_one(alloc, &mut reader, &mut writer, &mut token, words);
     drop(token);
-    Ok((ended, writer.into_inner()))
+    Ok((ended, writer.into_std()))
 }
 
 /// The reply in a payload that begins with CKR_OK.

@@ -3,6 +3,7 @@
 ghost use Rattle.std.specs.Prelude.{Some};
 
 use crate::tests::{Drip, Narrow, after_cut, first_run};
+use door::{Free, Sink, Source};
 use keep::ListKeep;
 use line::{LineFault, Words, serve_one};
 use pin_record::Record;
@@ -74,7 +75,7 @@ struct Ended {
 }
 
 /// A line over a reader and a writer, for a new token.
-fn serve<R: Read, W: Write>(
+fn serve<R: Source, W: Sink<Free>>(
     alloc: Global,
     reader: &mut Watched<R>,
     writer: &mut Watched<W>,
@@ -91,21 +92,21 @@ fn serve<R: Read, W: Write>(
 
 /// How the first run ends over a reader that fails after so many reads, and what it writes.
 fn after_reads(alloc: Global, input: &[u8], reads: usize) -> Result<(Ended, Vec<u8>), Fail> {
-    let mut reader = Watched::new(FailingReader { rest: input, reads });
-    let mut writer = Watched::new(Vec::<u8>::new(alloc));
+    let mut reader = Watched::of_std(FailingReader { rest: input, reads });
+    let mut writer = Watched::of_std(Vec::<u8>::new(alloc));
     let ended = serve(alloc, &mut reader, &mut writer)?;
-    Ok((ended, writer.into_inner()))
+    Ok((ended, writer.into_std()))
 }
 
 /// How the first run ends over a writer that fails after so many calls, and what it writes.
 fn after_calls(alloc: Global, input: &[u8], calls: usize) -> Result<(Ended, Vec<u8>), Fail> {
-    let mut reader = Watched::new(input);
-    let mut writer = Watched::new(FailingWriter {
+    let mut reader = Watched::of_std(input);
+    let mut writer = Watched::of_std(FailingWriter {
         bytes: Vec::new(alloc),
         calls,
     });
     let ended = serve(alloc, &mut reader, &mut writer)?;
-    let FailingWriter { bytes, .. } = writer.into_inner();
+    let FailingWriter { bytes, .. } = writer.into_std();
     Ok((ended, bytes))
 }
 
@@ -179,8 +180,8 @@ fn a_write_or_flush_that_fails_is_noted_and_ends_the_line(rt: HostRuntime) -> Re
 fn a_writer_that_takes_nothing_has_failed(rt: HostRuntime) -> Result<(), Fail> {
     let (input, replies) = first_run(rt.alloc())?;
     let mut room = [0; 25];
-    let mut reader = Watched::new(input.as_slice());
-    let mut writer = Watched::new(room.as_mut_slice());
+    let mut reader = Watched::of_std(input.as_slice());
+    let mut writer = Watched::of_std(room.as_mut_slice());
     let ended = serve(rt.alloc(), &mut reader, &mut writer)?;
     let failed = Ended {
         ended: Err(LineFault::Write),
@@ -195,26 +196,26 @@ fn a_writer_that_takes_nothing_has_failed(rt: HostRuntime) -> Result<(), Fail> {
 #[test]
 fn an_interruption_is_no_failure(rt: HostRuntime) -> Result<(), Fail> {
     let (input, replies) = first_run(rt.alloc())?;
-    let mut reader = Watched::new(Drip {
+    let mut reader = Watched::of_std(Drip {
         rest: &input,
         fails: false,
         interrupts: false,
     });
-    let mut writer = Watched::new(Narrow {
+    let mut writer = Watched::of_std(Narrow {
         bytes: Vec::new(rt.alloc()),
         room: usize::MAX,
         interrupts: false,
     });
     let ended = serve(rt.alloc(), &mut reader, &mut writer)?;
     assert!(rt; ended == well(4));
-    let Narrow { bytes, .. } = writer.into_inner();
+    let Narrow { bytes, .. } = writer.into_std();
     assert!(rt; bytes == replies);
     Ok(())
 }
 
 #[test]
 fn failures_are_counted_one_by_one(rt: HostRuntime) -> Result<(), Fail> {
-    let mut reader = Watched::new(FailingReader {
+    let mut reader = Watched::of_std(FailingReader {
         rest: b"abc",
         reads: 1,
     });

@@ -46,12 +46,12 @@ fn output(alloc: Global, input: &[u8], n: u64, failure: Failure) -> Result<Vec<u
     let list = ListKeep::new(alloc, Record::new());
     let mut token = token_over(alloc, FailingKeep::new(list, n, failure))?;
     let mut words = Words::for_app([0; 32], 0);
-    let mut reader = Watched::new(input);
-    let mut writer = Watched::new(Vec::<u8>::new(alloc));
+    let mut reader = Watched::of_std(input);
+    let mut writer = Watched::of_std(Vec::<u8>::new(alloc));
     let ended = serve_one(alloc, &mut reader, &mut writer, &mut token, &mut words);
     drop(token);
     ended?;
-    Ok(writer.into_inner())
+    Ok(writer.into_std())
 }
 
 /// How many of the four replies have the code.

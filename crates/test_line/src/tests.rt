@@ -119,12 +119,12 @@ fn run(
     fails: bool,
     room: usize,
 ) -> Result<(Result<u64, LineFault>, Vec<u8>), Fail> {
-    let mut reader = Watched::new(Drip {
+    let mut reader = Watched::of_std(Drip {
         rest: input,
         fails,
         interrupts: false,
     });
-    let mut writer = Watched::new(Narrow {
+    let mut writer = Watched::of_std(Narrow {
         bytes: Vec::new(alloc),
         room,
         interrupts: false,
@@ -132,7 +132,7 @@ fn run(
     let mut token = token_over(alloc, ListKeep::new(alloc, Record::new()))?;
     let mut words = Words::for_app([0; 32], 0);
     let ended = serve_one(alloc, &mut reader, &mut writer, &mut token, &mut words);
-    let Narrow { bytes, .. } = writer.into_inner();
+    let Narrow { bytes, .. } = writer.into_std();
     Ok((ended, bytes))
 }
 
@@ -293,12 +293,12 @@ pub(crate) fn served(
     alloc: Global,
     input: &[u8],
 ) -> Result<(Result<u64, LineFault>, Vec<u8>, Token<ListKeep>), Fail> {
-    let mut reader = Watched::new(input);
-    let mut writer = Watched::new(Vec::<u8>::new(alloc));
+    let mut reader = Watched::of_std(input);
+    let mut writer = Watched::of_std(Vec::<u8>::new(alloc));
     let mut token = token_over(alloc, ListKeep::new(alloc, Record::new()))?;
     let mut words = Words::for_app([0; 32], 0);
     let ended = serve_one(alloc, &mut reader, &mut writer, &mut token, &mut words);
-    Ok((ended, writer.into_inner(), token))
+    Ok((ended, writer.into_std(), token))
 }
 
 /// The front of a frame, and the length of its payload.

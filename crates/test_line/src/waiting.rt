@@ -3,6 +3,7 @@
 ghost use Rattle.std.specs.Prelude.{Some};
 
 use ck_calls::Reply;
+use door::Free;
 use line::{Connection, Ending, Next, Words};
 use std::alloc::Global;
 use std::io::{self, ErrorKind, Read, Write};
@@ -70,24 +71,24 @@ const OUTPUT: &[u8] =
 
 /// The turns of a connection over such a reader and writer, and what it wrote.
 fn talk(alloc: Global, input: &[u8], turns: u64) -> (Connection, Vec<u8>) {
-    let mut reader = Watched::new(Patient {
+    let mut reader = Watched::of_std(Patient {
         rest: input,
         is_ready: false,
     });
-    let mut writer = Watched::new(Full {
+    let mut writer = Watched::of_std(Full {
         bytes: Vec::new(alloc),
         is_ready: false,
     });
     let mut connection = Connection::new(alloc, Words::for_app([0; 32], 3));
     let mut piece = [0u8; 7];
     for _ in 0..turns {
-        match connection.next_call(alloc, &mut reader, &mut writer, &mut piece) {
-            Next::Call(_) => connection.reply(alloc, &mut writer, &Reply::Session(9)),
+        match connection.next_call(alloc, &mut reader, &mut writer, &Free, &mut piece) {
+            Next::Call(_) => connection.reply(alloc, &mut writer, &Free, &Reply::Session(9)),
             Next::Nothing => {}
             Next::Ended(_) => break,
         }
     }
-    let Full { bytes, .. } = writer.into_inner();
+    let Full { bytes, .. } = writer.into_std();
     (connection, bytes)
 }
 

@@ -1,5 +1,5 @@
 -- What a reader or a writer counted of several calls.
-use Rattle.std.proofs.Common.{◌≡◌, ℕ, ◌+◌, Bool, true, IsTrue, Err, refl, ◌∙◌, subst, arith, inl, inr}
+use Rattle.std.proofs.Common.{◌≡◌, ℕ, ◌+◌, Bool, true, IsTrue, refl, ◌∙◌, subst, arith, inl, inr}
 use Rattle.std.specs.declared.io.Error.{Error}
 use Rattle.keep.specs.Keeping.{Rises}
 use Rattle.watched.specs.Noting.{Noting, IsInterruption, Passes, Slips, Unfailing, Settles, HasFailed}

@@ -2,13 +2,14 @@
 
 ghost use Rattle.std.specs.Prelude.{◌≡◌, ◌↔◌, [], IsTrue};
 ghost use Rattle.std.specs.Io.{ReadsAtMost, WritesAtMost};
-ghost use Rattle.std.specs.Io.KnownBytes.{Keeps, ReadConsumes, WriteAppends};
+ghost use Rattle.door.specs.Ends.{ReadGives, TookBytes, WriteTakes};
 ghost use Rattle.keep.specs.Keeping.{Rises};
 ghost use Rattle.watched.specs.Noting.{HoldsBack, IsInterruption, LetsOut, Notes, NotesWrite};
 
+use door::{Licence, Plain, Sink, Source, Taker};
 use keep::WriteCount as CallCount;
 use lists::GhostBytes;
-use std::io::{self, Error, ErrorKind, Read, Write};
+use std::io::{self, Error, ErrorKind};
 use std::marker::Model;
 
 /// A reader or a writer that counts how many of its calls failed. A call that was interrupted did not
@@ -82,12 +83,32 @@ impl<T> Watched<T> {
     }
 }
 
-impl<R: Read> Read for Watched<R> {
-    ghost remaining = { λ n. R.remaining n.inner };
+impl<T> Watched<Plain<T>> {
+    /// A reader or a writer of std of which no call was made yet.
+    pub fn of_std(inner: T) -> Watched<Plain<T>>
+        ensures inner { result.inner.inner ≡ inner }
+        ensures none { (result.inner.bytes.bytes ≡ []) × (result.failures ≡ 0) × (result.calls ≡ 0) × (result.unflushed ≡ []) }
+    {
+        Watched::new(Plain::new(inner))
+    }
+
+    /// The reader or the writer of std.
+    pub fn into_std(self) -> T
+        ensures { result ≡ self.inner.inner }
+    {
+        self.into_inner().into_inner()
+    }
+}
+
+impl<R: Source> Source for Watched<R> {
+    ghost given = { R.given };
+
+    ghost reading = { λ n. R.reading n.inner };
 
     fn read(&mut self, buf: &mut [u8]) -> io::Result<usize>
         ensures bound { ReadsAtMost result buf.new }
-        ensures bytes { ReadConsumes (R.remaining self.old.inner) (R.remaining self.new.inner) result buf.new }
+        ensures bytes { ReadGives (R.reading self.old.inner) (R.reading self.new.inner) result buf.new }
+        ensures given { R.given (R.reading self.new.inner).app (R.reading self.new.inner).gave }
         ensures noted { Notes self.old self.new result }
     {
         self.calls.add();
@@ -101,17 +122,20 @@ impl<R: Read> Read for Watched<R> {
     }
 }
 
-impl<W: Write> Write for Watched<W> {
-    ghost contents = { λ n. W.contents n.inner };
+impl<W: Taker> Taker for Watched<W> {
+    ghost writing = { λ n. W.writing n.inner };
+}
 
-    fn write(&mut self, buf: &[u8]) -> io::Result<usize>
+impl<L: Licence, W: Sink<L>> Sink<L> for Watched<W> {
+    fn write(&mut self, licence: &L, buf: &[u8]) -> io::Result<usize>
+        requires may { L.allows licence.now (W.writing self.old.inner).app (W.writing self.old.inner).took buf.now }
         ensures bound { WritesAtMost result buf.now }
-        ensures bytes { WriteAppends (W.contents self.old.inner) (W.contents self.new.inner) result buf.now }
+        ensures bytes { WriteTakes (W.writing self.old.inner) (W.writing self.new.inner) result buf.now }
         ensures noted { NotesWrite self.old self.new buf.now result }
         ensures unflushed { HoldsBack self.old self.new buf.now result }
     {
         self.calls.add();
-        match self.inner.write(buf) {
+        match self.inner.write(licence, buf) {
             Ok(count) => {
                 if count == 0 && !buf.is_empty() {
                     count_failure(&mut self.failures);
@@ -128,7 +152,7 @@ impl<W: Write> Write for Watched<W> {
     }
 
     fn flush(&mut self) -> io::Result<()>
-        ensures bytes { Keeps (W.contents self.old.inner) (W.contents self.new.inner) }
+        ensures bytes { TookBytes (W.writing self.old.inner) (W.writing self.new.inner) [] }
         ensures noted { Notes self.old self.new result }
         ensures flushed { LetsOut self.old self.new result }
     {

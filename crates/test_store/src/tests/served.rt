@@ -22,12 +22,12 @@ pub(super) struct Served<K: Keep> {
 pub(super) fn serve<K: Keep>(alloc: Global, keep: K, input: &[u8]) -> Result<Served<K>, Fail> {
     let mut token = token_over(alloc, keep)?;
     let mut words = Words::for_app([0; 32], 0);
-    let mut reader = Watched::new(input);
-    let mut writer = Watched::new(Vec::<u8>::new(alloc));
+    let mut reader = Watched::of_std(input);
+    let mut writer = Watched::of_std(Vec::<u8>::new(alloc));
     let ended = serve_one(alloc, &mut reader, &mut writer, &mut token, &mut words);
     Ok(Served {
         ended,
-        written: writer.into_inner(),
+        written: writer.into_std(),
         token,
     })
 }

@@ -1,4 +1,3 @@
-use Rattle.std.proofs.Common.{Result, Ok, Err}
 use denote.Exit as exits
 use denote.Param.Send.{param_send, arg_send}
 use Rattle.hall_sockets.proofs.ByHistory.{served_by}

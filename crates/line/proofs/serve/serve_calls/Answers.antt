@@ -7,7 +7,7 @@ use Rattle.line.proofs.Serving.{serving-none, serving-told, ends-told, ends-wait
 use Rattle.line.proofs.serve.serve_calls.Goals as goal
 
 pub calls-init : goal.calls-init
-calls-init g c = serving-none g.K.Keep.terms c.args.app c.args.token.now c.args.connection.now.words g.R.Read.remaining g.W.Write.contents c.args.reader.now c.args.writer.now c.args.connection.now refl c.requires
+calls-init g c = serving-none g.K.Keep.terms c.args.app c.args.token.now c.args.connection.now.words g.R.Source.reading g.W.Taker.writing c.args.reader.now c.args.writer.now c.args.connection.now refl c.requires
 
 pub answer_call-reply-requires : goal.answer_call-reply-requires
 answer_call-reply-requires g c = (c.in-Call.ensures.comes c.calls.invariant.going).does.call.is.count
@@ -19,7 +19,7 @@ returns-in-Some g c =
     let sends = c.reply.ensures.sends (ap (λ (x : Connected). x.ended) gives.same) in
     let led = leads-call g.K.Keep.terms c.args.app c.calls.token c.answer_call-reply.new.token gives.mid.words c.next_call.new.self.words (call_in gives.call.payload) c.in-Call.given.call c.in-Call.given.random.items c.answer_call-reply.result gives.call.is.is gives.call.is.took
     c.answer_call-reply.ensures.doubt c.answer_call-reply.ensures.failures c.answer_call-reply.ensures.accounts c.answer_call-reply.ensures.ids c.answer_call-reply.ensures.moved in
-    ends-told g.K.Keep.terms c.args.app c.args.token.now c.args.connection.now.words g.R.Read.remaining g.W.Write.contents c.args.reader.now c.args.writer.now c.calls.token c.answer_call-reply.new.token c.calls.reader c.next_call.new.reader c.calls.writer c.next_call.new.writer c.reply.new.writer
+    ends-told g.K.Keep.terms c.args.app c.args.token.now c.args.connection.now.words g.R.Source.reading g.W.Taker.writing c.args.reader.now c.args.writer.now c.calls.token c.answer_call-reply.new.token c.calls.reader c.next_call.new.reader c.calls.writer c.next_call.new.writer c.reply.new.writer
     c.calls.connection c.next_call.new.self c.reply.new.self c.in-Call.given c.answer_call-reply.result c.calls.invariant gives comes sends led
     (short-framed c.answer_call-reply.result sends.fits (c.answer_call-reply.ensures.short (short-call c.in-Call.given.call gives.call.is.framed))) c.in-Some.fault (sym c.in-Some.ensures)
 
@@ -30,18 +30,18 @@ calls-preserved g c =
     let sends = c.reply.ensures.sends (ap (λ (x : Connected). x.ended) gives.same) in
     let led = leads-call g.K.Keep.terms c.args.app c.calls.token c.answer_call-reply.new.token gives.mid.words c.next_call.new.self.words (call_in gives.call.payload) c.in-Call.given.call c.in-Call.given.random.items c.answer_call-reply.result gives.call.is.is gives.call.is.took
     c.answer_call-reply.ensures.doubt c.answer_call-reply.ensures.failures c.answer_call-reply.ensures.accounts c.answer_call-reply.ensures.ids c.answer_call-reply.ensures.moved in
-    serving-told g.K.Keep.terms c.args.app c.args.token.now c.args.connection.now.words g.R.Read.remaining g.W.Write.contents c.args.reader.now c.args.writer.now c.calls.token c.answer_call-reply.new.token c.calls.reader c.next_call.new.reader c.calls.writer c.next_call.new.writer c.reply.new.writer
+    serving-told g.K.Keep.terms c.args.app c.args.token.now c.args.connection.now.words g.R.Source.reading g.W.Taker.writing c.args.reader.now c.args.writer.now c.calls.token c.answer_call-reply.new.token c.calls.reader c.next_call.new.reader c.calls.writer c.next_call.new.writer c.reply.new.writer
     c.calls.connection c.next_call.new.self c.reply.new.self c.in-Call.given c.answer_call-reply.result c.calls.invariant gives comes sends led (sym c.in_default.ensures)
 
 pub returns-in-Nothing : goal.returns-in-Nothing
 returns-in-Nothing g c = rw c.block_of.ensures
-    (ends-waits g.K.Keep.terms c.args.app c.args.token.now c.args.connection.now.words g.R.Read.remaining g.W.Write.contents c.args.reader.now c.args.writer.now c.calls.token c.calls.reader c.next_call.new.reader c.calls.writer c.next_call.new.writer
+    (ends-waits g.K.Keep.terms c.args.app c.args.token.now c.args.connection.now.words g.R.Source.reading g.W.Taker.writing c.args.reader.now c.args.writer.now c.calls.token c.calls.reader c.next_call.new.reader c.calls.writer c.next_call.new.writer
     c.calls.connection c.next_call.new.self c.calls.invariant (c.in-Nothing.ensures.comes c.calls.invariant.going))
 
 pub returns-in-Ended : goal.returns-in-Ended
 returns-in-Ended g c = rw c.outcome.ensures
-    (ends-ended g.K.Keep.terms c.args.app c.args.token.now c.args.connection.now.words g.R.Read.remaining g.W.Write.contents c.args.reader.now c.args.writer.now c.calls.token c.calls.reader c.next_call.new.reader c.calls.writer c.next_call.new.writer
+    (ends-ended g.K.Keep.terms c.args.app c.args.token.now c.args.connection.now.words g.R.Source.reading g.W.Taker.writing c.args.reader.now c.args.writer.now c.calls.token c.calls.reader c.next_call.new.reader c.calls.writer c.next_call.new.writer
     c.calls.connection c.next_call.new.self c.calls.invariant c.in-Ended.ending c.answered.result (c.in-Ended.ensures.comes c.calls.invariant.going) c.answered.ensures)
 
 pub returns : goal.returns
-returns g c = ends-memory g.K.Keep.terms c.args.app c.args.token.now c.args.connection.now.words g.R.Read.remaining g.W.Write.contents c.args.reader.now c.args.writer.now c.calls.token c.calls.reader c.calls.writer c.calls.connection c.calls.invariant
+returns g c = ends-memory g.K.Keep.terms c.args.app c.args.token.now c.args.connection.now.words g.R.Source.reading g.W.Taker.writing c.args.reader.now c.args.writer.now c.calls.token c.calls.reader c.calls.writer c.calls.connection c.calls.invariant

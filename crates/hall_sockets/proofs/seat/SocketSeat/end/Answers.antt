@@ -1,5 +1,8 @@
-use Rattle.std.proofs.Common.{ap, sym, ◌∙◌, ◌++◌, ◌∷◌, []}
-use Rattle.hall_sockets.proofs.Staying.{apps-more, calls-gone, gone-gone, gone-last, gone-more}
+use Rattle.std.proofs.Common.{ap, subst, sym, ◌∙◌, ◌++◌, ◌∷◌, []}
+use Rattle.line_places.specs.Keeping.{IsAt}
+use Rattle.hall_sockets.proofs.Staying.{apps-more, calls-gone, gone-gone, gone-last, gone-more, of-none}
+use Rattle.std.proofs.Math.Logic.{∥∥₁_map}
+use Rattle.line_places.proofs.Arriving.{all-came}
 use Rattle.hall_sockets.specs.Telling.{apps_of, calls_in, gone_in}
 use Rattle.hall_sockets.proofs.seat.SocketSeat.end.Goals as goal
 
@@ -11,11 +14,13 @@ invariant_of-self-2 g c =
     let client = e.closes.1 in
     record {
       calls = ap calls_in c.push.ensures ∙ calls-gone was.asked.items app ∙ was.calls ∙ sym e.quiet.asked;
+      tied = ∥∥₁_map was.tied e.tied;
+      came = ∥∥₁_map was.came (all-came was.clients c.close.new.self e.still was.door);
       gone = ap gone_in c.push.ensures ∙ gone-gone was.asked.items app ∙ ap (λ l. l ++ app ∷ []) was.gone ∙ sym (apps-more was.clients.past.items client.0 app client.2) ∙ ap apps_of (sym client.1);
     }
 
-pub returns : goal.returns
-returns g c =
+pub returns-clause-gives : goal.returns-clause-gives
+returns-clause-gives g c =
     let was = c.args.self.now in
     let e = c.in_ok-app.ensures in
     let client = e.closes.1 in (
@@ -27,3 +32,19 @@ returns g c =
       gone-last was.clients.past.items c.close.new.self.past.items client.0 c.in_ok-app.app client.1 client.2,
       gone-more was.clients.past.items c.close.new.self.past.items client.0 client.1,
     )
+
+pub invariant_of-self : goal.invariant_of-self
+invariant_of-self g c =
+    let was = c.args.self.now in
+    let e = c.in_err-app.ensures in
+    record {
+      calls = was.calls ∙ sym e.quiet.asked;
+      gone = was.gone ∙ ap (λ k. apps_of k.past.items) (sym e.closes);
+      tied = ∥∥₁_map was.tied e.tied;
+      came = ∥∥₁_map was.came (all-came was.clients c.close.new.self e.still was.door);
+    }
+
+pub returns-in_err-app-clause-none : goal.returns-in_err-app-clause-none
+returns-in_err-app-clause-none g c =
+    let e = c.in_err-app.ensures in
+    of-none c.from_residual.result _ c.from_residual.ensures ((e.closes, λ may. may), subst (λ k. (d : _) → ¬ IsAt k.places.items c.args.place d) (sym e.closes) e.nobody)

@@ -1,4 +1,4 @@
-use Rattle.std.proofs.Common.{ℕ, ◌-◌, List, ◌++◌, drop, sym, ap, ◌∙◌}
+use Rattle.std.proofs.Common.{ℕ, ◌-◌, ◌++◌, drop, sym, ap, ◌∙◌}
 use Rattle.line.specs.State.{Outgoing}
 use Rattle.line.proofs.Lines.{puts-rest}
 use Rattle.line.proofs.outbox.Outbox.send.Goals as goal

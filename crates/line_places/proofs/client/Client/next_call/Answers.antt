@@ -1,5 +1,6 @@
-use Rattle.std.proofs.Common.{refl, sym}
+use Rattle.std.proofs.Common.{◌≡◌, true, false, refl, sym, ◌∙◌}
 use Rattle.std.proofs.Math.Logic.{∥∥₁_map}
+use Rattle.line.specs.declared.next.Next.TheVariants as next
 use Rattle.line_places.proofs.Standing.{came-call, came-nothing, came-ended, stands-as}
 use Rattle.line_places.proofs.client.Client.next_call.Goals as goal
 
@@ -22,4 +23,11 @@ invariant_of-self-in-Ended-1 g c = record {
   stands = ∥∥₁_map c.args.self.now.stands (λ h.
       stands-as _ _ _ _ _ _ (λ i. sym c.if-self.false i) (came-ended c.args.self.now.first.value c.accounts.ensures.ended c.args.self.now.connection c.next_call.new.self c.in-Ended.ending c.args.self.now.asked.items c.args.self.now.told.items
       (λ why is. (c.in-Ended.ensures.over why is).1) (λ is. (c.in-Ended.ensures.comes is).does) (stands-as _ _ _ _ _ _ c.if-self.false h)));
+}
+
+pub returns-in-Nothing-clause-went : goal.returns-in-Nothing-clause-went
+returns-in-Nothing-clause-went g c = record {
+  goes = λ owed is. c.in-Nothing.ensures.comes is;
+  over = λ why owed is. absurd (let clash : next.Nothing ≡ next.Ended why = (c.in-Nothing.ensures.over why is).0 in cc);
+  owes = λ owes. absurd (let clash : true ≡ false = sym owes ∙ c.if-self.false in cc);
 }

@@ -8,7 +8,7 @@ pub invariant_of-self : goal.invariant_of-self
 invariant_of-self g c = record {
   stands = ∥∥₁_map c.args.self.now.stands (λ h.
       let first = c.args.self.now.first.value in
-      let owed = stands-as first _ _ _ _ _ c.requires h in
+      let owed = stands-as first _ _ _ _ _ c.requires.owed h in
       subst (λ l. Stands first c.reply.new.self false c.args.self.now.asked.items l) (sym c.push.ensures)
       (stands-told first c.accounts.ensures.turn c.accounts.ensures.cut c.args.self.now.connection c.reply.new.self c.args.reply.now c.args.self.now.asked.items c.args.self.now.told.items owed
       (c.reply.ensures.sends (owes-going first c.args.self.now.connection c.args.self.now.asked.items c.args.self.now.told.items owed)).tells));

@@ -1,8 +1,11 @@
-use Rattle.std.proofs.Common.{refl, sym, ◌+◌, set, subst, arith}
+use Rattle.std.proofs.Common.{inr, refl, sym, ◌+◌, set, subst, arith}
 use Rattle.std.proofs.Math.Logic.{∥∥₁_map}
 use Rattle.line_places.specs.Keeping.{Kept}
 use Rattle.line_places.proofs.Changing.{kept-close}
 use Rattle.line_places.proofs.Doing.{at-index, bound-of, count-set, is-there, none-at}
+use Rattle.line_places.proofs.Arriving.{come-set, past-goes}
+use Rattle.line_places.proofs.Tying.{get_set_other, tied-close}
+use Rattle.line_places.specs.Tying.{AllTied}
 use Rattle.line_places.proofs.places.Places.close.Goals as goal
 
 pub overflow_add-it : goal.overflow_add-it
@@ -41,3 +44,23 @@ returns-in_default-clause-nobody g c d it =
     let p = c.index_mut-it.result.now in
     let at = at-index was.places.items c.args.place p (omega (arith, c.if-place-len.false, c.len.ensures)) c.index_mut-it.ensures.value in
     none-at was.places.items c.args.place p d at (sym c.in_default.ensures.value) it
+
+pub returns-clause-still : goal.returns-clause-still
+returns-clause-still g c =
+    let was = c.args.self.now in
+    let p = c.index_mut-it.result.now in
+    let at = at-index was.places.items c.args.place p (omega (arith, c.if-place-len.false, c.len.ensures)) c.index_mut-it.ensures.value in
+    come-set was.number was.places.items c.args.place p _ at (past-goes p _ refl)
+
+pub returns-clause-others : goal.returns-clause-others
+returns-clause-others g c =
+    let was = c.args.self.now in
+    λ i not. get_set_other was.places.items c.args.place i _ not
+
+pub returns-clause-tied : goal.returns-clause-tied
+returns-clause-tied g c =
+    let was = c.args.self.now in
+    let p = c.index_mut-it.result.now in
+    let at = at-index was.places.items c.args.place p (omega (arith, c.if-place-len.false, c.len.ensures)) c.index_mut-it.ensures.value in
+    λ all. subst (AllTied g.R.Source.reading g.W.Taker.writing (set was.places.items c.args.place (record { turn = p.turn + 1; client = c.take.new.self }))) (sym c.push.ensures)
+    (tied-close g.R.Source.reading g.W.Taker.writing was.places.items was.past.items all c.args.place _ c.in-Some.client (all c.in-Some.client (inr (c.args.place, record { place = p; at = at; client = sym c.in-Some.ensures.value }))) c.take.ensures.after)

@@ -1,6 +1,8 @@
 use Rattle.std.proofs.Common.{refl, sym, arith}
 use Rattle.std.proofs.Math.Logic.{∥∥₁_map}
 use Rattle.line_places.proofs.Doing.{at-index, count-set, did-call, did-nothing, is-there, owed-there}
+use Rattle.line_places.proofs.Arriving.{come-set, past-stays}
+use Rattle.line_places.proofs.Tying.{get_set_other, tied-went, went-at}
 use Rattle.line_places.proofs.places.Places.next_call.Goals as goal
 
 pub invariant_of-self-in-Call : goal.invariant_of-self-in-Call
@@ -46,3 +48,72 @@ returns-in-Call-clause-gives g c =
       refl,
       owed-there was.seed was.number was.places.items was.past.items was.asked.items was.told.items c.args.place c.index_mut.result.now c.in-Some.client c.next_call.new.self at c.in-Some.is c.in-Call.ensures.same gave.2 c.in-Call.call.app (sym gave.0),
     )
+
+pub returns-in-Call-clause-went : goal.returns-in-Call-clause-went
+returns-in-Call-clause-went g c =
+    let was = c.args.self.now in
+    let at = at-index was.places.items c.args.place c.index_mut.result.now (omega (arith, c.if-place-len.false, c.len.ensures)) c.index_mut.ensures.value in
+    went-at g.R.Source.reading g.W.Taker.writing was.places.items was.past.items c.args.place c.index_mut.result.now c.in-Some.client c.next_call.new.self at c.in-Some.is _ c.in-Call.ensures.went
+
+pub returns-in-Call-clause-still : goal.returns-in-Call-clause-still
+returns-in-Call-clause-still g c =
+    let was = c.args.self.now in
+    let at = at-index was.places.items c.args.place c.index_mut.result.now (omega (arith, c.if-place-len.false, c.len.ensures)) c.index_mut.ensures.value in
+    come-set was.number was.places.items c.args.place c.index_mut.result.now _ at (past-stays c.index_mut.result.now _ c.next_call.new.self refl refl)
+
+pub returns-in-Call-clause-others : goal.returns-in-Call-clause-others
+returns-in-Call-clause-others g c =
+    let was = c.args.self.now in
+    λ i not. get_set_other was.places.items c.args.place i _ not
+
+pub returns-in-Call-clause-tied : goal.returns-in-Call-clause-tied
+returns-in-Call-clause-tied g c =
+    let was = c.args.self.now in
+    let at = at-index was.places.items c.args.place c.index_mut.result.now (omega (arith, c.if-place-len.false, c.len.ensures)) c.index_mut.ensures.value in
+    λ all. tied-went g.R.Source.reading g.W.Taker.writing was.places.items was.past.items c.args.place c.index_mut.result.now c.in-Some.client c.next_call.new.self at c.in-Some.is c.in-Call.ensures.same.0 all _ c.in-Call.ensures.went
+
+pub returns-in-Nothing-clause-went : goal.returns-in-Nothing-clause-went
+returns-in-Nothing-clause-went g c =
+    let was = c.args.self.now in
+    let at = at-index was.places.items c.args.place c.index_mut.result.now (omega (arith, c.if-place-len.false, c.len.ensures)) c.index_mut.ensures.value in
+    went-at g.R.Source.reading g.W.Taker.writing was.places.items was.past.items c.args.place c.index_mut.result.now c.in-Some.client c.next_call.new.self at c.in-Some.is _ c.in-Nothing.ensures.went
+
+pub returns-in-Nothing-clause-still : goal.returns-in-Nothing-clause-still
+returns-in-Nothing-clause-still g c =
+    let was = c.args.self.now in
+    let at = at-index was.places.items c.args.place c.index_mut.result.now (omega (arith, c.if-place-len.false, c.len.ensures)) c.index_mut.ensures.value in
+    come-set was.number was.places.items c.args.place c.index_mut.result.now _ at (past-stays c.index_mut.result.now _ c.next_call.new.self refl refl)
+
+pub returns-in-Nothing-clause-others : goal.returns-in-Nothing-clause-others
+returns-in-Nothing-clause-others g c =
+    let was = c.args.self.now in
+    λ i not. get_set_other was.places.items c.args.place i _ not
+
+pub returns-in-Nothing-clause-tied : goal.returns-in-Nothing-clause-tied
+returns-in-Nothing-clause-tied g c =
+    let was = c.args.self.now in
+    let at = at-index was.places.items c.args.place c.index_mut.result.now (omega (arith, c.if-place-len.false, c.len.ensures)) c.index_mut.ensures.value in
+    λ all. tied-went g.R.Source.reading g.W.Taker.writing was.places.items was.past.items c.args.place c.index_mut.result.now c.in-Some.client c.next_call.new.self at c.in-Some.is c.in-Nothing.ensures.same.0 all _ c.in-Nothing.ensures.went
+
+pub returns-in-Ended-clause-went : goal.returns-in-Ended-clause-went
+returns-in-Ended-clause-went g c =
+    let was = c.args.self.now in
+    let at = at-index was.places.items c.args.place c.index_mut.result.now (omega (arith, c.if-place-len.false, c.len.ensures)) c.index_mut.ensures.value in
+    went-at g.R.Source.reading g.W.Taker.writing was.places.items was.past.items c.args.place c.index_mut.result.now c.in-Some.client c.next_call.new.self at c.in-Some.is _ c.in-Ended.ensures.went
+
+pub returns-in-Ended-clause-still : goal.returns-in-Ended-clause-still
+returns-in-Ended-clause-still g c =
+    let was = c.args.self.now in
+    let at = at-index was.places.items c.args.place c.index_mut.result.now (omega (arith, c.if-place-len.false, c.len.ensures)) c.index_mut.ensures.value in
+    come-set was.number was.places.items c.args.place c.index_mut.result.now _ at (past-stays c.index_mut.result.now _ c.next_call.new.self refl refl)
+
+pub returns-in-Ended-clause-others : goal.returns-in-Ended-clause-others
+returns-in-Ended-clause-others g c =
+    let was = c.args.self.now in
+    λ i not. get_set_other was.places.items c.args.place i _ not
+
+pub returns-in-Ended-clause-tied : goal.returns-in-Ended-clause-tied
+returns-in-Ended-clause-tied g c =
+    let was = c.args.self.now in
+    let at = at-index was.places.items c.args.place c.index_mut.result.now (omega (arith, c.if-place-len.false, c.len.ensures)) c.index_mut.ensures.value in
+    λ all. tied-went g.R.Source.reading g.W.Taker.writing was.places.items was.past.items c.args.place c.index_mut.result.now c.in-Some.client c.next_call.new.self at c.in-Some.is c.in-Ended.ensures.same.0 all _ c.in-Ended.ensures.went

@@ -1,13 +1,15 @@
-use Rattle.std.proofs.Common.{ap, sym, ◌∙◌}
+use Rattle.std.proofs.Common.{ap, refl, sym, ◌∙◌}
 use Rattle.std.proofs.lemmas.Option.{slice_get_within}
 use Rattle.std.proofs.Math.Logic.{∥∥₁_map}
 use Rattle.line_places.proofs.Doing.{at-index, count-set, did-reply, one-client, client-at}
+use Rattle.line_places.proofs.Arriving.{come-set, past-stays}
+use Rattle.line_places.proofs.Tying.{get_set_other, sent-at, tied-sent}
 use Rattle.line_places.proofs.places.Places.reply.Goals as goal
 
 pub invariant_of-self : goal.invariant_of-self
 invariant_of-self g c =
     let was = c.args.self.now in
-    let r = c.requires in
+    let r = c.requires.owed in
     let at = at-index was.places.items c.args.place c.index_mut.result.now (slice_get_within was.places.items c.args.place r.is.place r.is.at) c.index_mut.ensures.value in
     let one = one-client was.places.items c.args.place r.is.place c.index_mut.result.now r.client c.in-Some.client r.is.at at r.is.client c.in-Some.is in
     record {
@@ -21,6 +23,32 @@ invariant_of-self g c =
 pub invariant_of-self-in_default : goal.invariant_of-self-in_default
 invariant_of-self-in_default g c =
     let was = c.args.self.now in
-    let r = c.requires in
+    let r = c.requires.owed in
     let at = at-index was.places.items c.args.place c.index_mut.result.now (slice_get_within was.places.items c.args.place r.is.place r.is.at) c.index_mut.ensures.value in
     absurd (c.in_default.not-Some r.client (client-at was.places.items c.args.place r.is.place c.index_mut.result.now r.client r.is.at at r.is.client))
+
+pub returns-in-Some-clause-still : goal.returns-in-Some-clause-still
+returns-in-Some-clause-still g c =
+    let was = c.args.self.now in
+    let r = c.requires.owed in
+    let at = at-index was.places.items c.args.place c.index_mut.result.now (slice_get_within was.places.items c.args.place r.is.place r.is.at) c.index_mut.ensures.value in
+    come-set was.number was.places.items c.args.place c.index_mut.result.now _ at (past-stays c.index_mut.result.now _ c.reply.new.self refl refl)
+
+pub returns-in-Some-clause-others : goal.returns-in-Some-clause-others
+returns-in-Some-clause-others g c =
+    let was = c.args.self.now in
+    λ i not. get_set_other was.places.items c.args.place i _ not
+
+pub returns-in-Some-clause-tied : goal.returns-in-Some-clause-tied
+returns-in-Some-clause-tied g c =
+    let was = c.args.self.now in
+    let r = c.requires.owed in
+    let at = at-index was.places.items c.args.place c.index_mut.result.now (slice_get_within was.places.items c.args.place r.is.place r.is.at) c.index_mut.ensures.value in
+    λ all. tied-sent g.R.Source.reading g.W.Taker.writing was.places.items was.past.items c.args.place c.index_mut.result.now c.in-Some.client c.reply.new.self at c.in-Some.is c.reply.ensures.same.0 all _ c.reply.ensures.sent
+
+pub returns-in-Some-clause-sent : goal.returns-in-Some-clause-sent
+returns-in-Some-clause-sent g c =
+    let was = c.args.self.now in
+    let r = c.requires.owed in
+    let at = at-index was.places.items c.args.place c.index_mut.result.now (slice_get_within was.places.items c.args.place r.is.place r.is.at) c.index_mut.ensures.value in
+    sent-at g.R.Source.reading g.W.Taker.writing was.places.items was.past.items c.args.place c.index_mut.result.now c.in-Some.client c.reply.new.self at c.in-Some.is _ c.reply.ensures.sent
