@@ -50,8 +50,7 @@ impl<W: Write> Taker for Plain<W> {
 }
 
 impl<L: Licence, W: Write> Sink<L> for Plain<W> {
-    fn write(&mut self, licence: &L, buf: &[u8]) -> io::Result<usize> {
-        let _ = licence;
+    fn write(&mut self, _licence: &L, buf: &[u8]) -> io::Result<usize> {
         let count = self.inner.write(buf)?;
         let (front, _) = buf.split_at(count);
         self.bytes.push(front);

@@ -73,8 +73,7 @@ impl Taker for Writer {
 }
 
 impl<L: Licence> Sink<L> for Writer {
-    fn write(&mut self, licence: &L, buf: &[u8]) -> io::Result<usize> {
-        let _ = licence;
+    fn write(&mut self, _licence: &L, buf: &[u8]) -> io::Result<usize> {
         let mut stream: &UnixStream = &self.stream;
         let count = Write::write(&mut stream, buf)?;
         let (front, _) = buf.split_at(count);
