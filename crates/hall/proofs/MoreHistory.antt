@@ -1,11 +1,8 @@
 -- One event more in a history.
-use Rattle.std.proofs.Common.{◌+◌, ◌≡◌, ◌≢◌, ℕ, ◌%◌, zero, suc, ◌⊎◌, List, [], ◌∷◌, ◌++◌, map, sym, refl, ap, ◌∙◌, subst, inl, inr, ⊎_elim, append_assoc, append-nil, arith, Option, Some, None, set}
-use Rattle.std.specs.List.{slice_get}
+use Rattle.std.proofs.Common.{◌+◌, ◌≡◌, ℕ, ◌%◌, List, [], ◌∷◌, ◌++◌, map, sym, refl, ap, ◌∙◌, subst, inl, inr, append_assoc, append-nil, arith, Option, Some, None}
 use Rattle.std.proofs.lemmas.List.{map-append}
 use Rattle.std.proofs.lemmas.Bool.{cases_eq}
 use Rattle.ck_calls.specs.declared.reply.Reply.{Reply as ReplyType}
-use Rattle.crossbeam_channel.specs.Claims.{view}
-use Rattle.crossbeam_channel.specs.Ends.{sends_on}
 use Rattle.lists.proofs.ListLemmas.{map-push}
 use Rattle.mech.specs.declared.job.Job.{Job}
 use Rattle.model_worlds.specs.Worlds.{World, event_of, happens, after, replies}
@@ -15,22 +12,16 @@ use Rattle.serve_base.specs.declared.out.Out.{Out}
 use Rattle.token.specs.States.{HasJobs, asked_by, jobs_of, AccountsFor, Lasting, LeftAfter, blames}
 use Rattle.token.proofs.States.{accounts-more, accounts-none, after-append, blames-more, left-append, left-more}
 use Rattle.hall_log.specs.Lists.{of, last}
-use Rattle.hall_channels.specs.Outward.{given_of}
 use Rattle.hall_log.specs.declared.event.Event.{Event}
-use Rattle.hall_channels.specs.declared.outbox.Outbox.{Outbox}
 use Rattle.hall_log.proofs.Lists.{of-append, of_here, of_else, last_snoc}
 use Rattle.hall_log.specs.Histories.{Exchange, app_of, History}
-use Rattle.hall.specs.Exchanges.{answers, listed, pending, Suits, Follows, IsProper}
-use Rattle.hall.specs.Histories.{Allowed, AllProper, Counts, HasServed, HistorySuits, IsHistory, RunSoFar, Spends, SpendsOver, Takes, Tells, Unfolds, as_event, ids_by, ids_in, model_events, move_in, moved_by, moves_in, own_job, replies_in, taken_in, told_by, told_in, waiting}
-use Rattle.hall.specs.Outboxes.{OutboxesGave, SameOutboxes}
+use Rattle.hall_log.specs.Putting.{Follows, IsProper, pending}
+use Rattle.hall.specs.Exchanges.{Suits}
+use Rattle.hall.specs.Histories.{Allowed, AllProper, Counts, HasServed, HistorySuits, IsHistory, RunSoFar, Spends, SpendsOver, Takes, Tells, Unfolds, as_event, ids_by, ids_in, model_events, move_in, moved_by, moves_in, own_job, replies_in, told_by, told_in, waiting}
 use Rattle.hall.proofs.PendingJobs.{allowed_after, event_moved_by, jobs_after, other_after, out_after, own_after, tells_is}
-use Rattle.hall.proofs.ProperExchanges.{answers-append, proper_front}
+use Rattle.hall.proofs.Turns.{proper_front}
 
 -- ---- a history that is one longer
-
-pub taken_in-append : (ts : History) (t : ℕ × Exchange) → taken_in (ts ++ t ∷ []) ≡ taken_in ts ++ (t.0, t.1.0) ∷ []
-taken_in-append [] t = refl
-taken_in-append (x ∷ xs) t = ap (λ l. (x.0, x.1.0) ∷ l) (taken_in-append xs t)
 
 told_in-append : (ts : History) (t : ℕ × Exchange) → told_in (ts ++ t ∷ []) ≡ told_in ts ++ told_by (app_of t.1.0) t.1.1
 told_in-append [] t = append-nil (told_by (app_of t.1.0) t.1.1)
@@ -183,33 +174,3 @@ module _ {T : Type 0} (doubt failures : T → ℕ) (shows : T → World → Type
     runs = λ sure w sh idle proper. run_none (shows m) (leaves m) w sh idle;
     spends = λ proper. spends_none m;
   }
-
--- ---- the token's ends of the outward channels
-
-same_some : {A : Type 0} (x y : A) → Some x ≡ Some y → x ≡ y
-same_some x y e = cc
-
-get_set : {A : Type 0} (xs : List A) (i j : ℕ) (a b : A) → slice_get (set xs i a) j ≡ Some b → ((j ≡ i) × (a ≡ b)) ⊎ ((j ≢ i) × (slice_get xs j ≡ Some b))
-get_set [] i j a b e = absurd (let h : None ≡ Some b = e in cc)
-get_set (x ∷ xs) zero zero a b e = inl (refl, let h : Some a ≡ Some b = e in cc)
-get_set (x ∷ xs) zero (suc j) a b e = inr ((λ h. omega arith), e)
-get_set (x ∷ xs) (suc i) zero a b e = inr ((λ h. omega arith), e)
-get_set (x ∷ xs) (suc i) (suc j) a b e = ⊎_elim (λ (t : (j ≡ i) × (a ≡ b)). inl (ap suc t.0, t.1)) (λ (t : (j ≢ i) × (slice_get xs j ≡ Some b)). let n = t.0 in inr ((λ h. n (omega arith)), t.1)) (get_set xs i j a b e)
-
-pub outboxes_gave : (outboxes : List Outbox) (ts : History) (s : ℕ) (l m : Outbox) (e : Event) (o : Option Out)
-    → OutboxesGave outboxes ts → slice_get outboxes s ≡ Some l → given_of (view m.outward_pass) ≡ given_of (view l.outward_pass) ++ listed o → OutboxesGave (set outboxes s m) (ts ++ (s, (e, o)) ∷ [])
-outboxes_gave outboxes ts s l m e o was at is t x at' =
-    ⊎_elim
-    (λ (h : (t ≡ s) × (m ≡ x)).
-    subst (λ (y : ℕ × Outbox). given_of (view y.1.outward_pass) ≡ answers (of y.0 (ts ++ (s, (e, o)) ∷ []))) (λ i. (sym h.0 i, h.1 i))
-    (is ∙ ap (λ k. k ++ listed o) (was s l at) ∙ ap (λ k. answers (of s ts) ++ k) (sym (append-nil (listed o))) ∙ sym (answers-append (of s ts) ((e, o) ∷ [])) ∙ ap answers (sym (of_here ts s (e, o)))))
-    (λ (h : (t ≢ s) × (slice_get outboxes t ≡ Some x)). was t x h.1 ∙ ap answers (sym (of_else ts t s (e, o) (λ z. h.0 (sym z)))))
-    (get_set outboxes s t m x at')
-
-map_set : {A B : Type 0} (f : A → B) (xs : List A) (s : ℕ) (l m : A) → slice_get xs s ≡ Some l → f m ≡ f l → map f (set xs s m) ≡ map f xs
-map_set f [] s l m at is = refl
-map_set f (x ∷ xs) zero l m at is = ap (λ k. k ∷ map f xs) (is ∙ ap f (sym (same_some x l at)))
-map_set f (x ∷ xs) (suc s) l m at is = ap (λ k. f x ∷ k) (map_set f xs s l m at is)
-
-pub same_outboxes : (outboxes : List Outbox) (s : ℕ) (l m : Outbox) → slice_get outboxes s ≡ Some l → sends_on m.outward ≡ sends_on l.outward → SameOutboxes outboxes (set outboxes s m)
-same_outboxes outboxes s l m at is = map_set (λ (x : Outbox). sends_on x.outward) outboxes s l m at is

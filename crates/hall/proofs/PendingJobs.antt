@@ -21,7 +21,7 @@ use Rattle.token.proofs.States.{open_is, step_reply, step_ask, step_finish, step
 use Rattle.hall_log.specs.declared.event.Event.{Event}
 use Rattle.hall_log.specs.declared.event.Event.TheVariants.{Call, Finish, Gone}
 use Rattle.hall_log.specs.Histories.{Exchange, app_of}
-use Rattle.hall.specs.Exchanges.{asks, pending, Follows}
+use Rattle.hall_log.specs.Putting.{asks, pending, Follows}
 use Rattle.hall.specs.Histories.{Allowed, Tells, TellsResult, as_event, moved_by, own_job, told_by, waiting}
 
 -- ---- moves

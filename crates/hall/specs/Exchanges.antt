@@ -1,43 +1,8 @@
--- What one seat does: events, each with what it was answered.
-use Rattle.std.specs.Prelude.{◌≡◌, ◌≢◌, ℕ, ◌%◌, List, [], ◌∷◌, ◌++◌, Option, Some, None}
-use Rattle.mech.specs.declared.job.Job.{Job}
+-- Which answers suit which events.
+use Rattle.std.specs.Prelude.{Option, Some, None}
 use Rattle.serve_base.specs.declared.out.Out.{Out}
-use Rattle.serve_base.specs.declared.out.Out.TheVariants.{Reply, Ask}
-use Rattle.hall_log.specs.Lists.{last}
 use Rattle.hall_log.specs.declared.event.Event.{Event}
 use Rattle.hall_log.specs.declared.event.Event.TheVariants.{Call, Finish, Gone}
-use Rattle.hall_log.specs.Histories.{Exchange, app_of}
-
-abbrev pub listed : Option Out → List Out
-listed None = []
-listed (Some out) = out ∷ []
-
-abbrev pub answers : List Exchange → List Out
-answers [] = []
-answers (x ∷ xs) = listed x.1 ++ answers xs
-
--- ---- jobs
-
--- the application and the job, where a call was answered by a job
-abbrev pub job_in : ℕ → Out → Option (ℕ × Job)
-job_in app (Ask job) = Some (app, job)
-job_in app (Reply reply) = None
-
-abbrev pub job_of : ℕ → Option Out → Option (ℕ × Job)
-job_of app None = None
-job_of app (Some out) = job_in app out
-
-abbrev pub asks : Event → Option Out → Option (ℕ × Job)
-asks (Call c) answer = job_of c.app answer
-asks (Finish app done) answer = None
-asks (Gone app) answer = None
-
--- the job that a seat has after its last exchange
-abbrev pub pending : Option Exchange → Option (ℕ × Job)
-pending None = None
-pending (Some x) = asks x.0 x.1
-
--- ---- answers
 
 abbrev pub Answered : Option Out → Type 0
 Answered None = ⊥
@@ -52,29 +17,3 @@ abbrev pub Suits : Event → Option Out → Type 0
 Suits (Call c) answer = Answered answer
 Suits (Finish app done) answer = Answered answer
 Suits (Gone app) answer = Unanswered answer
-
-abbrev pub AllSuit : List Exchange → Type 0
-AllSuit [] = Unit {0}
-AllSuit (x ∷ xs) = Suits x.0 x.1 × AllSuit xs
-
--- ---- the order of one seat
-
--- A result stands directly after a call that was answered by a job, is of that job, and stands nowhere else.
-abbrev pub Follows : Option Exchange → Event → Type 0
-Follows before (Call c) = pending before ≡ None
-Follows before (Finish app done) = pending before ≡ Some (app, done.job.value)
-Follows before (Gone app) = pending before ≡ None
-
-abbrev pub gone_by : Event → Option ℕ
-gone_by (Call c) = None
-gone_by (Finish app done) = None
-gone_by (Gone app) = Some app
-
--- the application disconnected by none of these
-abbrev pub IsThere : ℕ → List Exchange → Type 0
-IsThere app [] = Unit {0}
-IsThere app (x ∷ xs) = (gone_by x.0 ≢ Some app) × IsThere app xs
-
--- Each event of seat s follows so, and is of an application of that seat, which has not disconnected.
-abbrev pub IsProper : ℕ → List Exchange → Type 0
-IsProper s xs = (before : List Exchange) (x : Exchange) (after : List Exchange) → xs ≡ before ++ x ∷ after → Follows (last before) x.0 × (app_of x.0 % 4 ≡ s) × IsThere (app_of x.0) before

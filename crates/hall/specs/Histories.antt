@@ -15,12 +15,8 @@ use Rattle.hall_log.specs.Lists.{of, last}
 use Rattle.hall_log.specs.declared.event.Event.{Event}
 use Rattle.hall_log.specs.declared.event.Event.TheVariants.{Call, Finish, Gone}
 use Rattle.hall_log.specs.Histories.{Exchange, History, app_of}
-use Rattle.hall.specs.Exchanges.{IsProper, Suits, pending}
-
--- the events of a history, each with its seat
-abbrev pub taken_in : History → List (ℕ × Event)
-taken_in [] = []
-taken_in (x ∷ xs) = (x.0, x.1.0) ∷ taken_in xs
+use Rattle.hall_log.specs.Putting.{IsProper, pending}
+use Rattle.hall.specs.Exchanges.{Suits}
 
 abbrev pub AllProper : History → Type 0
 AllProper xs = (s : ℕ) → IsProper s (of s xs)

@@ -1,10 +1,7 @@
+pub mod Beginning
 pub mod Exchanges
 pub mod Given
 pub mod Held
 pub mod Histories
-pub mod Outboxes
-pub mod Ready
-pub mod SeatDoings
 pub mod SeatEvents
 pub mod SpareIds
-pub mod Tells

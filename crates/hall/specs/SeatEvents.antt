@@ -1,13 +1,15 @@
 -- What a seat's exchanges are in the seat's own words.
-use Rattle.std.specs.Prelude.{◌≡◌, ℕ, ◌⊎◌, List, [], ◌∷◌, ◌++◌, Option, Some, None}
+use Rattle.std.specs.Prelude.{◌≡◌, ℕ, ◌%◌, ◌⊎◌, List, [], ◌∷◌, ◌++◌, Option, Some, None}
 use Rattle.ck_calls.specs.declared.reply.Reply.{Reply}
 use Rattle.mech.specs.declared.job.Job.{Job}
 use Rattle.mech.specs.declared.done.Done.{Done}
 use Rattle.serve_base.specs.declared.out.Out.{Out}
 use Rattle.serve_base.specs.declared.out.Out.TheVariants.{Reply as OutReply, Ask}
+use Rattle.hall_log.specs.declared.event.AppCall.{AppCall}
 use Rattle.hall_log.specs.declared.event.Event.{Event}
 use Rattle.hall_log.specs.declared.event.Event.TheVariants.{Call, Finish, Gone}
 use Rattle.hall_log.specs.Histories.{Exchange, app_of}
+use Rattle.hall_log.specs.Putting.{IsThere, WasRead}
 use Rattle.hall.specs.declared.seats.SeatEvent.{SeatEvent}
 use Rattle.hall.specs.declared.seats.SeatEvent.TheVariants.{Call as SeatCall, Gone as SeatGone}
 
@@ -16,15 +18,22 @@ abbrev pub seat_app : SeatEvent → ℕ
 seat_app (SeatCall c) = c.app
 seat_app (SeatGone app) = app
 
--- an application that disconnects by it is one of those that have disconnected
-abbrev pub Notes : (ℕ → Type 0) → SeatEvent → Type 0
-Notes gone (SeatCall c) = Unit {0}
-Notes gone (SeatGone app) = gone app
+-- the event as it is put before the token
+abbrev pub as_put : SeatEvent → Event
+as_put (SeatCall c) = Call c
+as_put (SeatGone app) = Gone app
 
--- after a call the seat may take the reply to the application that the call is of
-abbrev pub IsReady : (ℕ → Type 0) → SeatEvent → Type 0
-IsReady takes (SeatCall c) = takes c.app
-IsReady takes (SeatGone app) = Unit {0}
+-- What seat s may put of itself after these exchanges of its own: an event of an application of that seat, which has not disconnected.
+-- A call was read.
+pub record MayAsk (was_read : List Exchange → AppCall → Type 0) (s : ℕ) (before : List Exchange) (event : SeatEvent) : Type 0 where
+  pub own : seat_app event % 4 ≡ s
+  pub there : IsThere (seat_app event) before
+  pub read : WasRead was_read before (as_put event)
+
+-- After a call the seat waits for its reply, and after a disconnect it stands as after that.
+abbrev pub StandsThen : (List Exchange → Type 0) → (List Exchange → AppCall → Type 0) → List Exchange → SeatEvent → Type 0
+StandsThen stands waits before (SeatCall c) = waits before c
+StandsThen stands waits before (SeatGone app) = stands (before ++ (Gone app, None) ∷ [])
 
 -- what a seat put, among its events
 abbrev pub asked_by : Event → List SeatEvent
@@ -55,3 +64,13 @@ IsTurn (SeatCall c) more =
     ((r : Reply) × (more ≡ (Call c, Some (OutReply r)) ∷ []))
     ⊎ ((j : Job) × (d : Done) × (r : Reply) × (d.job.value ≡ j) × (more ≡ (Call c, Some (Ask j)) ∷ (Finish c.app d, Some (OutReply r)) ∷ []))
 IsTurn (SeatGone app) more = more ≡ (Gone app, None) ∷ []
+
+-- The reply to the call that a seat waits for: its last exchanges are that call's turn, in which it heard this reply of it.
+pub record IsReplyTo (waits : List Exchange → AppCall → Type 0) (now : List Exchange) (app : ℕ) (reply : Reply) : Type 0 where
+  pub before : List Exchange
+  pub call : AppCall
+  pub more : List Exchange
+  pub waits_for : waits before call
+  pub now_is : now ≡ before ++ more
+  pub turn : IsTurn (SeatCall call) more
+  pub heard : heard_in more ≡ (app, reply) ∷ []

@@ -1,26 +1,26 @@
 //! Four seats in threads of their own, and the token in the calling one.
 
-ghost use Rattle.std.specs.Prelude.{◌≡◌, ◌∷◌, [], IfOk, IfErr};
-ghost use Rattle.crossbeam_channel.specs.Claims.{view};
-ghost use Rattle.crossbeam_channel.specs.Ends.{sends_on};
+ghost use Rattle.std.specs.Prelude.{◌≡◌, [], IfOk, IfErr};
 ghost use Rattle.token.specs.States.{Shows, MayLeave};
-ghost use Rattle.hall_channels.specs.Inward.{seats_of, taken_of, ended_of};
-ghost use Rattle.hall_channels.specs.Outward.{given_of};
-ghost use Rattle.hall.specs.Given.{IsLed};
+ghost use Rattle.hall_log.specs.Histories.{History};
+ghost use Rattle.hall_log.specs.Log.{served};
+ghost use Rattle.hall.specs.Given.{IsLed, IsSoFar, Serves};
 ghost use Rattle.hall.specs.Held.{WereHeld};
-ghost use Rattle.hall.specs.Ready.{Ready};
 ghost use Rattle.hall.specs.SpareIds.{HasSpareIds};
 
-use crate::closing::{Closed, Passes, close_all};
+use crate::closing::{SeatThreads, close_all};
 use crate::fault::HallFault;
+use crate::link::Ready;
 use crate::machine::Machine;
 use crate::opening::open;
 use crate::seat_thread::SeatThread;
 use crate::seats::{Gate, Seat};
 use crate::serving::{Serving, serve_seats};
 use crate::starting::start_all;
-use crate::worker::{Started, Worker};
+use crate::worker::{Worker, Workers};
+use hall_channels::inbox::Inbox;
 use hall_channels::outbox::Outbox;
+use hall_log::{Naming, Opened, Server};
 use keep::Keep;
 use std::alloc::Global;
 use std::snapshot::Snapshot;
@@ -29,143 +29,129 @@ use std::thread::Threads;
 use std::time::Clock;
 use token::Token;
 
-/// The token and the seats, seat 0 first, once all seats have ended, with what the passes of the channels know.
+/// The token and the seats, seat 0 first, once all seats have ended.
 #[derive(Drop)]
 pub struct Held<T, S> {
     pub token: T,
     pub seats: (S, S, S, S),
-    pub passes: Passes,
-}
-
-fn apart(outboxes: [Outbox; 4]) -> (Outbox, Outbox, Outbox, Outbox)
-    ensures { outboxes ≡ result.0 ∷ result.1 ∷ result.2 ∷ result.3 ∷ [] }
-{
-    let [first, second, third, fourth] = outboxes;
-    (first, second, third, fourth)
 }
 
 /// Permits a worker's thread to begin, and parts the worker.
-fn permit<S: Seat + Drop + Send + 'static, R: Wait>(
+fn permit<J: Naming, S: Seat<J> + Drop + Send + 'static, R: Wait>(
     rt: &R,
-    worker: Worker<S>,
-) -> (Outbox, SeatThread<S>)
-    ensures same { sends_on result.0.outward ≡ sends_on worker.outbox.outward }
-    ensures none { given_of (view result.0.outward_pass) ≡ given_of (view worker.outbox.outward_pass) }
-    ensures thread { result.1 ≡ worker.thread }
+    worker: Worker<J, S>,
+) -> (Outbox<J>, SeatThread<J, S>)
+    ensures { result.1 ≡ worker.thread }
 {
     let Worker { mut outbox, thread } = worker;
     outbox.begin(rt);
     (outbox, thread)
 }
 
-/// A worker of its parts.
-fn worker<S: Seat + Drop + Send + 'static>(outbox: Outbox, thread: SeatThread<S>) -> Worker<S>
-    ensures { (result.outbox ≡ outbox) × (result.thread ≡ thread) }
-{
-    Worker { outbox, thread }
-}
-
-/// Permits the four threads to begin, serves them, and joins them. Where a channel has ended early, the threads are left to
-/// themselves: without the token's ends they end once their seats return.
-fn serve_all<M: Machine + Drop, S: Seat + Drop + Send + 'static, R: Threads + Wait + Clock>(
+/// Permits the four threads to begin, and parts the workers.
+fn permit_all<J: Naming, S: Seat<J> + Drop + Send + 'static, R: Wait>(
     rt: &R,
-    alloc: Global,
-    machine: M,
-    started: Started<S>,
-) -> Result<Held<M, S>, (HallFault, M)>
-    requires seats { seats_of (view started.inbox.inward_pass) ≡ 4 }
-    requires ended { ended_of (view started.inbox.inward_pass) ≡ [] }
-    requires taken { taken_of (view started.inbox.inward_pass) ≡ [] }
-    requires given { (given_of (view started.worker0.outbox.outward_pass) ≡ [])
-        × (given_of (view started.worker1.outbox.outward_pass) ≡ [])
-        × (given_of (view started.worker2.outbox.outward_pass) ≡ [])
-        × (given_of (view started.worker3.outbox.outward_pass) ≡ []) }
-    requires ready0 { Ready 0 started.worker0 started.inbox }
-    requires ready1 { Ready 1 started.worker1 started.inbox }
-    requires ready2 { Ready 2 started.worker2 started.inbox }
-    requires ready3 { Ready 3 started.worker3 started.inbox }
-    ensures over { IfOk result (λ h. S.over h.seats.0 × S.over h.seats.1 × S.over h.seats.2 × S.over h.seats.3) }
-    ensures fixed { IfOk result (λ h. (S.fixed h.seats.0 ≡ S.fixed started.worker0.thread.promise.seat.value)
-        × (S.fixed h.seats.1 ≡ S.fixed started.worker1.thread.promise.seat.value)
-        × (S.fixed h.seats.2 ≡ S.fixed started.worker2.thread.promise.seat.value)
-        × (S.fixed h.seats.3 ≡ S.fixed started.worker3.thread.promise.seat.value)) }
-    ensures held { IfOk result (λ h. WereHeld S.asked S.heard M.doubt M.failures M.shows M.leaves M.spare (view h.passes.inward)
-        (view h.passes.outward0) (view h.passes.outward1) (view h.passes.outward2) (view h.passes.outward3) (
-          started.worker0.thread.promise.seat.value,
-          started.worker1.thread.promise.seat.value,
-          started.worker2.thread.promise.seat.value,
-          started.worker3.thread.promise.seat.value,
-        ) h.seats machine h.token) }
-    ensures thread { IfErr result (λ e. e.0 ≡ HallFault.Thread) }
-    ensures led { IfErr result (λ e. IsLed M.doubt M.failures M.shows M.leaves M.spare machine e.1) }
+    workers: Workers<J, S>,
+) -> ([Outbox<J>; 4], SeatThreads<J, S>)
+    ensures { (result.1.0 ≡ workers.0.thread) × (result.1.1 ≡ workers.1.thread)
+        × (result.1.2 ≡ workers.2.thread) × (result.1.3 ≡ workers.3.thread) }
 {
-    let Started {
-        mut inbox,
-        worker0,
-        worker1,
-        worker2,
-        worker3,
-    } = started;
+    let (worker0, worker1, worker2, worker3) = workers;
     let (outbox0, thread0) = permit(rt, worker0);
     let (outbox1, thread1) = permit(rt, worker1);
     let (outbox2, thread2) = permit(rt, worker2);
     let (outbox3, thread3) = permit(rt, worker3);
+    (
+        [outbox0, outbox1, outbox2, outbox3],
+        (thread0, thread1, thread2, thread3),
+    )
+}
+
+/// Permits the four threads to begin, serves them, and joins them. Where a channel has ended early, the threads are left to
+/// themselves: without the token's ends they end once their seats return.
+fn serve_all<
+    J: Naming,
+    M: Machine + Drop,
+    S: Seat<J> + Drop + Send + 'static,
+    R: Threads + Wait + Clock,
+>(
+    rt: &R,
+    alloc: Global,
+    machine: M,
+    server: Server<J>,
+    mut inbox: Inbox<J>,
+    workers: Workers<J, S>,
+) -> Result<Held<M, S>, (HallFault, M)>
+    requires server { server ≡ [] }
+    requires all { (now : M) (h : History) → IsSoFar M.doubt M.failures M.shows M.leaves M.spare J.was_read machine now h → J.served h }
+    requires numbers { (S.number workers.0.thread.promise.seat.value ≡ 0) × (S.number workers.1.thread.promise.seat.value ≡ 1)
+        × (S.number workers.2.thread.promise.seat.value ≡ 2) × (S.number workers.3.thread.promise.seat.value ≡ 3) }
+    ensures over { IfOk result (λ h. S.over h.seats.0 × S.over h.seats.1 × S.over h.seats.2 × S.over h.seats.3) }
+    ensures fixed { IfOk result (λ h. (S.fixed h.seats.0 ≡ S.fixed workers.0.thread.promise.seat.value)
+        × (S.fixed h.seats.1 ≡ S.fixed workers.1.thread.promise.seat.value)
+        × (S.fixed h.seats.2 ≡ S.fixed workers.2.thread.promise.seat.value)
+        × (S.fixed h.seats.3 ≡ S.fixed workers.3.thread.promise.seat.value)) }
+    ensures held { IfOk result (λ h. WereHeld S.stands J.served M.doubt M.failures M.shows M.leaves M.spare h.seats machine h.token) }
+    ensures thread { IfErr result (λ e. e.0 ≡ HallFault.Thread) }
+    ensures led { IfErr result (λ e. IsLed M.doubt M.failures M.shows M.leaves M.spare machine e.1) }
+{
+    let (mut outboxes, threads) = permit_all(rt, workers);
     let began = Snapshot::of(&machine);
-    let mut serving = Serving { machine, began };
-    let mut outboxes = [outbox0, outbox1, outbox2, outbox3];
+    let mut serving = Serving {
+        machine,
+        began,
+        server,
+    };
     if !serve_seats(rt, alloc, &mut serving, &mut inbox, &mut outboxes) {
         return Err((HallFault::Thread, serving.machine));
     }
-    let (outbox0, outbox1, outbox2, outbox3) = apart(outboxes);
-    let started = Started {
-        inbox,
-        worker0: worker(outbox0, thread0),
-        worker1: worker(outbox1, thread1),
-        worker2: worker(outbox2, thread2),
-        worker3: worker(outbox3, thread3),
-    };
-    match close_all(rt, started) {
-        Some(closed) => {
-            let Closed { seats, passes } = closed;
-            Ok(Held {
-                token: serving.machine,
-                seats,
-                passes,
-            })
-        }
+    match close_all(rt, &serving.server, threads) {
+        Some(seats) => Ok(Held {
+            token: serving.machine,
+            seats,
+        }),
         None => Err((HallFault::Thread, serving.machine)),
     }
 }
 
 /// Holds four seats before a machine, with stacks of these sizes, or of the usual size at 0. One that is too large is refused.
 pub(crate) fn hold_machine<
+    J: Naming + Send + Sync + 'static,
     M: Machine + Drop,
-    S: Seat + Drop + Send + 'static,
+    S: Seat<J> + Drop + Send + 'static,
     G: Gate + Send + Sync + Drop + 'static,
     R: Threads + Wait + Clock + Copy + Send + Drop + 'static,
 >(
     rt: R,
     alloc: Global,
+    opened: Opened,
     machine: M,
     seats: (S, S, S, S),
     gate: &Arc<G, Global>,
     stacks: (usize, usize, usize, usize),
 ) -> Result<Held<M, S>, (HallFault, M)>
+    requires book { opened.seen.book ≡ J.book }
+    requires all { (now : M) (h : History) → IsSoFar M.doubt M.failures M.shows M.leaves M.spare J.was_read machine now h → J.served h }
     requires numbers { (S.number seats.0 ≡ 0) × (S.number seats.1 ≡ 1) × (S.number seats.2 ≡ 2) × (S.number seats.3 ≡ 3) }
+    requires knows { S.knows (S.fixed seats.0) × S.knows (S.fixed seats.1) × S.knows (S.fixed seats.2) × S.knows (S.fixed seats.3) }
+    requires stands { S.stands seats.0 [] × S.stands seats.1 [] × S.stands seats.2 [] × S.stands seats.3 [] }
     ensures over { IfOk result (λ h. S.over h.seats.0 × S.over h.seats.1 × S.over h.seats.2 × S.over h.seats.3) }
     ensures fixed { IfOk result (λ h. (S.fixed h.seats.0 ≡ S.fixed seats.0) × (S.fixed h.seats.1 ≡ S.fixed seats.1)
         × (S.fixed h.seats.2 ≡ S.fixed seats.2) × (S.fixed h.seats.3 ≡ S.fixed seats.3)) }
-    ensures held { IfOk result (λ h. WereHeld S.asked S.heard M.doubt M.failures M.shows M.leaves M.spare (view h.passes.inward)
-        (view h.passes.outward0) (view h.passes.outward1) (view h.passes.outward2) (view h.passes.outward3)
-        seats h.seats machine h.token) }
+    ensures held { IfOk result (λ h. WereHeld S.stands J.served M.doubt M.failures M.shows M.leaves M.spare h.seats machine h.token) }
     ensures memory { IfErr result (λ e. e.0 ≡ HallFault.Memory → e.1 ≡ machine) }
     ensures led { IfErr result (λ e. IsLed M.doubt M.failures M.shows M.leaves M.spare machine e.1) }
 {
-    let Ok(opened) = open(alloc) else {
+    let Ok(ready) = open(alloc, opened) else {
         return Err((HallFault::Memory, machine));
     };
-    match start_all(rt, alloc, stacks, gate, seats, opened) {
-        Ok(started) => serve_all(&rt, alloc, machine, started),
+    let Ready {
+        inbox,
+        server,
+        links,
+    } = ready;
+    match start_all(rt, alloc, stacks, gate, seats, links) {
+        Ok(workers) => serve_all(&rt, alloc, machine, server, inbox, workers),
         Err(fault) => Err((fault, machine)),
     }
 }
@@ -174,72 +160,87 @@ pub(crate) fn hold_machine<
 /// in the calling thread; the seats' threads run its jobs, each of which passes the `Gate` first. What each seat got is
 /// specified where no call is pending, as of a new token or of one that was held.
 ///
+/// `J` names the new log. It is required what its members mean: `served` are just the histories that the token has served since it
+/// was handed over, in which each seat put what it might.
+///
 /// It may wait, as long as a seat or the `Gate` does. It allocates the channels and the threads. An allocation failure is
 /// `HallFault::Memory`, and a thread that is not started, or a channel that ended early, `HallFault::Thread`; the seats are
 /// dropped then.
 pub fn hold<
+    J: Naming + Send + Sync + 'static,
     K: Keep,
-    S: Seat + Drop + Send + 'static,
+    S: Seat<J> + Drop + Send + 'static,
     G: Gate + Send + Sync + Drop + 'static,
     R: Threads + Wait + Clock + Copy + Send + Drop + 'static,
 >(
     rt: R,
     alloc: Global,
+    opened: Opened,
     token: Token<K>,
     seats: (S, S, S, S),
     gate: &Arc<G, Global>,
 ) -> Result<Held<Token<K>, S>, (HallFault, Token<K>)>
+    requires book { opened.seen.book ≡ J.book }
+    // What it means that a history was served: the token has served it, and each event in it was one that its seat might put.
+    requires means { (h : History) → J.served h → Serves K.terms J.was_read token h }
+    requires all { (h : History) → Serves K.terms J.was_read token h → J.served h }
     requires numbers { (S.number seats.0 ≡ 0) × (S.number seats.1 ≡ 1) × (S.number seats.2 ≡ 2) × (S.number seats.3 ≡ 3) }
+    requires knows { S.knows (S.fixed seats.0) × S.knows (S.fixed seats.1) × S.knows (S.fixed seats.2) × S.knows (S.fixed seats.3) }
+    requires stands { S.stands seats.0 [] × S.stands seats.1 [] × S.stands seats.2 [] × S.stands seats.3 [] }
     // Each seat has returned that there is no more.
     ensures over { IfOk result (λ h. S.over h.seats.0 × S.over h.seats.1 × S.over h.seats.2 × S.over h.seats.3) }
     // What never changes of a seat is as it was.
     ensures fixed { IfOk result (λ h. (S.fixed h.seats.0 ≡ S.fixed seats.0) × (S.fixed h.seats.1 ≡ S.fixed seats.1)
         × (S.fixed h.seats.2 ≡ S.fixed seats.2) × (S.fixed h.seats.3 ≡ S.fixed seats.3)) }
-    // What the four seats put is one history, which is a run of the token's: each seat got what the model gives it there.
-    ensures held { IfOk result (λ h. WereHeld S.asked S.heard (λ t. K.terms.doubt t.store.keep)
-        (λ t. K.terms.failures t.store.keep) (Shows K.terms) (MayLeave K.terms) (HasSpareIds K.terms) (view h.passes.inward)
-        (view h.passes.outward0) (view h.passes.outward1) (view h.passes.outward2) (view h.passes.outward3)
-        seats h.seats token h.token) }
+    // What the four seats put is one history, which is a run of the token's: each seat stands as after what it has there.
+    ensures held { IfOk result (λ h. WereHeld S.stands J.served (λ t. K.terms.doubt t.store.keep) (λ t. K.terms.failures t.store.keep)
+        (Shows K.terms) (MayLeave K.terms) (HasSpareIds K.terms) h.seats token h.token) }
     // Where an allocation failed, the token is as it was.
     ensures memory { IfErr result (λ e. e.0 ≡ HallFault.Memory → e.1 ≡ token) }
     // At any fault some history leads to the token that is returned.
     ensures led { IfErr result (λ e. IsLed (λ t. K.terms.doubt t.store.keep) (λ t. K.terms.failures t.store.keep)
         (Shows K.terms) (MayLeave K.terms) (HasSpareIds K.terms) token e.1) }
 {
-    hold_machine(rt, alloc, token, seats, gate, (0, 0, 0, 0))
+    hold_machine::<J, Token<K>, S, G, R>(rt, alloc, opened, token, seats, gate, (0, 0, 0, 0))
 }
 
 /// As `hold`, with stacks of so many bytes, seat 0's first, or of the usual size at 0. A thread whose stack is too large is not
 /// started, which is `HallFault::Thread`.
 pub fn hold_with<
+    J: Naming + Send + Sync + 'static,
     K: Keep,
-    S: Seat + Drop + Send + 'static,
+    S: Seat<J> + Drop + Send + 'static,
     G: Gate + Send + Sync + Drop + 'static,
     R: Threads + Wait + Clock + Copy + Send + Drop + 'static,
 >(
     rt: R,
     alloc: Global,
+    opened: Opened,
     token: Token<K>,
     seats: (S, S, S, S),
     gate: &Arc<G, Global>,
     stacks: (usize, usize, usize, usize),
 ) -> Result<Held<Token<K>, S>, (HallFault, Token<K>)>
+    requires book { opened.seen.book ≡ J.book }
+    // What it means that a history was served: the token has served it, and each event in it was one that its seat might put.
+    requires means { (h : History) → J.served h → Serves K.terms J.was_read token h }
+    requires all { (h : History) → Serves K.terms J.was_read token h → J.served h }
     requires numbers { (S.number seats.0 ≡ 0) × (S.number seats.1 ≡ 1) × (S.number seats.2 ≡ 2) × (S.number seats.3 ≡ 3) }
+    requires knows { S.knows (S.fixed seats.0) × S.knows (S.fixed seats.1) × S.knows (S.fixed seats.2) × S.knows (S.fixed seats.3) }
+    requires stands { S.stands seats.0 [] × S.stands seats.1 [] × S.stands seats.2 [] × S.stands seats.3 [] }
     // Each seat has returned that there is no more.
     ensures over { IfOk result (λ h. S.over h.seats.0 × S.over h.seats.1 × S.over h.seats.2 × S.over h.seats.3) }
     // What never changes of a seat is as it was.
     ensures fixed { IfOk result (λ h. (S.fixed h.seats.0 ≡ S.fixed seats.0) × (S.fixed h.seats.1 ≡ S.fixed seats.1)
         × (S.fixed h.seats.2 ≡ S.fixed seats.2) × (S.fixed h.seats.3 ≡ S.fixed seats.3)) }
-    // What the four seats put is one history, which is a run of the token's: each seat got what the model gives it there.
-    ensures held { IfOk result (λ h. WereHeld S.asked S.heard (λ t. K.terms.doubt t.store.keep)
-        (λ t. K.terms.failures t.store.keep) (Shows K.terms) (MayLeave K.terms) (HasSpareIds K.terms) (view h.passes.inward)
-        (view h.passes.outward0) (view h.passes.outward1) (view h.passes.outward2) (view h.passes.outward3)
-        seats h.seats token h.token) }
+    // What the four seats put is one history, which is a run of the token's: each seat stands as after what it has there.
+    ensures held { IfOk result (λ h. WereHeld S.stands J.served (λ t. K.terms.doubt t.store.keep) (λ t. K.terms.failures t.store.keep)
+        (Shows K.terms) (MayLeave K.terms) (HasSpareIds K.terms) h.seats token h.token) }
     // Where an allocation failed, the token is as it was.
     ensures memory { IfErr result (λ e. e.0 ≡ HallFault.Memory → e.1 ≡ token) }
     // At any fault some history leads to the token that is returned.
     ensures led { IfErr result (λ e. IsLed (λ t. K.terms.doubt t.store.keep) (λ t. K.terms.failures t.store.keep)
         (Shows K.terms) (MayLeave K.terms) (HasSpareIds K.terms) token e.1) }
 {
-    hold_machine(rt, alloc, token, seats, gate, stacks)
+    hold_machine::<J, Token<K>, S, G, R>(rt, alloc, opened, token, seats, gate, stacks)
 }

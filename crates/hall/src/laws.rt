@@ -6,14 +6,14 @@ ghost use Rattle.model_worlds.specs.Worlds.{World, after, replies};
 ghost use Rattle.model_worlds.specs.Traces.{replies_to, replies_told, trace};
 ghost use Rattle.keep.specs.Contents.{Contents, greatest_id};
 ghost use Rattle.token.specs.States.{HasJobs, ShowsAfter, TokenState, blames, opening};
-ghost use Rattle.hall_log.specs.declared.event.Event.{Event};
-ghost use Rattle.hall_channels.specs.declared.outbox.Outbox.{Outbox};
-ghost use Rattle.hall_log.specs.Histories.{Exchange, app_of, History};
-ghost use Rattle.hall.specs.Given.{HasGiven};
+ghost use Rattle.hall_log.specs.Histories.{AllMay, Exchange, app_of, History};
+ghost use Rattle.hall_log.specs.Putting.{MayPut};
+ghost use Rattle.hall.specs.Given.{IsSoFar};
 ghost use Rattle.hall.specs.Histories.{AllProper, IsHistory, Tells, Unfolds, ids_in, moves_in, replies_in, told_in};
 ghost use Rattle.hall.specs.SpareIds.{HasSpareIds};
 
 use crate::machine::Machine;
+use hall_log::Naming;
 use keep::Keep;
 
 /// In a history that unfolds from a world, each event was answered as the token's model says at its place: in the world that the
@@ -47,20 +47,25 @@ pub fn whole_history<M: Machine>()
         → told_in history ≡ replies w (moves_in history) }
 {}
 
-/// What was given to all seats at any moment are the answers of a history that unfolds, where the store was faithful and each
-/// seat kept to its order.
-pub fn given_so_far<M: Machine>()
-    ensures { (m n : M) (taken : List (ℕ × Event)) (outboxes : List Outbox) (w : World)
-        (so : HasGiven M.doubt M.failures M.shows M.leaves M.spare m n taken outboxes)
-        → M.doubt n ≡ 0 → M.shows m w → HasJobs w [] → AllProper so.history → Unfolds w so.history }
+/// What the machine has served at any moment, while seats put what they might, unfolds where its store was faithful. So does what a
+/// daemon has served that was killed.
+pub fn given_so_far<M: Machine, J: Naming>()
+    ensures { (m n : M) (w : World) (history : History)
+        → IsSoFar M.doubt M.failures M.shows M.leaves M.spare J.was_read m n history
+        → M.doubt n ≡ 0 → M.shows m w → HasJobs w [] → Unfolds w history }
 {}
 
-/// No answer that was given to a seat at any moment is CKR_DEVICE_ERROR, where the machine had an id for each call and each result
-/// that it had taken, and each seat kept to its order.
-pub fn spared_so_far<M: Machine>()
-    ensures { (m n : M) (taken : List (ℕ × Event)) (outboxes : List Outbox) (w : World) (count : ℕ)
-        (so : HasGiven M.doubt M.failures M.shows M.leaves M.spare m n taken outboxes)
-        → M.spare m w (count + ids_in so.history) → HasJobs w [] → AllProper so.history → blames (replies_in (told_in so.history)) ≡ 0 }
+/// No answer that was given at any moment is CKR_DEVICE_ERROR, where the machine had an id for each call and each result that it had
+/// served.
+pub fn spared_so_far<M: Machine, J: Naming>()
+    ensures { (m n : M) (w : World) (history : History) (count : ℕ)
+        → IsSoFar M.doubt M.failures M.shows M.leaves M.spare J.was_read m n history
+        → M.spare m w (count + ids_in history) → HasJobs w [] → blames (replies_in (told_in history)) ≡ 0 }
+{}
+
+/// Each seat kept to its order in what was served, and each event was of an application of its own seat that was there.
+pub fn proper_so_far<J: Naming>()
+    ensures { (history : History) → AllMay (MayPut J.was_read) history → AllProper history }
 {}
 
 /// A new token over a steady keeper has an id for each of so many calls and results, if its keeper has.

@@ -8,23 +8,28 @@
 //!
 //! # What is promised
 //!
-//! Where seats were held, `next` of each has returned that there is no more. There is one history (`specs/Histories.antt`): an
-//! interleaving of what the four seats put, each event once, those of a seat in its order, and no other. Each seat got, for
-//! each of its events, what the token's model says at the event's place in the history. That holds as long as the keeper's disk
-//! was faithful (`doubt` is 0) and no call was pending before.
+//! There is one history (`specs/Histories.antt`): an interleaving of what the four seats put, each event once and those of a seat in
+//! its order. It is the log's (`hall_log`), of which seats and token know a beginning each. `hold` requires what the log's name means:
+//! `served` are just the histories that the token has served, in which each seat put what it might (`IsSoFar`).
+//!
+//! At each moment, before any end:
+//! - a seat puts an event only where it may (`MayPut`): the event is of an application of its own that is there, follows the rule, and
+//!   a call was read;
+//! - a seat is given nothing but what the token answered to its own last event: the receipt for it is made where the token serves
+//!   (`Server::serve`), and `Seat::take` is told the history that ends with it;
+//! - of any two histories that seats were told, one begins the other (`hall_log::one_order`).
+//!
+//! Where seats were held, `next` of each has returned that there is no more, and each stands as after what the history has of it
+//! (`stands`). The history is a run of the token's model (`IsRun`, crate `token`) as long as the keeper's disk was faithful (`doubt` is
+//! 0) and no call was pending before. `laws` says in a reader's words what follows of histories and of their beginnings.
 //!
 //! The token that is returned is where the history ends. It refines the world that the history made; a crash leaves no more of
-//! it than the changes that were acknowledged and perhaps one tried since; and the whole is a run of the token's (`IsRun`,
-//! crate `token`). Failures of the keeper are counted, and account for each `CKR_DEVICE_ERROR`. Over a steady keeper, as one in
-//! memory, none is answered while there is an id for each call and each result (`SpendsOver`).
+//! it than the changes that were acknowledged and perhaps one tried since. Failures of the keeper are counted, and account for each
+//! `CKR_DEVICE_ERROR`. Over a steady keeper, as one in memory, none is answered while there is an id for each call and each result
+//! (`SpendsOver`).
 //!
-//! Before the end, too, no seat is given anything else: each answer is given under a clause that says so (`MayGive`,
-//! `specs/Given.antt`). With it the answers given to all seats are those of a history that the token has served, of just the
-//! events that were taken. So what a daemon gave before it was killed is a beginning of a history. `laws` says in a reader's
-//! words what follows of histories and of their beginnings.
-//!
-//! Where an allocation failed, the token is as it was. At the other fault, by which a channel may have ended early, some history
-//! leads to it (`IsLed`).
+//! Where an allocation failed, the token is as it was. At the other fault, by which a channel may have ended early, some history of
+//! proper seats leads to it (`IsLed`).
 //!
 //! Termination and fairness are not proved: a seat that never returns that there is no more is held for ever, and so is one
 //! before a `Gate` that is never passed. That a fault comes only where an allocation or a thread's start failed, that no seat
@@ -46,7 +51,6 @@ mod starting;
 mod token_machine;
 mod worker;
 
-pub use closing::Passes;
 pub use fault::HallFault;
 pub use hall_log::AppCall;
 pub use holding::{Held, hold, hold_with};

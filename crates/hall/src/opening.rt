@@ -1,59 +1,59 @@
 //! The ends of all channels, before any thread is started.
 
-ghost use Rattle.std.specs.Prelude.{◌≡◌, ◌+◌, [], IfOk};
-ghost use Rattle.crossbeam_channel.specs.Claims.{view};
-ghost use Rattle.crossbeam_channel.specs.Ends.{sends_on};
-ghost use Rattle.hall_channels.specs.Inward.{seats_of, taken_of, ended_of};
-ghost use Rattle.hall.specs.Ready.{IsLinked};
+ghost use Rattle.std.specs.Prelude.{◌≡◌, [], IfOk};
+ghost use Rattle.hall.specs.Beginning.{AreFirst};
 
-use crate::link::{Link, Opened};
+use crate::link::{Link, Ready};
+use hall_channels::ends::Sender;
 use hall_channels::inbox::Inbox;
+use hall_channels::messages::Inward;
 use hall_channels::outbox::Outbox;
-use hall_channels::port::Ends;
+use hall_channels::port::Port;
+use hall_log::{Naming, Opened, Putter};
 use std::alloc::{AllocError, Global};
 
-/// Makes the ends of the next seat.
-fn open_seat(alloc: Global, inbox: &mut Inbox, seat: u64) -> Result<Link, AllocError>
-    requires seats { seats_of (view inbox.old.inward_pass) ≡ seat }
-    requires ended { ended_of (view inbox.old.inward_pass) ≡ [] }
-    ensures link { IfOk result (λ r. IsLinked seat r inbox.new) }
-    ensures seats { IfOk result (λ r. seats_of (view inbox.new.inward_pass) ≡ seat + 1) }
-    ensures same { sends_on inbox.new.sender ≡ sends_on inbox.old.sender }
-    ensures taken { taken_of (view inbox.new.inward_pass) ≡ taken_of (view inbox.old.inward_pass) }
-    ensures ended { ended_of (view inbox.new.inward_pass) ≡ [] }
+/// Makes the ends of a seat.
+fn link<J: Naming>(
+    alloc: Global,
+    putter: Putter<J>,
+    inward: &mut Sender<Inward<J>>,
+) -> Result<Link<J>, AllocError>
+    ensures { IfOk result (λ r. r.port.putter ≡ putter) }
 {
-    let (outbox, outward, outward_pass) = Outbox::open(alloc)?;
-    let (inward, inward_pass) = inbox.add_seat()?;
-    let ends = Ends {
-        seat,
-        inward,
-        inward_pass,
-        outward,
-        outward_pass,
-    };
-    Ok(Link { outbox, ends })
+    let inward = inward.another()?;
+    let (outbox, outward) = Outbox::open(alloc)?;
+    let port = Port::new(putter, inward, outward);
+    Ok(Link { outbox, port })
 }
 
-/// Makes all ends.
-pub(crate) fn open(alloc: Global) -> Result<Opened, AllocError>
-    ensures seats { IfOk result (λ r. seats_of (view r.inbox.inward_pass) ≡ 4) }
-    ensures ended { IfOk result (λ r. ended_of (view r.inbox.inward_pass) ≡ []) }
-    ensures taken { IfOk result (λ r. taken_of (view r.inbox.inward_pass) ≡ []) }
-    ensures link0 { IfOk result (λ r. IsLinked 0 r.link0 r.inbox) }
-    ensures link1 { IfOk result (λ r. IsLinked 1 r.link1 r.inbox) }
-    ensures link2 { IfOk result (λ r. IsLinked 2 r.link2 r.inbox) }
-    ensures link3 { IfOk result (λ r. IsLinked 3 r.link3 r.inbox) }
+/// Makes the ends of two seats.
+fn link_two<J: Naming>(
+    alloc: Global,
+    putters: (Putter<J>, Putter<J>),
+    inward: &mut Sender<Inward<J>>,
+) -> Result<(Link<J>, Link<J>), AllocError>
+    ensures { IfOk result (λ r. (r.0.port.putter ≡ putters.0) × (r.1.port.putter ≡ putters.1)) }
 {
-    let mut inbox = Inbox::open(alloc)?;
-    let link0 = open_seat(alloc, &mut inbox, 0)?;
-    let link1 = open_seat(alloc, &mut inbox, 1)?;
-    let link2 = open_seat(alloc, &mut inbox, 2)?;
-    let link3 = open_seat(alloc, &mut inbox, 3)?;
-    Ok(Opened {
+    let (first, second) = putters;
+    let first = link(alloc, first, inward)?;
+    let second = link(alloc, second, inward)?;
+    Ok((first, second))
+}
+
+/// Makes all ends, over a new log under its name. Nothing was put or served.
+pub(crate) fn open<J: Naming>(alloc: Global, opened: Opened) -> Result<Ready<J>, AllocError>
+    requires book { opened.seen.book ≡ J.book }
+    requires served { J.served [] }
+    ensures server { IfOk result (λ r. r.server ≡ []) }
+    ensures seats { IfOk result (λ r. AreFirst r.links.0.0.port.putter r.links.0.1.port.putter r.links.1.0.port.putter r.links.1.1.port.putter) }
+{
+    let (server, (putter0, putter1, putter2, putter3)) = opened.named::<J>();
+    let (inbox, mut inward) = Inbox::open(alloc)?;
+    let first = link_two(alloc, (putter0, putter1), &mut inward)?;
+    let second = link_two(alloc, (putter2, putter3), &mut inward)?;
+    Ok(Ready {
         inbox,
-        link0,
-        link1,
-        link2,
-        link3,
+        server,
+        links: (first, second),
     })
 }

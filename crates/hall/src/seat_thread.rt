@@ -1,23 +1,16 @@
 //! A seat's thread, from its start to its end.
 
-ghost use Rattle.std.specs.Prelude.{◌≡◌, ◌<◌, [], true, length, Bool, IfOk, IfSome};
-ghost use Rattle.crossbeam_channel.specs.Claims.{view};
-ghost use Rattle.crossbeam_channel.specs.Ends.{sends_on};
-ghost use Rattle.hall_channels.specs.Inward.{seats_of, taken_of, ended_of};
-ghost use Rattle.hall_channels.specs.Sound.{AreSound, SameEnds};
-ghost use Rattle.hall.specs.SeatDoings.{EndsDid};
-ghost use Rattle.hall.specs.Held.{HasEnded};
-ghost use Rattle.hall.specs.Ready.{Ready};
+ghost use Rattle.std.specs.Prelude.{◌≡◌, true, Bool, IfOk, IfSome};
+ghost use Rattle.hall_log.specs.Lists.{of};
+ghost use Rattle.hall_log.specs.Log.{served};
+ghost use Rattle.hall_log.specs.SeatLogs.{done_by, IsIdle};
+ghost use Rattle.hall.specs.Beginning.{BeginsWith, EndsAfter};
 
 use crate::fault::HallFault;
 use crate::seat_loop::run_permitted;
 use crate::seats::{Gate, Seat};
-use crate::worker::Worker;
-use crossbeam_channel::Pass;
-use hall_channels::inbox::Inbox;
-use hall_channels::messages::Outward;
-use hall_channels::outward::OutwardView;
-use hall_channels::port::{Ends, Port, SeatEnds};
+use hall_channels::port::Port;
+use hall_log::{Naming, Server};
 use std::alloc::Global;
 use std::snapshot::Snapshot;
 use std::sync::{Arc, Wait};
@@ -38,8 +31,8 @@ pub(crate) trait Runs<S> {
     /// The seat may run with them.
     ghost ready: { Self → S → Type 0 };
 
-    /// From the ends and the seat as they were, what is known of them after the run, and of whether it was whole.
-    ghost ran: { Self → S → Self → S → Bool → Type 0 };
+    /// From the seat as it was, what is known of it and of its ends after the run, and of whether it was whole.
+    ghost ran: { S → Self → S → Bool → Type 0 };
 
     /// Waits for the permission to begin, and runs the seat.
     fn run<G: Gate, R: Wait + Clock>(
@@ -50,14 +43,14 @@ pub(crate) trait Runs<S> {
         seat: S,
     ) -> Ended<S, Self>
         requires { ready self seat }
-        ensures { ran self seat result.ends result.seat result.whole };
+        ensures { ran seat result.ends result.seat result.whole };
 }
 
-impl<S: Seat> Runs<S> for SeatEnds {
-    ghost ready = { λ ends seat. (S.number seat ≡ ends.seat) × AreSound ends };
+impl<J: Naming, S: Seat<J>> Runs<S> for Port<J> {
+    ghost ready = { λ port seat. BeginsWith S.number S.fixed S.knows S.stands port.putter seat };
 
-    ghost ran = { λ old seat ends seat' whole. SameEnds old ends × AreSound ends
-        × (whole ≡ true → EndsDid old ends (S.asked seat) (S.asked seat') (S.heard seat) (S.heard seat') × S.over seat' × (S.fixed seat' ≡ S.fixed seat)) };
+    ghost ran = { λ old port new whole. whole ≡ true → S.over new × (S.fixed new ≡ S.fixed old) × (port.putter.seat ≡ S.number old)
+        × IsIdle port.putter × EndsAfter (S.stands new) (done_by port.putter) };
 
     fn run<G: Gate, R: Wait + Clock>(
         self,
@@ -65,54 +58,36 @@ impl<S: Seat> Runs<S> for SeatEnds {
         alloc: Global,
         gate: &G,
         seat: S,
-    ) -> Ended<S, SeatEnds> {
-        begin(rt, alloc, gate, seat, self)
+    ) -> Ended<S, Port<J>> {
+        let mut seat = seat;
+        let mut port = self;
+        let whole = run_permitted(rt, alloc, &mut seat, &mut port, gate);
+        Ended {
+            seat,
+            ends: port,
+            whole,
+        }
     }
 }
 
-/// What is promised of a thread's result, from the seat and its ends as they were.
+/// What is promised of a thread's result, from the seat as it was.
 #[derive(Drop)]
-pub(crate) struct SeatPromise<S, E> {
+pub(crate) struct SeatPromise<S> {
     pub seat: Snapshot<S>,
-    pub ends: Snapshot<E>,
 }
 
-impl<S, E: Runs<S>> Promise<Ended<S, E>> for SeatPromise<S, E> {
-    ghost kept_by = { λ p r. E.ran p.ends.value p.seat.value r.ends r.seat r.whole };
+impl<S, E: Runs<S>> Promise<Ended<S, E>> for SeatPromise<S> {
+    ghost kept_by = { λ p r. E.ran p.seat.value r.ends r.seat r.whole };
 }
 
-type Running<S, E> = PromisedHandle<Ended<S, E>, SeatPromise<S, E>>;
+type Running<S, E> = PromisedHandle<Ended<S, E>, SeatPromise<S>>;
 
-pub(crate) type SeatThread<S> = Running<S, SeatEnds>;
+pub(crate) type SeatThread<J, S> = Running<S, Port<J>>;
 
-/// Waits for the permission to begin, and runs the seat. Without it the seat is not called.
-fn begin<S: Seat, G: Gate, R: Wait + Clock>(
-    rt: &R,
-    alloc: Global,
-    gate: &G,
-    mut seat: S,
-    ends: SeatEnds,
-) -> Ended<S, SeatEnds>
-    requires number { S.number seat ≡ ends.seat }
-    requires sound { AreSound ends }
-    ensures same { SameEnds ends result.ends }
-    ensures sound { AreSound result.ends }
-    ensures did { result.whole ≡ true → EndsDid ends result.ends (S.asked seat) (S.asked result.seat) (S.heard seat) (S.heard result.seat) }
-    ensures over { result.whole ≡ true → S.over result.seat }
-    ensures fixed { result.whole ≡ true → S.fixed result.seat ≡ S.fixed seat }
-{
-    let mut port = Port::enter(ends);
-    let whole = run_permitted(rt, alloc, &mut seat, &mut port, gate);
-    Ended {
-        seat,
-        ends: port.leave(),
-        whole,
-    }
-}
-
-/// Starts a seat's thread, which waits for the permission to begin.
+/// Starts a seat's thread, which waits for the permission to begin. A stack has this size, or the usual one at 0.
 pub(crate) fn start<
-    S: Seat + Drop + Send + 'static,
+    J: Naming + Send + Sync + 'static,
+    S: Seat<J> + Drop + Send + 'static,
     G: Gate + Send + Sync + Drop + 'static,
     R: Threads + Wait + Clock + Copy + Send + Drop + 'static,
 >(
@@ -121,23 +96,22 @@ pub(crate) fn start<
     stack: usize,
     gate: &Arc<G, Global>,
     seat: S,
-    ends: SeatEnds,
-) -> Result<SeatThread<S>, HallFault>
-    requires number { S.number seat ≡ ends.seat }
-    requires sound { AreSound ends }
-    ensures { IfOk result (λ h. (h.promise.ends.value ≡ ends) × (h.promise.seat.value ≡ seat)) }
+    port: Port<J>,
+) -> Result<SeatThread<J, S>, HallFault>
+    requires begins { BeginsWith S.number S.fixed S.knows S.stands port.putter seat }
+    ensures { IfOk result (λ h. h.promise.seat.value ≡ seat) }
 {
     let Ok(gate) = Arc::try_clone(gate) else {
         return Err(HallFault::Memory);
     };
-    match spawn_seat(rt, alloc, stack, gate, seat, ends) {
+    match spawn_seat(rt, alloc, stack, gate, seat, port) {
         Some(thread) => Ok(thread),
         None => Err(HallFault::Thread),
     }
 }
 
 fn spawn_seat<
-    S: Seat + Drop + Send + 'static,
+    S: Drop + Send + 'static,
     E: Runs<S> + Drop + Send + 'static,
     G: Gate + Send + Sync + Drop + 'static,
     R: Threads + Wait + Clock + Copy + Send + Drop + 'static,
@@ -150,11 +124,10 @@ fn spawn_seat<
     ends: E,
 ) -> Option<Running<S, E>>
     requires ready { E.ready ends seat }
-    ensures { IfSome result (λ h. (h.promise.ends.value ≡ ends) × (h.promise.seat.value ≡ seat)) }
+    ensures { IfSome result (λ h. h.promise.seat.value ≡ seat) }
 {
     let promise = SeatPromise {
         seat: Snapshot::of(&seat),
-        ends: Snapshot::of(&ends),
     };
     let mut builder = thread::Builder::new();
     if stack > 0 {
@@ -166,47 +139,27 @@ fn spawn_seat<
             promise,
             move || -> Ended<S, E>
                 requires { E.ready ends seat }
-                ensures { E.ran ends seat result.ends result.seat result.whole }
+                ensures { E.ran seat result.ends result.seat result.whole }
             { ends.run(&rt, alloc, &*gate, seat) },
         )
         .ok()
 }
 
-/// A seat that has ended, and the pass of its outward channel.
-#[derive(Drop)]
-pub(crate) struct Joined<S> {
-    pub seat: S,
-    pub outward_pass: Pass<Outward, OutwardView>,
-}
-
-/// Joins a worker's thread, and records what its seat did. None where it could not go on.
-pub(crate) fn join_seat<S: Seat + Drop + Send + 'static, R: Threads>(
+/// Joins a seat's thread, and returns the seat, which stands as after all that the history has of it. None where it could not go on,
+/// and where the log has another count than the seat, which no run meets.
+pub(crate) fn join_seat<J: Naming, S: Seat<J> + Drop + Send + 'static, R: Threads>(
     rt: &R,
-    inbox: &mut Inbox,
-    worker: Worker<S>,
-) -> Option<Joined<S>>
-    requires ready { Ready (length (ended_of (view inbox.old.inward_pass))) worker inbox.old }
-    requires seats { length (ended_of (view inbox.old.inward_pass)) < seats_of (view inbox.old.inward_pass) }
-    ensures same { sends_on inbox.new.sender ≡ sends_on inbox.old.sender }
-    ensures seats { seats_of (view inbox.new.inward_pass) ≡ seats_of (view inbox.old.inward_pass) }
-    ensures taken { taken_of (view inbox.new.inward_pass) ≡ taken_of (view inbox.old.inward_pass) }
-    ensures over { IfSome result (λ j. S.over j.seat) }
-    ensures fixed { IfSome result (λ j. S.fixed j.seat ≡ S.fixed worker.thread.promise.seat.value) }
-    ensures ended { IfSome result (λ j. HasEnded S.asked S.heard inbox.old worker inbox.new j) }
+    server: &Server<J>,
+    thread: SeatThread<J, S>,
+) -> Option<S>
+    ensures over { IfSome result S.over }
+    ensures fixed { IfSome result (λ seat. S.fixed seat ≡ S.fixed thread.promise.seat.value) }
+    ensures ended { IfSome result (λ seat. EndsAfter (S.stands seat) (of (S.number thread.promise.seat.value) (served server.now))) }
 {
-    let Worker { outbox, thread } = worker;
     let Ended { seat, ends, whole } = thread.join(rt);
-    if !whole {
-        drop(seat);
-        drop(ends);
-        return None;
+    if whole && server.has_all(&ends.putter) {
+        return Some(seat);
     }
-    let Ends {
-        inward_pass,
-        outward_pass,
-        ..
-    } = ends;
-    inbox.end_seat(inward_pass);
-    let outward_pass = outbox.close(outward_pass);
-    Some(Joined { seat, outward_pass })
+    drop(seat);
+    None
 }

@@ -1,12 +1,12 @@
 //! Seats (connection workers) and the `Gate` before their jobs.
 
-ghost use Rattle.std.specs.Prelude.{◌≡◌, ◌%◌, ℕ, List, Option, IfSome, IfNone, MatchOption};
-ghost use Rattle.ck_calls.specs.declared.reply.Reply.{Reply as ReplyType};
-ghost use Rattle.hall.specs.Tells.{Adds};
-ghost use Rattle.hall.specs.SeatEvents.{seat_app, Notes, IsReady};
+ghost use Rattle.std.specs.Prelude.{◌≡◌, ℕ, List, IfSome, IfNone, MatchOption};
+ghost use Rattle.hall_log.specs.Lists.{of};
+ghost use Rattle.hall_log.specs.Log.{served};
+ghost use Rattle.hall.specs.SeatEvents.{IsReplyTo, MayAsk, StandsThen};
 
 use ck_calls::Reply;
-use hall_log::AppCall;
+use hall_log::{AppCall, Naming, Told};
 
 /// What a seat puts before the token of itself.
 #[derive(Drop)]
@@ -19,8 +19,11 @@ pub enum SeatEvent {
 
 /// A connection worker: where events come from and replies go. Of four seats, seat s has the applications with remainder s
 /// modulo 4.
-pub trait Seat {
-    ghost use Rattle.hall.specs.declared.seats.SeatEvent.{SeatEvent};
+///
+/// Each call of it is told a history that the token has served (`Told`), in which all that this seat has put was answered.
+pub trait Seat<J: Naming> {
+    ghost use Rattle.hall_log.specs.Histories.{Exchange};
+    ghost use Rattle.hall_log.specs.declared.event.AppCall.{AppCall};
 
     /// Its number, from 0 to 3.
     ghost number: { Self → ℕ };
@@ -31,40 +34,33 @@ pub trait Seat {
     /// What never changes of it, as the seed of its applications' random bytes.
     ghost fixed: { Self → List ℕ };
 
-    /// The applications that have disconnected.
-    ghost gone: { Self → ℕ → Type 0 };
+    /// What must be known of the log's name, by what never changes of it: when a call counts as read.
+    ghost knows: { List ℕ → Type 0 };
 
-    /// It can take a reply to this application.
-    ghost ready: { Self → ℕ → Type 0 };
+    /// It stands as after these exchanges of its own.
+    ghost stands: { Self → List Exchange → Type 0 };
 
-    /// The events that it has given, where it reports them.
-    ghost asked: { Self → Option (List SeatEvent) };
-
-    /// The replies that it has taken with their applications, where it reports them.
-    ghost heard: { Self → Option (List (ℕ × ReplyType)) };
+    /// It waits for the reply to this call, which came after these exchanges of its own.
+    ghost waits: { Self → List Exchange → AppCall → Type 0 };
 
     /// The next event, or that there is no more. An application that has disconnected is named no more. It may wait, and holds up
     /// no other seat.
-    fn next(&mut self) -> Option<SeatEvent>
+    fn next(&mut self, told: &Told<J>) -> Option<SeatEvent>
+        requires knows { knows (fixed self.old) }
+        requires stands { stands self.old (of (number self.old) (served told.now)) }
         ensures number { number self.new ≡ number self.old }
         ensures fixed { fixed self.new ≡ fixed self.old }
         ensures over { IfNone result (over self.new) }
-        ensures own { IfSome result (λ e. seat_app e % 4 ≡ number self.old) }
-        ensures there { IfSome result (λ e. ¬ gone self.old (seat_app e)) }
-        ensures goes { IfSome result (Notes (gone self.new)) }
-        ensures gone { (app : ℕ) → gone self.old app → gone self.new app }
-        ensures ready { IfSome result (IsReady (ready self.new)) }
-        ensures asked { MatchOption result (asked self.new ≡ asked self.old) (λ e. Adds (asked self.old) e (asked self.new)) }
-        ensures heard { heard self.new ≡ heard self.old };
+        ensures may { IfSome result (MayAsk J.was_read (number self.old) (of (number self.old) (served told.now))) }
+        ensures stands { MatchOption result (stands self.new (of (number self.old) (served told.now)))
+            (StandsThen (stands self.new) (waits self.new) (of (number self.old) (served told.now))) };
 
     /// Takes the reply to its last call, which was of this application. It can't fail, so `next` allocates for it before.
-    fn take(&mut self, app: u64, reply: Reply)
-        requires { ready self.old app }
+    fn take(&mut self, app: u64, reply: Reply, told: &Told<J>)
+        requires reply { IsReplyTo (waits self.old) (of (number self.old) (served told.now)) app reply }
         ensures number { number self.new ≡ number self.old }
         ensures fixed { fixed self.new ≡ fixed self.old }
-        ensures gone { (app : ℕ) → gone self.old app → gone self.new app }
-        ensures asked { asked self.new ≡ asked self.old }
-        ensures heard { Adds (heard self.old) (app, reply) (heard self.new) };
+        ensures stands { stands self.new (of (number self.old) (served told.now)) };
 }
 
 /// Where a seat passes with a job before it runs it. It may wait there, and holds up no other seat.

@@ -1,114 +1,92 @@
 //! The token's loop, in the calling thread.
 
-ghost use Rattle.std.specs.Prelude.{◌≡◌, ◌<◌, [], length, IsTrue};
-ghost use Rattle.crossbeam_channel.specs.Claims.{view};
-ghost use Rattle.crossbeam_channel.specs.Ends.{sends_on};
-ghost use Rattle.hall_channels.specs.Inward.{seats_of, taken_of, ended_of};
-ghost use Rattle.hall.specs.Given.{HasGiven, HasTaken, IsLed, MayGive};
-ghost use Rattle.hall.specs.Outboxes.{OutboxesGave, SameOutboxes};
+ghost use Rattle.std.specs.Prelude.{◌≡◌, IsTrue};
+ghost use Rattle.hall_log.specs.Histories.{History};
+ghost use Rattle.hall_log.specs.Log.{served};
+ghost use Rattle.hall.specs.Exchanges.{Suits};
+ghost use Rattle.hall.specs.Given.{Did, IsLed, IsSoFar};
 
 use crate::machine::Machine;
 use hall_channels::inbox::Inbox;
-use hall_channels::licence::Licence;
-use hall_channels::messages::{Inward, Message};
+use hall_channels::messages::{Inward, Posted};
 use hall_channels::outbox::Outbox;
-use hall_log::Event;
+use hall_log::{Event, Naming, Server};
 use std::alloc::Global;
 use std::snapshot::Snapshot;
 use std::sync::Wait;
 use std::time::Clock;
 use token::Out;
 
-/// The machine that serves, and how it was before. That has no bytes, and is for contracts alone.
+/// The machine that serves, and the log's end that knows which history it has served. How it was before has no bytes, and is for
+/// contracts alone.
 #[derive(Drop)]
-pub(crate) struct Serving<M> {
+pub(crate) struct Serving<M, J: Naming> {
     pub machine: M,
     pub began: Snapshot<M>,
+    pub server: Server<J>,
 }
 
-/// Only the answer to the last event of a history that the machine has served goes to a seat.
-impl<M: Machine> Licence for Serving<M> {
-    ghost use Rattle.hall.specs.Given.{HasAnswered};
-
-    ghost allows = { λ serving out. HasAnswered M.doubt M.failures M.shows M.leaves M.spare serving.began.value serving.machine out };
-}
-
-/// Gives a seat its answer. False where the channel has ended. It is required that the answers given so far, with this one, are
-/// those of a history that the machine has served of just the events that were taken.
-fn give<M: Machine, R: Wait>(
-    rt: &R,
-    serving: &Serving<M>,
-    _inbox: &Inbox,
-    outboxes: &mut [Outbox],
-    seat: usize,
-    message: Box<Message>,
-    out: Out,
-) -> bool
-    requires within { seat < length outboxes.old }
-    requires may { MayGive M.doubt M.failures M.shows M.leaves M.spare serving.now.began.value serving.now.machine
-        (taken_of (view _inbox.now.inward_pass)) outboxes.old seat out }
-    ensures same { SameOutboxes outboxes.old outboxes.new }
-    ensures given { IsTrue result → HasGiven M.doubt M.failures M.shows M.leaves M.spare serving.now.began.value serving.now.machine
-        (taken_of (view _inbox.now.inward_pass)) outboxes.new }
+/// What the machine answers to an event: None to a disconnect.
+fn answer<M: Machine>(alloc: Global, machine: &mut M, event: Event) -> Option<Out>
+    ensures suits { Suits event result }
+    ensures did { Did M.doubt M.failures M.shows M.leaves M.spare machine.old machine.new event result }
 {
-    outboxes[seat].answer(rt, serving, message, out)
+    match event {
+        Event::Call(call) => Some(machine.call(alloc, call)),
+        Event::Finish { app, done } => Some(Out::Reply(machine.finish(alloc, app, done))),
+        Event::Gone { app } => {
+            machine.gone(app);
+            None
+        }
+    }
 }
 
-/// Takes the event out of its message, and gives its answer in it. False where the channel has ended.
-fn serve<M: Machine, R: Wait>(
+/// Takes the event out of its message, and gives its answer in it: what the machine answered, by the receipt that it is the log's. False
+/// where the event is none that its seat may put next, or the channel has ended.
+fn serve<M: Machine, J: Naming, R: Wait>(
     rt: &R,
     alloc: Global,
-    serving: &mut Serving<M>,
-    inbox: &Inbox,
-    outboxes: &mut [Outbox],
-    seat: usize,
-    mut message: Box<Message>,
+    serving: &mut Serving<M, J>,
+    outboxes: &mut [Outbox<J>],
+    posted: Posted<J>,
 ) -> bool
-    requires within { seat < length outboxes.old }
-    requires taken { HasTaken M.doubt M.failures M.shows M.leaves M.spare serving.old.began.value serving.old.machine
-        (taken_of (view inbox.now.inward_pass)) outboxes.old seat message.value.event }
+    requires so { IsSoFar M.doubt M.failures M.shows M.leaves M.spare J.was_read serving.old.began.value serving.old.machine (served serving.old.server) }
+    requires all { (now : M) (h : History) → IsSoFar M.doubt M.failures M.shows M.leaves M.spare J.was_read serving.old.began.value now h → J.served h }
     ensures began { serving.new.began.value ≡ serving.old.began.value }
-    ensures same { SameOutboxes outboxes.old outboxes.new }
-    ensures given { IsTrue result → HasGiven M.doubt M.failures M.shows M.leaves M.spare serving.new.began.value serving.new.machine
-        (taken_of (view inbox.now.inward_pass)) outboxes.new }
+    ensures so { IsTrue result → IsSoFar M.doubt M.failures M.shows M.leaves M.spare J.was_read serving.new.began.value serving.new.machine (served serving.new.server) }
     ensures led { IsLed M.doubt M.failures M.shows M.leaves M.spare serving.new.began.value serving.new.machine }
 {
-    match message.take_event() {
-        Event::Call(call) => {
-            let out = serving.machine.call(alloc, call);
-            give(rt, serving, inbox, outboxes, seat, message, out)
-        }
-        Event::Finish { app, done } => {
-            let reply = serving.machine.finish(alloc, app, done);
-            let out = Out::Reply(reply);
-            give(rt, serving, inbox, outboxes, seat, message, out)
-        }
-        Event::Gone { app } => {
-            serving.machine.gone(app);
-            outboxes[seat].give_back(rt, message)
-        }
+    if !serving.server.is_next(&posted.post) {
+        drop(posted);
+        return false;
+    }
+    let Posted { mut message, post } = posted;
+    let Some(outbox) = outboxes.get_mut(post.seat as usize) else {
+        return false;
+    };
+    let answer = answer(alloc, &mut serving.machine, message.take_event());
+    let Some(receipt) = serving.server.serve(post, &answer) else {
+        return false;
+    };
+    match answer {
+        Some(out) => outbox.answer(rt, message, out, receipt),
+        None => outbox.give_back(rt, message, receipt),
     }
 }
 
 /// Takes events until four seats have ended. False where a seat could not go on, or a channel has ended before.
 #[inline(never)]
-pub(crate) fn serve_seats<M: Machine, R: Wait + Clock>(
+pub(crate) fn serve_seats<M: Machine, J: Naming, R: Wait + Clock>(
     rt: &R,
     alloc: Global,
-    serving: &mut Serving<M>,
-    inbox: &mut Inbox,
-    outboxes: &mut [Outbox],
+    serving: &mut Serving<M, J>,
+    inbox: &mut Inbox<J>,
+    outboxes: &mut [Outbox<J>],
 ) -> bool
-    requires began { serving.old.began.value ≡ serving.old.machine }
-    requires taken { taken_of (view inbox.old.inward_pass) ≡ [] }
-    requires given { OutboxesGave outboxes.old [] }
+    requires so { IsSoFar M.doubt M.failures M.shows M.leaves M.spare J.was_read serving.old.began.value serving.old.machine (served serving.old.server) }
+    requires all { (now : M) (h : History) → IsSoFar M.doubt M.failures M.shows M.leaves M.spare J.was_read serving.old.began.value now h → J.served h }
     ensures began { serving.new.began.value ≡ serving.old.began.value }
-    ensures same { sends_on inbox.new.sender ≡ sends_on inbox.old.sender }
-    ensures seats { seats_of (view inbox.new.inward_pass) ≡ seats_of (view inbox.old.inward_pass) }
-    ensures ended { ended_of (view inbox.new.inward_pass) ≡ ended_of (view inbox.old.inward_pass) }
-    ensures outboxes { SameOutboxes outboxes.old outboxes.new }
-    ensures given { IsTrue result → HasGiven M.doubt M.failures M.shows M.leaves M.spare serving.new.began.value serving.new.machine
-        (taken_of (view inbox.new.inward_pass)) outboxes.new }
+    ensures so { IsTrue result → IsSoFar M.doubt M.failures M.shows M.leaves M.spare J.was_read serving.new.began.value serving.new.machine (served serving.new.server) }
     ensures led { IsLed M.doubt M.failures M.shows M.leaves M.spare serving.new.began.value serving.new.machine }
 {
     let mut ended: u64 = 0;
@@ -124,13 +102,8 @@ pub(crate) fn serve_seats<M: Machine, R: Wait + Clock>(
                 }
                 ended += 1;
             }
-            Some(Inward::Put { seat, message }) => {
-                let at = seat as usize;
-                if at >= outboxes.len() {
-                    drop(message);
-                    return false;
-                }
-                if !serve(rt, alloc, serving, inbox, outboxes, at, message) {
+            Some(Inward::Put(posted)) => {
+                if !serve(rt, alloc, serving, outboxes, posted) {
                     return false;
                 }
             }

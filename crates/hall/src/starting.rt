@@ -1,21 +1,24 @@
 //! The start of all threads.
 
 ghost use Rattle.std.specs.Prelude.{◌≡◌, IfOk};
-ghost use Rattle.hall_channels.specs.Sound.{AreSound};
-ghost use Rattle.hall.specs.Ready.{StartedWith};
+ghost use Rattle.hall.specs.Beginning.{BeginsWith};
 
 use crate::fault::HallFault;
-use crate::link::{Link, Opened};
+use crate::link::{Link, Links};
 use crate::seat_thread::start;
 use crate::seats::{Gate, Seat};
-use crate::worker::{Started, Worker};
+use crate::worker::{Worker, Workers};
+use hall_log::Naming;
 use std::alloc::Global;
 use std::sync::{Arc, Wait};
 use std::thread::Threads;
 use std::time::Clock;
 
 /// Stops a thread that waits to begin, and joins it. Its seat was not called.
-fn stop<S: Seat + Drop + Send + 'static, R: Threads + Wait>(rt: &R, worker: Worker<S>) {
+fn stop<J: Naming, S: Seat<J> + Drop + Send + 'static, R: Threads + Wait>(
+    rt: &R,
+    worker: Worker<J, S>,
+) {
     let Worker { mut outbox, thread } = worker;
     outbox.stop(rt);
     drop(thread.join(rt));
@@ -23,7 +26,8 @@ fn stop<S: Seat + Drop + Send + 'static, R: Threads + Wait>(rt: &R, worker: Work
 
 /// Starts the thread of one seat, which waits for the permission to begin. A stack has this size, or the usual one at 0.
 fn start_worker<
-    S: Seat + Drop + Send + 'static,
+    J: Naming + Send + Sync + 'static,
+    S: Seat<J> + Drop + Send + 'static,
     G: Gate + Send + Sync + Drop + 'static,
     R: Threads + Wait + Clock + Copy + Send + Drop + 'static,
 >(
@@ -32,14 +36,13 @@ fn start_worker<
     stack: usize,
     gate: &Arc<G, Global>,
     seat: S,
-    link: Link,
-) -> Result<Worker<S>, HallFault>
-    requires number { S.number seat ≡ link.ends.seat }
-    requires sound { AreSound link.ends }
-    ensures { IfOk result (λ w. StartedWith link seat w) }
+    link: Link<J>,
+) -> Result<Worker<J, S>, HallFault>
+    requires begins { BeginsWith S.number S.fixed S.knows S.stands link.port.putter seat }
+    ensures { IfOk result (λ w. w.thread.promise.seat.value ≡ seat) }
 {
-    let Link { outbox, ends } = link;
-    match start(rt, alloc, stack, gate, seat, ends) {
+    let Link { outbox, port } = link;
+    match start(rt, alloc, stack, gate, seat, port) {
         Ok(thread) => Ok(Worker { outbox, thread }),
         Err(fault) => Err(fault),
     }
@@ -47,7 +50,8 @@ fn start_worker<
 
 /// Starts all threads, or none that calls its seat. A stack has this size, or the usual one at 0.
 pub(crate) fn start_all<
-    S: Seat + Drop + Send + 'static,
+    J: Naming + Send + Sync + 'static,
+    S: Seat<J> + Drop + Send + 'static,
     G: Gate + Send + Sync + Drop + 'static,
     R: Threads + Wait + Clock + Copy + Send + Drop + 'static,
 >(
@@ -56,25 +60,18 @@ pub(crate) fn start_all<
     stacks: (usize, usize, usize, usize),
     gate: &Arc<G, Global>,
     seats: (S, S, S, S),
-    opened: Opened,
-) -> Result<Started<S>, HallFault>
-    requires first { (S.number seats.0 ≡ opened.link0.ends.seat) × AreSound opened.link0.ends }
-    requires second { (S.number seats.1 ≡ opened.link1.ends.seat) × AreSound opened.link1.ends }
-    requires third { (S.number seats.2 ≡ opened.link2.ends.seat) × AreSound opened.link2.ends }
-    requires fourth { (S.number seats.3 ≡ opened.link3.ends.seat) × AreSound opened.link3.ends }
-    ensures inbox { IfOk result (λ r. r.inbox ≡ opened.inbox) }
-    ensures worker0 { IfOk result (λ r. StartedWith opened.link0 seats.0 r.worker0) }
-    ensures worker1 { IfOk result (λ r. StartedWith opened.link1 seats.1 r.worker1) }
-    ensures worker2 { IfOk result (λ r. StartedWith opened.link2 seats.2 r.worker2) }
-    ensures worker3 { IfOk result (λ r. StartedWith opened.link3 seats.3 r.worker3) }
+    links: Links<J>,
+) -> Result<Workers<J, S>, HallFault>
+    requires first { BeginsWith S.number S.fixed S.knows S.stands links.0.0.port.putter seats.0 }
+    requires second { BeginsWith S.number S.fixed S.knows S.stands links.0.1.port.putter seats.1 }
+    requires third { BeginsWith S.number S.fixed S.knows S.stands links.1.0.port.putter seats.2 }
+    requires fourth { BeginsWith S.number S.fixed S.knows S.stands links.1.1.port.putter seats.3 }
+    ensures worker0 { IfOk result (λ r. r.0.thread.promise.seat.value ≡ seats.0) }
+    ensures worker1 { IfOk result (λ r. r.1.thread.promise.seat.value ≡ seats.1) }
+    ensures worker2 { IfOk result (λ r. r.2.thread.promise.seat.value ≡ seats.2) }
+    ensures worker3 { IfOk result (λ r. r.3.thread.promise.seat.value ≡ seats.3) }
 {
-    let Opened {
-        inbox,
-        link0,
-        link1,
-        link2,
-        link3,
-    } = opened;
+    let ((link0, link1), (link2, link3)) = links;
     let worker0 = start_worker(rt, alloc, stacks.0, gate, seats.0, link0)?;
     let worker1 = match start_worker(rt, alloc, stacks.1, gate, seats.1, link1) {
         Ok(worker) => worker,
@@ -100,11 +97,5 @@ pub(crate) fn start_all<
             return Err(fault);
         }
     };
-    Ok(Started {
-        inbox,
-        worker0,
-        worker1,
-        worker2,
-        worker3,
-    })
+    Ok((worker0, worker1, worker2, worker3))
 }

@@ -2,22 +2,15 @@
 
 use crate::seat_thread::SeatThread;
 use crate::seats::Seat;
-use hall_channels::inbox::Inbox;
 use hall_channels::outbox::Outbox;
+use hall_log::Naming;
 
 /// A worker: the token's end of its seat's channel, and the thread that the seat runs in.
 #[derive(Drop)]
-pub(crate) struct Worker<S: Seat + Drop> {
-    pub outbox: Outbox,
-    pub thread: SeatThread<S>,
+pub(crate) struct Worker<J: Naming, S: Seat<J> + Drop> {
+    pub outbox: Outbox<J>,
+    pub thread: SeatThread<J, S>,
 }
 
-/// The token's end of the inward channel, and the four workers, which wait for the permission to begin.
-#[derive(Drop)]
-pub(crate) struct Started<S: Seat + Drop> {
-    pub inbox: Inbox,
-    pub worker0: Worker<S>,
-    pub worker1: Worker<S>,
-    pub worker2: Worker<S>,
-    pub worker3: Worker<S>,
-}
+/// The four workers, which wait for the permission to begin.
+pub(crate) type Workers<J, S> = (Worker<J, S>, Worker<J, S>, Worker<J, S>, Worker<J, S>);

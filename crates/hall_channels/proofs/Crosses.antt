@@ -1,11 +1,9 @@
 -- Messages may cross to another thread: they own all that they have.
-use Rattle.std.proofs.Common.{rules}
 use Rattle.std.proofs.Crossing.{crosses, Box-send}
-use denote.Param.Send.{IsSend, sendable, view_send, recorded_send, struct_send, enum_send}
-use denote.Param.SendFields.{declared_send, variants_send, as_row_send, VariantsHave}
+use denote.Param.Send.{IsSend, sendable}
+use denote.Param.SendFields.{declared_send, variants_send, as_row_send}
 use Rattle.ck_calls.specs.contracts.fields.Mechanism as Mechanism
 use Rattle.ck_calls.specs.contracts.fields.AttributeQuery as AttributeQuery
-use mathlib.Core.List.{List, [], ◌∷◌}
 use Rattle.streams.specs.contracts.kept.Kept as Kept
 use Rattle.streams.specs.contracts.ecb_encryption.EcbEncryption as EcbEncryption
 use Rattle.streams.specs.contracts.ecb_decryption.EcbDecryption as EcbDecryption
@@ -25,8 +23,6 @@ use Rattle.sha2.specs.contracts.Sha512 as Sha512
 use Rattle.ck_types.specs.contracts.items.Items as Items
 use Rattle.ck_types.specs.contracts.entry.Entry as Entry
 use denote.RattleType.{RattleType}
-use denote.Plain.{UInt}
-use mir.Syntax.{w8}
 use Rattle.ck_types.specs.contracts.label.Label as Label
 use Rattle.attrs.specs.contracts.object.Object as Object
 use Rattle.pin_record.specs.contracts.verifier.Verifier as Verifier
@@ -40,9 +36,19 @@ use Rattle.ck_calls.specs.contracts.reply.Reply as Reply
 use Rattle.serve_base.specs.contracts.out.Out as Out
 use Rattle.hall_log.specs.contracts.event.Event as Event
 use Rattle.hall_channels.specs.contracts.messages.Message as Message
+use Rattle.hall_log.proofs.Crosses.{post_send, putter_send, receipt_send}
+use Rattle.hall_channels.specs.contracts.messages.Posted as Posted
 use Rattle.hall_channels.specs.contracts.messages.Answered as Answered
+use Rattle.hall_channels.specs.contracts.messages.Returned as Returned
 use Rattle.hall_channels.specs.contracts.messages.Inward as Inward
 use Rattle.hall_channels.specs.contracts.messages.Outward as Outward
+use Rattle.hall_channels.specs.contracts.port.Port as Port
+use denote.Struct.Field.{row_field}
+use Rattle.std.specs.contracts.alloc.Global as Global
+use Rattle.std.specs.contracts.boxed.Box as Box
+use Rattle.std.specs.contracts.option.Option as Option
+use Rattle.std.specs.contracts.impls.GlobalAllocator.TheImpl.{ghosts as global}
+use Rattle.hall_channels.proofs.EndsCross.{receiver_send, sender_send}
 use Rattle.lists.specs.contracts.ghost_bytes.GhostBytes as GhostBytes
 use Rattle.streams.specs.contracts.stream.Stream.TheInside as Inside
 use Rattle.aes_vector.specs.contracts.Key as Key
@@ -279,14 +285,29 @@ appcall_send = declared_send AppCall.the_type (search sendable depth 20, (call_s
 event_send : IsSend Event.the_row
 event_send = variants_send Event.enum ((appcall_send, tt), ((search sendable depth 20, (done_send, tt)), ((search sendable depth 20, tt), tt)))
 
-message_send : IsSend Message.the_row
+pub message_send : IsSend Message.the_row
 message_send = declared_send Message.the_type (event_send, (out_send, tt))
 
-answered_send : IsSend Answered.the_row
-answered_send = declared_send Answered.the_type (Box-send Message.the_row message_send, tt)
+-- ---- what carries the log's word
 
-pub inward_send : IsSend Inward.the_row
-inward_send = variants_send Inward.enum ((search sendable depth 20, (Box-send Message.the_row message_send, tt)), ((search sendable depth 20, (search sendable depth 20, tt)), tt))
+option_send : (X : RattleType) → IsSend X → IsSend (Option.the_row X)
+option_send X x = variants_send (Option.enum X) (tt, ((as_row_send (row_field X) x, tt), tt))
 
-pub outward_send : IsSend Outward.the_row
-outward_send = variants_send Outward.enum ((Box-send Message.the_row message_send, tt), ((answered_send, tt), (tt, tt)))
+module _ (J : RattleType) (n : _) where
+  posted_send : IsSend (Posted.the_row J n)
+  posted_send = declared_send (Posted.the_type J n) (Box-send Message.the_row message_send, (post_send J n, tt))
+
+  answered_send : IsSend (Answered.the_row J n)
+  answered_send = declared_send (Answered.the_type J n) (Box-send Message.the_row message_send, (receipt_send J n, tt))
+
+  returned_send : IsSend (Returned.the_row J n)
+  returned_send = declared_send (Returned.the_type J n) (Box-send Message.the_row message_send, (receipt_send J n, tt))
+
+  inward_send : IsSend (Inward.the_row J n)
+  inward_send = variants_send (Inward.enum J n) ((posted_send, tt), ((search sendable depth 20, (search sendable depth 20, tt)), tt))
+
+  outward_send : IsSend (Outward.the_row J n)
+  outward_send = variants_send (Outward.enum J n) ((Box-send Message.the_row message_send, tt), ((answered_send, tt), ((returned_send, tt), (tt, tt))))
+
+  pub port_send : IsSend (Port.the_row J n)
+  port_send = declared_send (Port.the_type J n) (option_send (Box.the_row Message.the_row Global.the_row global) (Box-send Message.the_row message_send), (putter_send J n, (sender_send (Inward.the_row J n) inward_send, (receiver_send (Outward.the_row J n) outward_send, (search sendable depth 20, tt)))))

@@ -1,6 +1,7 @@
--- The ends of the channels may cross to another thread.
+-- The ends of a channel may cross to another thread, where its messages may.
 use denote.RattleType.{RattleType}
 use denote.Param.Send.{IsSend, IsSync, sendable}
+use denote.Param.SendFields.{declared_send}
 use Rattle.std.proofs.Crossing.{crosses}
 use Rattle.std.specs.contracts.alloc.Global as Global
 use Rattle.std.specs.contracts.impls.GlobalAllocator.TheImpl.{ghosts}
@@ -23,16 +24,13 @@ use Rattle.crossbeam_channel.specs.contracts.flavors.array.WholeSight.TheImpl as
 use Rattle.crossbeam_channel.specs.contracts.flavors.array.ruled.Both as Both
 use Rattle.crossbeam_channel.specs.contracts.flavors.array.ruled.Receiving as Receiving
 use Rattle.crossbeam_channel.specs.contracts.flavors.array.ruled.Sending as Sending
-use Rattle.hall_channels.specs.contracts.inward.InwardRule as InwardRule
-use Rattle.hall_channels.specs.contracts.inward.InwardRuleProtocolInwardInwardView.TheImpl as inward_rule
-use Rattle.hall_channels.specs.contracts.inward.InwardView as InwardView
-use Rattle.hall_channels.specs.contracts.messages.Inward as Inward
-use Rattle.hall_channels.specs.contracts.messages.Outward as Outward
-use Rattle.hall_channels.specs.contracts.outward.OutwardRule as OutwardRule
-use Rattle.hall_channels.specs.contracts.outward.OutwardRuleProtocolOutwardOutwardView.TheImpl as outward_rule
-use Rattle.hall_channels.specs.contracts.outward.OutwardView as OutwardView
-use Rattle.hall_channels.specs.contracts.port.Ends as Ends
-use Rattle.hall_channels.proofs.Crosses.{inward_send, outward_send}
+use denote.Builtin.{unit}
+use Rattle.crossbeam_channel.specs.contracts.protocol.Free as Free
+use Rattle.crossbeam_channel.specs.contracts.protocol.FreeProtocolUnit.TheImpl as free
+use Rattle.hall_channels.specs.contracts.ends.Sender as Sender
+use Rattle.hall_channels.specs.contracts.ends.Sender.TheInside as SenderInside
+use Rattle.hall_channels.specs.contracts.ends.Receiver as Receiver
+use Rattle.hall_channels.specs.contracts.ends.Receiver.TheInside as ReceiverInside
 
 rows_send : (S D Q M K L : RattleType) (p : _) (q : _) → IsSend S → IsSend M → IsSend (Rows.the_row S D Q M K L Global.the_row p q ghosts)
 rows_send S D Q M K L p q s m = search (shared_send, lease_send, sendable, crosses) depth 30 fits 20000
@@ -55,9 +53,6 @@ receiving_send C s y = search (sendable, crosses) depth 20
 option_send : (T : RattleType) → IsSend T → IsSend (Option.the_row T)
 option_send T s = search (sendable, crosses) depth 20
 
-ends_send : (I H O L : RattleType) → IsSend I → IsSend H → IsSend O → IsSend L → IsSend (Ends.the_row I H O L)
-ends_send I H O L i h o l = search sendable depth 20
-
 rows_of_send : (M V R : RattleType) (p : _) (q : _) → IsSend M → IsSend (Rows.the_row (Badge.the_row (Key.the_row M)) (Doing.the_row M V) (Rounds.the_row R) (Option.the_row M) (Key.the_row M) (Lockers.the_row Whole.the_row) Global.the_row p q ghosts)
 rows_of_send M V R p q m = rows_send (Badge.the_row (Key.the_row M)) (Doing.the_row M V) (Rounds.the_row R) (Option.the_row M) (Key.the_row M) (Lockers.the_row Whole.the_row) p q (badge_send (Key.the_row M)) (option_send M m)
 
@@ -76,29 +71,14 @@ pass_row M V = Seat.the_row (Badge.the_row (Key.the_row M)) (Doing.the_row M V)
 pass_send : (M V : RattleType) → IsSend (pass_row M V)
 pass_send M V = seat_send (Badge.the_row (Key.the_row M)) (Doing.the_row M V) (badge_send (Key.the_row M))
 
-abbrev inward_end : RattleType
-inward_end = Sending.the_row (Rows.the_row (Badge.the_row (Key.the_row Inward.the_row)) (Doing.the_row Inward.the_row InwardView.the_row) (Rounds.the_row InwardRule.the_row) (Option.the_row Inward.the_row) (Key.the_row Inward.the_row) (Lockers.the_row Whole.the_row) Global.the_row
-    (rounds.ghosts Inward.the_row InwardView.the_row InwardRule.the_row inward_rule.ghosts rounds.no_dict)
-    (lockers.ghosts Inward.the_row Inward.the_row Whole.the_row (whole.ghosts Inward.the_row) lockers.no_dict) ghosts) Global.the_row ghosts
+sender_inside : (M : RattleType) → IsSend M → IsSend (SenderInside.the_row M)
+sender_inside M m = declared_send (SenderInside.the_type M) (sending_of M unit Free.the_row (rounds.ghosts M unit Free.the_row (free.ghosts M) rounds.no_dict) (lockers.ghosts M M Whole.the_row (whole.ghosts M) lockers.no_dict) m, (pass_send M unit, tt))
 
-abbrev outward_end : RattleType
-outward_end = Receiving.the_row (Rows.the_row (Badge.the_row (Key.the_row Outward.the_row)) (Doing.the_row Outward.the_row OutwardView.the_row) (Rounds.the_row OutwardRule.the_row) (Option.the_row Outward.the_row) (Key.the_row Outward.the_row) (Lockers.the_row Whole.the_row) Global.the_row
-    (rounds.ghosts Outward.the_row OutwardView.the_row OutwardRule.the_row outward_rule.ghosts rounds.no_dict)
-    (lockers.ghosts Outward.the_row Outward.the_row Whole.the_row (whole.ghosts Outward.the_row) lockers.no_dict) ghosts) Global.the_row ghosts
+pub sender_send : (M : RattleType) → IsSend M → IsSend (Sender.the_row M)
+sender_send M m = search (sender_inside M m, sendable) depth 10
 
-inward_end_send : IsSend inward_end
-inward_end_send = sending_of Inward.the_row InwardView.the_row InwardRule.the_row
-    (rounds.ghosts Inward.the_row InwardView.the_row InwardRule.the_row inward_rule.ghosts rounds.no_dict)
-    (lockers.ghosts Inward.the_row Inward.the_row Whole.the_row (whole.ghosts Inward.the_row) lockers.no_dict) inward_send
+receiver_inside : (M : RattleType) → IsSend M → IsSend (ReceiverInside.the_row M)
+receiver_inside M m = declared_send (ReceiverInside.the_type M) (receiving_of M unit Free.the_row (rounds.ghosts M unit Free.the_row (free.ghosts M) rounds.no_dict) (lockers.ghosts M M Whole.the_row (whole.ghosts M) lockers.no_dict) m, (pass_send M unit, tt))
 
-outward_end_send : IsSend outward_end
-outward_end_send = receiving_of Outward.the_row OutwardView.the_row OutwardRule.the_row
-    (rounds.ghosts Outward.the_row OutwardView.the_row OutwardRule.the_row outward_rule.ghosts rounds.no_dict)
-    (lockers.ghosts Outward.the_row Outward.the_row Whole.the_row (whole.ghosts Outward.the_row) lockers.no_dict) outward_send
-
-abbrev pub seat_ends : RattleType
-seat_ends = Ends.the_row inward_end (pass_row Inward.the_row InwardView.the_row) outward_end (pass_row Outward.the_row OutwardView.the_row)
-
-pub seat_ends_send : IsSend seat_ends
-seat_ends_send = ends_send inward_end (pass_row Inward.the_row InwardView.the_row) outward_end (pass_row Outward.the_row OutwardView.the_row)
-    inward_end_send (pass_send Inward.the_row InwardView.the_row) outward_end_send (pass_send Outward.the_row OutwardView.the_row)
+pub receiver_send : (M : RattleType) → IsSend M → IsSend (Receiver.the_row M)
+receiver_send M m = search (receiver_inside M m, sendable) depth 10

@@ -1,5 +1,2 @@
-pub mod Arrives
 pub mod Crosses
 pub mod EndsCross
-pub mod Reaches
-pub mod Rows

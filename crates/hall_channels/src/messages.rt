@@ -1,9 +1,9 @@
 //! What passes between the seats and the token.
 
-ghost use Rattle.std.specs.Prelude.{◌≡◌};
+ghost use Rattle.std.specs.Prelude.{◌≡◌, None, Some};
 
 use ck_calls::Reply;
-use hall_log::Event;
+use hall_log::{Event, Naming, Post, Receipt};
 use serve_base::Out;
 use std::alloc::{AllocError, Global};
 use std::mem;
@@ -61,28 +61,48 @@ impl Message {
     }
 }
 
+/// A message with an event of a seat, and the log's word for it: that this seat put just this event, and might.
+#[derive(Drop)]
+pub struct Posted<J: Naming> {
+    pub message: Box<Message>,
+    pub post: Post<J>,
+    pub ghost same: { message.value.event ≡ post.event.value },
+}
+
 /// What goes to the token.
 #[derive(Drop)]
-pub enum Inward {
-    /// The message of a seat, with an event.
-    Put { seat: u64, message: Box<Message> },
+pub enum Inward<J: Naming> {
+    /// An event of a seat.
+    Put(Posted<J>),
     /// The mark that the seat puts no more, and whether it had no more. If not, it could not go on.
     End { seat: u64, whole: bool },
 }
 
-/// A message with the answer to a seat's last event. Only `Outbox::answer` makes one.
+/// A message with the answer to a seat's last event, and the log's word for it: that the token gave just this answer.
 #[derive(Drop)]
-pub struct Answered {
+pub struct Answered<J: Naming> {
     pub(crate) message: Box<Message>,
+    pub(crate) receipt: Receipt<J>,
+    pub ghost same: { receipt.answer.value ≡ Some message.value.answer },
+}
+
+/// A message whose disconnect was taken, and the log's word for it.
+#[derive(Drop)]
+pub struct Returned<J: Naming> {
+    pub(crate) message: Box<Message>,
+    pub(crate) receipt: Receipt<J>,
+    pub ghost none: { receipt.answer.value ≡ None },
 }
 
 /// What goes to a seat.
 #[derive(Drop)]
-pub enum Outward {
-    /// Its message with nothing for it: it may begin, or its disconnect was taken.
-    Back(Box<Message>),
+pub enum Outward<J: Naming> {
+    /// Its message: it may begin.
+    Begin(Box<Message>),
     /// Its message with the token's answer to its last event.
-    Answer(Answered),
+    Answer(Answered<J>),
+    /// Its message with nothing for it, since its disconnect was taken.
+    Back(Returned<J>),
     /// It is to stop before it begins.
     Stop,
 }

@@ -1,4 +1,5 @@
 pub mod Beginnings
+pub mod Crosses
 pub mod Lists
 pub mod Logs
 pub mod Mays

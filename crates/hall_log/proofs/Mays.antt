@@ -1,11 +1,17 @@
 -- What seats may put.
-use Rattle.std.proofs.Common.{◌≡◌, ℕ, ◌%◌, Bool, true, false, cond, nat_eq, List, [], ◌∷◌, ◌++◌, refl, ap, sym, ◌∙◌, subst, arith, append_assoc, append-nil}
+use Rattle.std.proofs.Common.{◌≡◌, ℕ, ◌%◌, Bool, true, false, cond, nat_eq, List, [], ◌∷◌, ◌++◌, refl, ap, sym, ◌∙◌, subst, arith, append_assoc, append-nil, Option}
 use Rattle.std.proofs.lemmas.Bool.Decides.{nat_tests}
 use Rattle.std.proofs.Math.Logic.{∥∥₁_elim}
+use Rattle.std.specs.Coded.{Coded, Coded-set, coded_option, coded_ℕ, coded×}
 use native.Mathlib.Nat.{ℕ_set}
+use Rattle.mech.specs.declared.job.Job.{Job}
+use Rattle.mech.specs.contracts.job.Job.{the_row as job_row}
+use Rattle.hall_log.specs.declared.event.AppCall.{AppCall}
 use Rattle.hall_log.specs.declared.event.Event.{Event}
-use Rattle.hall_log.specs.Lists.{of}
+use Rattle.hall_log.specs.declared.event.Event.TheVariants.{Call, Finish, Gone}
+use Rattle.hall_log.specs.Lists.{of, last}
 use Rattle.hall_log.specs.Histories.{AllMay, AllMayFrom, AllOwn, Exchange, History, app_of}
+use Rattle.hall_log.specs.Putting.{Follows, IsProper, IsThere, MayPut}
 use Rattle.hall_log.proofs.Lists.{of-append}
 
 may_more_from : (may : ℕ → List Exchange → Event → Type 0) (past xs : History) (x : ℕ × Exchange) → AllMayFrom may past xs → Prim.∥◌∥₁ (may x.0 (of x.0 (past ++ xs)) x.1.0) → AllMayFrom may past (xs ++ x ∷ [])
@@ -59,3 +65,33 @@ may_at_from may past (y ∷ ys) s all before x after e =
 -- each exchange of a seat was one that it might put after those before it
 pub may_at : (may : ℕ → List Exchange → Event → Type 0) (h : History) (s : ℕ) → AllMay may h → (before : List Exchange) (x : Exchange) (after : List Exchange) → of s h ≡ before ++ x ∷ after → Prim.∥◌∥₁ (may s before x.0)
 may_at may h s all before x after e = may_at_from may [] h s all before x after e
+
+-- ---- proper exchanges
+
+job_code : Coded (Option (ℕ × Job))
+job_code = coded_option (coded× coded_ℕ job_row.coded)
+
+follows_from : {A : Type 0} (before : Option Exchange) (e : Event) → Prim.∥◌∥₁ A → (A → Follows before e) → Follows before e
+follows_from before (Call c) has f = ∥∥₁_elim has (Coded-set job_code _ _) f
+follows_from before (Finish app done) has f = ∥∥₁_elim has (Coded-set job_code _ _) f
+follows_from before (Gone app) has f = ∥∥₁_elim has (Coded-set job_code _ _) f
+
+no_two : (x y : ⊥) → x ≡ y
+no_two x y = absurd x
+
+there_from : {A : Type 0} (app : ℕ) (xs : List Exchange) → Prim.∥◌∥₁ A → (A → IsThere app xs) → IsThere app xs
+there_from app [] has f = tt
+there_from app (x ∷ xs) has f = ((λ is. ∥∥₁_elim has no_two (λ a. (f a).0 is)), there_from app xs has (λ a. (f a).1))
+
+-- what was one that it might put is proper
+pub proper_from : (was_read : List Exchange → AppCall → Type 0) (s : ℕ) (before : List Exchange) (e : Event) → Prim.∥◌∥₁ (MayPut was_read s before e)
+    → Follows (last before) e × (app_of e % 4 ≡ s) × IsThere (app_of e) before
+proper_from was_read s before e may = (
+  follows_from (last before) e may (λ m. m.follows),
+  ∥∥₁_elim may (ℕ_set _ _) (λ m. m.own),
+  there_from (app_of e) before may (λ m. m.there),
+)
+
+-- where each seat put what it might, its exchanges are proper
+pub proper_all : (was_read : List Exchange → AppCall → Type 0) (h : History) (s : ℕ) → AllMay (MayPut was_read) h → IsProper s (of s h)
+proper_all was_read h s all before x after is = proper_from was_read s before x.0 (may_at (MayPut was_read) h s all before x after is)

@@ -2,4 +2,5 @@ pub mod Counting
 pub mod Histories
 pub mod Lists
 pub mod Log
+pub mod Putting
 pub mod SeatLogs

@@ -9,7 +9,7 @@ use std::marker::Brand;
 pub trait Naming {
     ghost use Rattle.logbook.specs.Pages.{Book};
     ghost use Rattle.hall_log.specs.Histories.{AllOwn, Exchange, History};
-    ghost use Rattle.hall_log.specs.declared.event.Event.{Event};
+    ghost use Rattle.hall_log.specs.declared.event.AppCall.{AppCall};
 
     /// The book that the log is of.
     ghost book: { Book };
@@ -17,8 +17,8 @@ pub trait Naming {
     /// The reader of this application has given these bytes, at some moment.
     ghost given: { ℕ → List ℕ → Type 0 };
 
-    /// A seat may put this event after these exchanges of its own.
-    ghost may: { ℕ → List Exchange → Event → Type 0 };
+    /// This call was read of its application's connection, after these exchanges of its seat.
+    ghost was_read: { List Exchange → AppCall → Type 0 };
 
     /// The machine has served this history.
     ghost served: { History → Type 0 };
@@ -34,7 +34,7 @@ impl Naming for Brand {
 
     ghost given = { λ app bytes. Unit {0} };
 
-    ghost may = { λ seat before event. Unit {0} };
+    ghost was_read = { λ before call. Unit {0} };
 
     ghost served = { λ history. AllOwn history };
 

@@ -3,6 +3,7 @@
 ghost use Rattle.std.specs.Prelude.{◌≡◌, length};
 ghost use Rattle.hall_log.specs.Lists.{of};
 ghost use Rattle.hall_log.specs.Log.{HasGot, HasPut, served};
+ghost use Rattle.hall_log.specs.Putting.{MayPut};
 
 use crate::event::Event;
 use crate::naming::Naming;
@@ -21,7 +22,7 @@ pub struct Post<J: Naming> {
     pub told: Told<J>,
     pub ghost has_put: { HasPut put seat event.value number },
     pub ghost count: { length (of seat (served told)) ≡ number },
-    pub ghost may: { ∥ J.may seat (of seat (served told)) event.value ∥₁ },
+    pub ghost may: { ∥ MayPut J.was_read seat (of seat (served told)) event.value ∥₁ },
 }
 
 /// That a seat's event was served, with how many were served before, and a beginning of the log in which it was. The answer is for

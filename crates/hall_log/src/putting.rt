@@ -3,6 +3,7 @@
 ghost use Rattle.std.specs.Prelude.{◌≡◌, ◌<◌, ◌++◌, [], ◌∷◌, IfSome, IsTrue, IsFalse};
 ghost use Rattle.hall_log.specs.Histories.{AllOwn};
 ghost use Rattle.hall_log.specs.Log.{served};
+ghost use Rattle.hall_log.specs.Putting.{MayPut};
 ghost use Rattle.hall_log.specs.SeatLogs.{done_by, Awaits, IsIdle};
 
 use crate::entry::Entry;
@@ -60,7 +61,7 @@ impl<J: Naming> Putter<J> {
     /// seat than it knows, which no run meets.
     pub fn post(&mut self, event: &Event) -> Option<Post<J>>
         requires idle { IsIdle self.old }
-        requires may { J.may self.old.seat (done_by self.old) event.now }
+        requires may { MayPut J.was_read self.old.seat (done_by self.old) event.now }
         ensures same { (self.new.seat ≡ self.old.seat) × (self.new.told ≡ self.old.told) }
         ensures awaits { IfSome result (λ _. Awaits self.new event.now) }
         ensures post { IfSome result (λ p. (p.seat ≡ self.old.seat) × (p.event.value ≡ event.now)) }

@@ -4,11 +4,14 @@ ghost use Rattle.std.specs.Prelude.{◌≡◌, ◌<◌, ◌++◌, [], ◌∷◌,
 ghost use Rattle.hall_log.specs.Lists.{of};
 ghost use Rattle.hall_log.specs.Histories.{AllOwn};
 ghost use Rattle.hall_log.specs.Log.{served};
+ghost use Rattle.hall_log.specs.Putting.{MayPut};
+ghost use Rattle.hall_log.specs.SeatLogs.{done_by, IsIdle};
 ghost use Rattle.hall_log.specs.Counting.{Counted, count_of};
 
 use crate::entry::Entry;
 use crate::naming::Naming;
 use crate::post::{Post, Receipt};
+use crate::putting::Putter;
 use crate::reached::Told;
 use crate::rule::LogRule;
 use logbook::Word;
@@ -120,13 +123,26 @@ impl<J: Naming> Server<J> {
     /// Whether a post is the next one of its seat. Then the seat may put its event after all that was served of it.
     pub fn is_next(&self, post: &Post<J>) -> bool
         ensures { IsTrue result → (post.now.seat < 4) × (length (of post.now.seat (served self.now)) ≡ post.now.number)
-            × ∥ J.may post.now.seat (of post.now.seat (served self.now)) post.now.event.value ∥₁ }
+            × ∥ MayPut J.was_read post.now.seat (of post.now.seat (served self.now)) post.now.event.value ∥₁ }
     {
         let ours = self.told.reached();
         let theirs = post.told.reached();
         let both = ours.with(&theirs);
         drop(both);
         self.is_counted(post.seat, post.number)
+    }
+
+    /// Whether as many events of a seat were served as it has put, once all of these were answered. Then the exchanges that the seat
+    /// knows are all that the history has of it.
+    pub fn has_all(&self, putter: &Putter<J>) -> bool
+        requires { IsIdle putter.now }
+        ensures { IsTrue result → done_by putter.now ≡ of putter.now.seat (served self.now) }
+    {
+        let ours = self.told.reached();
+        let theirs = putter.told.reached();
+        let both = ours.with(&theirs);
+        drop(both);
+        self.is_counted(putter.seat, putter.count)
     }
 
     /// Notes that the machine has served the next event of a seat with this answer, None to a disconnect. None where 2^64 - 1 were

@@ -15,12 +15,8 @@ use Rattle.hall_log.proofs.Lists.{of-append, of-other}
 use Rattle.hall_log.specs.Histories.{Exchange, app_of, History}
 use Rattle.hall.specs.Histories.{AllProper, told_by, told_in}
 use Rattle.hall.specs.SeatEvents.{asked_in, heard_by, heard_in}
-use Rattle.hall.specs.Held.{IsPartOf, WereHeld}
-use Rattle.hall.specs.Tells.{Grows}
+use Rattle.hall.specs.Held.{WereHeld}
 use Rattle.hall.specs.declared.holding.Held.{Held}
-use Rattle.hall_channels.specs.declared.inward.InwardView.{InwardView}
-use Rattle.hall_channels.specs.declared.outward.OutwardView.{OutwardView}
-use Rattle.crossbeam_channel.specs.Claims.{view}
 use Rattle.model_worlds.specs.Worlds.{World}
 use Rattle.token.specs.States.{Lasting}
 use Rattle.line.specs.State.{Connected}
@@ -33,7 +29,7 @@ use Rattle.line_places.specs.Standing.{ask_in, asks_in, Stands, StandsBy}
 use Rattle.line_places.proofs.Changing.{own-app}
 use Rattle.hall_sockets.specs.declared.seat.SocketSeat.{SocketSeat}
 use Rattle.hall_sockets.specs.Served.{called, called_in, WasServed, WereServed}
-use Rattle.hall_sockets.specs.Staying.{AreNew, IsNew}
+use Rattle.hall_sockets.specs.Staying.{AreNew, IsNew, StandsAfter}
 use Rattle.hall_sockets.specs.Telling.{calls_in, gone_in}
 
 -- ---- of one seat
@@ -155,13 +151,6 @@ module _ {L C : Type 0} (stop : StopLaw) (leave : LeaveLaw) (own : OwnLaw) (seed
 abbrev pub fixed_of : {L C : Type 0} → SocketSeat L C → List ℕ
 fixed_of s = s.clients.number ∷ s.clients.seed
 
-same_list : {A : Type 0} (xs ys : List A) → Some xs ≡ Some ys → xs ≡ ys
-same_list xs ys e = cc
-
--- what was known of none grew by these
-grown : {A : Type 0} (old new more : List A) → old ≡ [] → Grows (Some old) more (Some new) → new ≡ more
-grown old new more none grows = same_list new more (grows [] (ap Some none))
-
 first-of : (m n : ℕ) (xs ys : List ℕ) → m ∷ xs ≡ n ∷ ys → m ≡ n
 first-of m n xs ys e = cc
 
@@ -169,34 +158,33 @@ rest-of : (m n : ℕ) (xs ys : List ℕ) → m ∷ xs ≡ n ∷ ys → xs ≡ ys
 rest-of m n xs ys e = cc
 
 module _ (stop : StopLaw) (leave : LeaveLaw) (own : OwnLaw) where
-  one_served : {L C : Type 0} (seed : List ℕ) (s : ℕ) (history : History) (pass : OutwardView) (old new : SocketSeat L C) → AllProper history → IsNew old seed s → fixed_of new ≡ fixed_of old
-      → IsPartOf history s pass (Some old.asked.items) (Some new.asked.items) (Some old.clients.told.items) (Some new.clients.told.items) → ∥ WasServed seed new s history ∥₁
-  one_served seed s history pass old new proper fresh fixed part =
-      was_served stop leave own seed new s history (first-of _ _ _ _ fixed ∙ fresh.0) (rest-of _ _ _ _ fixed ∙ fresh.1) (grown old.asked.items new.asked.items (asked_in (of s history)) fresh.5 part.asked)
-      (grown old.clients.told.items new.clients.told.items (heard_in (of s history)) fresh.4 part.heard) proper
+  one_served : {L C : Type 0} (seed : List ℕ) (s : ℕ) (history : History) (old new : SocketSeat L C) → AllProper history → IsNew old seed s → fixed_of new ≡ fixed_of old
+      → StandsAfter new (of s history) → ∥ WasServed seed new s history ∥₁
+  one_served seed s history old new proper fresh fixed part =
+      was_served stop leave own seed new s history (first-of _ _ _ _ fixed ∙ fresh.0) (rest-of _ _ _ _ fixed ∙ fresh.1) part.0 part.1 proper
 
-  were_served : {L C T : Type 0} (doubt failures : T → ℕ) (shows : T → World → Type 0) (leaves : T → Option Lasting → Type 0) (spare : T → World → ℕ → Type 0) (seed : List ℕ) (inward : InwardView) (o0 o1 o2 o3 : OutwardView)
+  were_served : {L C T : Type 0} (doubt failures : T → ℕ) (shows : T → World → Type 0) (leaves : T → Option Lasting → Type 0) (spare : T → World → ℕ → Type 0) (served : History → Type 0) (seed : List ℕ)
       (old new : SocketSeat L C × SocketSeat L C × SocketSeat L C × SocketSeat L C) (before after : T) → AreNew seed old
       → (fixed_of new.0 ≡ fixed_of old.0) × (fixed_of new.1 ≡ fixed_of old.1) × (fixed_of new.2 ≡ fixed_of old.2) × (fixed_of new.3 ≡ fixed_of old.3)
-      → WereHeld (λ (s : SocketSeat L C). Some s.asked.items) (λ (s : SocketSeat L C). Some s.clients.told.items) doubt failures shows leaves spare inward o0 o1 o2 o3 old new before after → WereServed doubt failures shows leaves spare seed inward new before after
-  were_served doubt failures shows leaves spare seed inward o0 o1 o2 o3 old new before after fresh fixed held = record {
+      → WereHeld (λ (s : SocketSeat L C) xs. StandsAfter s xs) served doubt failures shows leaves spare new before after → WereServed doubt failures shows leaves spare served seed new before after
+  were_served doubt failures shows leaves spare served seed old new before after fresh fixed held = record {
     history = held.history;
+    told = held.told;
     interleaves = held.interleaves;
-    seat0 = one_served seed 0 held.history o0 old.0 new.0 held.interleaves.proper fresh.0 fixed.0 held.part0;
-    seat1 = one_served seed 1 held.history o1 old.1 new.1 held.interleaves.proper fresh.1 fixed.1 held.part1;
-    seat2 = one_served seed 2 held.history o2 old.2 new.2 held.interleaves.proper fresh.2 fixed.2 held.part2;
-    seat3 = one_served seed 3 held.history o3 old.3 new.3 held.interleaves.proper fresh.3 fixed.3 held.part3;
+    seat0 = one_served seed 0 held.history old.0 new.0 held.interleaves.proper fresh.0 fixed.0 held.part0;
+    seat1 = one_served seed 1 held.history old.1 new.1 held.interleaves.proper fresh.1 fixed.1 held.part1;
+    seat2 = one_served seed 2 held.history old.2 new.2 held.interleaves.proper fresh.2 fixed.2 held.part2;
+    seat3 = one_served seed 3 held.history old.3 new.3 held.interleaves.proper fresh.3 fixed.3 held.part3;
     counts = held.counts;
     runs = held.runs;
     spends = held.spends;
   }
 
   -- where they were held
-  pub served_by : {L C T E : Type 0} (doubt failures : T → ℕ) (shows : T → World → Type 0) (leaves : T → Option Lasting → Type 0) (spare : T → World → ℕ → Type 0) (seed : List ℕ) (old : SocketSeat L C × SocketSeat L C × SocketSeat L C × SocketSeat L C) (before : T)
+  pub served_by : {L C T E : Type 0} (doubt failures : T → ℕ) (shows : T → World → Type 0) (leaves : T → Option Lasting → Type 0) (spare : T → World → ℕ → Type 0) (served : History → Type 0) (seed : List ℕ) (old : SocketSeat L C × SocketSeat L C × SocketSeat L C × SocketSeat L C) (before : T)
       (r : Result (Held T (SocketSeat L C)) E) → AreNew seed old
       → IfOk r (λ h. (fixed_of h.seats.0 ≡ fixed_of old.0) × (fixed_of h.seats.1 ≡ fixed_of old.1) × (fixed_of h.seats.2 ≡ fixed_of old.2) × (fixed_of h.seats.3 ≡ fixed_of old.3))
-      → IfOk r (λ h. WereHeld (λ (s : SocketSeat L C). Some s.asked.items) (λ (s : SocketSeat L C). Some s.clients.told.items) doubt failures shows leaves spare (view h.passes.inward) (view h.passes.outward0) (view h.passes.outward1) (view h.passes.outward2) (view h.passes.outward3) old h.seats before h.token)
-      → IfOk r (λ h. WereServed doubt failures shows leaves spare seed (view h.passes.inward) h.seats before h.token)
-  served_by doubt failures shows leaves spare seed old before (Ok h) fresh fixed held =
-      were_served doubt failures shows leaves spare seed (view h.passes.inward) (view h.passes.outward0) (view h.passes.outward1) (view h.passes.outward2) (view h.passes.outward3) old h.seats before h.token fresh fixed held
-  served_by doubt failures shows leaves spare seed old before (Err e) fresh fixed held = tt
+      → IfOk r (λ h. WereHeld (λ (s : SocketSeat L C) xs. StandsAfter s xs) served doubt failures shows leaves spare h.seats before h.token)
+      → IfOk r (λ h. WereServed doubt failures shows leaves spare served seed h.seats before h.token)
+  served_by doubt failures shows leaves spare served seed old before (Ok h) fresh fixed held = were_served doubt failures shows leaves spare served seed old h.seats before h.token fresh fixed held
+  served_by doubt failures shows leaves spare served seed old before (Err e) fresh fixed held = tt

@@ -1,3 +1,4 @@
 pub mod ByHistory
 pub mod Crosses
+pub mod Standing
 pub mod Staying

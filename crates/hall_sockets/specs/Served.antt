@@ -6,7 +6,6 @@ use Rattle.token.specs.States.{HasJobs, Lasting}
 use Rattle.hall_log.specs.Lists.{of}
 use Rattle.hall_log.specs.declared.event.Event.{Event}
 use Rattle.hall_log.specs.declared.event.Event.TheVariants.{Call, Finish, Gone}
-use Rattle.hall_channels.specs.declared.inward.InwardView.{InwardView}
 use Rattle.hall_log.specs.Histories.{History}
 use Rattle.hall.specs.Histories.{Counts, IsHistory, SpendsOver, replies_in, told_in}
 use Rattle.hall.specs.Held.{Interleaves}
@@ -52,13 +51,14 @@ pub record WasServed {L C : Type 0} (seed : List ℕ) (seat : SocketSeat L C) (s
   pub others : (app : ℕ) → app % 4 ≡ s → ((it : Connection) → Has seat it → it.app ≢ app) → (of app (called_in history) ≡ []) × (of app (told_in history) ≡ [])
   pub left : apps_of seat.clients.past.items ≡ gone_in (asked_in (of s history))
 
--- Four seats on a socket were held before a machine: what they put is one history, which the machine took, and each connection was
--- served by it. Where the machine's store is faithful and no call was pending, it is a run from the world that the machine refined.
+-- Four seats on a socket were held before a machine: what they put is one history, which the machine took and the log has (`served`),
+-- and each connection was served by it. Where the machine's store is faithful and no call was pending, it is a run from the world that the machine refined.
 -- While the machine had an id for each object to come, no answer was CKR_DEVICE_ERROR.
-pub record WereServed {L C T : Type 0} (doubt failures : T → ℕ) (shows : T → World → Type 0) (leaves : T → Option Lasting → Type 0) (spare : T → World → ℕ → Type 0) (seed : List ℕ)
-    (inward : InwardView) (seats : SocketSeat L C × SocketSeat L C × SocketSeat L C × SocketSeat L C) (before after : T) : Type 0 where
+pub record WereServed {L C T : Type 0} (doubt failures : T → ℕ) (shows : T → World → Type 0) (leaves : T → Option Lasting → Type 0) (spare : T → World → ℕ → Type 0) (served : History → Type 0) (seed : List ℕ)
+    (seats : SocketSeat L C × SocketSeat L C × SocketSeat L C × SocketSeat L C) (before after : T) : Type 0 where
   pub history : History
-  pub interleaves : Interleaves history inward
+  pub told : served history
+  pub interleaves : Interleaves history
   pub seat0 : ∥ WasServed seed seats.0 0 history ∥₁
   pub seat1 : ∥ WasServed seed seats.1 1 history ∥₁
   pub seat2 : ∥ WasServed seed seats.2 2 history ∥₁

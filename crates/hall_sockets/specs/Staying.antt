@@ -1,7 +1,10 @@
 -- What a seat does.
 use Rattle.std.specs.Prelude.{◌≡◌, ◌⊎◌, ◌%◌, ◌∷◌, [], ◌++◌, ℕ, List, Option, Some, None, true}
+use Rattle.ck_calls.specs.declared.reply.Reply.{Reply}
 use Rattle.door.specs.Ends.{Reading, Writing}
-use Rattle.hall.specs.SeatEvents.{seat_app}
+use Rattle.hall_log.specs.declared.event.AppCall.{AppCall}
+use Rattle.hall_log.specs.Histories.{Exchange}
+use Rattle.hall.specs.SeatEvents.{asked_in, heard_in, seat_app}
 use Rattle.hall.specs.declared.seats.SeatEvent.{SeatEvent}
 use Rattle.hall.specs.declared.seats.SeatEvent.TheVariants.{Call, Gone}
 use Rattle.line_places.specs.declared.client.Client.{Client}
@@ -76,6 +79,27 @@ abbrev pub Asks : {L C : Type 0} → SocketSeat L C → SocketSeat L C → Asked
 Asks old new (asked.Call event) = Gives old new (Some event)
 Asks old new asked.Nothing = Stays old new
 Asks old new (asked.Ended ending) = Stays old new
+
+-- ---- by its exchanges
+
+-- it gave and took what it did by these
+abbrev pub StandsAfter : {L C : Type 0} → SocketSeat L C → List Exchange → Type 0
+StandsAfter seat xs = (seat.asked.items ≡ asked_in xs) × (seat.clients.told.items ≡ heard_in xs)
+
+-- it gave this call after these, and has no reply yet
+abbrev pub WaitsFor : {L C : Type 0} → SocketSeat L C → List Exchange → AppCall → Type 0
+WaitsFor seat before c =
+    (seat.asked.items ≡ asked_in before ++ Call c ∷ [])
+    × (seat.clients.told.items ≡ heard_in before)
+    × IsOwed seat.clients.places.items seat.answering c.app
+
+-- it takes a reply, and nothing else
+abbrev pub Hears : {L C : Type 0} → SocketSeat L C → SocketSeat L C → ℕ → Reply → Type 0
+Hears old new app reply =
+    (new.clients.number ≡ old.clients.number)
+    × (new.clients.seed ≡ old.clients.seed)
+    × (new.asked.items ≡ old.asked.items)
+    × (new.clients.told.items ≡ old.clients.told.items ++ (app, reply) ∷ [])
 
 -- the four seats of a daemon, seat 0 first, with one seed
 abbrev pub AreNew : {L C : Type 0} → List ℕ → SocketSeat L C × SocketSeat L C × SocketSeat L C × SocketSeat L C → Type 0

@@ -1,9 +1,10 @@
 //! Four seats on a socket before the token.
 
-ghost use Rattle.std.specs.Prelude.{◌≡◌, IfOk, IfErr};
-ghost use Rattle.crossbeam_channel.specs.Claims.{view};
+ghost use Rattle.std.specs.Prelude.{◌≡◌, List, IfOk, IfErr};
 ghost use Rattle.token.specs.States.{Shows, MayLeave};
-ghost use Rattle.hall.specs.Given.{IsLed};
+ghost use Rattle.hall_log.specs.Histories.{Exchange, History};
+ghost use Rattle.hall_log.specs.declared.event.AppCall.{AppCall};
+ghost use Rattle.hall.specs.Given.{IsLed, Serves};
 ghost use Rattle.hall.specs.SpareIds.{HasSpareIds};
 ghost use Rattle.hall_sockets.specs.Served.{WereServed};
 ghost use Rattle.hall_sockets.specs.Staying.{AreNew, IsDone};
@@ -11,10 +12,12 @@ ghost use Rattle.hall_sockets.specs.Staying.{AreNew, IsDone};
 use crate::seat::SocketSeat;
 use hall::laws::own_seat;
 use hall::{Gate, HallFault, Held, hold};
+use hall_log::{Naming, Opened};
 use keep::Keep;
 use line::accounts;
 use log::Log;
 use std::alloc::Global;
+use std::marker::Brand;
 use std::sync::{Arc, Wait};
 use std::thread::Threads;
 use std::time::Clock;
@@ -28,7 +31,8 @@ pub type Seats<L, C> = (
     SocketSeat<L, C>,
 );
 
-/// Holds four new seats on a socket before the token, until each has no more, as `hall::hold` does. They have one seed.
+/// Holds four new seats on a socket before the token, until each has no more, as `hall::hold` does. They have one seed. `J` names the
+/// new log, and it is required what its members mean.
 ///
 /// What it promises of the bytes: there is one history of all calls, which is a run of the token's. For each application, what was
 /// read of its connection are the frames of its calls in that history, in order. What was written are the frames of the answers
@@ -40,6 +44,45 @@ pub type Seats<L, C> = (
 /// # Errors
 ///
 /// As `hall::hold`.
+pub fn hold_named<
+    J: Naming + Send + Sync + 'static,
+    K: Keep,
+    L: Log + Drop + Send + 'static,
+    C: Clock + Drop + Send + 'static,
+    G: Gate + Send + Sync + Drop + 'static,
+    R: Threads + Wait + Clock + Copy + Send + Drop + 'static,
+>(
+    rt: R,
+    alloc: Global,
+    opened: Opened,
+    token: Token<K>,
+    seats: Seats<L, C>,
+    gate: &Arc<G, Global>,
+) -> Result<Held<Token<K>, SocketSeat<L, C>>, (HallFault, Token<K>)>
+    requires new { AreNew seats.0.clients.seed seats }
+    requires book { opened.seen.book ≡ J.book }
+    // What it means that a history was served: the token has served it, and each event in it was one that its seat might put.
+    requires means { (h : History) → J.served h → Serves K.terms J.was_read token h }
+    requires all { (h : History) → Serves K.terms J.was_read token h → J.served h }
+    requires read { (before : List Exchange) (call : AppCall) → J.was_read before call }
+    // Each connection was served by one history, which is a run of the token's, and the log's.
+    ensures served { IfOk result (λ h. WereServed (λ t. K.terms.doubt t.store.keep) (λ t. K.terms.failures t.store.keep)
+        (Shows K.terms) (MayLeave K.terms) (HasSpareIds K.terms) J.served seats.0.clients.seed h.seats token h.token) }
+    // Each seat ended where it might: it failed, or was told to, or had its connections. Nobody is left at a place of it.
+    ensures over { IfOk result (λ h. IsDone h.seats.0 × IsDone h.seats.1 × IsDone h.seats.2 × IsDone h.seats.3) }
+    // Where an allocation failed, the token is as it was.
+    ensures memory { IfErr result (λ e. e.0 ≡ HallFault.Memory → e.1 ≡ token) }
+    // At any fault some history leads to the token that is returned.
+    ensures led { IfErr result (λ e. IsLed (λ t. K.terms.doubt t.store.keep) (λ t. K.terms.failures t.store.keep)
+        (Shows K.terms) (MayLeave K.terms) (HasSpareIds K.terms) token e.1) }
+{
+    accounts();
+    own_seat();
+    hold::<J, K, SocketSeat<L, C>, G, R>(rt, alloc, opened, token, seats, gate)
+}
+
+/// Holds four new seats on a socket before the token, over a new log, as `hold_named` does: the log's histories are just those that the
+/// token serves.
 pub fn hold_sockets<
     K: Keep,
     L: Log + Drop + Send + 'static,
@@ -54,18 +97,13 @@ pub fn hold_sockets<
     gate: &Arc<G, Global>,
 ) -> Result<Held<Token<K>, SocketSeat<L, C>>, (HallFault, Token<K>)>
     requires { AreNew seats.0.clients.seed seats }
-    // Each connection was served by one history, which is a run of the token's.
     ensures served { IfOk result (λ h. WereServed (λ t. K.terms.doubt t.store.keep) (λ t. K.terms.failures t.store.keep)
-        (Shows K.terms) (MayLeave K.terms) (HasSpareIds K.terms) seats.0.clients.seed (view h.passes.inward) h.seats token h.token) }
-    // Each seat ended where it might: it failed, or was told to, or had its connections. Nobody is left at a place of it.
+        (Shows K.terms) (MayLeave K.terms) (HasSpareIds K.terms) (Serves K.terms (λ before call. Unit {0}) token)
+        seats.0.clients.seed h.seats token h.token) }
     ensures over { IfOk result (λ h. IsDone h.seats.0 × IsDone h.seats.1 × IsDone h.seats.2 × IsDone h.seats.3) }
-    // Where an allocation failed, the token is as it was.
     ensures memory { IfErr result (λ e. e.0 ≡ HallFault.Memory → e.1 ≡ token) }
-    // At any fault some history leads to the token that is returned.
     ensures led { IfErr result (λ e. IsLed (λ t. K.terms.doubt t.store.keep) (λ t. K.terms.failures t.store.keep)
         (Shows K.terms) (MayLeave K.terms) (HasSpareIds K.terms) token e.1) }
 {
-    accounts();
-    own_seat();
-    hold(rt, alloc, token, seats, gate)
+    hold_named::<Brand, K, L, C, G, R>(rt, alloc, Opened::new(), token, seats, gate)
 }

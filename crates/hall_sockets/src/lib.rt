@@ -39,7 +39,7 @@ mod tally;
 mod turns;
 mod waiting;
 
-pub use holding::{Seats, hold_sockets};
+pub use holding::{Seats, hold_named, hold_sockets};
 pub use loads::Loads;
 pub use opening::Shared;
 pub use seat::{MAX_CLIENTS, Settings, SocketSeat};

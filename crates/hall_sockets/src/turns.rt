@@ -17,7 +17,7 @@ const SHORT_WAIT: u64 = 1;
 
 impl<L: Log, C: Clock> SocketSeat<L, C> {
     /// The next event. None once the seat has had its connections, or is to end, or failed, and no connection is there.
-    pub(crate) fn next_event(&mut self) -> Option<SeatEvent>
+    pub fn next_event(&mut self) -> Option<SeatEvent>
         ensures gives { Gives self.old self.new result }
         ensures done { IfNone result (IsDone self.new) }
     {

@@ -1,12 +1,16 @@
 //! A thread that is not started.
 
-ghost use Rattle.std.specs.Prelude.{◌≡◌, ◌∷◌, [], None, true, IfOk};
+ghost use Rattle.std.specs.Prelude.{◌≡◌, ◌∷◌, [], true, IfOk};
+ghost use Rattle.hall_log.specs.Histories.{History};
+ghost use Rattle.hall.specs.Given.{Serves};
 
 use ck_calls::{Call, Reply};
 use hall::{Gate, HallFault, Held, Seat, SeatEvent, hold_with};
+use hall_log::{Naming, Opened, Told};
 use keep::{Keep, ListKeep};
 use pin_record::Record;
 use std::alloc::Global;
+use std::marker::Brand;
 use std::sync::atomic::{AtomicBool, Ordering};
 use std::sync::{Arc, Wait};
 use std::test::*;
@@ -35,28 +39,26 @@ impl Silent {
     }
 }
 
-impl Seat for Silent {
+impl<J: Naming> Seat<J> for Silent {
     ghost number = { λ s. s.number };
 
     ghost over = { λ s. s.has_ended ≡ true };
 
     ghost fixed = { λ s. s.number ∷ [] };
 
-    ghost gone = { λ s app. Unit {0} };
+    ghost knows = { λ fixed. Unit {0} };
 
-    ghost ready = { λ s app. Unit {0} };
+    ghost stands = { λ s xs. Unit {0} };
 
-    ghost asked = { λ s. None };
+    ghost waits = { λ s before call. Unit {0} };
 
-    ghost heard = { λ s. None };
-
-    fn next(&mut self) -> Option<SeatEvent> {
+    fn next(&mut self, _told: &Told<J>) -> Option<SeatEvent> {
         self.is_asked.store(true, Ordering::SeqCst);
         self.has_ended = true;
         None
     }
 
-    fn take(&mut self, _app: u64, _reply: Reply) {}
+    fn take(&mut self, _app: u64, _reply: Reply, _told: &Told<J>) {}
 }
 
 #[derive(Drop)]
@@ -84,6 +86,30 @@ fn has_session<K: Keep>(alloc: Global, token: &mut Token<K>) -> Result<bool, Fai
     Ok(told_code(alloc, token, 1, ask)?.is_none())
 }
 
+type Seats = (Silent, Silent, Silent, Silent);
+
+/// Holds silent seats before a token, over a log with this name.
+fn hold_named<
+    J: Naming + Send + Sync + 'static,
+    K: Keep,
+    R: Threads + Wait + Clock + Copy + Send + Drop + 'static,
+>(
+    rt: R,
+    alloc: Global,
+    opened: Opened,
+    token: Token<K>,
+    seats: Seats,
+    gate: &Arc<Open, Global>,
+    stacks: (usize, usize, usize, usize),
+) -> Result<Held<Token<K>, Silent>, (HallFault, Token<K>)>
+    requires book { opened.seen.book ≡ J.book }
+    requires means { (h : History) → J.served h → Serves K.terms J.was_read token h }
+    requires all { (h : History) → Serves K.terms J.was_read token h → J.served h }
+    requires numbers { (seats.0.number ≡ 0) × (seats.1.number ≡ 1) × (seats.2.number ≡ 2) × (seats.3.number ≡ 3) }
+{
+    hold_with::<J, K, Silent, Open, R>(rt, alloc, opened, token, seats, gate, stacks)
+}
+
 /// Why seats were not held, if they were not, whether one was asked, and whether the token is as it was.
 type Came = (Option<HallFault>, bool, bool);
 
@@ -103,16 +129,10 @@ fn held_silent<K: Keep, R: Threads + Wait + Clock + Copy + Send + Drop + 'static
     );
     let gate = Arc::new(alloc, Open)?;
     let token = token_with_session(alloc, keep)?;
-    let (fault, mut token) = match hold_with(rt, alloc, token, seats, &gate, stacks) {
-        Ok(
-            Held {
-                token,
-                seats,
-                passes,
-            },
-        ) => {
+    let held = hold_named::<Brand, K, R>(rt, alloc, Opened::new(), token, seats, &gate, stacks);
+    let (fault, mut token) = match held {
+        Ok(Held { token, seats }) => {
             drop(seats);
-            drop(passes);
             (None, token)
         }
         Err((fault, token)) => (Some(fault), token),

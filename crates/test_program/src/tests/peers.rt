@@ -3,7 +3,7 @@
 use super::daemon::{clear, connect, expect, expect_end, start_for};
 use super::{OPEN_SESSION, SESSION_ONE};
 use ck_calls::Reply;
-use hall::{Seat, SeatEvent};
+use hall::SeatEvent;
 use hall_sockets::{Loads, Settings, Shared, SocketSeat, Sockets};
 use log::sink::Discard;
 use std::alloc::Global;
@@ -147,18 +147,18 @@ fn asked_of(
 ) -> Result<(Asks, Asks, Asks), Fail> {
     let peer = send_twice(rt, "unread.sock")?;
     let reply = a_reply(rt)?;
-    let first = match seat.next() {
+    let first = match seat.next_event() {
         Some(SeatEvent::Call(call)) => {
             let app = call.app;
             drop(call);
             drop(peer);
-            seat.take(app, reply);
+            seat.take_reply(app, reply);
             Asks::Call(app)
         }
         other => what_is_asked(other),
     };
-    let then = what_is_asked(seat.next());
-    Ok((first, then, what_is_asked(seat.next())))
+    let then = what_is_asked(seat.next_event());
+    Ok((first, then, what_is_asked(seat.next_event())))
 }
 
 #[test]
@@ -182,19 +182,24 @@ fn stopped(rt: &HostRuntime) -> Result<(Asks, Asks, Asks, bool), Fail> {
     let mut seat = seat_on(rt, "stopped.sock", 5, is_stopping)?;
     let peer = send_twice(rt, "stopped.sock")?;
     let reply = a_reply(rt)?;
-    let first = match seat.next() {
+    let first = match seat.next_event() {
         Some(SeatEvent::Call(call)) => {
             let app = call.app;
             drop(call);
             told.store(true, Ordering::SeqCst);
-            seat.take(app, reply);
+            seat.take_reply(app, reply);
             Asks::Call(app)
         }
         other => what_is_asked(other),
     };
-    let then = what_is_asked(seat.next());
+    let then = what_is_asked(seat.next_event());
     drop(peer);
-    Ok((first, then, what_is_asked(seat.next()), seat.has_failed()))
+    Ok((
+        first,
+        then,
+        what_is_asked(seat.next_event()),
+        seat.has_failed(),
+    ))
 }
 
 #[test]

@@ -1,9 +1,5 @@
-use Rattle.std.proofs.Common.{◌∙◌}
+use Rattle.hall.proofs.Turns.{answered_so}
 use Rattle.hall.proofs.seat_loop.work.Goals as goal
 
-pub returns-in-Reply-clause-exchanges : goal.returns-in-Reply-clause-exchanges
-returns-in-Reply-clause-exchanges g c = (
-  c.run-done.result,
-  c.run-done.ensures,
-  (c.in_ok-reply.ensures.sent ∙ c.put.ensures.sent c.if-not-put.false, (let h = c.in_ok-reply.ensures.got in let t = c.put.ensures.got in cc)),
-)
+pub returns-in-Reply-clause-done : goal.returns-in-Reply-clause-done
+returns-in-Reply-clause-done g c = (c.run-done.result, c.run-done.ensures, answered_so _ _ _ _ _ c.in_ok-reply.ensures.done c.in-Reply.is)

@@ -1,52 +1,43 @@
-use Rattle.std.proofs.Common.{◌∙◌, ap, sym, get_or, Some, None}
-use Rattle.std.proofs.lemmas.Option.{slice_get-get_or}
-use Rattle.serve_base.specs.declared.out.Out.TheVariants.{Reply}
-use Rattle.hall_log.specs.declared.event.Event.TheVariants.{Call, Finish, Gone}
+use Rattle.std.proofs.Common.{ap, sym, ◌∙◌, subst, refl}
+use Rattle.hall_log.specs.Histories.{History}
+use Rattle.hall_log.specs.Log.{served}
 use Rattle.hall_channels.specs.declared.messages.Message.{Message}
-use Rattle.hall.proofs.Giving.{given_still, led_more, may_give}
-use Rattle.hall.proofs.MoreHistory.{same_outboxes}
+use Rattle.hall.specs.Given.{IsSoFar}
+use Rattle.hall.proofs.Giving.{so_led, so_more}
 use Rattle.hall.proofs.serving.serve.Goals as goal
 
-pub give-requires-clause-may : goal.give-requires-clause-may
-give-requires-clause-may g c =
-    may_give g.M.Machine.doubt g.M.Machine.failures g.M.Machine.shows g.M.Machine.leaves g.M.Machine.spare _ c.args.serving.now.machine _ _ _ _ _ (Call c.in-Call.call) c.call-out.result c.requires.taken
-    (ap (λ (m : Message). m.event) (sym c.deref_mut.ensures.value) ∙ sym c.take_event.ensures ∙ c.in-Call.is) tt
-    (c.call-out.ensures.counts, λ sure w shows allowed. c.call-out.ensures.takes sure w shows, λ w allowed. c.call-out.ensures.spends w) g.met.M.Machine.sure
+pub returns-then-not-is_next-clause-led : goal.returns-then-not-is_next-clause-led
+returns-then-not-is_next-clause-led g c = so_led g.M.Machine.doubt g.M.Machine.failures g.M.Machine.shows g.M.Machine.leaves g.M.Machine.spare g.J.Naming.was_read _ _ _ c.requires.so
 
-pub give-requires-in-Finish-clause-may : goal.give-requires-in-Finish-clause-may
-give-requires-in-Finish-clause-may g c =
-    may_give g.M.Machine.doubt g.M.Machine.failures g.M.Machine.shows g.M.Machine.leaves g.M.Machine.spare _ c.args.serving.now.machine _ _ _ _ _ (Finish c.in-Finish.app c.in-Finish.done) (Reply c.finish-reply.result) c.requires.taken
-    (ap (λ (m : Message). m.event) (sym c.deref_mut.ensures.value) ∙ sym c.take_event.ensures ∙ c.in-Finish.is) tt
-    (c.finish-reply.ensures.counts, λ sure w shows allowed. c.finish-reply.ensures.takes sure w shows allowed, λ w allowed. c.finish-reply.ensures.spends w allowed) g.met.M.Machine.sure
+pub returns-in_default-clause-led : goal.returns-in_default-clause-led
+returns-in_default-clause-led g c = so_led g.M.Machine.doubt g.M.Machine.failures g.M.Machine.shows g.M.Machine.leaves g.M.Machine.spare g.J.Naming.was_read _ _ _ c.requires.so
 
-pub returns-in-Call-clause-led : goal.returns-in-Call-clause-led
-returns-in-Call-clause-led g c =
-    led_more g.M.Machine.doubt g.M.Machine.failures g.M.Machine.shows g.M.Machine.leaves g.M.Machine.spare _ c.args.serving.now.machine _ _ _ _ _ (Call c.in-Call.call) (Some c.call-out.result) c.requires.taken
-    (ap (λ (m : Message). m.event) (sym c.deref_mut.ensures.value) ∙ sym c.take_event.ensures ∙ c.in-Call.is) tt
-    (c.call-out.ensures.counts, λ sure w shows allowed. c.call-out.ensures.takes sure w shows, λ w allowed. c.call-out.ensures.spends w) g.met.M.Machine.sure
+pub serve-requires-clause-served : goal.serve-requires-clause-served
+serve-requires-clause-served g c = c.requires.all c.answer-answer.new.machine _
+    (so_more g.M.Machine.doubt g.M.Machine.failures g.M.Machine.shows g.M.Machine.leaves g.M.Machine.spare g.J.Naming.was_read _ _ c.answer-answer.new.machine (served c.args.serving.now.server) c.args.posted.post.seat c.take_event.result c.args.posted.post.event.value c.answer-answer.result
+    c.requires.so (c.if-not-is_next.ensures refl).2 (c.take_event.ensures ∙ ap (λ (m : Message). m.event) c.deref_mut.ensures.value ∙ c.args.posted.same) c.answer-answer.ensures.suits c.answer-answer.ensures.did g.met.M.Machine.sure)
 
-pub returns-in-Finish-clause-led : goal.returns-in-Finish-clause-led
-returns-in-Finish-clause-led g c =
-    led_more g.M.Machine.doubt g.M.Machine.failures g.M.Machine.shows g.M.Machine.leaves g.M.Machine.spare _ c.args.serving.now.machine _ _ _ _ _ (Finish c.in-Finish.app c.in-Finish.done) (Some (Reply c.finish-reply.result)) c.requires.taken
-    (ap (λ (m : Message). m.event) (sym c.deref_mut.ensures.value) ∙ sym c.take_event.ensures ∙ c.in-Finish.is) tt
-    (c.finish-reply.ensures.counts, λ sure w shows allowed. c.finish-reply.ensures.takes sure w shows allowed, λ w allowed. c.finish-reply.ensures.spends w allowed) g.met.M.Machine.sure
+pub returns-in_default-serve-clause-led : goal.returns-in_default-serve-clause-led
+returns-in_default-serve-clause-led g c = so_led g.M.Machine.doubt g.M.Machine.failures g.M.Machine.shows g.M.Machine.leaves g.M.Machine.spare g.J.Naming.was_read _ _ _
+    (so_more g.M.Machine.doubt g.M.Machine.failures g.M.Machine.shows g.M.Machine.leaves g.M.Machine.spare g.J.Naming.was_read _ _ c.answer-answer.new.machine (served c.args.serving.now.server) c.args.posted.post.seat c.take_event.result c.args.posted.post.event.value c.answer-answer.result
+    c.requires.so (c.if-not-is_next.ensures refl).2 (c.take_event.ensures ∙ ap (λ (m : Message). m.event) c.deref_mut.ensures.value ∙ c.args.posted.same) c.answer-answer.ensures.suits c.answer-answer.ensures.did g.met.M.Machine.sure)
 
-pub returns-in-Gone-clause-led : goal.returns-in-Gone-clause-led
-returns-in-Gone-clause-led g c =
-    led_more g.M.Machine.doubt g.M.Machine.failures g.M.Machine.shows g.M.Machine.leaves g.M.Machine.spare _ c.args.serving.now.machine _ _ _ _ _ (Gone c.in-Gone.app) None c.requires.taken
-    (ap (λ (m : Message). m.event) (sym c.deref_mut.ensures.value) ∙ sym c.take_event.ensures ∙ c.in-Gone.is) tt
-    (c.gone.ensures.counts, λ sure w shows allowed. c.gone.ensures.takes sure w shows, λ w allowed. c.gone.ensures.spends w) g.met.M.Machine.sure
+pub returns-in-Some-answer-clause-led : goal.returns-in-Some-answer-clause-led
+returns-in-Some-answer-clause-led g c = so_led g.M.Machine.doubt g.M.Machine.failures g.M.Machine.shows g.M.Machine.leaves g.M.Machine.spare g.J.Naming.was_read _ _ _
+    (so_more g.M.Machine.doubt g.M.Machine.failures g.M.Machine.shows g.M.Machine.leaves g.M.Machine.spare g.J.Naming.was_read _ _ c.answer-answer.new.machine (served c.args.serving.now.server) c.args.posted.post.seat c.take_event.result c.args.posted.post.event.value c.answer-answer.result
+    c.requires.so (c.if-not-is_next.ensures refl).2 (c.take_event.ensures ∙ ap (λ (m : Message). m.event) c.deref_mut.ensures.value ∙ c.args.posted.same) c.answer-answer.ensures.suits c.answer-answer.ensures.did g.met.M.Machine.sure)
 
-pub returns-in-Gone-clause-same : goal.returns-in-Gone-clause-same
-returns-in-Gone-clause-same g c =
-    let outbox = get_or c.args.outboxes.now c.args.seat c.index-outboxes-seat.result in
-    let at = slice_get-get_or c.args.outboxes.now c.args.seat c.index-outboxes-seat.result c.requires.within in
-    same_outboxes c.args.outboxes.now c.args.seat outbox c.give_back.new.self at c.give_back.ensures.same
+pub returns-in-None-clause-led : goal.returns-in-None-clause-led
+returns-in-None-clause-led g c = so_led g.M.Machine.doubt g.M.Machine.failures g.M.Machine.shows g.M.Machine.leaves g.M.Machine.spare g.J.Naming.was_read _ _ _
+    (so_more g.M.Machine.doubt g.M.Machine.failures g.M.Machine.shows g.M.Machine.leaves g.M.Machine.spare g.J.Naming.was_read _ _ c.answer-answer.new.machine (served c.args.serving.now.server) c.args.posted.post.seat c.take_event.result c.args.posted.post.event.value c.answer-answer.result
+    c.requires.so (c.if-not-is_next.ensures refl).2 (c.take_event.ensures ∙ ap (λ (m : Message). m.event) c.deref_mut.ensures.value ∙ c.args.posted.same) c.answer-answer.ensures.suits c.answer-answer.ensures.did g.met.M.Machine.sure)
 
-pub returns-in-Gone-clause-given : goal.returns-in-Gone-clause-given
-returns-in-Gone-clause-given g c = λ t.
-    let outbox = get_or c.args.outboxes.now c.args.seat c.index-outboxes-seat.result in
-    let at = slice_get-get_or c.args.outboxes.now c.args.seat c.index-outboxes-seat.result c.requires.within in
-    given_still g.M.Machine.doubt g.M.Machine.failures g.M.Machine.shows g.M.Machine.leaves g.M.Machine.spare _ c.args.serving.now.machine _ c.args.outboxes.now _ c.args.seat _ (Gone c.in-Gone.app) outbox c.give_back.new.self c.requires.taken
-    (ap (λ (m : Message). m.event) (sym c.deref_mut.ensures.value) ∙ sym c.take_event.ensures ∙ c.in-Gone.is) tt
-    (c.gone.ensures.counts, λ sure w shows allowed. c.gone.ensures.takes sure w shows, λ w allowed. c.gone.ensures.spends w) g.met.M.Machine.sure at c.give_back.ensures.none
+pub returns-in-Some-answer-clause-so : goal.returns-in-Some-answer-clause-so
+returns-in-Some-answer-clause-so g c = λ t. subst (λ (h : History). IsSoFar g.M.Machine.doubt g.M.Machine.failures g.M.Machine.shows g.M.Machine.leaves g.M.Machine.spare g.J.Naming.was_read c.args.serving.now.began.value c.answer-answer.new.machine h) (sym c.in-Some-serve.ensures.served)
+    (so_more g.M.Machine.doubt g.M.Machine.failures g.M.Machine.shows g.M.Machine.leaves g.M.Machine.spare g.J.Naming.was_read _ _ c.answer-answer.new.machine (served c.args.serving.now.server) c.args.posted.post.seat c.take_event.result c.args.posted.post.event.value c.answer-answer.result
+    c.requires.so (c.if-not-is_next.ensures refl).2 (c.take_event.ensures ∙ ap (λ (m : Message). m.event) c.deref_mut.ensures.value ∙ c.args.posted.same) c.answer-answer.ensures.suits c.answer-answer.ensures.did g.met.M.Machine.sure)
+
+pub returns-in-None-clause-so : goal.returns-in-None-clause-so
+returns-in-None-clause-so g c = λ t. subst (λ (h : History). IsSoFar g.M.Machine.doubt g.M.Machine.failures g.M.Machine.shows g.M.Machine.leaves g.M.Machine.spare g.J.Naming.was_read c.args.serving.now.began.value c.answer-answer.new.machine h) (sym c.in-Some-serve.ensures.served)
+    (so_more g.M.Machine.doubt g.M.Machine.failures g.M.Machine.shows g.M.Machine.leaves g.M.Machine.spare g.J.Naming.was_read _ _ c.answer-answer.new.machine (served c.args.serving.now.server) c.args.posted.post.seat c.take_event.result c.args.posted.post.event.value c.answer-answer.result
+    c.requires.so (c.if-not-is_next.ensures refl).2 (c.take_event.ensures ∙ ap (λ (m : Message). m.event) c.deref_mut.ensures.value ∙ c.args.posted.same) c.answer-answer.ensures.suits c.answer-answer.ensures.did g.met.M.Machine.sure)

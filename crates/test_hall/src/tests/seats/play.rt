@@ -1,20 +1,26 @@
 //! Rows that four seats play.
 
-ghost use Rattle.std.specs.Prelude.{◌≡◌, IfOk};
+ghost use Rattle.std.specs.Prelude.{◌≡◌, [], List, IfOk};
+ghost use Rattle.hall_log.specs.Histories.{Exchange, History};
+ghost use Rattle.hall_log.specs.declared.event.AppCall.{AppCall};
+ghost use Rattle.hall.specs.Given.{Serves};
 
 use super::gate::TurnGate;
 use super::seat::TurnSeat;
 use super::turns::Turns;
 use ck_calls::Reply;
-use hall::{Held, hold};
+use hall::{HallFault, Held, hold};
+use hall_log::{Naming, Opened};
 use keep::{Keep, ListKeep};
 use pin_record::Record;
 use std::alloc::Global;
+use std::marker::Brand;
 use std::sync::{Arc, Wait};
 use std::test::Fail;
 use std::thread::Threads;
 use std::time::Clock;
 use test_scripts::{Row, Script, cached_list, reply_of, token_over};
+use token::Token;
 
 type Seats<R> = (TurnSeat<R>, TurnSeat<R>, TurnSeat<R>, TurnSeat<R>);
 
@@ -64,7 +70,7 @@ fn told_by_seats<K: Keep, R: Threads + Wait + Clock + Copy + Send + Sync + Drop 
     let token = token_over(alloc, keep)?;
     let gate = gate_in(rt, alloc, turns)?;
     let seats = seats_in(rt, alloc, turns, rows)?;
-    match hold(rt, alloc, token, seats, &gate) {
+    match hold_named::<Brand, K, R>(rt, alloc, Opened::new(), token, seats, &gate) {
         Ok(held) => {
             let Held { seats, .. } = held;
             Ok(told_of(seats))
@@ -74,6 +80,29 @@ fn told_by_seats<K: Keep, R: Threads + Wait + Clock + Copy + Send + Sync + Drop 
             Err("the seats were not held".into())
         }
     }
+}
+
+/// Holds the seats before a token, over a log with this name.
+fn hold_named<
+    J: Naming + Send + Sync + 'static,
+    K: Keep,
+    R: Threads + Wait + Clock + Copy + Send + Sync + Drop + 'static,
+>(
+    rt: R,
+    alloc: Global,
+    opened: Opened,
+    token: Token<K>,
+    seats: Seats<R>,
+    gate: &Arc<TurnGate<R>, Global>,
+) -> Result<Held<Token<K>, TurnSeat<R>>, (HallFault, Token<K>)>
+    requires book { opened.seen.book ≡ J.book }
+    requires means { (h : History) → J.served h → Serves K.terms J.was_read token h }
+    requires all { (h : History) → Serves K.terms J.was_read token h → J.served h }
+    requires read { (before : List Exchange) (call : AppCall) → J.was_read before call }
+    requires numbers { (seats.0.number ≡ 0) × (seats.1.number ≡ 1) × (seats.2.number ≡ 2) × (seats.3.number ≡ 3) }
+    requires told { (seats.0.told.items ≡ []) × (seats.1.told.items ≡ []) × (seats.2.told.items ≡ []) × (seats.3.told.items ≡ []) }
+{
+    hold::<J, K, TurnSeat<R>, TurnGate<R>, R>(rt, alloc, opened, token, seats, gate)
 }
 
 fn gate_in<R: Clock + Copy + Drop>(
@@ -91,7 +120,8 @@ fn seats_in<R: Clock + Copy + Drop>(
     turns: &Arc<Turns, Global>,
     rows: &[Row],
 ) -> Result<Seats<R>, Fail>
-    ensures { IfOk result (λ seats. (seats.0.number ≡ 0) × (seats.1.number ≡ 1) × (seats.2.number ≡ 2) × (seats.3.number ≡ 3)) }
+    ensures numbers { IfOk result (λ seats. (seats.0.number ≡ 0) × (seats.1.number ≡ 1) × (seats.2.number ≡ 2) × (seats.3.number ≡ 3)) }
+    ensures told { IfOk result (λ seats. (seats.0.told.items ≡ []) × (seats.1.told.items ≡ []) × (seats.2.told.items ≡ []) × (seats.3.told.items ≡ [])) }
 {
     let first = TurnSeat::new(rt, alloc, Arc::try_clone(turns)?, rows, 0)?;
     let second = TurnSeat::new(rt, alloc, Arc::try_clone(turns)?, rows, 1)?;

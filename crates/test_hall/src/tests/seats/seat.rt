@@ -1,12 +1,15 @@
 //! A seat that plays its rows of a script, each in its turn.
 
-ghost use Rattle.std.specs.Prelude.{◌≡◌, ◌<◌, ◌%◌, ◌∷◌, [], None, Some, true, vec_len, vec_capacity, IfNone, IfSome, IfOk, IsTrue};
-ghost use Rattle.hall.specs.SeatEvents.{seat_app, Notes};
-ghost use Rattle.test_hall.specs.Gone.{is_gone};
+ghost use Rattle.std.specs.Prelude.{◌≡◌, ◌<◌, ◌%◌, ◌∷◌, [], List, true, vec_len, vec_capacity, IfOk, IfSome, IsTrue};
+ghost use Rattle.hall.specs.SeatEvents.{heard_in, seat_app};
+ghost use Rattle.hall_log.specs.Histories.{Exchange};
+ghost use Rattle.hall_log.specs.declared.event.AppCall.{AppCall};
+ghost use Rattle.test_hall.specs.Gone.{AllGone, Notes, is_gone};
 
 use super::turns::{Turns, is_finish};
 use ck_calls::Reply;
 use hall::{AppCall, Seat, SeatEvent};
+use hall_log::{Naming, Told};
 use std::alloc::Global;
 use std::collections::LinkedList;
 use std::sync::Arc;
@@ -94,7 +97,7 @@ impl<R: Clock + Drop> TurnSeat<R> {
         ensures told { self.new.told ≡ self.old.told }
         ensures own { IsTrue result → seat_app event.now % 4 ≡ self.old.number }
         ensures there { IsTrue result → ¬ IsTrue (is_gone self.old.gone.items (seat_app event.now)) }
-        ensures goes { IsTrue result → Notes (λ gone. IsTrue (is_gone self.new.gone.items gone)) event.now }
+        ensures goes { IsTrue result → Notes self.new.gone.items event.now }
         ensures gone { (app : _) → IsTrue (is_gone self.old.gone.items app) → IsTrue (is_gone self.new.gone.items app) }
     {
         let app = app_of(event);
@@ -108,6 +111,24 @@ impl<R: Clock + Drop> TurnSeat<R> {
                 self.gone.push(*app).is_ok()
             }
         }
+    }
+
+    /// The next of its events, if it may be put, once one more reply fits.
+    fn ready_event(&mut self) -> Option<SeatEvent>
+        ensures number { self.new.number ≡ self.old.number }
+        ensures told { self.new.told.items ≡ self.old.told.items }
+        ensures gone { (app : _) → IsTrue (is_gone self.old.gone.items app) → IsTrue (is_gone self.new.gone.items app) }
+        ensures own { IfSome result (λ e. seat_app e % 4 ≡ self.old.number) }
+        ensures there { IfSome result (λ e. ¬ IsTrue (is_gone self.old.gone.items (seat_app e))) }
+        ensures goes { IfSome result (Notes self.new.gone.items) }
+        ensures room { IfSome result (λ _. vec_len self.new.told < vec_capacity self.new.told) }
+    {
+        let event = self.next_event()?;
+        if self.has_room() && self.may_put(&event) {
+            return Some(event);
+        }
+        drop(event);
+        None
     }
 }
 
@@ -144,33 +165,28 @@ fn event_of(alloc: Global, app: u64, step: Step) -> Result<SeatEvent, Fail> {
     Ok(SeatEvent::Call(AppCall { app, call, words }))
 }
 
-impl<R: Clock + Drop> Seat for TurnSeat<R> {
+impl<J: Naming, R: Clock + Drop> Seat<J> for TurnSeat<R> {
     ghost number = { λ s. s.number };
 
     ghost over = { λ s. s.has_ended ≡ true };
 
     ghost fixed = { λ s. s.number ∷ [] };
 
-    ghost gone = { λ s app. IsTrue (is_gone s.gone.items app) };
+    ghost knows = { λ fixed. (before : List Exchange) (call : AppCall) → J.was_read before call };
 
-    ghost ready = { λ s app. vec_len s.told < vec_capacity s.told };
+    ghost stands = { λ s xs. (s.told.items ≡ heard_in xs) × AllGone s.gone.items xs };
 
-    ghost asked = { λ s. None };
+    ghost waits = { λ s before call. (s.told.items ≡ heard_in before) × AllGone s.gone.items before × (vec_len s.told < vec_capacity s.told) };
 
-    ghost heard = { λ s. Some s.told.items };
-
-    fn next(&mut self) -> Option<SeatEvent> {
-        if let Some(event) = self.next_event() {
-            if self.has_room() && self.may_put(&event) {
-                return Some(event);
-            }
-            drop(event);
+    fn next(&mut self, _told: &Told<J>) -> Option<SeatEvent> {
+        let event = self.ready_event();
+        if event.is_none() {
+            self.has_ended = true;
         }
-        self.has_ended = true;
-        None
+        event
     }
 
-    fn take(&mut self, app: u64, reply: Reply) {
+    fn take(&mut self, app: u64, reply: Reply, _told: &Told<J>) {
         self.told.push_reserved((app, reply));
         self.turns.go_on(app);
     }

@@ -1,23 +1,10 @@
-use Rattle.std.proofs.Common.{ap, sym, ◌∙◌}
-use Rattle.std.proofs.Math.Logic.{∥∥₁_map}
-use Rattle.line_places.proofs.Arriving.{all-came}
-use Rattle.hall_sockets.specs.Telling.{apps_of}
-use Rattle.hall_sockets.proofs.Staying.{gone-same}
+use Rattle.hall_log.specs.Lists.{of}
+use Rattle.hall_log.specs.Log.{served}
+use Rattle.hall_sockets.proofs.Standing.{owed-by, stands-by}
 use Rattle.hall_sockets.proofs.serving.SocketSeatSeat.take.Goals as goal
 
-pub invariant_of-self : goal.invariant_of-self
-invariant_of-self g c =
-    let was = c.args.self.now in
-    let e = c.reply.ensures in
-    record {
-      calls = was.calls ∙ sym e.asked;
-      gone = was.gone ∙ ap apps_of (sym e.past);
-      tied = ∥∥₁_map was.tied e.tied;
-      came = ∥∥₁_map was.came (all-came was.clients c.reply.new.self e.still was.door);
-    }
+pub take_reply-requires : goal.take_reply-requires
+take_reply-requires g c = owed-by c.args.self.now (of c.args.self.now.clients.number (served c.args._told.now)) c.args.app c.args.reply c.requires.reply
 
-pub returns-then-is_pending-clause-gone : goal.returns-then-is_pending-clause-gone
-returns-then-is_pending-clause-gone g c = λ app h. gone-same c.args.self.now.clients.past.items c.watch.new.self.clients.past.items (c.watch.ensures.2 ∙ c.reply.ensures.past) app h
-
-pub returns-else-is_pending-clause-gone : goal.returns-else-is_pending-clause-gone
-returns-else-is_pending-clause-gone g c = λ app h. gone-same c.args.self.now.clients.past.items c.reply.new.self.past.items c.reply.ensures.past app h
+pub returns-clause-stands : goal.returns-clause-stands
+returns-clause-stands g c = stands-by c.args.self.now (of c.args.self.now.clients.number (served c.args._told.now)) c.args.app c.args.reply c.requires.reply c.take_reply.new.self c.take_reply.ensures

@@ -1,0 +1,4 @@
+use Rattle.hall.proofs.holding.hold.Goals as goal
+
+pub hold_machine-requires-clause-all : goal.hold_machine-requires-clause-all
+hold_machine-requires-clause-all g c κs within = λ now h so. c.requires.all h (now, so)
