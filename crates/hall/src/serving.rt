@@ -53,7 +53,8 @@ fn serve<M: Machine, J: Naming, R: Wait>(
     requires so { IsSoFar M.doubt M.failures M.shows M.leaves M.spare J.was_read serving.old.began.value serving.old.machine (served serving.old.server) }
     requires all { (now : M) (h : History) → IsSoFar M.doubt M.failures M.shows M.leaves M.spare J.was_read serving.old.began.value now h → J.served h }
     ensures began { serving.new.began.value ≡ serving.old.began.value }
-    ensures so { IsTrue result → IsSoFar M.doubt M.failures M.shows M.leaves M.spare J.was_read serving.new.began.value serving.new.machine (served serving.new.server) }
+    ensures so { IsTrue result → IsSoFar M.doubt M.failures M.shows M.leaves M.spare J.was_read serving.new.began.value serving.new.machine
+        (served serving.new.server) }
     ensures led { IsLed M.doubt M.failures M.shows M.leaves M.spare serving.new.began.value serving.new.machine }
 {
     if !serving.server.is_next(&posted.post) {
@@ -86,7 +87,8 @@ pub(crate) fn serve_seats<M: Machine, J: Naming, R: Wait + Clock>(
     requires so { IsSoFar M.doubt M.failures M.shows M.leaves M.spare J.was_read serving.old.began.value serving.old.machine (served serving.old.server) }
     requires all { (now : M) (h : History) → IsSoFar M.doubt M.failures M.shows M.leaves M.spare J.was_read serving.old.began.value now h → J.served h }
     ensures began { serving.new.began.value ≡ serving.old.began.value }
-    ensures so { IsTrue result → IsSoFar M.doubt M.failures M.shows M.leaves M.spare J.was_read serving.new.began.value serving.new.machine (served serving.new.server) }
+    ensures so { IsTrue result → IsSoFar M.doubt M.failures M.shows M.leaves M.spare J.was_read serving.new.began.value serving.new.machine
+        (served serving.new.server) }
     ensures led { IsLed M.doubt M.failures M.shows M.leaves M.spare serving.new.began.value serving.new.machine }
 {
     let mut ended: u64 = 0;

@@ -6,7 +6,8 @@
 //!
 //! - `messages` are what passes. An event and its answer go in a `Message`, which is allocated once for each seat. Inward passes a
 //!   message for its event, outward for its answer.
-//! - `ends` are the two ends of a channel, `Inbox` is the token's end of the inward channel, `Outbox` its end of one outward channel, and `Port` a seat's two ends.
+//! - `ends` are the two ends of a channel. `Inbox` is the token's end of the inward channel, `Outbox` its end of one outward channel,
+//!   and `Port` a seat's two ends.
 //! - `Port::ask` and `Port::tell` alone put an event. They require that the seat may put it (`MayPut`), and say what it then did:
 //!   this event, and what the token answered.
 //! - `Outbox::answer` and `give_back` alone give an answer. They require its receipt, which only `Server::serve` makes.

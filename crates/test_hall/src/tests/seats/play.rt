@@ -121,7 +121,8 @@ fn seats_in<R: Clock + Copy + Drop>(
     rows: &[Row],
 ) -> Result<Seats<R>, Fail>
     ensures numbers { IfOk result (λ seats. (seats.0.number ≡ 0) × (seats.1.number ≡ 1) × (seats.2.number ≡ 2) × (seats.3.number ≡ 3)) }
-    ensures told { IfOk result (λ seats. (seats.0.told.items ≡ []) × (seats.1.told.items ≡ []) × (seats.2.told.items ≡ []) × (seats.3.told.items ≡ [])) }
+    ensures told { IfOk result (λ seats. (seats.0.told.items ≡ []) × (seats.1.told.items ≡ [])
+        × (seats.2.told.items ≡ []) × (seats.3.told.items ≡ [])) }
 {
     let first = TurnSeat::new(rt, alloc, Arc::try_clone(turns)?, rows, 0)?;
     let second = TurnSeat::new(rt, alloc, Arc::try_clone(turns)?, rows, 1)?;
