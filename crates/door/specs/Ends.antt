@@ -1,5 +1,5 @@
 -- What contracts know of the ends of a connection: the bytes that a reader gave, and those that a writer took.
-use Rattle.std.specs.Prelude.{◌≡◌, ℕ, ◌<◌, List, [], ◌++◌, length, take, Option, Result, MatchResult}
+use Rattle.std.specs.Prelude.{◌≡◌, ◌⊎◌, ℕ, ◌<◌, List, [], ◌++◌, length, take, Option, Result, MatchResult}
 use Rattle.std.specs.Io.KnownBytes.{Appends, Consumes, IsAtEnd}
 
 -- a reader: the application that it is of, all that it gave, and what it has left, where that is known
@@ -33,3 +33,7 @@ ReadGives old new r buf = MatchResult r (λ n. GaveBytes old new (take n buf) ×
 -- a write took the first of the bytes; one that failed took none
 abbrev pub WriteTakes : {E : Type 0} → Writing → Writing → Result ℕ E → List ℕ → Type 0
 WriteTakes old new r bytes = MatchResult r (λ n. TookBytes old new (take n bytes)) (λ _. TookBytes old new [])
+
+-- nothing, or bytes that the reader of this application has given, at some moment
+abbrev pub HasGiven : (ℕ → List ℕ → Type 0) → ℕ → List ℕ → Type 0
+HasGiven given app bytes = (bytes ≡ []) ⊎ given app bytes

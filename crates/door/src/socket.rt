@@ -1,111 +1,43 @@
-//! The two ends of a socket. Contracts of std know nothing of its bytes: that both ends are of one connection, and that each gives or
-//! takes what is noted, is seen here, and trusted.
+//! What is asked of a socket.
 
-ghost use Rattle.std.specs.Prelude.{IfOk};
-ghost use Rattle.door.specs.Coming.{AreEnds};
+ghost use Rattle.std.specs.Prelude.{ℕ, List};
+ghost use Rattle.std.specs.Io.{ReadsAtMost, WritesAtMost};
+ghost use Rattle.door.specs.Ends.{ReadGives, WriteTakes};
 
-use crate::ends::{Licence, Sink, Source, Taker};
-use lists::GhostBytes;
-use std::alloc::{AllocError, Global};
-use std::io::{self, Read, Write};
-use std::marker::Model;
-use std::os::fd::{AsRawFd, RawFd};
-use std::os::unix::net::UnixStream;
-use std::sync::Arc;
+use crate::ends::Licence;
+use crate::notes::{Gave, Took};
+use std::io;
+use std::os::fd::RawFd;
+use std::os::unix::net::UnixListener;
+use std::time::Duration;
 
-/// The end that is read.
-#[derive(Drop)]
-pub struct Reader {
-    stream: Arc<UnixStream, Global>,
-    app: u64,
-    gave: GhostBytes,
+/// A connection's socket. Its bytes are read by who has the connection's `Gave`, and written by who has its `Took`.
+pub trait Socket: Sized {
+    /// The reader of this application has given these bytes, at some moment. Nothing but a read says so.
+    ghost given: { ℕ → List ℕ → Type 0 };
+
+    /// Accepts one who waits. Its reads and writes wait for `patience`, or not at all.
+    fn accept(listener: &UnixListener, patience: Option<Duration>) -> io::Result<Self>;
+
+    /// Its descriptor.
+    fn descriptor(&self) -> RawFd;
+
+    /// Reads into the front of the buffer, and notes what it gave, as `Source::read` does.
+    fn read(&self, gave: &mut Gave, buf: &mut [u8]) -> io::Result<usize>
+        ensures bound { ReadsAtMost result buf.new }
+        ensures bytes { ReadGives gave.old gave.new result buf.new }
+        ensures given { given gave.new.app gave.new.gave };
 }
 
-impl Model for Reader {
-    ghost use Rattle.std.specs.Prelude.{None};
-    ghost use Rattle.door.specs.Ends.{Reading};
+/// A socket that is written under a licence.
+pub trait Outgoing<L: Licence>: Socket {
+    /// Writes bytes at the front of these, and notes what it took, as `Sink::write` does. All of them must be allowed, however many it
+    /// takes.
+    fn write(&self, licence: &L, took: &mut Took, buf: &[u8]) -> io::Result<usize>
+        requires may { L.allows licence.now took.old.app took.old.took buf.now }
+        ensures bound { WritesAtMost result buf.now }
+        ensures bytes { WriteTakes took.old took.new result buf.now };
 
-    ghost Value = { Reading };
-
-    ghost view = { λ r. record { app = r.app; gave = r.gave.bytes; left = None } };
-}
-
-impl Reader {
-    /// The descriptor of its socket.
-    pub fn descriptor(&self) -> RawFd {
-        self.stream.as_raw_fd()
-    }
-}
-
-impl Source for Reader {
-    ghost given = { λ app bytes. Unit {0} };
-
-    ghost reading = { λ r. r };
-
-    fn read(&mut self, buf: &mut [u8]) -> io::Result<usize> {
-        let mut stream: &UnixStream = &self.stream;
-        let count = Read::read(&mut stream, buf)?;
-        let (front, _) = buf.split_at(count);
-        self.gave.push(front);
-        Ok(count)
-    }
-}
-
-/// The end that is written.
-#[derive(Drop)]
-pub struct Writer {
-    stream: Arc<UnixStream, Global>,
-    app: u64,
-    took: GhostBytes,
-}
-
-impl Model for Writer {
-    ghost use Rattle.std.specs.Prelude.{None};
-    ghost use Rattle.door.specs.Ends.{Writing};
-
-    ghost Value = { Writing };
-
-    ghost view = { λ w. record { app = w.app; took = w.took.bytes; holds = None } };
-}
-
-impl Taker for Writer {
-    ghost writing = { λ w. w };
-}
-
-impl<L: Licence> Sink<L> for Writer {
-    fn write(&mut self, _licence: &L, buf: &[u8]) -> io::Result<usize> {
-        let mut stream: &UnixStream = &self.stream;
-        let count = Write::write(&mut stream, buf)?;
-        let (front, _) = buf.split_at(count);
-        self.took.push(front);
-        Ok(count)
-    }
-
-    fn flush(&mut self) -> io::Result<()> {
-        let mut stream: &UnixStream = &self.stream;
-        Write::flush(&mut stream)
-    }
-}
-
-/// Both ends of a socket, for an application.
-pub(crate) fn ends_of(
-    alloc: Global,
-    stream: UnixStream,
-    app: u64,
-) -> Result<(Reader, Writer), AllocError>
-    ensures { IfOk result (AreEnds app) }
-{
-    let read = Arc::new(alloc, stream)?;
-    let written = read.clone()?;
-    let reader = Reader {
-        stream: read,
-        app,
-        gave: GhostBytes::new(),
-    };
-    let writer = Writer {
-        stream: written,
-        app,
-        took: GhostBytes::new(),
-    };
-    Ok((reader, writer))
+    /// Passes on what it took.
+    fn flush(&self) -> io::Result<()>;
 }

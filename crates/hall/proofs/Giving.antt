@@ -10,7 +10,7 @@ use Rattle.hall_log.specs.declared.event.Event.{Event}
 use Rattle.hall_log.specs.Histories.{AllMay, AllOwn, Exchange, History}
 use Rattle.hall_log.specs.Putting.{MayPut}
 use Rattle.hall_log.proofs.Mays.{all_own, may_more, proper_all}
-use Rattle.hall.specs.Exchanges.{Suits}
+use Rattle.hall_log.specs.Suiting.{HistorySuits, Suits}
 use Rattle.hall.specs.Given.{Did, IsLed, IsSoFar, Serves}
 use Rattle.hall.specs.Histories.{AllProper}
 use Rattle.hall.proofs.MoreHistory.{SpareLaw, served_more, served_none}
@@ -41,3 +41,7 @@ module _ {T : Type 0} (doubt failures : T → ℕ) (shows : T → World → Type
 -- in what a token has served each event is of an application of its own seat
 pub own_so : {K : Type 0} (terms : Terms K) (was_read : List Exchange → AppCall → Type 0) (token : TokenState K) (history : History) → Serves terms was_read token history → AllOwn history
 own_so terms was_read token history so = all_own (MayPut was_read) history (λ s before e may. may.own) so.1.1
+
+-- and each has an answer that suits it
+pub suits_so : {K : Type 0} (terms : Terms K) (was_read : List Exchange → AppCall → Type 0) (token : TokenState K) (history : History) → Serves terms was_read token history → HistorySuits history
+suits_so terms was_read token history so = so.1.0.suited

@@ -16,8 +16,8 @@ use Rattle.hall_log.specs.declared.event.Event.{Event}
 use Rattle.hall_log.proofs.Lists.{of-append, of_here, of_else, last_snoc}
 use Rattle.hall_log.specs.Histories.{Exchange, app_of, History}
 use Rattle.hall_log.specs.Putting.{Follows, IsProper, pending}
-use Rattle.hall.specs.Exchanges.{Suits}
-use Rattle.hall.specs.Histories.{Allowed, AllProper, Counts, HasServed, HistorySuits, IsHistory, RunSoFar, Spends, SpendsOver, Takes, Tells, Unfolds, as_event, ids_by, ids_in, model_events, move_in, moved_by, moves_in, own_job, replies_in, told_by, told_in, waiting}
+use Rattle.hall_log.specs.Suiting.{HistorySuits, Suits}
+use Rattle.hall.specs.Histories.{Allowed, AllProper, Counts, HasServed, IsHistory, RunSoFar, Spends, SpendsOver, Takes, Tells, Unfolds, as_event, ids_by, ids_in, model_events, move_in, moved_by, moves_in, own_job, replies_in, told_by, told_in, waiting}
 use Rattle.hall.proofs.PendingJobs.{allowed_after, event_moved_by, jobs_after, other_after, out_after, own_after, tells_is}
 use Rattle.hall.proofs.Turns.{proper_front}
 

@@ -16,14 +16,10 @@ use Rattle.hall_log.specs.declared.event.Event.{Event}
 use Rattle.hall_log.specs.declared.event.Event.TheVariants.{Call, Finish, Gone}
 use Rattle.hall_log.specs.Histories.{Exchange, History, app_of}
 use Rattle.hall_log.specs.Putting.{IsProper, pending}
-use Rattle.hall.specs.Exchanges.{Suits}
+use Rattle.hall_log.specs.Suiting.{HistorySuits}
 
 abbrev pub AllProper : History → Type 0
 AllProper xs = (s : ℕ) → IsProper s (of s xs)
-
-abbrev pub HistorySuits : History → Type 0
-HistorySuits [] = Unit {0}
-HistorySuits (x ∷ xs) = Suits x.1.0 x.1.1 × HistorySuits xs
 
 -- ---- in the words of the token's model
 

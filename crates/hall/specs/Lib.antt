@@ -1,5 +1,4 @@
 pub mod Beginning
-pub mod Exchanges
 pub mod Given
 pub mod Held
 pub mod Histories

@@ -34,6 +34,12 @@
 //! Termination and fairness are not proved: a seat that never returns that there is no more is held for ever, and so is one
 //! before a `Gate` that is never passed. That a fault comes only where an allocation or a thread's start failed, that no seat
 //! was called then, and that the token is as it was where a thread was not started, stands in no clause: tests show it.
+//!
+//! Proved, by the names of contracts: where `hold` returns `Held`, each seat is over (`over`), and one history has each event once, each
+//! seat's in order (`held`: `WereHeld`, `Interleaves`). It is the log's, and each seat stands as after what it has there. While the disk
+//! is faithful it is a run from each world that the token refined (`IsHistory`), if no call was pending before. Before the end each seat
+//! asks what it may (`MayAsk`), and takes what the history that it is told has of it (`IsReplyTo`). After a fault some history leads to
+//! the token that is returned (`memory`, `led`: `IsLed`). The laws stand in `ISOLATION.md`.
 #![tactic(auto)]
 
 mod closing;

@@ -84,6 +84,7 @@ fn turn<J: Naming, S: Seat<J>, G: Gate, R: Wait + Clock>(
     event: SeatEvent,
 ) -> bool
     requires number { S.number seat.old ≡ port.old.putter.seat }
+    requires knows { S.knows (S.fixed seat.old) }
     requires message { IsSome port.old.message }
     requires settled { pending (last (done_by port.old.putter)) ≡ None }
     requires may { MayAsk J.was_read port.old.putter.seat (done_by port.old.putter) event }

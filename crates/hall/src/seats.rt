@@ -57,6 +57,7 @@ pub trait Seat<J: Naming> {
 
     /// Takes the reply to its last call, which was of this application. It can't fail, so `next` allocates for it before.
     fn take(&mut self, app: u64, reply: Reply, told: &Told<J>)
+        requires knows { knows (fixed self.old) }
         requires reply { IsReplyTo (waits self.old) (of (number self.old) (served told.now)) app reply }
         ensures number { number self.new ≡ number self.old }
         ensures fixed { fixed self.new ≡ fixed self.old }

@@ -3,7 +3,7 @@
 ghost use Rattle.std.specs.Prelude.{◌≡◌, IsTrue};
 ghost use Rattle.hall_log.specs.Histories.{History};
 ghost use Rattle.hall_log.specs.Log.{served};
-ghost use Rattle.hall.specs.Exchanges.{Suits};
+ghost use Rattle.hall_log.specs.Suiting.{Suits};
 ghost use Rattle.hall.specs.Given.{Did, IsLed, IsSoFar};
 
 use crate::machine::Machine;

@@ -14,6 +14,11 @@
 //!
 //! No clause says that a message comes, or that a call returns. A receive first yields to the other threads, the token at most 200
 //! times and a seat 40, and then sleeps. Where turns take long it sleeps at once (`patience`).
+//!
+//! Proved, by the names of contracts: a message with an event carries the seat's post of just this event (`Posted`), and one with an
+//! answer the receipt of just this answer (`Answered`, `Returned`). So after `Port::ask` a seat's exchanges are those before, with this
+//! event and this answer (`done`); likewise after `tell`, with none. An answer is given by its receipt alone (`Outbox::answer`,
+//! `give_back`).
 #![tactic(auto)]
 
 pub mod ends;

@@ -4,3 +4,4 @@ pub mod Lists
 pub mod Log
 pub mod Putting
 pub mod SeatLogs
+pub mod Suiting

@@ -12,6 +12,11 @@
 //!
 //! Of any two histories that were told, to any seats, one begins the other (`one_order`). No clause says that anything is put or
 //! served. Where a word holds another count than its own end knows, the step changes nothing; no run meets that.
+//!
+//! Proved, by the names of contracts: of each seat was served what it put, in its order (`Orderly`). Of any two histories that were told,
+//! one begins the other (`one_order`). An event is put only where the seat may (`MayPut`), once all before it were answered (`IsIdle`). A
+//! receipt is taken only of the last one (`got`). Where as many were served of a seat as it put, the history has just what the seat did
+//! (`has_all`). Each history that was told was served, and its answers suit (`again`: `HistorySuits`).
 #![tactic(auto)]
 
 mod entry;

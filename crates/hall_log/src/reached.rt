@@ -2,7 +2,9 @@
 
 ghost use Rattle.std.specs.Prelude.{◌≡◌, ◌⊎◌};
 ghost use mathlib.Core.List.{IsPrefix};
+ghost use Rattle.hall_log.specs.Histories.{AllOwn};
 ghost use Rattle.hall_log.specs.Log.{Orderly, served};
+ghost use Rattle.hall_log.specs.Suiting.{HistorySuits};
 
 use crate::entry::Entry;
 use crate::naming::Naming;
@@ -80,9 +82,13 @@ impl<J: Naming> Told<J> {
         self.reached.again()
     }
 
-    /// A copy.
+    /// A copy. The machine has served its history, in which each event is of an application of its own seat, and has an answer that suits
+    /// it.
     pub fn again(&self) -> Told<J>
-        ensures { result ≡ self.now }
+        ensures same { result ≡ self.now }
+        ensures served { J.served (served result) }
+        ensures own { AllOwn (served result) }
+        ensures suited { HistorySuits (served result) }
     {
         Told {
             reached: self.reached.again(),

@@ -4,8 +4,8 @@ use denote.RattleType.{RattleType}
 use denote.Param.Send.{IsSend, IsSync, sendable}
 use denote.Struct.Field.{row_field}
 use denote.Param.SendFields.{declared_send, as_row_send}
-use Rattle.door.specs.contracts.socket.Reader as Reader
-use Rattle.door.specs.contracts.socket.Writer as Writer
+use Rattle.door.specs.contracts.pair.Reader as Reader
+use Rattle.door.specs.contracts.pair.Writer as Writer
 use Rattle.door.proofs.Crosses.{door_send, reader_send, writer_send}
 use Rattle.line_places.specs.contracts.places.Places as Places
 use Rattle.line_places.proofs.Crosses.{places_send}
@@ -14,8 +14,8 @@ use Rattle.hall_sockets.specs.contracts.loads.Loads as Loads
 use Rattle.hall_sockets.specs.contracts.sockets.Sockets as Sockets
 use Rattle.hall_sockets.specs.contracts.seat.SocketSeat as SocketSeat
 
-clients_send : IsSend (Places.the_row Reader.the_row Writer.the_row)
-clients_send = places_send Reader.the_row Writer.the_row reader_send writer_send
+clients_send : (S : RattleType) → IsSend S → IsSync S → IsSend (Places.the_row (Reader.the_row S) (Writer.the_row S))
+clients_send S send sync = places_send (Reader.the_row S) (Writer.the_row S) (reader_send S send sync) (writer_send S send sync)
 
 loads_send : IsSend Loads.the_row
 loads_send = search (sendable, crosses) depth 30
@@ -32,8 +32,8 @@ sockets_sync = search (sendable, crosses) depth 30
 audited_send : IsSend Audited.the_row
 audited_send = search sendable depth 20
 
-pub seat_send : (L C : RattleType) → IsSend L → IsSend C → IsSend (SocketSeat.the_row L C)
-seat_send L C l c = declared_send (SocketSeat.the_type L C) (
+pub seat_send : (S L C : RattleType) → IsSend S → IsSync S → IsSend L → IsSend C → IsSend (SocketSeat.the_row S L C)
+seat_send S L C send sync l c = declared_send (SocketSeat.the_type S L C) (
   search sendable depth 8,
   (
     as_row_send (row_field C) c,
@@ -46,13 +46,13 @@ seat_send L C l c = declared_send (SocketSeat.the_type L C) (
           (
             search (sockets_send, sockets_sync, sendable, crosses) depth 30,
             (
-              door_send,
+              door_send S send sync,
               (
                 search (sendable, crosses) depth 30 fits 20000,
                 (
                   search (sendable, crosses) depth 30 fits 20000,
                   (
-                    clients_send,
+                    clients_send S send sync,
                     (
                       search sendable depth 8,
                       (

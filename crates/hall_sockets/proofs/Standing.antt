@@ -44,28 +44,29 @@ there-by app ((GoneEvent a, o) ∷ xs) out = ((λ e. out (inl (same_app a app e)
 
 -- ---- the next event
 
-module _ {L C : Type 0} (was_read : List Exchange → AppCall → Type 0) (a b : SocketSeat L C) (before : List Exchange) (stands : StandsAfter a before) where
+module _ {S L C : Type 0} (given : ℕ → List ℕ → Type 0) (was_read : List Exchange → AppCall → Type 0) (a b : SocketSeat S L C) (before : List Exchange) (stands : StandsAfter given a before) where
   there : (app : ℕ) → ¬ HasGone a.clients.past.items app → IsThere app before
   there app out = there-by app before (λ m. out (gone-in a.clients.past.items app (subst (IsIn app) (ap gone_in (sym stands.0) ∙ a.gone) m)))
 
-  may-ask : ((before : List Exchange) (call : AppCall) → was_read before call) → (e : SeatEvent) → (seat_app e % 4 ≡ a.clients.number) × (¬ HasGone a.clients.past.items (seat_app e)) → MayAsk was_read a.clients.number before e
-  may-ask all (Call c) is = record { own = is.0; there = there c.app is.1; read = all before c }
-  may-ask all (Gone app) is = record { own = is.0; there = there app is.1; read = tt }
+  may-ask : (e : SeatEvent) → ((c : AppCall) → e ≡ Call c → was_read before c) → (seat_app e % 4 ≡ a.clients.number) × (¬ HasGone a.clients.past.items (seat_app e)) → MayAsk was_read a.clients.number before e
+  may-ask (Call c) read is = record { own = is.0; there = there c.app is.1; read = read c refl }
+  may-ask (Gone app) read is = record { own = is.0; there = there app is.1; read = tt }
 
-  pub next-may : ((before : List Exchange) (call : AppCall) → was_read before call) → (e : Option SeatEvent) → Gives a b e → IfSome e (MayAsk was_read a.clients.number before)
-  next-may all None gives = tt
-  next-may all (Some e) gives = may-ask all e gives.4
+  pub next-may : (e : Option SeatEvent) → ((c : AppCall) → e ≡ Some (Call c) → was_read before c) → Gives given a b e → IfSome e (MayAsk was_read a.clients.number before)
+  next-may None read gives = tt
+  next-may (Some e) read gives = may-ask e (λ c is. read c (ap (λ (x : SeatEvent). Some x) is)) gives.4
 
-module _ {L C : Type 0} (a b : SocketSeat L C) (before : List Exchange) (stands : StandsAfter a before) where
-  then : (e : SeatEvent) → Gives a b (Some e) → StandsThen (StandsAfter b) (WaitsFor b) before e
-  then (Call c) gives = (gives.3 ∙ ap (λ l. l ++ Call c ∷ []) stands.0, gives.2 ∙ stands.1, gives.5)
+module _ {S L C : Type 0} (given : ℕ → List ℕ → Type 0) (a b : SocketSeat S L C) (before : List Exchange) (stands : StandsAfter given a before) where
+  pub then : (e : SeatEvent) → Gives given a b (Some e) → StandsThen (StandsAfter given b) (WaitsFor given b) before e
+  then (Call c) gives = (gives.3 ∙ ap (λ l. l ++ Call c ∷ []) stands.0, gives.2 ∙ stands.1, gives.5.0, gives.7 stands.2, gives.5.1)
   then (Gone app) gives = (
     gives.3 ∙ ap (λ l. l ++ Gone app ∷ []) stands.0 ∙ sym (asked_in-append before ((GoneEvent app, None) ∷ [])),
     gives.2 ∙ stands.1 ∙ sym (heard_in-append before ((GoneEvent app, None) ∷ []) ∙ append-nil (heard_in before)),
+    gives.7 stands.2,
   )
 
-  pub next-stands : (e : Option SeatEvent) → Gives a b e → MatchOption e (StandsAfter b before) (StandsThen (StandsAfter b) (WaitsFor b) before)
-  next-stands None gives = (gives.5 ∙ stands.0, gives.4 ∙ stands.1)
+  pub next-stands : (e : Option SeatEvent) → Gives given a b e → MatchOption e (StandsAfter given b before) (StandsThen (StandsAfter given b) (WaitsFor given b) before)
+  next-stands None gives = (gives.5 ∙ stands.0, gives.4 ∙ stands.1, gives.6 stands.2)
   next-stands (Some e) gives = then e gives
 
 -- ---- the reply
@@ -89,12 +90,16 @@ turn-app c more app reply turn heard = ⊎_elim
     (λ (t : (j : Job) × (d : Done) × (r : ReplyType) × (d.job.value ≡ j) × (more ≡ (CallEvent c, Some (Ask j)) ∷ (FinishEvent c.app d, Some (Reply r)) ∷ [])). same-first c.app app t.2 reply (sym (ap heard_in t.4) ∙ heard))
     turn
 
-module _ {L C : Type 0} (a : SocketSeat L C) (now : List Exchange) (app : ℕ) (reply : ReplyType) (is : IsReplyTo (WaitsFor a) now app reply) where
+module _ {S L C : Type 0} (given : ℕ → List ℕ → Type 0) (a : SocketSeat S L C) (now : List Exchange) (app : ℕ) (reply : ReplyType) (is : IsReplyTo (WaitsFor given a) now app reply) where
   pub owed-by : IsOwed a.clients.places.items a.answering app
   owed-by = subst (IsOwed a.clients.places.items a.answering) (turn-app is.call is.more app reply is.turn is.heard) is.waits_for.2
 
-  pub stands-by : (b : SocketSeat L C) → Hears a b app reply → StandsAfter b now
-  stands-by b hears = (
-    hears.2 ∙ is.waits_for.0 ∙ ap (λ l. asked_in is.before ++ l) (sym (turn-asked is.call is.more is.turn)) ∙ sym (ap asked_in is.now_is ∙ asked_in-append is.before is.more),
-    hears.3 ∙ ap (λ l. l ++ (app, reply) ∷ []) is.waits_for.1 ∙ ap (λ l. heard_in is.before ++ l) (sym is.heard) ∙ sym (ap heard_in is.now_is ∙ heard_in-append is.before is.more),
-  )
+  -- with the reply, it gave and took what it did by these
+  pub asked-by : a.asked.items ≡ asked_in now
+  asked-by = is.waits_for.0 ∙ ap (λ l. asked_in is.before ++ l) (sym (turn-asked is.call is.more is.turn)) ∙ sym (ap asked_in is.now_is ∙ asked_in-append is.before is.more)
+
+  pub heard-by : a.clients.told.items ++ (app, reply) ∷ [] ≡ heard_in now
+  heard-by = ap (λ l. l ++ (app, reply) ∷ []) is.waits_for.1 ∙ ap (λ l. heard_in is.before ++ l) (sym is.heard) ∙ sym (ap heard_in is.now_is ∙ heard_in-append is.before is.more)
+
+  pub stands-by : (b : SocketSeat S L C) → Hears given a b app reply → StandsAfter given b now
+  stands-by b hears = (hears.2 ∙ asked-by, hears.3 ∙ heard-by, hears.4 is.waits_for.3)

@@ -1,5 +1,5 @@
 -- What a seat does, one thing after the other.
-use Rattle.std.specs.Option.{IfSome, IfNone, is_some}
+use Rattle.std.specs.Option.{IfNone, is_some}
 use Rattle.std.proofs.Common.{◌≡◌, ◌≢◌, ◌⊎◌, inl, inr, ⊎_elim, ℕ, ◌+◌, ◌<◌, ◌≤◌, arith, length, true, false, List, [], ◌∷◌, ◌++◌, sym, refl, ap, ◌∙◌, subst, Option, Some, None}
 use Rattle.std.proofs.lemmas.List.{map-append}
 use Rattle.std.proofs.lemmas.Option.{slice_get_within}
@@ -15,11 +15,12 @@ use Rattle.line_places.specs.declared.place.Place.{Place}
 use Rattle.line_places.specs.declared.places.Places.{Places}
 use Rattle.line_places.specs.Arriving.{AllCame, HasCome, KeepsCome}
 use Rattle.line_places.specs.Keeping.{HasGone, IsAmong, IsAt, IsOwed}
+use Rattle.line_places.specs.Permitting.{MayGoOnAt}
 use Rattle.line_places.specs.Tying.{AllTied, AreEndsOf}
 use Rattle.line_places.proofs.Arriving.{all-came, all-more}
 use Rattle.line_places.proofs.Keeping.{among-last, among-more, same_or}
 use Rattle.hall_sockets.specs.declared.seat.SocketSeat.{SocketSeat}
-use Rattle.hall_sockets.specs.Staying.{Stays, IsEmptyAt, IsNobodyLeft, IsStill, Gives}
+use Rattle.hall_sockets.specs.Staying.{Gives, IsEmptyAt, IsNew, IsNobodyLeft, IsStill, MayGoOnFrom, Rests, StandsAfter, Stays}
 use Rattle.hall_sockets.specs.Telling.{calls_in, gone_in, apps_of}
 
 -- ---- lists
@@ -65,11 +66,22 @@ owed-as {R} {W} places places' j j' app same here h = subst (λ (z : List (Place
 
 -- ---- one thing after the other
 
-module _ {L C : Type 0} (a b c : SocketSeat L C) where
-  pub stays-stays : Stays a b → Stays b c → Stays a c
-  stays-stays x y = (y.0 ∙ x.0, y.1 ∙ x.1, y.2 ∙ x.2, y.3 ∙ x.3, y.4 ∙ x.4, y.5 ∙ x.5)
+module _ {S L C : Type 0} (given : ℕ → List ℕ → Type 0) (a b c : SocketSeat S L C) where
+  pub rests-stays : Rests a b → Stays given a b
+  rests-stays r = (
+    ap (λ k. k.number) r.0,
+    ap (λ k. k.seed) r.0,
+    ap (λ k. k.past.items) r.0,
+    ap (λ k. k.asked.items) r.0,
+    ap (λ k. k.told.items) r.0,
+    r.1,
+    λ tied. subst (λ (k : Places Reading Writing). ∥ AllTied given (λ r. r) (λ w. w) k.places.items k.past.items ∥₁) (sym r.0) tied,
+  )
 
-  pub stays-gives : (e : Option SeatEvent) → Stays a b → Gives b c e → Gives a c e
+  pub stays-stays : Stays given a b → Stays given b c → Stays given a c
+  stays-stays x y = (y.0 ∙ x.0, y.1 ∙ x.1, y.2 ∙ x.2, y.3 ∙ x.3, y.4 ∙ x.4, y.5 ∙ x.5, λ tied. y.6 (x.6 tied))
+
+  pub stays-gives : (e : Option SeatEvent) → Stays given a b → Gives given b c e → Gives given a c e
   stays-gives None x y = stays-stays x y
   stays-gives (Some e) x y = (
     y.0 ∙ x.0,
@@ -79,18 +91,33 @@ module _ {L C : Type 0} (a b c : SocketSeat L C) where
     (y.4.0 ∙ x.0, λ h. y.4.1 (gone-same a.clients.past.items b.clients.past.items x.2 (seat_app e) h)),
     y.5,
     λ app h. y.6 app (gone-same a.clients.past.items b.clients.past.items x.2 app h),
+    λ tied. y.7 (x.6 tied),
   )
 
--- ---- by what `next` is to say
+module _ {S L C : Type 0} (given : ℕ → List ℕ → Type 0) (a b c : SocketSeat S L C) where
+  pub rests-gives : (e : Option SeatEvent) → Rests a b → Gives given b c e → Gives given a c e
+  rests-gives e x y = stays-gives given a b c e (rests-stays given a b c x) y
 
-module _ {L C : Type 0} (a b : SocketSeat L C) where
-  pub gives-there : (e : Option SeatEvent) → Gives a b e → IfSome e (λ x. ¬ HasGone a.clients.past.items (seat_app x))
-  gives-there None x = tt
-  gives-there (Some e) x = x.4.1
+  pub gives-after : (e : Option SeatEvent) → Gives given b c e → Stays given a b → Gives given a c e
+  gives-after e y x = stays-gives given a b c e x y
 
-  pub gives-gone : (e : Option SeatEvent) → Gives a b e → (app : ℕ) → HasGone a.clients.past.items app → HasGone b.clients.past.items app
-  gives-gone None x app h = gone-same a.clients.past.items b.clients.past.items x.2 app h
-  gives-gone (Some e) x app h = x.6 app h
+  pub rests-then : Rests a b → Stays given b c → Stays given a c
+  rests-then x y = stays-stays given a b c (rests-stays given a b c x) y
+
+  pub then-rests : Stays given a b → Rests b c → Stays given a c
+  then-rests x y = stays-stays given a b c x (rests-stays given b c c y)
+
+-- ---- under a licence
+
+module _ {S L C : Type 0} (given : ℕ → List ℕ → Type 0) (allows : ℕ → List ℕ → List ℕ → Type 0) (a b : SocketSeat S L C) where
+  pub from-stays : Stays given a b → MayGoOnFrom given allows a → MayGoOnFrom given allows b
+  from-stays x may = λ now y. may now (stays-stays given a b now x y)
+
+  pub from-rests : Rests a b → MayGoOnFrom given allows a → MayGoOnFrom given allows b
+  from-rests x may = from-stays (rests-stays given a b b x) may
+
+pub from-now : {S L C : Type 0} (given : ℕ → List ℕ → Type 0) (allows : ℕ → List ℕ → List ℕ → Type 0) (a : SocketSeat S L C) → MayGoOnFrom given allows a → (j : ℕ) → MayGoOnAt given allows (λ r. r) (λ w. w) a.clients.places.items j
+from-now given allows a may = may a (rests-stays given a a a (refl, refl))
 
 -- ---- where there is no event
 
@@ -105,19 +132,19 @@ pub if-none : {A : Type 0} (o : Option A) (P : Type 0) → is_some o ≡ false �
 if-none None P none p = p
 if-none (Some x) P none p = absurd (let clash : true ≡ false = none in cc)
 
-pub gives-none : {L C : Type 0} (a b : SocketSeat L C) (e : Option SeatEvent) → is_some e ≡ false → Gives a b e → Stays a b
-gives-none a b None none y = y
-gives-none a b (Some e) none y = absurd (let clash : true ≡ false = none in cc)
+pub gives-none : {S L C : Type 0} (given : ℕ → List ℕ → Type 0) (a b : SocketSeat S L C) (e : Option SeatEvent) → is_some e ≡ false → Gives given a b e → Stays given a b
+gives-none given a b None none y = y
+gives-none given a b (Some e) none y = absurd (let clash : true ≡ false = none in cc)
 
 -- nobody is at the places that were looked at, nor at the next one
-pub empty-more : {L C : Type 0} (old new : SocketSeat L C) (n : ℕ) → ((j : ℕ) → j < n → IsEmptyAt old j) → IsStill old new → IsEmptyAt new n → (j : ℕ) → j < n + 1 → IsEmptyAt new j
+pub empty-more : {S L C : Type 0} (old new : SocketSeat S L C) (n : ℕ) → ((j : ℕ) → j < n → IsEmptyAt old j) → IsStill old new → IsEmptyAt new n → (j : ℕ) → j < n + 1 → IsEmptyAt new j
 empty-more old new n empty still here j less = by (same_or j n) where
   by : (j ≡ n) ⊎ (j ≢ n) → IsEmptyAt new j
   by (inl e) = subst (IsEmptyAt new) (sym e) here
   by (inr n') = let inside : j < n = omega (arith, less, n') in subst (λ k. (c : Client Reading Writing) → ¬ IsAt k.places.items j c) (sym still.0) (empty j inside)
 
 -- beyond the last place is nobody
-pub empty-all : {L C : Type 0} (seat : SocketSeat L C) (n : ℕ) → length seat.clients.places.items ≤ n → ((j : ℕ) → j < n → IsEmptyAt seat j) → IsNobodyLeft seat
+pub empty-all : {S L C : Type 0} (seat : SocketSeat S L C) (n : ℕ) → length seat.clients.places.items ≤ n → ((j : ℕ) → j < n → IsEmptyAt seat j) → IsNobodyLeft seat
 empty-all seat n all empty j c at = let within = slice_get_within seat.clients.places.items j at.place at.at in let inside : j < n = omega (arith, within, all) in empty j inside c at
 
 -- ---- who comes by the door
@@ -130,5 +157,9 @@ pub came-more : (old new : Places Reading Writing) (door door' : List ℕ) (app 
 came-more old new door door' app keeps come more came = ∥∥₁_map came (λ all. subst (AllCame new.number new.places.items) (sym more) (all-more new.number new.places.items door app (all-came old new keeps door all) come))
 
 -- nobody has read or written yet
-pub none-tied : (places : List (Place Reading Writing)) (past : List (Client Reading Writing)) → past ≡ [] → ((j : ℕ) (c : Client Reading Writing) → ¬ IsAt places j c) → AllTied (λ r. r) (λ w. w) places past
-none-tied places past none empty c life = ⊎_elim (λ (x : IsAmong c past). absurd (subst (IsAmong c) none x)) (λ (x : (j : ℕ) × IsAt places j c). absurd (empty x.0 c x.1)) life
+pub none-tied : (given : ℕ → List ℕ → Type 0) (places : List (Place Reading Writing)) (past : List (Client Reading Writing)) → past ≡ [] → ((j : ℕ) (c : Client Reading Writing) → ¬ IsAt places j c) → AllTied given (λ r. r) (λ w. w) places past
+none-tied given places past none empty c life = ⊎_elim (λ (x : IsAmong c past). absurd (subst (IsAmong c) none x)) (λ (x : (j : ℕ) × IsAt places j c). absurd (empty x.0 c x.1)) life
+
+-- a new seat stands as before all exchanges
+pub new-stands : {S L C : Type 0} (given : ℕ → List ℕ → Type 0) (seat : SocketSeat S L C) (seed : List ℕ) (s : ℕ) → IsNew seat seed s → StandsAfter given seat []
+new-stands given seat seed s fresh = (fresh.5, fresh.4, ∣ none-tied given seat.clients.places.items seat.clients.past.items fresh.2 fresh.6 ∣₁)

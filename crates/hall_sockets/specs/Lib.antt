@@ -1,3 +1,5 @@
+pub mod Calling
 pub mod Served
 pub mod Staying
 pub mod Telling
+pub mod Writing

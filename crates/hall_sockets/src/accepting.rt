@@ -1,10 +1,11 @@
 //! How a seat comes to its connections.
 
 ghost use Rattle.std.specs.Prelude.{◌≡◌, IsTrue};
-ghost use Rattle.hall_sockets.specs.Staying.{Stays};
+ghost use Rattle.hall_sockets.specs.Staying.{Rests, Stays};
 
 use crate::seat::SocketSeat;
 use crate::waiting::{LISTENER, PATIENCE};
+use door::Socket;
 use log::{Log, info, warn};
 use mio::unix::SourceFd;
 use mio::{Interest, Poll, Token};
@@ -26,7 +27,7 @@ fn wait_for(poll: &Poll, place: usize, fd: RawFd) -> io::Result<()> {
         .register(&mut SourceFd(&fd), Token(place), Interest::READABLE)
 }
 
-impl<L: Log, C: Clock> SocketSeat<L, C> {
+impl<S: Socket + Drop, L: Log, C: Clock> SocketSeat<S, L, C> {
     pub(crate) fn is_stopping(&self) -> bool {
         self.is_stopping.load(Ordering::SeqCst)
     }
@@ -58,7 +59,7 @@ impl<L: Log, C: Clock> SocketSeat<L, C> {
 
     /// Accepts one who waits, unless a seat with fewer connections is to.
     pub(crate) fn accept_next(&mut self)
-        ensures { Stays self.old self.new }
+        ensures { Stays S.given self.old self.new }
     {
         if !self.may_accept {
             return;
@@ -83,7 +84,7 @@ impl<L: Log, C: Clock> SocketSeat<L, C> {
 
     /// Leaves who waits to a seat with fewer connections. At the next look the listener is asked whether somebody waits still.
     fn leave_to_others(&mut self)
-        ensures { Stays self.old self.new }
+        ensures { Rests self.old self.new }
     {
         if self.left_since.is_none() {
             self.left_since = Some(self.time);
@@ -94,7 +95,7 @@ impl<L: Log, C: Clock> SocketSeat<L, C> {
 
     /// Has the next wait report whether somebody waits to be accepted by a listener.
     pub(crate) fn ask_listener(&mut self)
-        ensures { Stays self.old self.new }
+        ensures { Rests self.old self.new }
     {
         self.is_leaving = false;
         if self.renew_listeners().is_err() {
@@ -113,7 +114,7 @@ impl<L: Log, C: Clock> SocketSeat<L, C> {
 
     /// Accepts one, to stand at a place that is free.
     fn accept_at(&mut self, place: usize)
-        ensures { Stays self.old self.new }
+        ensures { Stays S.given self.old self.new }
     {
         match self.seat_at(place) {
             Ok(Some(fd)) => self.begin(place, fd),
@@ -125,7 +126,7 @@ impl<L: Log, C: Clock> SocketSeat<L, C> {
     /// Accepts one for a place, whom the seat waits for from now on, and returns the connection's descriptor. None where nobody may come
     /// to the place, and where whoever came can't be waited for.
     fn seat_at(&mut self, place: usize) -> io::Result<Option<RawFd>>
-        ensures { Stays self.old self.new }
+        ensures { Stays S.given self.old self.new }
     {
         let Some(app) = self.clients.next_app(place) else {
             return Ok(None);
@@ -169,7 +170,7 @@ impl<L: Log, C: Clock> SocketSeat<L, C> {
 
     /// A connection has come to a place.
     fn begin(&mut self, place: usize, fd: RawFd)
-        ensures { Stays self.old self.new }
+        ensures { Rests self.old self.new }
     {
         if let Some(known) = self.descriptors.get_mut(place) {
             *known = fd;
@@ -208,7 +209,7 @@ impl<L: Log, C: Clock> SocketSeat<L, C> {
 
     /// Nobody was accepted: none waits any more, or a peer disconnected before, or the listener failed.
     fn not_accepted(&mut self, error: io::Error)
-        ensures { Stays self.old self.new }
+        ensures { Rests self.old self.new }
     {
         match error.kind() {
             ErrorKind::ConnectionAborted | ErrorKind::Interrupted => {}

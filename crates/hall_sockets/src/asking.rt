@@ -3,46 +3,30 @@
 ghost use Rattle.std.specs.Prelude.{◌≡◌, ◌%◌, ◌∷◌, [], ◌++◌, ℕ, IfSome, IfNone};
 ghost use Rattle.hall.specs.SeatEvents.{seat_app};
 ghost use Rattle.line_places.specs.Keeping.{HasGone};
-ghost use Rattle.hall_sockets.specs.Staying.{Asks, Gives, IsEmptyAt, IsNobodyLeft, IsStill, MayEnd, Stays};
+ghost use Rattle.hall_sockets.specs.Staying.{Gives, IsEmptyAt, IsNobodyLeft, IsStill, MayEnd, MayGoOnFrom, Stays};
 
-use crate::asked::Asked;
 use crate::audit::Audited;
 use crate::seat::SocketSeat;
 use crate::sockets::Title;
-use door::Free;
+use door::{Licence, Outgoing, Socket};
 use hall::SeatEvent;
 use line::Ending;
 use line_places::Came;
 use log::{Log, error, info, warn};
 use std::time::Clock;
 
-impl<L: Log, C: Clock> SocketSeat<L, C> {
-    /// The next event of the connection at a place, if it has one.
-    pub(crate) fn event_at(&mut self, place: usize) -> Option<SeatEvent>
-        ensures { Gives self.old self.new result }
-    {
-        match self.ask(place) {
-            Asked::Call(event) => Some(event),
-            Asked::Nothing => {
-                let is_stuck = self.is_pending(place);
-                self.watch(place, is_stuck);
-                None
-            }
-            Asked::Ended(ending) => {
-                self.report(place, &ending);
-                self.end(place)
-            }
-        }
-    }
-
-    /// Asks the connection at a place for its next call.
-    fn ask(&mut self, place: usize) -> Asked
-        ensures { Asks self.old self.new result }
+impl<S: Socket + Drop, L: Log, C: Clock> SocketSeat<S, L, C> {
+    /// Asks the connection at a place for its next call, which is an event of the seat, or its end is.
+    pub(crate) fn event_at<N: Licence>(&mut self, licence: &N, place: usize) -> Option<SeatEvent>
+    where
+        S: Outgoing<N>,
+        requires may { MayGoOnFrom S.given (N.allows licence.now) self.old }
+        ensures { Gives S.given self.old self.new result }
     {
         self.asked_since = self.asked_since.saturating_add(1);
         match self
             .clients
-            .next_call(self.alloc, place, &Free, &mut self.piece)
+            .next_call(self.alloc, place, licence, &mut self.piece)
         {
             Came::Call(call) => {
                 let audited = Audited::of(&call.call);
@@ -53,10 +37,17 @@ impl<L: Log, C: Clock> SocketSeat<L, C> {
                 self.show_socket(place);
                 // Asked again until a read would block: its event may have been of what is still to come, as the end.
                 self.note(place);
-                Asked::Call(event)
+                Some(event)
             }
-            Came::Nothing => Asked::Nothing,
-            Came::Ended(ending) => Asked::Ended(ending),
+            Came::Nothing => {
+                let is_stuck = self.is_pending(place);
+                self.watch(place, is_stuck);
+                None
+            }
+            Came::Ended(ending) => {
+                self.report(place, &ending);
+                self.end(place)
+            }
         }
     }
 
@@ -84,7 +75,7 @@ impl<L: Log, C: Clock> SocketSeat<L, C> {
     /// The connection at a place ends, and its application disconnects.
     #[inline(never)]
     pub(crate) fn end(&mut self, place: usize) -> Option<SeatEvent>
-        ensures gives { Gives self.old self.new result }
+        ensures gives { Gives S.given self.old self.new result }
         ensures none { IfNone result (IsStill self.old self.new × IsEmptyAt self.new place) }
     {
         let app = self.clients.close(place)?;
@@ -99,7 +90,7 @@ impl<L: Log, C: Clock> SocketSeat<L, C> {
     /// One of the connections ends, if there is one, and the others need not wait for this seat to accept anybody.
     #[inline(never)]
     pub(crate) fn leave(&mut self) -> Option<SeatEvent>
-        ensures gives { Gives self.old self.new result }
+        ensures gives { Gives S.given self.old self.new result }
         ensures none { IfNone result ((MayEnd self.old → MayEnd self.new) × IsNobodyLeft self.new) }
     {
         self.loads.close(self.clients.number);
@@ -115,7 +106,7 @@ impl<L: Log, C: Clock> SocketSeat<L, C> {
     /// The connection of which nothing came for too long ends, if there is one.
     #[inline(never)]
     pub(crate) fn end_idle(&mut self) -> Option<SeatEvent>
-        ensures { Gives self.old self.new result }
+        ensures { Gives S.given self.old self.new result }
     {
         let Some(place) = self.idle_place() else {
             self.looked = self.time;
@@ -147,7 +138,7 @@ impl<L: Log, C: Clock> SocketSeat<L, C> {
                     warn!(self.log; "{title} is refused: {ending}");
                 }
             }
-            Ending::Memory | Ending::Reply => error!(self.log; "{title} is ended: {ending}"),
+            Ending::Memory => error!(self.log; "{title} is ended: {ending}"),
             Ending::Read(_) | Ending::Write(_) => info!(self.log; "{title} is ended: {ending}"),
         }
     }

@@ -37,7 +37,7 @@ impl Audited {
     }
 }
 
-impl<L: Log, C> SocketSeat<L, C> {
+impl<S, L: Log, C> SocketSeat<S, L, C> {
     /// Logs what came of an application's call.
     #[inline(never)]
     pub(crate) fn log_outcome(&self, app: u64, call: Audited, reply: &Reply) {

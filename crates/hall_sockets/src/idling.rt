@@ -4,7 +4,7 @@ use crate::seat::SocketSeat;
 use crate::waiting::PATIENCE;
 use std::time::{Clock, Duration};
 
-impl<L, C: Clock> SocketSeat<L, C> {
+impl<S: Drop, L, C: Clock> SocketSeat<S, L, C> {
     /// The place of a connection of which nothing came for too long. They are looked for once a second.
     pub(crate) fn idle_place(&self) -> Option<usize> {
         let idle = self.idle?;

@@ -15,21 +15,33 @@
 //! The log has a line where a connection begins and ends, and where a call initialises the token, sets a PIN, or gives a wrong or a
 //! locked one. `Sockets` names the connection there. What anybody may cause, as bad frames, is counted (`Tally`).
 //!
-//! `hold_sockets` is `hall::hold` over four of them, with what that means for the bytes of each connection (`specs/Served.antt`).
-//! For each application, the bytes that its writer took are the frames of the answers that the token's model gives its calls in one
-//! history, with the answers to what is no call at their places. Reader and writer are the two ends of the one connection that came by
-//! the door for it (`tied`, `came`). A seat ends only where it has had its connections, was told to, or failed (`MayEnd`), and then nobody
-//! is left at a place.
+//! A seat writes by the history that it is told (`Leave`): with each write, what an application's writer took begins what is due to it by
+//! that history, and the calls in it are those that its own reader gave (`MayWrite`, `specs/Writing.antt`). It puts a call that was read
+//! (`IsRead`). That is so for any kind of socket, since a seat has no other write than one under such a licence. `laws` say what an
+//! application's bytes depend on.
+//!
+//! `hold_sockets` is `hall::hold` over four of them on Unix sockets. Each write is made so, whether it ever returns or not. Once it has, the
+//! bytes that each writer took are the frames of the answers that the token's model gives its application's calls in one history, or a
+//! prefix of them (`specs/Served.antt`). Reader and writer are the two ends of the one connection that came by the door for it (`IsTied`,
+//! `came`). A seat ends only where it has had its connections, was told to, or failed (`MayEnd`), and then nobody is left at a place.
 //!
 //! No clause says that a wait ends, that a peer is served in turn, or that an idle one is ended.
+//!
+//! Proved, by the names of contracts: a seat writes by the history that it is told (`Leave`, `MayWrite`), and puts a call that its own
+//! reader gave (`IsRead`). `hold_over` has that for any sockets and a log with any name that means what it requires, with the bytes at
+//! the end (`served`: `WereServed`). `hold_sockets` is the same for Unix sockets and a new log. Both ask for four new seats with one seed
+//! (`AreNew`). A seat is over where it noted that it failed, was told to, or has had its connections, and nobody is left (`over`:
+//! `IsDone`). No clause says that these notes are true, which seat accepts a connection (`Loads`), that each is asked in turn, or that an
+//! idle one is ended.
 #![tactic(auto)]
 
 mod accepting;
-mod asked;
 mod asking;
 mod audit;
 mod holding;
 mod idling;
+pub mod laws;
+mod leave;
 mod loads;
 mod opening;
 mod seat;
@@ -39,7 +51,8 @@ mod tally;
 mod turns;
 mod waiting;
 
-pub use holding::{Seats, hold_named, hold_sockets};
+pub use holding::{Seats, hold_over, hold_sockets};
+pub use leave::Leave;
 pub use loads::Loads;
 pub use opening::Shared;
 pub use seat::{MAX_CLIENTS, Settings, SocketSeat};

@@ -45,7 +45,7 @@ fn listen_to(poll: &Poll, listeners: &[UnixListener]) -> io::Result<()> {
     Ok(())
 }
 
-impl<L: Log + Drop, C: Clock + Drop> SocketSeat<L, C> {
+impl<S: Drop, L: Log + Drop, C: Clock + Drop> SocketSeat<S, L, C> {
     /// The seat with a number from 0 to 3, with no connection.
     ///
     /// # Errors
@@ -59,7 +59,7 @@ impl<L: Log + Drop, C: Clock + Drop> SocketSeat<L, C> {
         shared: Shared,
         settings: &Settings,
         number: u64,
-    ) -> io::Result<SocketSeat<L, C>>
+    ) -> io::Result<SocketSeat<S, L, C>>
         requires number { number < 4 }
         requires clients { settings.now.clients ≤ 64 }
         ensures { IfOk result (λ seat. IsNew seat settings.now.seed number) }
@@ -110,7 +110,7 @@ impl<L: Log + Drop, C: Clock + Drop> SocketSeat<L, C> {
     }
 }
 
-impl<L, C> SocketSeat<L, C> {
+impl<S, L, C> SocketSeat<S, L, C> {
     /// Whether the seat ended because no connection could be accepted any more, or none be waited for.
     pub fn has_failed(&self) -> bool
         ensures { result ≡ self.now.has_failed }

@@ -2,7 +2,6 @@
 
 ghost use Rattle.std.specs.Prelude.{◌≡◌, map};
 ghost use Rattle.line_places.specs.Arriving.{AllCame};
-ghost use Rattle.line_places.specs.Tying.{AllTied};
 ghost use Rattle.hall_sockets.specs.Telling.{calls_in, gone_in, apps_of};
 
 use crate::audit::Audited;
@@ -38,9 +37,9 @@ pub struct Settings {
     pub idle: Option<Duration>,
 }
 
-/// A seat on a socket: many connections, each an application of its own. It ends early once the daemon is to end.
+/// A seat on sockets of this kind: many connections, each an application of its own. It ends early once the daemon is to end.
 #[derive(Drop)]
-pub struct SocketSeat<L, C> {
+pub struct SocketSeat<S, L, C> {
     pub(crate) alloc: Global,
     pub(crate) clock: C,
     pub(crate) log: L,
@@ -48,10 +47,10 @@ pub struct SocketSeat<L, C> {
     pub(crate) is_stopping: Arc<AtomicBool, Global>,
     pub(crate) loads: Arc<Loads, Global>,
     pub(crate) sockets: Arc<Sockets, Global>,
-    pub door: Door,
+    pub door: Door<S>,
     pub(crate) poll: Poll,
     pub(crate) events: Events<Global>,
-    pub clients: Places<Reader, Writer>,
+    pub clients: Places<Reader<S>, Writer<S>>,
     /// How many connections there are.
     pub(crate) count: usize,
     /// How many may be accepted yet.
@@ -94,8 +93,6 @@ pub struct SocketSeat<L, C> {
     pub asked: GhostList<SeatEvent>,
     pub ghost calls: { calls_in asked.items ≡ clients.asked.items },
     pub ghost gone: { gone_in asked.items ≡ apps_of clients.past.items },
-    /// What a connection read its own reader gave, and what it wrote its own writer took.
-    pub ghost tied: { ∥ AllTied (λ r. r) (λ w. w) clients.places.items clients.past.items ∥₁ },
     /// Each connection that came by the door had a place.
     pub ghost came: { ∥ AllCame clients.number clients.places.items door ∥₁ },
 }

@@ -1,10 +1,11 @@
 //! A seat's turns: its connections, one after the other.
 
 ghost use Rattle.std.specs.Prelude.{IfNone, IsTrue};
-ghost use Rattle.hall_sockets.specs.Staying.{Gives, IsDone, MayEnd, Stays};
+ghost use Rattle.hall_sockets.specs.Staying.{Gives, IsDone, MayEnd, MayGoOnFrom, Rests};
 
 use crate::seat::SocketSeat;
 use crate::waiting::PATIENCE;
+use door::{Licence, Outgoing, Socket};
 use hall::SeatEvent;
 use log::Log;
 use std::time::{Clock, Duration};
@@ -15,28 +16,35 @@ const TURNS: usize = 16;
 /// For how many milliseconds a seat with nothing to do leaves who waits to another one before it looks again.
 const SHORT_WAIT: u64 = 1;
 
-impl<L: Log, C: Clock> SocketSeat<L, C> {
-    /// The next event. None once the seat has had its connections, or is to end, or failed, and no connection is there.
-    pub fn next_event(&mut self) -> Option<SeatEvent>
-        ensures gives { Gives self.old self.new result }
+impl<S: Socket + Drop, L: Log, C: Clock> SocketSeat<S, L, C> {
+    /// The next event. None once the seat has had its connections, or is to end, or failed, and no connection is there. What is to be
+    /// written yet, and the refusals of what is no call, are written by the licence.
+    pub fn next_event<N: Licence>(&mut self, licence: &N) -> Option<SeatEvent>
+    where
+        S: Outgoing<N>,
+        requires may { MayGoOnFrom S.given (N.allows licence.now) self.old }
+        ensures gives { Gives S.given self.old self.new result }
         ensures done { IfNone result (IsDone self.new) }
     {
-        match self.turns() {
+        match self.turns(licence) {
             Some(event) => Some(event),
             None => self.leave(),
         }
     }
 
     /// Turns until there is an event. None once the seat has had its connections, or is to end, or failed.
-    fn turns(&mut self) -> Option<SeatEvent>
-        ensures gives { Gives self.old self.new result }
+    fn turns<N: Licence>(&mut self, licence: &N) -> Option<SeatEvent>
+    where
+        S: Outgoing<N>,
+        requires may { MayGoOnFrom S.given (N.allows licence.now) self.old }
+        ensures gives { Gives S.given self.old self.new result }
         ensures may { IfNone result (MayEnd self.new) }
     {
         'turns: for _ in 0..u64::MAX {
             if self.is_to_end() {
                 return None;
             }
-            let event = self.turn();
+            let event = self.turn(licence);
             if event.is_some() {
                 return event;
             }
@@ -47,7 +55,7 @@ impl<L: Log, C: Clock> SocketSeat<L, C> {
 
     /// Whether the seat has had its connections, or was told to end, or failed.
     fn is_to_end(&mut self) -> bool
-        ensures stays { Stays self.old self.new }
+        ensures rests { Rests self.old self.new }
         ensures may { IsTrue result → MayEnd self.new }
     {
         if self.is_stopping() {
@@ -57,21 +65,24 @@ impl<L: Log, C: Clock> SocketSeat<L, C> {
     }
 
     /// Asks the connection that is next, or looks round: after so many turns, and where none is to be asked.
-    fn turn(&mut self) -> Option<SeatEvent>
-        ensures { Gives self.old self.new result }
+    fn turn<N: Licence>(&mut self, licence: &N) -> Option<SeatEvent>
+    where
+        S: Outgoing<N>,
+        requires may { MayGoOnFrom S.given (N.allows licence.now) self.old }
+        ensures { Gives S.given self.old self.new result }
     {
         if self.asked_since >= TURNS {
             return self.look_round(Duration::ZERO);
         }
         match self.next_due() {
-            Some(place) => self.event_at(place),
-            None => self.turn_round(),
+            Some(place) => self.event_at(licence, place),
+            None => self.turn_round(licence),
         }
     }
 
     /// The next place that is to be asked.
     fn next_due(&mut self) -> Option<usize>
-        ensures { Stays self.old self.new }
+        ensures { Rests self.old self.new }
     {
         let place = self.due.pop_front()?;
         if let Some(is_due) = self.is_due.get_mut(place) {
@@ -86,13 +97,16 @@ impl<L: Log, C: Clock> SocketSeat<L, C> {
     }
 
     /// Asks the only connection, for which a read waits. Otherwise, and where nothing came of it, looks round.
-    fn turn_round(&mut self) -> Option<SeatEvent>
-        ensures { Gives self.old self.new result }
+    fn turn_round<N: Licence>(&mut self, licence: &N) -> Option<SeatEvent>
+    where
+        S: Outgoing<N>,
+        requires may { MayGoOnFrom S.given (N.allows licence.now) self.old }
+        ensures { Gives S.given self.old self.new result }
     {
         if !self.is_alone() {
             return self.look_round(Duration::from_secs(PATIENCE));
         }
-        match self.event_at(0) {
+        match self.event_at(licence, 0) {
             Some(event) => Some(event),
             None => self.look_round(Duration::ZERO),
         }
@@ -101,23 +115,33 @@ impl<L: Log, C: Clock> SocketSeat<L, C> {
     /// Looks who has something, for so long at most. Ends a connection that is idle, or accepts one who waits.
     #[inline(never)]
     fn look_round(&mut self, longest: Duration) -> Option<SeatEvent>
-        ensures { Gives self.old self.new result }
+        ensures { Gives S.given self.old self.new result }
     {
         self.look(longest);
-        if self.must_look() {
-            let event = self.end_idle();
-            if event.is_some() {
-                return event;
+        match self.end_late() {
+            Some(event) => Some(event),
+            None => {
+                self.accept_next();
+                None
             }
         }
-        self.accept_next();
-        None
+    }
+
+    /// Ends a connection that is idle, once a second.
+    fn end_late(&mut self) -> Option<SeatEvent>
+        ensures { Gives S.given self.old self.new result }
+    {
+        if self.must_look() {
+            self.end_idle()
+        } else {
+            None
+        }
     }
 
     /// Waits for something, for so long at most. It doesn't wait while this seat may accept somebody, and a moment alone while it
     /// leaves somebody to another seat.
     fn look(&mut self, longest: Duration)
-        ensures { Stays self.old self.new }
+        ensures { Rests self.old self.new }
     {
         if self.is_leaving {
             self.wait(longest.min(Duration::from_millis(SHORT_WAIT)));

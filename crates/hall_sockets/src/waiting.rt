@@ -1,7 +1,7 @@
 //! A seat's wait for its connections and its listener.
 
 ghost use Rattle.std.specs.Prelude.{◌≡◌};
-ghost use Rattle.hall_sockets.specs.Staying.{Stays};
+ghost use Rattle.hall_sockets.specs.Staying.{Rests};
 
 use crate::seat::{MAX_CLIENTS, SocketSeat};
 use mio::unix::SourceFd;
@@ -16,11 +16,10 @@ pub(crate) const LISTENER: usize = MAX_CLIENTS;
 /// How many seconds a wait lasts at most, before a seat looks whether the daemon is to end.
 pub(crate) const PATIENCE: u64 = 1;
 
-impl<L, C: Clock> SocketSeat<L, C> {
+impl<S, L, C: Clock> SocketSeat<S, L, C> {
     /// A place is to be asked.
     pub(crate) fn note(&mut self, place: usize)
-        ensures stays { Stays self.old self.new }
-        ensures clients { self.new.clients ≡ self.old.clients }
+        ensures rests { Rests self.old self.new }
         ensures answering { self.new.answering ≡ self.old.answering }
     {
         if !note_place(place, &mut self.due, &mut self.is_due) {
@@ -30,7 +29,7 @@ impl<L, C: Clock> SocketSeat<L, C> {
 
     /// Waits until a connection or the listener has something, or for as long as given.
     pub(crate) fn wait(&mut self, longest: Duration)
-        ensures { Stays self.old self.new }
+        ensures { Rests self.old self.new }
     {
         self.asked_since = 0;
         if let Err(error) = self.poll.poll(&mut self.events, Some(longest)) {
@@ -44,7 +43,7 @@ impl<L, C: Clock> SocketSeat<L, C> {
     }
 
     fn read_clock(&mut self)
-        ensures { Stays self.old self.new }
+        ensures { Rests self.old self.new }
     {
         if let Ok(time) = self.clock.monotonic() {
             self.time = time;
@@ -53,7 +52,7 @@ impl<L, C: Clock> SocketSeat<L, C> {
 
     /// Notes the places that have something, and whether somebody waits to be accepted.
     fn note_events(&mut self)
-        ensures { Stays self.old self.new }
+        ensures { Rests self.old self.new }
     {
         'events: for event in self.events.iter() {
             let Token(place) = event.token();
@@ -72,7 +71,7 @@ impl<L, C: Clock> SocketSeat<L, C> {
 
     /// Has the seat wait until the peer at a place takes more, or no longer.
     pub(crate) fn watch(&mut self, place: usize, is_stuck: bool)
-        ensures { Stays self.old self.new }
+        ensures { Rests self.old self.new }
     {
         let (Some(was), Some(fd)) = (self.is_stuck.get_mut(place), self.descriptors.get(place))
         else {

@@ -291,7 +291,6 @@ module _ {R W : Type 0} (reading : R → Reading) (writing : W → Writing) (r :
     spoke-refused None s = tt
     spoke-refused (Some (endings.Write error)) s = tt
     spoke-refused (Some endings.Memory) s = tt
-    spoke-refused (Some endings.Reply) s = absurd (s.1 (subst HasReplyFrame (sym lets.is.reply_is) (refusal-framed lets.is.fault)))
     spoke-refused (Some _) s = absurd s
 
     omitted : (x : Option Ending) → new.ended ≡ x → Omits (at h' k' n m p c e) new → new ≡ at h' k' n m p c x
@@ -315,7 +314,6 @@ module _ {R W : Type 0} (reading : R → Reading) (writing : W → Writing) (r :
     does-refused part wrote clear (Some (endings.Write error)) pending is more s = does-standing before new (Some (endings.Write error)) pending (advances-refused s) is more tt (λ stuck. tail-refused part wrote clear s)
     does-refused part wrote clear (Some endings.Memory) pending is more s = subst (λ (y : Connected). Halts before y endings.Memory) (sym (omitted (Some endings.Memory) is s))
         (halts-here before (at h' k' n m p c (Some endings.Memory)) endings.Memory (ap (λ (y : ChaCha). at h' y n m p c (Some endings.Memory)) lets.is.same) clear)
-    does-refused part wrote clear (Some endings.Reply) pending is more s = absurd (spoke-refused (Some endings.Reply) s)
     does-refused part wrote clear (Some _) pending is more s = absurd s
 
   pub comes-refused : (w' : Noting W) (old new : Connected) (h h' : List ℕ) (k k' : ChaCha) (n m p : List ℕ) (c : ℕ) (e : Option Ending) (reply : Reply) (x : Option Next) → at h k n m p c e ≡ old → old.pending ≡ [] → Lets (λ z. IsRefused z k k' reply) h h'
@@ -410,7 +408,6 @@ module _ {R : Type 0} (reading : R → Reading) (r r' : Noting R) (old : Connect
       same = ap (λ (x : List ℕ). at h' k x m p c (Some endings.Memory)) gave.noted_is;
       why = none;
     }
-    halts-heard endings.Reply f = absurd f
 
     end-heard : (ending : Ending) → Takes n n' h0 h' (reading r'.inner) (piece.Ended ending) → AtEnd (Some (next.Ended ending)) (reading r'.inner)
     end-heard endings.Closed f = f.2

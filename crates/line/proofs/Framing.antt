@@ -18,9 +18,12 @@ use Rattle.ck_calls.specs.declared.reply.Reply.{Reply}
 use Rattle.ck_calls.specs.declared.reply.Reply.TheVariants as replies
 use Rattle.ck_calls.specs.Functions.{function_number}
 use Rattle.ck_calls.specs.Fields.{token_info_counts, HasLength, encode_value, attribute_value}
+use Rattle.wire.specs.declared.fault.WireFault.{WireFault}
+use Rattle.wire.specs.declared.fault.WireFault.TheVariants as faults
 use Rattle.wire.specs.Messages.{most, HasFrame}
 use Rattle.wire.specs.Requests.{data_fields}
 use Rattle.wire.specs.Replies.{reply_payload, Fits-reply, IsWithinLimits, HasReplyFrame}
+use Rattle.line.specs.Turns.{refusal_of}
 use Rattle.serve_base.specs.Short.{IsCodeOfValues, IsShortValue, IsShort, IsShortData, IsShortCall}
 
 -- ---- calls
@@ -95,3 +98,10 @@ payload-length (replies.Random bytes) short fits = omega (arith, short)
 
 pub short-framed : (reply : Reply) → (IsWithinLimits reply → Fits-reply reply) → IsShort reply → HasReplyFrame reply
 short-framed reply fits short = let each = fits (within reply short) in (each, payload-length reply short each)
+
+-- a refusal of what is no call is short
+pub short-refusal : (fault : WireFault) → IsShort (refusal_of fault)
+short-refusal faults.UnknownFunction = tt
+short-refusal faults.Malformed = tt
+short-refusal faults.TooLong = tt
+short-refusal faults.Memory = tt

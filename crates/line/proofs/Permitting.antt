@@ -1,17 +1,17 @@
 -- What may be written stays so as a connection goes on.
-use Rattle.std.proofs.Common.{◌≡◌, ◌⊎◌, ℕ, List, [], ◌∷◌, ◌++◌, None, refl, sym, ap, subst, ◌∙◌, append_assoc, inl, inr, ⊎_elim}
-use Rattle.std.specs.List.{flat_map, AllByRecursion}
+use Rattle.std.proofs.Common.{◌≡◌, ℕ, List, [], ◌∷◌, ◌++◌, None, refl, sym, ap, subst, ◌∙◌, append_assoc, inl, inr, ⊎_elim}
+use Rattle.std.specs.List.{flat_map}
 use Rattle.std.proofs.lemmas.List.{append-nil, append_cancel_left}
 use Rattle.std.proofs.lemmas.List.Concat.{flat_map-cons, flat_map-append}
 use Rattle.rand_chacha.specs.ChaCha.{ChaCha}
 use Rattle.ck_calls.specs.declared.reply.Reply.{Reply}
-use Rattle.door.specs.Ends.{GaveBytes, Reading, TookBytes, Writing}
+use Rattle.door.specs.Ends.{Reading, TookBytes, Writing}
 use Rattle.wire.specs.Messages.{frame}
 use Rattle.watched.specs.Noting.{Noting}
 use Rattle.line.specs.Asking.{Gave, IsRefused, Lets, Took}
 use Rattle.line.specs.Connecting.{Advances, Comes, IsNoCall, refusal_frame}
 use Rattle.line.specs.Permits.{IsGiven, Knows, Permits, PermitsOn}
-use Rattle.line.specs.State.{Connected, output}
+use Rattle.line.specs.State.{Connected}
 use Rattle.line.specs.Turns.{refusal_in, reply_frame}
 use Rattle.line.proofs.Lines.{Front, all-append}
 

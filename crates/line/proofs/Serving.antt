@@ -82,7 +82,6 @@ module _ {W : Type 0} (b c : Connected) (reply : Reply) (w w' : Noting W) where
   goes-on (Some (endings.Read error)) pending goes s to = absurd s
   goes-on (Some (endings.Write error)) pending goes s to = cc
   goes-on (Some endings.Memory) pending goes s to = cc
-  goes-on (Some endings.Reply) pending goes s to = cc
 
   -- or the line ends
   abbrev Stops : LineFault → Type 0
@@ -97,7 +96,6 @@ module _ {W : Type 0} (b c : Connected) (reply : Reply) (w w' : Noting W) where
   stops (Some (endings.Read error)) pending fault is s to = absurd s
   stops (Some (endings.Write error)) pending fault is s to = inl (some-is faults.Write fault is, s, to)
   stops (Some endings.Memory) pending fault is s to = inr (some-is faults.Memory fault is, s, to)
-  stops (Some endings.Reply) pending fault is s to = inr (some-is faults.Memory fault is, s.0, to)
 
 -- the payloads of what was read were answered so
 pub record Conversed (leads : List Message → List Reply → Type 0) (c : Connected) : Type 0 where
@@ -388,7 +386,6 @@ module _ {K : Type 0} (terms : Terms K) (app : ℕ) (old : TokenState K) (first 
               finish_end (Err faults.Write) (subst (λ (y : List ℕ). IsCutOff y (p.so_far.said ++ map refusal_at h.refused.payloads)) (sym written_end) (refusal-cut h.mid h.refused why.1)) tt (unfailing-then r0 r r' p.reads reads)
               (failed-after w0 w w' (settles-unfailing w0 w p.writes) writes)
           ended-by endings.Memory count is why left reads writes = finish_end (Err faults.Memory) (inl (frames_end why)) tt (unfailing-then r0 r r' p.reads reads) (settles-then w0 w w' p.writes writes)
-          ended-by endings.Reply count is why left reads writes = absurd why
 
         waits-by : Waits a b → (pending : List ℕ) → b.pending ≡ pending → ReadsTo (Some next.Nothing) pending r r' → WritesTo (Some next.Nothing) pending w w' → End (Err (block_at pending))
         waits-by h [] none reads writes = finish b h.refused [] (Err faults.Read) refl (sym (append-nil b.read)) (are-frames b h.refused refl none) (subst IsPartial (sym (append-nil b.held)) (h.partial none)) (failed-after r0 r r' p.reads reads) (settles-then w0 w w' p.writes writes)

@@ -22,7 +22,7 @@ pub messages-append : (ps qs : List (List ℕ)) → messages (ps ++ qs) ≡ mess
 messages-append [] qs = refl
 messages-append (p ∷ ps) qs = ap (λ (ms : List Message). call_in p ∷ ms) (messages-append ps qs)
 
-asks-append : (w : ChaCha) (ms ns : List Message) → asks w (ms ++ ns) ≡ asks w ms ++ asks (words_after w ms) ns
+pub asks-append : (w : ChaCha) (ms ns : List Message) → asks w (ms ++ ns) ≡ asks w ms ++ asks (words_after w ms) ns
 asks-append w [] ns = refl
 asks-append w (Ok call ∷ ms) ns = ap (λ (t : List Ask). (call, (taken (random_bytes call) w).0) ∷ t) (asks-append (taken (random_bytes call) w).1 ms ns)
 asks-append w (Err fault ∷ ms) ns = asks-append w ms ns
@@ -31,7 +31,7 @@ words-append : (w : ChaCha) (ms ns : List Message) → words_after w (ms ++ ns) 
 words-append w [] ns = refl
 words-append w (m ∷ ms) ns = words-append (words_past w m) ms ns
 
-answers-append : (w : ChaCha) (ms ns : List Message) (t u : List Reply) → length t ≡ length (asks w ms) → answers_with (ms ++ ns) (t ++ u) ≡ answers_with ms t ++ answers_with ns u
+pub answers-append : (w : ChaCha) (ms ns : List Message) (t u : List Reply) → length t ≡ length (asks w ms) → answers_with (ms ++ ns) (t ++ u) ≡ answers_with ms t ++ answers_with ns u
 answers-append w [] ns [] u e = refl
 answers-append w [] ns (x ∷ t) u e = absurd (omega (arith, e))
 answers-append w (Ok call ∷ ms) ns [] u e = absurd (omega (arith, e))
@@ -96,7 +96,7 @@ module _ (first : ChaCha) where
       ∙ sym (asks-append first ms (Ok given.call ∷ [])) ∙ ap (asks first) (sym (call-joins p.payloads payload given call.is))
 
   -- and was answered
-  account-told : (b : Connected) (given : Given) (reply : Reply) (asked : List Ask) (told : List Reply) (payload rest : List ℕ) (w' : ChaCha) (c : Connected) → Account first b asked told → length payload ≤ most → b.held ≡ frame payload ++ rest
+  pub account-told : (b : Connected) (given : Given) (reply : Reply) (asked : List Ask) (told : List Reply) (payload rest : List ℕ) (w' : ChaCha) (c : Connected) → Account first b asked told → length payload ≤ most → b.held ≡ frame payload ++ rest
       → IsCall payload b.words w' given → c.read ≡ b.read → c.held ≡ rest → c.words ≡ w' → output c ≡ output b ++ reply_frame reply → Account first c (asked ++ ask_of given ∷ []) (told ++ reply ∷ [])
   account-told b given reply asked told payload rest w' c p short front call read held words written =
       let ms = messages p.payloads in
@@ -159,7 +159,6 @@ module _ (first : ChaCha) where
   why-whole (endings.Read error) before payloads held more pending why is = why.2
   why-whole (endings.Write error) before payloads held more pending why is = absurd is
   why-whole endings.Memory before payloads held more pending why is = absurd is
-  why-whole endings.Reply before payloads held more pending why is = absurd is
 
   pub lived-end : (a b : Connected) (ending : Ending) (asked : List Ask) (told : List Reply) → Account first a asked told → Halts a b ending → Lived first b asked told
   lived-end a b ending asked told p q =
@@ -196,7 +195,6 @@ module _ (first : ChaCha) where
     by : (e : Ending) → SendsBy (Some e) b c reply → (IsWhole c.ended → IsWhole (Some e)) → Lived first c asked (told ++ reply ∷ [])
     by (endings.Write error) t part = lived-part c asked (told ++ reply ∷ []) (owes-answered b c reply asked told o s t) part
     by endings.Memory t part = lived-omitted b c reply asked told o s t part
-    by endings.Reply t part = lived-omitted b c reply asked told o s t.0 part
     by _ t part = absurd t
 
   -- a call is owed its reply still

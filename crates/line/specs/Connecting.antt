@@ -66,7 +66,6 @@ Why endings.TooLong before payloads held more pending = IsTooLong held × (more 
 Why (endings.Read error) before payloads held more pending = IsPartial held × (more ≡ []) × (pending ≡ [])
 Why (endings.Write error) before payloads held more pending = (more ≡ []) × Tail before payloads pending
 Why endings.Memory before payloads held more pending = pending ≡ []
-Why endings.Reply before payloads held more pending = ⊥
 
 -- Then it ended. Perhaps more was read.
 pub record Halts (old new : Connected) (ending : Ending) : Type 0 where
@@ -154,7 +153,6 @@ abbrev pub SendsBy : Option Ending → Connected → Connected → Reply → Typ
 SendsBy None old new reply = Answers old new reply
 SendsBy (Some (endings.Write error)) old new reply = Answers old new reply
 SendsBy (Some endings.Memory) old new reply = Omits old new
-SendsBy (Some endings.Reply) old new reply = Omits old new × (¬ HasReplyFrame reply)
 SendsBy (Some _) old new reply = ⊥
 
 -- A reply was taken, and nothing was read.

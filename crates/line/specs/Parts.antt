@@ -30,7 +30,6 @@ outcome_of endings.TooLong count = Err faults.TooLong
 outcome_of (endings.Read error) count = Err faults.Read
 outcome_of (endings.Write error) count = Err faults.Write
 outcome_of endings.Memory count = Err faults.Memory
-outcome_of endings.Reply count = Err faults.Memory
 
 -- why it ends at a connection that took a reply, if it does
 abbrev pub fault_at : Option Ending → List ℕ → Option LineFault

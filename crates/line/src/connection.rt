@@ -8,6 +8,7 @@ ghost use Rattle.wire.specs.Stream.{IsPartial};
 ghost use Rattle.line.specs.Connecting.{Comes, Flushes, Hears, Sends, standing};
 ghost use Rattle.line.specs.Permits.{Knows, Permits, PermitsOn};
 ghost use Rattle.line.specs.Turns.{reply_frame};
+ghost use Rattle.serve_base.specs.Short.{IsShort};
 
 use crate::asked::{Asked, Piece, Wrote};
 use crate::ending::Ending;
@@ -152,8 +153,8 @@ impl Connection {
     /// Takes a reply, and writes its frame after all that is pending, as much as the writer takes. Once all is written, the writer
     /// is flushed. Of a connection that ended nothing is written.
     ///
-    /// It ends where a write or a flush failed (`Write`), there was no memory for the frame (`Memory`), or the reply has no frame
-    /// (`Reply`); at the last two nothing of the reply is written.
+    /// It ends where a write or a flush failed (`Write`), or there was no memory for the frame (`Memory`); then nothing of the reply is
+    /// written. A short reply has a frame.
     pub fn reply<L: Licence, W: Sink<L>>(
         &mut self,
         alloc: Global,
@@ -161,6 +162,7 @@ impl Connection {
         licence: &L,
         reply: &Reply,
     )
+        requires short { self.old.ended ≡ None → IsShort reply.now }
         // What is to be written may be, and the reply.
         requires may { self.old.ended ≡ None → Permits (L.allows licence.now) (W.writing writer.old.inner)
             (self.old.pending ++ reply_frame reply.now) }
@@ -295,6 +297,7 @@ impl Connection {
         reply: &Reply,
     )
         requires going { self.old.ended ≡ None }
+        requires short { IsShort reply.now }
         requires may { Permits (L.allows licence.now) (W.writing writer.old.inner)
             (self.old.pending ++ reply_frame reply.now) }
         ensures { Sends W.writing writer.old writer.new self.old self.new reply.now }
@@ -305,8 +308,10 @@ impl Connection {
                 self.answered.add();
                 self.write_out(alloc, writer, licence);
             }
-            Err(WireFault::Memory) => self.ended = Some(Ending::Memory),
-            Err(_) => self.ended = Some(Ending::Reply),
+            Err(fault) => match fault {
+                WireFault::Memory => self.ended = Some(Ending::Memory),
+                _ => unreachable!(),
+            },
         }
     }
 

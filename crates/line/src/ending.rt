@@ -24,7 +24,4 @@ pub enum Ending {
     /// An allocation failed, or 2^64 - 1 payloads or reads made no call.
     #[error("out of memory")]
     Memory,
-    /// A reply has no frame.
-    #[error("a reply has no frame")]
-    Reply,
 }

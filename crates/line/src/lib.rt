@@ -2,15 +2,15 @@
 //!
 //! - `Words` are the random bytes of one application: the words of ChaCha20 under the operator's seed, whose stream number is
 //!   the application's. `take` returns the next of them; where an allocation fails it leaves them where they were.
-//! - The reader and the writer are ends (`door::Source`, `door::Sink`), of which it is known what they gave and took. They are watched
-//!   (`watched::Watched`): their failures are counted. What is written is written under a licence, of which nothing is known here
-//!   (`specs/Permits.antt`): who calls has it permit what is to be written, the reply, and the refusals of what is no call.
-//! - `Connection` returns the calls of an application, each with its random bytes, and takes the replies to them. It answers what
-//!   is no call itself: by `CKR_ARGUMENTS_BAD`, and by `CKR_FUNCTION_NOT_SUPPORTED` where no function is known by the number.
-//!   `specs/Connecting.antt` defines what becomes of it, and `accounts` adds that up over whole connections (`specs/Whole.antt`).
-//! - `serve_one` answers the calls of one connection by a token, until the reader ends or the connection fails. What is no call
-//!   neither changes the token nor takes random bytes. `specs/Serve.antt` defines the bytes that it reads and writes, and
-//!   `specs/Lines.antt` what the token does meanwhile.
+//! - `Connection` returns the calls of an application, with their random bytes, and takes the replies. It refuses what is no call. Its ends
+//!   (`door`) are watched (`watched`), and each write is under its caller's licence (`specs/Permits.antt`). Proved: it writes what it was
+//!   permitted and nothing else (`may`); it adds up (`accounts`: `Account`, `Owes`, `Lived`; `IsWhole` where all was written), by what
+//!   becomes of it (`specs/Connecting.antt`). A short reply has a frame (`short`).
+//! - `serve_one` answers the calls of one connection by a token, until the reader ends or the connection fails. Proved: it writes the
+//!   frames of the replies to what it read, in order (`Serves`): all where the line ends well, all before a cut frame or one that is too
+//!   long, and a beginning where the writer fails. Where an allocation failed the last may lack. While the disk is faithful they are those
+//!   of a run (`IsLine`), and each CKR_DEVICE_ERROR has a counted failure (`accounts`). `Read` comes only where the reader noted a failure
+//!   (`ReadsBy`), `Write` only where the writer did, or after 2^64 - 1 calls (`WritesBy`).
 #![tactic(auto)]
 
 mod asked;

@@ -58,7 +58,7 @@ fn outcome(ending: Ending, count: u64) -> Result<u64, LineFault>
         Ending::TooLong => Err(LineFault::TooLong),
         Ending::Read(_) => Err(LineFault::Read),
         Ending::Write(_) => Err(LineFault::Write),
-        Ending::Memory | Ending::Reply => Err(LineFault::Memory),
+        Ending::Memory => Err(LineFault::Memory),
     }
 }
 

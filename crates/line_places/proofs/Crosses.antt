@@ -46,7 +46,7 @@ error_send : IsSend Error.the_row
 error_send = search (sendable, crosses) depth 30 fits 20000
 
 ending_send : IsSend Ending.the_row
-ending_send = variants_send Ending.enum (tt, (tt, (tt, ((error_send, tt), ((error_send, tt), (tt, (tt, tt)))))))
+ending_send = variants_send Ending.enum (tt, (tt, (tt, ((error_send, tt), ((error_send, tt), (tt, tt))))))
 
 connection_inside : IsSend ConnectionInside.the_row
 connection_inside = declared_send ConnectionInside.the_type (frames_send, (words_send, (outbox_send, (search sendable depth 8, (search sendable depth 8, (search sendable depth 8, (bytes_send, (search (ending_send, sendable, crosses) depth 30 fits 20000, tt))))))))

@@ -5,3 +5,4 @@ pub mod Doing
 pub mod Keeping
 pub mod Standing
 pub mod Tying
+pub mod Owing

@@ -2,9 +2,10 @@
 use Rattle.std.proofs.Common.{◌≡◌, ◌≢◌, inl, inr, ⊎_elim, ℕ, zero, suc, List, [], ◌∷◌, ◌++◌, Bool, true, false, set, sym, refl, ap, ◌∙◌, subst, Option, Some, None}
 use Rattle.std.specs.List.{slice_get}
 use Rattle.ck_calls.specs.declared.reply.Reply.{Reply}
-use Rattle.door.specs.Ends.{Reading, Writing}
+use Rattle.door.specs.Ends.{HasGiven, Reading, Writing}
 use Rattle.line.specs.declared.ending.Ending.{Ending as EndingType}
 use Rattle.line.specs.Asking.{Gave, Took}
+use Rattle.line.specs.Permits.{Knows}
 use Rattle.line_places.specs.declared.client.Came.{Came}
 use Rattle.line_places.specs.declared.client.Client.{Client}
 use Rattle.line_places.specs.declared.place.Place.{Place}
@@ -14,18 +15,24 @@ use Rattle.line_places.specs.Tying.{AllTied, AreEndsOf, Tied}
 use Rattle.line_places.proofs.Doing.{one-client}
 use Rattle.line_places.proofs.Keeping.{among-snoc, get_same, get_set, same_some}
 
-module _ {R W : Type 0} (reading : R → Reading) (writing : W → Writing) where
-  module _ (c c' : Client R W) (app : c'.app ≡ c.app) (was : Tied reading writing c) where
-    still-tied : IsStill c c' → Tied reading writing c'
+-- a reader has given all that it gave, as before, or what it gave by now
+has-more : (given : ℕ → List ℕ → Type 0) (a b : Reading) → b.app ≡ a.app → HasGiven given a.app a.gave → Knows given a b → HasGiven given b.app b.gave
+has-more given a b app has knows = ⊎_elim (λ (same : b.gave ≡ a.gave). subst (λ (z : ℕ × List ℕ). HasGiven given z.0 z.1) (λ i. (sym app i, sym same i)) has) (λ (new : given b.app b.gave). inr new) knows
+
+module _ {R W : Type 0} (given : ℕ → List ℕ → Type 0) (reading : R → Reading) (writing : W → Writing) where
+  module _ (c c' : Client R W) (app : c'.app ≡ c.app) (was : Tied given reading writing c) where
+    still-tied : IsStill c c' → Tied given reading writing c'
     still-tied still = record {
+      has = subst (λ r. HasGiven given (reading r.inner).app (reading r.inner).gave) (sym still.reader) was.has;
       reader = ap (λ r. (reading r.inner).app) still.reader ∙ was.reader ∙ sym app;
       writer = ap (λ w. (writing w.inner).app) still.writer ∙ was.writer ∙ sym app;
       read = ap (λ k. k.read) still.connection ∙ was.read ∙ ap (λ r. (reading r.inner).gave) (sym still.reader);
       written = ap (λ k. k.written) still.connection ∙ was.written ∙ ap (λ w. (writing w.inner).took) (sym still.writer);
     }
 
-    more-tied : Gave (reading c.reader.inner) (reading c'.reader.inner) c.connection.read c'.connection.read → Took (writing c.writer.inner) (writing c'.writer.inner) c.connection.written c'.connection.written → Tied reading writing c'
-    more-tied gave took = record {
+    more-tied : Knows given (reading c.reader.inner) (reading c'.reader.inner) → Gave (reading c.reader.inner) (reading c'.reader.inner) c.connection.read c'.connection.read → Took (writing c.writer.inner) (writing c'.writer.inner) c.connection.written c'.connection.written → Tied given reading writing c'
+    more-tied knows gave took = record {
+      has = has-more given (reading c.reader.inner) (reading c'.reader.inner) gave.given.app was.has knows;
       reader = gave.given.app ∙ was.reader ∙ sym app;
       writer = took.wrote.app ∙ was.writer ∙ sym app;
       read = gave.noted_is ∙ ap (λ l. l ++ gave.more) was.read ∙ sym gave.given.gave;
@@ -33,19 +40,20 @@ module _ {R W : Type 0} (reading : R → Reading) (writing : W → Writing) wher
     }
 
     -- its connection went on
-    pub went-tied : (came : Came) → Went reading writing c c' came → Tied reading writing c'
-    went-tied came went = by c.is_owed c.connection.ended refl refl where
-      by : (owed : Bool) (ended : Option EndingType) → c.is_owed ≡ owed → c.connection.ended ≡ ended → Tied reading writing c'
+    pub went-tied : (came : Came) → Went reading writing c c' came → Knows given (reading c.reader.inner) (reading c'.reader.inner) → Tied given reading writing c'
+    went-tied came went knows = by c.is_owed c.connection.ended refl refl where
+      by : (owed : Bool) (ended : Option EndingType) → c.is_owed ≡ owed → c.connection.ended ≡ ended → Tied given reading writing c'
       by true ended owes is = still-tied (went.owes owes).0
       by false (Some why) owes is = still-tied (went.over why owes is).0
-      by false None owes is = let comes = went.goes owes is in more-tied comes.gave comes.took
+      by false None owes is = let comes = went.goes owes is in more-tied knows comes.gave comes.took
 
     -- it took a reply
-    pub sent-tied : (reply : Reply) → Sent writing c c' reply → Tied reading writing c'
+    pub sent-tied : (reply : Reply) → Sent writing c c' reply → Tied given reading writing c'
     sent-tied reply sent = by c.connection.ended refl where
-      by : (ended : Option EndingType) → c.connection.ended ≡ ended → Tied reading writing c'
+      by : (ended : Option EndingType) → c.connection.ended ≡ ended → Tied given reading writing c'
       by (Some why) is = still-tied (sent.over why is)
       by None is = let sends = sent.sends is in record {
+        has = subst (λ r. HasGiven given (reading r.inner).app (reading r.inner).gave) (sym sent.reader) was.has;
         reader = ap (λ r. (reading r.inner).app) sent.reader ∙ was.reader ∙ sym app;
         writer = sends.took.wrote.app ∙ was.writer ∙ sym app;
         read = ap (λ k. k.read) sends.tells.same ∙ was.read ∙ ap (λ r. (reading r.inner).gave) (sym sent.reader);
@@ -53,22 +61,23 @@ module _ {R W : Type 0} (reading : R → Reading) (writing : W → Writing) wher
       }
 
   -- with new ends nothing was read and nothing written
-  pub new-tied : (c : Client R W) (r : R) (w : W) (app : ℕ) → c.app ≡ app → (c.reader.inner ≡ r) × (c.writer.inner ≡ w) → (c.connection.read ≡ []) × (c.connection.written ≡ []) → AreEndsOf app (reading r) (writing w) → Tied reading writing c
+  pub new-tied : (c : Client R W) (r : R) (w : W) (app : ℕ) → c.app ≡ app → (c.reader.inner ≡ r) × (c.writer.inner ≡ w) → (c.connection.read ≡ []) × (c.connection.written ≡ []) → AreEndsOf app (reading r) (writing w) → Tied given reading writing c
   new-tied c r w app named ends fresh are = record {
+    has = inl (ap (λ x. (reading x).gave) ends.0 ∙ are.gave);
     reader = ap (λ x. (reading x).app) ends.0 ∙ are.reader ∙ sym named;
     writer = ap (λ x. (writing x).app) ends.1 ∙ are.writer ∙ sym named;
     read = fresh.0 ∙ sym (ap (λ x. (reading x).gave) ends.0 ∙ are.gave);
     written = fresh.1 ∙ sym (ap (λ x. (writing x).took) ends.1 ∙ are.took);
   }
 
-  pub nobody-tied : (c : Client R W) → None ≡ Some c → Tied reading writing c
+  pub nobody-tied : (c : Client R W) → None ≡ Some c → Tied given reading writing c
   nobody-tied c is = absurd cc
 
   -- ---- all clients
 
-  module _ (places : List (Place R W)) (past : List (Client R W)) (all : AllTied reading writing places past) (j : ℕ) (p' : Place R W) where
+  module _ (places : List (Place R W)) (past : List (Client R W)) (all : AllTied given reading writing places past) (j : ℕ) (p' : Place R W) where
     -- another client is at the place now, or nobody
-    pub tied-set : ((c : Client R W) → p'.client ≡ Some c → Tied reading writing c) → AllTied reading writing (set places j p') past
+    pub tied-set : ((c : Client R W) → p'.client ≡ Some c → Tied given reading writing c) → AllTied given reading writing (set places j p') past
     tied-set here d life = ⊎_elim (λ (x : IsAmong d past). all d (inl x))
         (λ (x : (i : ℕ) × IsAt (set places j p') i d). ⊎_elim
         (λ (y : (x.0 ≡ j) × (p' ≡ x.1.place)). here d (ap (λ (q : Place R W). q.client) y.1 ∙ x.1.client))
@@ -76,11 +85,11 @@ module _ {R W : Type 0} (reading : R → Reading) (writing : W → Writing) wher
         (get_set places j x.0 p' x.1.place x.1.at)) life
 
     -- and who was there is there no more
-    pub tied-close : (c : Client R W) → Tied reading writing c → p'.client ≡ None → AllTied reading writing (set places j p') (past ++ c ∷ [])
+    pub tied-close : (c : Client R W) → Tied given reading writing c → p'.client ≡ None → AllTied given reading writing (set places j p') (past ++ c ∷ [])
     tied-close c mine none d life = ⊎_elim
-        (λ (x : IsAmong d (past ++ c ∷ [])). ⊎_elim (λ (y : IsAmong d past). all d (inl y)) (λ (y : d ≡ c). subst (Tied reading writing) (sym y) mine) (among-snoc d c past x))
+        (λ (x : IsAmong d (past ++ c ∷ [])). ⊎_elim (λ (y : IsAmong d past). all d (inl y)) (λ (y : d ≡ c). subst (Tied given reading writing) (sym y) mine) (among-snoc d c past x))
         (λ (x : (i : ℕ) × IsAt (set places j p') i d). tied-set (λ e is. nobody e (sym is ∙ none)) d (inr x)) life where
-          nobody : (e : Client R W) → Some e ≡ None → Tied reading writing e
+          nobody : (e : Client R W) → Some e ≡ None → Tied given reading writing e
           nobody e is = absurd (let h : Some e ≡ None = is in cc)
 
 -- the client at a place that is set
@@ -96,7 +105,7 @@ get_set_other (x ∷ xs) (suc j) (suc i) a n = get_set_other xs j i a (λ e. n (
 
 -- ---- what the client at a place did
 
-module _ {R W : Type 0} (reading : R → Reading) (writing : W → Writing) (places : List (Place R W)) (past : List (Client R W))
+module _ {R W : Type 0} (given : ℕ → List ℕ → Type 0) (reading : R → Reading) (writing : W → Writing) (places : List (Place R W)) (past : List (Client R W))
     (j : ℕ) (p : Place R W) (c c' : Client R W) (at : slice_get places j ≡ Some p) (is : p.client ≡ Some c) where
   abbrev next : Place R W
   next = record { turn = p.turn; client = Some c' }
@@ -111,15 +120,15 @@ module _ {R W : Type 0} (reading : R → Reading) (writing : W → Writing) (pla
   pub sent-at : (reply : Reply) → Sent writing c c' reply → (d d' : Client R W) → IsAt places j d → IsAt (set places j next) j d' → Sent writing d d' reply
   sent-at reply = at-both (λ d d'. Sent writing d d' reply)
 
-  module _ (app : c'.app ≡ c.app) (all : AllTied reading writing places past) where
-    was : Tied reading writing c
+  module _ (app : c'.app ≡ c.app) (all : AllTied given reading writing places past) where
+    was : Tied given reading writing c
     was = all c (inr (j, record { place = p; at = at; client = is }))
 
-    tied-here : Tied reading writing c' → AllTied reading writing (set places j next) past
-    tied-here it = tied-set reading writing places past all j next (λ d here. subst (Tied reading writing) (same_some c' d here) it)
+    tied-here : Tied given reading writing c' → AllTied given reading writing (set places j next) past
+    tied-here it = tied-set given reading writing places past all j next (λ d here. subst (Tied given reading writing) (same_some c' d here) it)
 
-    pub tied-went : (came : Came) → Went reading writing c c' came → AllTied reading writing (set places j next) past
-    tied-went came went = tied-here (went-tied reading writing c c' app was came went)
+    pub tied-went : (came : Came) → Went reading writing c c' came → Knows given (reading c.reader.inner) (reading c'.reader.inner) → AllTied given reading writing (set places j next) past
+    tied-went came went knows = tied-here (went-tied given reading writing c c' app was came went knows)
 
-    pub tied-sent : (reply : Reply) → Sent writing c c' reply → AllTied reading writing (set places j next) past
-    tied-sent reply sent = tied-here (sent-tied reading writing c c' app was reply sent)
+    pub tied-sent : (reply : Reply) → Sent writing c c' reply → AllTied given reading writing (set places j next) past
+    tied-sent reply sent = tied-here (sent-tied given reading writing c c' app was reply sent)

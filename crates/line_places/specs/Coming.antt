@@ -2,6 +2,7 @@
 use Rattle.std.specs.Prelude.{◌≡◌, [], ◌∷◌, ◌++◌, true, false, Some, None}
 use Rattle.ck_calls.specs.declared.reply.Reply.{Reply}
 use Rattle.door.specs.Ends.{Reading, Writing}
+use Rattle.serve_base.specs.Short.{IsShortCall}
 use Rattle.line.specs.declared.ending.Ending.{Ending as EndingType}
 use Rattle.line.specs.declared.next.Next.{Next}
 use Rattle.line.specs.declared.next.Next.TheVariants as next
@@ -19,6 +20,12 @@ abbrev pub Gave : {R W : Type 0} → Client R W → Client R W → Came → Type
 Gave old new (Call call) = (call.app ≡ old.app) × (old.is_owed ≡ false) × (new.is_owed ≡ true) × (new.asked.items ≡ old.asked.items ++ call ∷ []) × (new.told.items ≡ old.told.items)
 Gave old new Nothing = (new.is_owed ≡ old.is_owed) × (new.asked.items ≡ old.asked.items) × (new.told.items ≡ old.told.items)
 Gave old new (Ended ending) = (new.is_owed ≡ false) × (new.connection.ended ≡ Some ending) × (new.asked.items ≡ old.asked.items) × (new.told.items ≡ old.told.items)
+
+-- a call that came has data that fits into a frame
+abbrev pub IsShortCame : Came → Type 0
+IsShortCame (Call call) = IsShortCall call.call
+IsShortCame Nothing = Unit {0}
+IsShortCame (Ended ending) = Unit {0}
 
 -- it took a reply to its last call
 abbrev pub Takes : {R W : Type 0} → Client R W → Client R W → Reply → Type 0

@@ -1,5 +1,6 @@
 pub mod Arriving
 pub mod Coming
+pub mod Due
 pub mod Happening
 pub mod Keeping
 pub mod Permitting

@@ -4,6 +4,7 @@ use Rattle.ck_calls.specs.declared.reply.Reply.{Reply}
 use Rattle.door.specs.Ends.{Reading, Writing}
 use Rattle.line.specs.Permits.{Permits, PermitsOn}
 use Rattle.line.specs.Turns.{reply_frame}
+use Rattle.serve_base.specs.Short.{IsShort}
 use Rattle.line_places.specs.declared.client.Client.{Client}
 use Rattle.line_places.specs.declared.place.Place.{Place}
 use Rattle.line_places.specs.Keeping.{IsAt}
@@ -13,9 +14,9 @@ module _ {R W : Type 0} where
   abbrev pub MayGoOn : (ℕ → List ℕ → Type 0) → (ℕ → List ℕ → List ℕ → Type 0) → (R → Reading) → (W → Writing) → Client R W → Type 0
   MayGoOn given allows reading writing c = c.is_owed ≡ false → c.connection.ended ≡ None → PermitsOn given allows (reading c.reader.inner) (writing c.writer.inner) c.connection
 
-  -- that what is to be written is, and this reply
+  -- that what is to be written is, and this reply, which is short
   abbrev pub MayTake : (ℕ → List ℕ → List ℕ → Type 0) → (W → Writing) → Client R W → Reply → Type 0
-  MayTake allows writing c reply = c.connection.ended ≡ None → Permits allows (writing c.writer.inner) (c.connection.pending ++ reply_frame reply)
+  MayTake allows writing c reply = c.connection.ended ≡ None → IsShort reply × Permits allows (writing c.writer.inner) (c.connection.pending ++ reply_frame reply)
 
   -- so it is of whoever is at this place
   abbrev pub MayGoOnAt : (ℕ → List ℕ → Type 0) → (ℕ → List ℕ → List ℕ → Type 0) → (R → Reading) → (W → Writing) → List (Place R W) → ℕ → Type 0

@@ -2,7 +2,7 @@
 
 ghost use Rattle.std.specs.Prelude.{◌≡◌, ◌==◌, ◌<◌, [], length, not, true, false};
 ghost use Rattle.line.specs.Permits.{Knows};
-ghost use Rattle.line_places.specs.Coming.{Gave, SameApp, Sent, Takes, Went};
+ghost use Rattle.line_places.specs.Coming.{Gave, IsShortCame, SameApp, Sent, Takes, Went};
 ghost use Rattle.line_places.specs.Permitting.{MayGoOn, MayTake};
 
 use crate::client::{Came, Client};
@@ -60,6 +60,7 @@ impl<R: Source, W> Client<R, W> {
         requires may { MayGoOn R.given (L.allows licence.now) R.reading W.writing self.old }
         ensures same { SameApp self.old self.new }
         ensures gave { Gave self.old self.new result }
+        ensures short { IsShortCame result }
         // It was read by its own reader, and what was to be written was by its own writer.
         ensures went { Went R.reading W.writing self.old self.new result }
         // What was read, its reader has given.

@@ -11,16 +11,25 @@
 //! has read its reader gave, and what it has written its writer took, if it began so (`Tied`, `specs/Tying.antt`). The clients at the other
 //! places stay as they are. The licence to write goes through to the connection (`specs/Permitting.antt`).
 //!
+//! What is due to a client at a moment, so that it may be written, is `Due` (`dues`, `specs/Due.antt`).
+//!
 //! So for each application that ever connected, the bytes that its writer took are the frames of the replies that it took, with
 //! the answers to what is no call at their places, or a beginning of that (`Stands`, `specs/Standing.antt`).
+//!
+//! Proved, by the names of contracts: a client at a place is of application s + 4 (j + n t) (`app_at`), with that application's words
+//! (`words`). Of each application, what a worker's lists have is its client's own (`Kept`). A reply is owed before the next call
+//! (`IsOwed`). A place is free where nobody is and fewer than 2^55 clients were (`IsFree`). A client goes on over its own ends (`Went`,
+//! `Sent`), as a connection does (`Comes`, `Sends`), and the other places stay as they are (`OthersStay`).
 #![tactic(auto)]
 
 mod client;
 mod going;
+mod law;
 mod place;
 mod places;
 mod placing;
 
 pub use client::{Came, Client};
+pub use law::dues;
 pub use place::Place;
 pub use places::Places;

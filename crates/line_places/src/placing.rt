@@ -2,6 +2,7 @@
 
 ghost use Rattle.std.specs.Prelude.{◌≡◌, ◌<◌, ◌≤◌, ◌∷◌, [], ◌++◌, length, ℕ, IfOk, IfSome, IfNone, IsTrue, IsFalse};
 ghost use Rattle.line_places.specs.Arriving.{HasCome, IsNext, KeepsCome, OthersStay};
+ghost use Rattle.line_places.specs.Coming.{IsShortCame};
 ghost use Rattle.line_places.specs.Happening.{Closes, Comes, Gives, IsQuiet, SameWorker, SentAt, WentAt};
 ghost use Rattle.line_places.specs.Keeping.{IsAt, IsFree, IsOwed};
 ghost use Rattle.line_places.specs.Permitting.{MayGoOnAt, MayTakeAt};
@@ -108,7 +109,7 @@ impl<R: Source + Drop, W: Taker + Drop> Places<R, W> {
         ensures still { KeepsCome self.old self.new }
         ensures others { OthersStay self.old self.new place }
         // As before, who is there or was has read and written by ends of its own.
-        ensures tied { StaysTied R.reading W.writing self.old self.new }
+        ensures tied { StaysTied R.given R.reading W.writing self.old self.new }
     {
         if self.next_app(place).is_none() {
             return;
@@ -130,7 +131,7 @@ impl<R: Source + Drop, W: Taker + Drop> Places<R, W> {
         ensures others { OthersStay self.old self.new place }
         // With ends of the next application, who is there or was has read and written by ends of its own.
         ensures tied { (app : ℕ) → IsNext self.old.number self.old.places.items place app → AreEndsOf app (R.reading reader) (W.writing writer)
-            → StaysTied R.reading W.writing self.old self.new }
+            → StaysTied R.given R.reading W.writing self.old self.new }
     {
         let Some(app) = self.next_app(place) else {
             return;
@@ -152,7 +153,7 @@ impl<R: Source + Drop, W: Taker + Drop> Places<R, W> {
         ensures still { KeepsCome self.old self.new }
         ensures others { OthersStay self.old self.new place }
         // As before, who is there or was has read and written by ends of its own.
-        ensures tied { StaysTied R.reading W.writing self.old self.new }
+        ensures tied { StaysTied R.given R.reading W.writing self.old self.new }
     {
         if place >= self.places.len() {
             return None;
@@ -183,12 +184,13 @@ impl<R: Source + Drop, W: Taker + Drop> Places<R, W> {
         ensures same { SameWorker self.old self.new }
         ensures past { self.new.past.items ≡ self.old.past.items }
         ensures gives { Gives self.old self.new place result }
+        ensures short { IsShortCame result }
         // The client at the place went on, and the others stay as they were.
         ensures went { WentAt R.reading W.writing self.old self.new place result }
         ensures still { KeepsCome self.old self.new }
         ensures others { OthersStay self.old self.new place }
         // As before, who is there or was has read and written by ends of its own.
-        ensures tied { StaysTied R.reading W.writing self.old self.new }
+        ensures tied { StaysTied R.given R.reading W.writing self.old self.new }
     {
         if place >= self.places.len() {
             return Came::Nothing;
@@ -227,7 +229,7 @@ impl<R: Source + Drop, W: Taker + Drop> Places<R, W> {
         ensures still { KeepsCome self.old self.new }
         ensures others { OthersStay self.old self.new place }
         // As before, who is there or was has read and written by ends of its own.
-        ensures tied { StaysTied R.reading W.writing self.old self.new }
+        ensures tied { StaysTied R.given R.reading W.writing self.old self.new }
     {
         let told = (app, reply);
         self.told.push(&told);

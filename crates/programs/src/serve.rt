@@ -30,7 +30,7 @@ use reserve::{Explains, Reserved};
 use std::alloc::Global;
 use std::io::{Stderr, Write};
 use std::num::NonZeroUsize;
-use std::os::unix::net::UnixListener;
+use std::os::unix::net::{UnixListener, UnixStream};
 use std::sync::atomic::{AtomicBool, Ordering};
 use std::sync::{Arc, Wait};
 use std::thread::Threads;
@@ -421,7 +421,7 @@ fn ready_seats<O: Write>(
     rt: &HostRuntime,
     served: &Served<'_>,
     output: &mut O,
-) -> Result<Seats<Journal<Stderr>, HostRuntime>, Fault>
+) -> Result<Seats<UnixStream, Journal<Stderr>, HostRuntime>, Fault>
     ensures { IfOk result (λ seats. AreNew served.now.settings.seed seats) }
 {
     let listeners = daemon_sockets(rt, &served.paths, served.socket_mode)?;
@@ -434,7 +434,10 @@ fn ready_seats<O: Write>(
 }
 
 /// Whether the seats ended as asked, and not because the store is shut, or because no connection could be accepted.
-fn seats_ended<L: Log, C: Clock>(seats: &Seats<L, C>, served: &Served<'_>) -> Result<(), Fault> {
+fn seats_ended<L: Log, C: Clock>(
+    seats: &Seats<UnixStream, L, C>,
+    served: &Served<'_>,
+) -> Result<(), Fault> {
     if served.is_stopping.load(Ordering::SeqCst) {
         return Err(Failure::Store.because(Cause::StoreShut));
     }
@@ -455,7 +458,7 @@ fn seats_on<L: Log + Copy + Drop>(
     log: L,
     listeners: Vec<UnixListener>,
     served: &Served<'_>,
-) -> Result<Seats<L, HostRuntime>, Fault>
+) -> Result<Seats<UnixStream, L, HostRuntime>, Fault>
     ensures { IfOk result (λ seats. AreNew served.now.settings.seed seats) }
 {
     let second = again(rt.alloc(), &listeners)?;
@@ -476,7 +479,7 @@ fn seat_on<L: Log + Drop>(
     listeners: Vec<UnixListener>,
     number: u64,
     served: &Served<'_>,
-) -> Result<SocketSeat<L, HostRuntime>, Fault>
+) -> Result<SocketSeat<UnixStream, L, HostRuntime>, Fault>
     requires { number < 4 }
     ensures { IfOk result (λ seat. IsNew seat served.now.settings.seed number) }
 {

@@ -3,6 +3,8 @@
 use super::daemon::{clear, connect, expect, expect_end, start_for};
 use super::{OPEN_SESSION, SESSION_ONE};
 use ck_calls::Reply;
+use ck_types::Rv;
+use door::Free;
 use hall::SeatEvent;
 use hall_sockets::{Loads, Settings, Shared, SocketSeat, Sockets};
 use log::sink::Discard;
@@ -14,7 +16,6 @@ use std::sync::Arc;
 use std::sync::atomic::{AtomicBool, Ordering};
 use std::test::*;
 use test_scripts::{FIRST_REPLIES, FIRST_RUN};
-use wire::read_reply;
 
 /// The files of each test.
 const CUT: &[&str] = &["cut.seed", "cut.sock"];
@@ -116,7 +117,7 @@ fn seat_on(
     path: &str,
     connections: u64,
     is_stopping: Arc<AtomicBool, Global>,
-) -> Result<SocketSeat<Discard, HostRuntime>, Fail> {
+) -> Result<SocketSeat<UnixStream, Discard, HostRuntime>, Fail> {
     let alloc = rt.alloc();
     let mut listeners = Vec::new(alloc);
     listeners.push(UnixListener::bind(rt, path)?)?;
@@ -135,30 +136,24 @@ fn seat_on(
     Ok(SocketSeat::new(rt, alloc, *rt, Discard, shared, &settings, 3)?)
 }
 
-/// The reply to a call.
-fn a_reply(rt: &HostRuntime) -> Result<Reply, Fail> {
-    Ok(read_reply(rt.alloc(), 7, SESSION_ONE.get(4..).unwrap_or(&[]))?)
-}
-
 /// What a seat puts whose peer disconnects before its reply: before that, and after.
 fn asked_of(
     rt: &HostRuntime,
-    seat: &mut SocketSeat<Discard, HostRuntime>,
+    seat: &mut SocketSeat<UnixStream, Discard, HostRuntime>,
 ) -> Result<(Asks, Asks, Asks), Fail> {
     let peer = send_twice(rt, "unread.sock")?;
-    let reply = a_reply(rt)?;
-    let first = match seat.next_event() {
+    let first = match seat.next_event(&Free) {
         Some(SeatEvent::Call(call)) => {
             let app = call.app;
             drop(call);
             drop(peer);
-            seat.take_reply(app, reply);
+            seat.take_reply(&Free, app, Reply::Code(Rv::Ok));
             Asks::Call(app)
         }
         other => what_is_asked(other),
     };
-    let then = what_is_asked(seat.next_event());
-    Ok((first, then, what_is_asked(seat.next_event())))
+    let then = what_is_asked(seat.next_event(&Free));
+    Ok((first, then, what_is_asked(seat.next_event(&Free))))
 }
 
 #[test]
@@ -181,23 +176,22 @@ fn stopped(rt: &HostRuntime) -> Result<(Asks, Asks, Asks, bool), Fail> {
     let told = Arc::try_clone(&is_stopping)?;
     let mut seat = seat_on(rt, "stopped.sock", 5, is_stopping)?;
     let peer = send_twice(rt, "stopped.sock")?;
-    let reply = a_reply(rt)?;
-    let first = match seat.next_event() {
+    let first = match seat.next_event(&Free) {
         Some(SeatEvent::Call(call)) => {
             let app = call.app;
             drop(call);
             told.store(true, Ordering::SeqCst);
-            seat.take_reply(app, reply);
+            seat.take_reply(&Free, app, Reply::Code(Rv::Ok));
             Asks::Call(app)
         }
         other => what_is_asked(other),
     };
-    let then = what_is_asked(seat.next_event());
+    let then = what_is_asked(seat.next_event(&Free));
     drop(peer);
     Ok((
         first,
         then,
-        what_is_asked(seat.next_event()),
+        what_is_asked(seat.next_event(&Free)),
         seat.has_failed(),
     ))
 }

@@ -10,6 +10,7 @@ pub take-requires : goal.take-requires
 take-requires g c =
     let put = c.in-Some.ensures.done in
     record {
+      knows = c.requires.knows;
       reply = record {
         before = done_by c.args.port.now.putter;
         call = c.in-Call.call;

@@ -12,6 +12,9 @@ calls-init g c = serving-none g.K.Keep.terms c.args.app c.args.token.now c.args.
 pub answer_call-reply-requires : goal.answer_call-reply-requires
 answer_call-reply-requires g c = (c.in-Call.ensures.comes c.calls.invariant.going).does.call.is.count
 
+pub reply-requires-clause-short : goal.reply-requires-clause-short
+reply-requires-clause-short g c = λ going. c.answer_call-reply.ensures.short (short-call c.in-Call.given.call (c.in-Call.ensures.comes c.calls.invariant.going).does.call.is.framed)
+
 pub returns-in-Some : goal.returns-in-Some
 returns-in-Some g c =
     let comes = c.in-Call.ensures.comes c.calls.invariant.going in

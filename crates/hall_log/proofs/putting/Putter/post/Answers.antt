@@ -19,6 +19,6 @@ invariant_of-result g c =
     let count : length (of s (served told)) ≡ c.self.inside.count = sym (events_length (of s (served told))) ∙ (ap length (sym idle) ∙ c.self.invariant.2) in
     record {
       has_put = rw (c.again.ensures, c.of.ensures) (has_put mine c.put.new.self s c.args.event.now c.self.inside.count c.self.invariant.2 put);
-      count = rw c.again-2.ensures count;
-      may = rw (c.again-2.ensures, c.of.ensures) (∣ may ∣₁);
+      count = rw c.again-2.ensures.same count;
+      may = rw (c.again-2.ensures.same, c.of.ensures) (∣ may ∣₁);
     }

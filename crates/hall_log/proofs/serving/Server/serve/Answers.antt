@@ -41,7 +41,7 @@ invariant_of-self g c =
     let is : served c.serve.new.self ≡ served u ++ (c.args.post.seat, (c.args.post.event.value, c.args.answer.now)) ∷ [] = serves_one u all c.serve.new.self (c.args.post.seat, (c.args.post.event.value, c.args.answer.now)) front (done.1 ∙ c.self.invariant.0) done.0 in
     let inv = c.self.invariant in
     let after = counts_after u c.serve.new.self c.args.post.seat c.self.inside.count (c.args.post.event.value, c.args.answer.now) c.self.inside.counts c.in_ok-counts.counts c.requires.next.0 is inv.0 inv.1 c.in_ok-counts.ensures in
-    rw c.again.ensures (after.0, after.1, inv.2)
+    rw c.again.ensures.same (after.0, after.1, inv.2)
 
 pub returns-clause-served : goal.returns-clause-served
 returns-clause-served g c =
@@ -50,4 +50,4 @@ returns-clause-served g c =
     let front : IsPrefix u all = subst (λ w. IsPrefix w all) c.reached-ours.ensures c.with-all.ensures.this in
     let done = c.if-not-serve.ensures.served refl in
     let is : served c.serve.new.self ≡ served u ++ (c.args.post.seat, (c.args.post.event.value, c.args.answer.now)) ∷ [] = serves_one u all c.serve.new.self (c.args.post.seat, (c.args.post.event.value, c.args.answer.now)) front (done.1 ∙ c.self.invariant.0) done.0 in
-    rw (c.again.ensures, ← c.self.view_is) is
+    rw (c.again.ensures.same, ← c.self.view_is) is

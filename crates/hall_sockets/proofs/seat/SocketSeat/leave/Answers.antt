@@ -3,7 +3,7 @@ use Rattle.hall_sockets.proofs.Staying.{empty-all, empty-more, gives-none, if-no
 use Rattle.hall_sockets.proofs.seat.SocketSeat.leave.Goals as goal
 
 pub returns-then-is_some-clause-gives : goal.returns-then-is_some-clause-gives
-returns-then-is_some-clause-gives g c = stays-gives c.args.self.now c.places.self c.end-event.new.self c.end-event.result c.places.invariant.stays c.end-event.ensures.gives
+returns-then-is_some-clause-gives g c = stays-gives g.S.Socket.given c.args.self.now c.places.self c.end-event.new.self c.end-event.result c.places.invariant.stays c.end-event.ensures.gives
 
 pub places-preserved : goal.places-preserved
 places-preserved g c =
@@ -11,7 +11,7 @@ places-preserved g c =
     let still = if-none c.end-event.result _ none c.end-event.ensures.none in
     let before = c.places.invariant in
     record {
-      stays = stays-stays c.args.self.now c.places.self c.end-event.new.self before.stays (gives-none c.places.self c.end-event.new.self c.end-event.result none c.end-event.ensures.gives);
+      stays = stays-stays g.S.Socket.given c.args.self.now c.places.self c.end-event.new.self before.stays (gives-none g.S.Socket.given c.places.self c.end-event.new.self c.end-event.result none c.end-event.ensures.gives);
       may = λ may. still.0.1 (before.may may);
       clients = still.0.0 ∙ before.clients;
       empty = empty-more c.places.self c.end-event.new.self c.places.place before.empty still.0 still.1;

@@ -1,5 +1,9 @@
-use Rattle.hall_sockets.proofs.Staying.{stays-gives}
+use Rattle.std.proofs.Common.{Some}
+use Rattle.hall_sockets.proofs.Staying.{rests-gives, rests-then, stays-stays}
 use Rattle.hall_sockets.proofs.seat.SocketSeat.look_round.Goals as goal
 
-pub returns-then-is_some : goal.returns-then-is_some
-returns-then-is_some g c = stays-gives c.args.self.now c.look.new.self c.end_idle-event.new.self c.end_idle-event.result c.look.ensures c.end_idle-event.ensures
+pub returns-in-Some : goal.returns-in-Some
+returns-in-Some g c = rests-gives g.S.Socket.given c.args.self.now c.look.new.self c.end_late.new.self (Some c.in-Some.event) c.look.ensures c.in-Some.ensures
+
+pub returns-in-None : goal.returns-in-None
+returns-in-None g c = stays-stays g.S.Socket.given c.args.self.now c.end_late.new.self c.accept_next.new.self (rests-then g.S.Socket.given c.args.self.now c.look.new.self c.end_late.new.self c.look.ensures c.in-None.ensures) c.accept_next.ensures

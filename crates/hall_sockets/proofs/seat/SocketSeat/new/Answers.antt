@@ -1,7 +1,6 @@
 use Rattle.std.proofs.Common.{ap, subst, sym, ◌∙◌}
 use Rattle.line_places.specs.Arriving.{AllCame}
 use Rattle.hall_sockets.specs.Telling.{apps_of, calls_in, gone_in}
-use Rattle.hall_sockets.proofs.Staying.{none-tied}
 use Rattle.hall_sockets.proofs.seat.SocketSeat.new.Goals as goal
 
 pub invariant_of-result : goal.invariant_of-result
@@ -11,6 +10,5 @@ invariant_of-result g c =
     record {
       calls = ap calls_in c.new-4.ensures ∙ sym e.none.1;
       gone = ap gone_in c.new-4.ensures ∙ ap apps_of (sym e.none.0);
-      tied = ∣ none-tied clients.places.items clients.past.items e.none.0 e.empty ∣₁;
       came = ∣ subst (AllCame clients.number clients.places.items) (sym c.new-2.ensures) tt ∣₁;
     }

@@ -1,6 +1,8 @@
-use Rattle.std.proofs.Common.{refl, ap, ◌∙◌}
+use Rattle.std.proofs.Common.{refl, ap, subst, sym, ◌∙◌}
 use Rattle.line.specs.declared.ending.Ending.TheVariants as endings
 use Rattle.line.specs.State.{Connected}
+use Rattle.serve_base.specs.Short.{IsShort}
+use Rattle.line.proofs.Framing.{short-refusal}
 use Rattle.line.proofs.Permitting.{on-refused}
 use Rattle.line.proofs.Advancing.{comes-gives, comes-ends, comes-refused}
 use Rattle.line.proofs.connection.Connection.step.Goals as goal
@@ -24,3 +26,6 @@ answer-requires-clause-may g c =
     let r = g.R.Source.reading c.args.reader.now.inner in
     let w = g.W.Taker.writing c.args.writer.now.inner in
     on-refused allows given r w c.args.self.now _ _ c.in-Refused.reply _ _ _ c.requires.on (ap (λ (s : Connected). s.held) c.self.view_is) (ap (λ (s : Connected). s.pending) c.self.view_is) c.in-Refused.ensures.asks
+
+pub answer-requires-clause-short : goal.answer-requires-clause-short
+answer-requires-clause-short g c = subst IsShort (sym c.in-Refused.ensures.asks.is.reply_is) (short-refusal c.in-Refused.ensures.asks.is.fault)

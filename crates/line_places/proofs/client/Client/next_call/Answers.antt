@@ -1,6 +1,9 @@
-use Rattle.std.proofs.Common.{◌≡◌, true, false, refl, sym, ◌∙◌}
+use Rattle.std.proofs.Common.{◌≡◌, true, false, refl, sym, ◌∙◌, Option, Some, None}
 use Rattle.std.proofs.Math.Logic.{∥∥₁_map}
+use Rattle.serve_base.specs.Short.{IsShortCall}
+use Rattle.line.specs.declared.ending.Ending.{Ending}
 use Rattle.line.specs.declared.next.Next.TheVariants as next
+use Rattle.line.proofs.Framing.{short-call}
 use Rattle.line_places.proofs.Standing.{came-call, came-nothing, came-ended, stands-as}
 use Rattle.line_places.proofs.client.Client.next_call.Goals as goal
 
@@ -31,3 +34,9 @@ returns-in-Nothing-clause-went g c = record {
   over = λ why owed is. absurd (let clash : next.Nothing ≡ next.Ended why = (c.in-Nothing.ensures.over why is).0 in cc);
   owes = λ owes. absurd (let clash : true ≡ false = sym owes ∙ c.if-self.false in cc);
 }
+
+pub returns-in-Call-clause-short : goal.returns-in-Call-clause-short
+returns-in-Call-clause-short g c = by c.args.self.now.connection.ended refl where
+  by : (e : Option Ending) → c.args.self.now.connection.ended ≡ e → IsShortCall c.in-Call.field-0.call
+  by None going = short-call c.in-Call.field-0.call (c.in-Call.ensures.comes going).does.call.is.framed
+  by (Some why) is = absurd (let clash : next.Call c.in-Call.field-0 ≡ next.Ended why = (c.in-Call.ensures.over why is).0 in cc)

@@ -13,3 +13,9 @@ invariant_of-self g c = record {
       (stands-told first c.accounts.ensures.turn c.accounts.ensures.cut c.args.self.now.connection c.reply.new.self c.args.reply.now c.args.self.now.asked.items c.args.self.now.told.items owed
       (c.reply.ensures.sends (owes-going first c.args.self.now.connection c.args.self.now.asked.items c.args.self.now.told.items owed)).tells));
 }
+
+pub reply-requires-clause-short : goal.reply-requires-clause-short
+reply-requires-clause-short g c = λ going. (c.requires.may going).0
+
+pub reply-requires-clause-may : goal.reply-requires-clause-may
+reply-requires-clause-may g c = λ going. (c.requires.may going).1

@@ -62,5 +62,5 @@ returns-clause-tied g c =
     let was = c.args.self.now in
     let p = c.index_mut-it.result.now in
     let at = at-index was.places.items c.args.place p (omega (arith, c.if-place-len.false, c.len.ensures)) c.index_mut-it.ensures.value in
-    λ all. subst (AllTied g.R.Source.reading g.W.Taker.writing (set was.places.items c.args.place (record { turn = p.turn + 1; client = c.take.new.self }))) (sym c.push.ensures)
-    (tied-close g.R.Source.reading g.W.Taker.writing was.places.items was.past.items all c.args.place _ c.in-Some.client (all c.in-Some.client (inr (c.args.place, record { place = p; at = at; client = sym c.in-Some.ensures.value }))) c.take.ensures.after)
+    λ all. subst (AllTied g.R.Source.given g.R.Source.reading g.W.Taker.writing (set was.places.items c.args.place (record { turn = p.turn + 1; client = c.take.new.self }))) (sym c.push.ensures)
+    (tied-close g.R.Source.given g.R.Source.reading g.W.Taker.writing was.places.items was.past.items all c.args.place _ c.in-Some.client (all c.in-Some.client (inr (c.args.place, record { place = p; at = at; client = sym c.in-Some.ensures.value }))) c.take.ensures.after)

@@ -53,7 +53,7 @@ pub returns-in-Call-clause-went : goal.returns-in-Call-clause-went
 returns-in-Call-clause-went g c =
     let was = c.args.self.now in
     let at = at-index was.places.items c.args.place c.index_mut.result.now (omega (arith, c.if-place-len.false, c.len.ensures)) c.index_mut.ensures.value in
-    went-at g.R.Source.reading g.W.Taker.writing was.places.items was.past.items c.args.place c.index_mut.result.now c.in-Some.client c.next_call.new.self at c.in-Some.is _ c.in-Call.ensures.went
+    went-at g.R.Source.given g.R.Source.reading g.W.Taker.writing was.places.items was.past.items c.args.place c.index_mut.result.now c.in-Some.client c.next_call.new.self at c.in-Some.is _ c.in-Call.ensures.went
 
 pub returns-in-Call-clause-still : goal.returns-in-Call-clause-still
 returns-in-Call-clause-still g c =
@@ -70,13 +70,13 @@ pub returns-in-Call-clause-tied : goal.returns-in-Call-clause-tied
 returns-in-Call-clause-tied g c =
     let was = c.args.self.now in
     let at = at-index was.places.items c.args.place c.index_mut.result.now (omega (arith, c.if-place-len.false, c.len.ensures)) c.index_mut.ensures.value in
-    λ all. tied-went g.R.Source.reading g.W.Taker.writing was.places.items was.past.items c.args.place c.index_mut.result.now c.in-Some.client c.next_call.new.self at c.in-Some.is c.in-Call.ensures.same.0 all _ c.in-Call.ensures.went
+    λ all. tied-went g.R.Source.given g.R.Source.reading g.W.Taker.writing was.places.items was.past.items c.args.place c.index_mut.result.now c.in-Some.client c.next_call.new.self at c.in-Some.is c.in-Call.ensures.same.0 all _ c.in-Call.ensures.went c.in-Call.ensures.given
 
 pub returns-in-Nothing-clause-went : goal.returns-in-Nothing-clause-went
 returns-in-Nothing-clause-went g c =
     let was = c.args.self.now in
     let at = at-index was.places.items c.args.place c.index_mut.result.now (omega (arith, c.if-place-len.false, c.len.ensures)) c.index_mut.ensures.value in
-    went-at g.R.Source.reading g.W.Taker.writing was.places.items was.past.items c.args.place c.index_mut.result.now c.in-Some.client c.next_call.new.self at c.in-Some.is _ c.in-Nothing.ensures.went
+    went-at g.R.Source.given g.R.Source.reading g.W.Taker.writing was.places.items was.past.items c.args.place c.index_mut.result.now c.in-Some.client c.next_call.new.self at c.in-Some.is _ c.in-Nothing.ensures.went
 
 pub returns-in-Nothing-clause-still : goal.returns-in-Nothing-clause-still
 returns-in-Nothing-clause-still g c =
@@ -93,13 +93,13 @@ pub returns-in-Nothing-clause-tied : goal.returns-in-Nothing-clause-tied
 returns-in-Nothing-clause-tied g c =
     let was = c.args.self.now in
     let at = at-index was.places.items c.args.place c.index_mut.result.now (omega (arith, c.if-place-len.false, c.len.ensures)) c.index_mut.ensures.value in
-    λ all. tied-went g.R.Source.reading g.W.Taker.writing was.places.items was.past.items c.args.place c.index_mut.result.now c.in-Some.client c.next_call.new.self at c.in-Some.is c.in-Nothing.ensures.same.0 all _ c.in-Nothing.ensures.went
+    λ all. tied-went g.R.Source.given g.R.Source.reading g.W.Taker.writing was.places.items was.past.items c.args.place c.index_mut.result.now c.in-Some.client c.next_call.new.self at c.in-Some.is c.in-Nothing.ensures.same.0 all _ c.in-Nothing.ensures.went c.in-Nothing.ensures.given
 
 pub returns-in-Ended-clause-went : goal.returns-in-Ended-clause-went
 returns-in-Ended-clause-went g c =
     let was = c.args.self.now in
     let at = at-index was.places.items c.args.place c.index_mut.result.now (omega (arith, c.if-place-len.false, c.len.ensures)) c.index_mut.ensures.value in
-    went-at g.R.Source.reading g.W.Taker.writing was.places.items was.past.items c.args.place c.index_mut.result.now c.in-Some.client c.next_call.new.self at c.in-Some.is _ c.in-Ended.ensures.went
+    went-at g.R.Source.given g.R.Source.reading g.W.Taker.writing was.places.items was.past.items c.args.place c.index_mut.result.now c.in-Some.client c.next_call.new.self at c.in-Some.is _ c.in-Ended.ensures.went
 
 pub returns-in-Ended-clause-still : goal.returns-in-Ended-clause-still
 returns-in-Ended-clause-still g c =
@@ -116,4 +116,4 @@ pub returns-in-Ended-clause-tied : goal.returns-in-Ended-clause-tied
 returns-in-Ended-clause-tied g c =
     let was = c.args.self.now in
     let at = at-index was.places.items c.args.place c.index_mut.result.now (omega (arith, c.if-place-len.false, c.len.ensures)) c.index_mut.ensures.value in
-    λ all. tied-went g.R.Source.reading g.W.Taker.writing was.places.items was.past.items c.args.place c.index_mut.result.now c.in-Some.client c.next_call.new.self at c.in-Some.is c.in-Ended.ensures.same.0 all _ c.in-Ended.ensures.went
+    λ all. tied-went g.R.Source.given g.R.Source.reading g.W.Taker.writing was.places.items was.past.items c.args.place c.index_mut.result.now c.in-Some.client c.next_call.new.self at c.in-Some.is c.in-Ended.ensures.same.0 all _ c.in-Ended.ensures.went c.in-Ended.ensures.given

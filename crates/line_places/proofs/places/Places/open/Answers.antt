@@ -61,5 +61,5 @@ returns-clause-tied g c = λ app next are all.
     let t = next-at was.number was.places.items c.args.place app next p c.index.ensures in
     let mine = next-at was.number was.places.items c.args.place c.in-Some.app c.in-Some.ensures.next p c.index.ensures in
     let named = c.new.ensures.app ∙ ap (λ w. w.stream) c.for_app-words.ensures ∙ mine.3 ∙ sym t.3 in
-    tied-set g.R.Source.reading g.W.Taker.writing was.places.items was.past.items all c.args.place _ (λ d here. subst (Tied g.R.Source.reading g.W.Taker.writing) (same_some c.new.result d here)
-    (new-tied g.R.Source.reading g.W.Taker.writing c.new.result c.args.reader c.args.writer app named c.new.ensures.ends c.new.ensures.fresh are))
+    tied-set g.R.Source.given g.R.Source.reading g.W.Taker.writing was.places.items was.past.items all c.args.place _ (λ d here. subst (Tied g.R.Source.given g.R.Source.reading g.W.Taker.writing) (same_some c.new.result d here)
+    (new-tied g.R.Source.given g.R.Source.reading g.W.Taker.writing c.new.result c.args.reader c.args.writer app named c.new.ensures.ends c.new.ensures.fresh are))

@@ -37,4 +37,4 @@ pub returns-clause-others : goal.returns-clause-others
 returns-clause-others g c = λ i not. get_set_other c.args.self.now.places.items c.args.place i _ not
 
 pub returns-clause-tied : goal.returns-clause-tied
-returns-clause-tied g c = λ all. tied-set g.R.Source.reading g.W.Taker.writing c.args.self.now.places.items c.args.self.now.past.items all c.args.place _ (λ d here. nobody-tied g.R.Source.reading g.W.Taker.writing d here)
+returns-clause-tied g c = λ all. tied-set g.R.Source.given g.R.Source.reading g.W.Taker.writing c.args.self.now.places.items c.args.self.now.past.items all c.args.place _ (λ d here. nobody-tied g.R.Source.given g.R.Source.reading g.W.Taker.writing d here)

@@ -44,11 +44,32 @@ returns-in-Some-clause-tied g c =
     let was = c.args.self.now in
     let r = c.requires.owed in
     let at = at-index was.places.items c.args.place c.index_mut.result.now (slice_get_within was.places.items c.args.place r.is.place r.is.at) c.index_mut.ensures.value in
-    λ all. tied-sent g.R.Source.reading g.W.Taker.writing was.places.items was.past.items c.args.place c.index_mut.result.now c.in-Some.client c.reply.new.self at c.in-Some.is c.reply.ensures.same.0 all _ c.reply.ensures.sent
+    λ all. tied-sent g.R.Source.given g.R.Source.reading g.W.Taker.writing was.places.items was.past.items c.args.place c.index_mut.result.now c.in-Some.client c.reply.new.self at c.in-Some.is c.reply.ensures.same.0 all _ c.reply.ensures.sent
 
 pub returns-in-Some-clause-sent : goal.returns-in-Some-clause-sent
 returns-in-Some-clause-sent g c =
     let was = c.args.self.now in
     let r = c.requires.owed in
     let at = at-index was.places.items c.args.place c.index_mut.result.now (slice_get_within was.places.items c.args.place r.is.place r.is.at) c.index_mut.ensures.value in
-    sent-at g.R.Source.reading g.W.Taker.writing was.places.items was.past.items c.args.place c.index_mut.result.now c.in-Some.client c.reply.new.self at c.in-Some.is _ c.reply.ensures.sent
+    sent-at g.R.Source.given g.R.Source.reading g.W.Taker.writing was.places.items was.past.items c.args.place c.index_mut.result.now c.in-Some.client c.reply.new.self at c.in-Some.is _ c.reply.ensures.sent
+
+pub reply-requires-clause-may : goal.reply-requires-clause-may
+reply-requires-clause-may g c =
+    let was = c.args.self.now in
+    let r = c.requires.owed in
+    let at = at-index was.places.items c.args.place c.index_mut.result.now (slice_get_within was.places.items c.args.place r.is.place r.is.at) c.index_mut.ensures.value in
+    c.requires.may c.in-Some.client (record { place = c.index_mut.result.now; at = at; client = c.in-Some.is })
+
+pub returns-clause-sent : goal.returns-clause-sent
+returns-clause-sent g c =
+    let was = c.args.self.now in
+    let r = c.requires.owed in
+    let at = at-index was.places.items c.args.place c.index_mut.result.now (slice_get_within was.places.items c.args.place r.is.place r.is.at) c.index_mut.ensures.value in
+    absurd (c.in_default.not-Some r.client (client-at was.places.items c.args.place r.is.place c.index_mut.result.now r.client r.is.at at r.is.client))
+
+pub returns-clause-tied : goal.returns-clause-tied
+returns-clause-tied g c =
+    let was = c.args.self.now in
+    let r = c.requires.owed in
+    let at = at-index was.places.items c.args.place c.index_mut.result.now (slice_get_within was.places.items c.args.place r.is.place r.is.at) c.index_mut.ensures.value in
+    absurd (c.in_default.not-Some r.client (client-at was.places.items c.args.place r.is.place c.index_mut.result.now r.client r.is.at at r.is.client))
