@@ -14,6 +14,8 @@
 //! The time that a call takes depends on secrets: the cipher reads tables at indexes that depend
 //! on the key and the block, and so whoever shares the processor's cache may learn of both. `aes_vector`
 //! is the same cipher without such reads. A key is not overwritten when it is dropped.
+//!
+//! Proved, by the names of contracts: it meets FIPS 197 (`encrypted_block`).
 #![tactic(auto)]
 
 mod cipher;

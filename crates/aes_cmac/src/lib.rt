@@ -8,6 +8,8 @@
 //! before the last, as many at a time as there are, and then the last one.
 //!
 //! No read and no branch depends on the key or the message, but on its length, as in `aes_vector`.
+//!
+//! Proved, by the names of contracts: CMAC of SP 800-38B.
 #![tactic(auto)]
 
 mod last_block;

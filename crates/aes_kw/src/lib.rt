@@ -12,6 +12,8 @@
 //!
 //! Each call makes one allocation. No read and no branch depends on the key or the value, as in `aes_vector`, but on their
 //! lengths and on whether a wrapping is right.
+//!
+//! Proved, by the names of contracts: key wrap of RFC 3394.
 #![tactic(auto)]
 
 mod fault;

@@ -23,6 +23,8 @@
 //!
 //! Each call makes one allocation, of the length that it gives. No read and no branch depends on the key or the text, as in
 //! `aes_vector`, but on their lengths and on whether a padding is right. Nothing here is authenticated.
+//!
+//! Proved, by the names of contracts: SP 800-38A over whole texts (`only`: no other text is encrypted to this one).
 #![tactic(auto)]
 
 mod batches;

@@ -12,6 +12,8 @@
 //! written in the code. A key's length may show in the time of a call. A key is not overwritten when it is dropped.
 //!
 //! Eight blocks are eight planes, plane i with bit i of each byte (`aes_planes`).
+//!
+//! Proved, by the names of contracts: it meets FIPS 197 (`encrypted_block`), on eight blocks at once (`IsSliced` of `aes_planes`).
 #![tactic(auto)]
 
 mod batch;

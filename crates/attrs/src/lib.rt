@@ -13,6 +13,10 @@
 //!
 //! What others may see of an object is a definition, `mask` of `specs/Masking.antt`: the object without
 //! the value of a sensitive or unextractable key.
+//!
+//! Proved, by the names of contracts: an `Object` has just the attributes of its class, each in its form and limits (`IsObject`). The
+//! code's table is the definition's. `decode` accepts just what `encode` writes, and `decode_old` just what format 1 has, each in one
+//! spelling (`old_form`).
 #![tactic(auto)]
 
 mod check;

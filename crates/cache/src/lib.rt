@@ -10,6 +10,8 @@
 //! as the disk is faithful each object that is remembered is the one held under its id
 //! (`specs/CachedState.antt`). Which objects are remembered, how many, and that any are, is in no clause, so
 //! nothing may rely upon it.
+//!
+//! Proved, by the names of contracts: what it remembers is held under its id (`Agrees`); no clause says that it remembers anything.
 #![tactic(auto)]
 
 mod cached;

@@ -4,6 +4,9 @@
 //! - `Reply` is what a call returns: a code, or what comes with `CKR_OK`, with `CKR_BUFFER_TOO_SMALL` or
 //!   with the codes of C_GetAttributeValue.
 //! - `need` is how many random bytes a call takes, by the call alone.
+//!
+//! Proved, by the names of contracts: numbers and variants are each other's inverse (`IsInverse`). `need` is the number of a call's
+//! random bytes (`random_bytes`).
 #![tactic(auto)]
 
 mod call;

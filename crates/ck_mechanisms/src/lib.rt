@@ -3,6 +3,8 @@
 //!
 //! A call that begins an operation, or makes or wraps a key, finds its mechanism here by its number (`find_for`). So
 //! what is reported of a mechanism is what it may be used for.
+//!
+//! Proved, by the names of contracts: the table of mechanisms is the definition's.
 #![tactic(auto)]
 
 mod purpose;

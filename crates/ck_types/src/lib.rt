@@ -9,6 +9,9 @@
 //!   how it is decoded. Each format is canonical: what is decoded is encoded by just the bytes that
 //!   were taken, and what is encoded is decoded again, whatever follows.
 //! - `RW_SESSION`, `SERIAL_SESSION` and others are numbers that are no codes.
+//!
+//! Proved, by the names of contracts: numbers and variants are each other's inverse (`IsInverse`). Each `Codec` decodes and encodes as
+//! its `Format` says, unless an allocation fails (`Decodes`, `Encodes`), and each format is canonical (`IsCanonical`).
 #![tactic(auto)]
 
 mod attr_type;

@@ -6,6 +6,9 @@
 //! numbers reveal nothing of other applications.
 //!
 //! What follows a write to the store can't fail: memory for a handle is allocated before it (`reserve_handles`).
+//!
+//! Proved, by the names of contracts: each operation of a desk is an equation over `DeskState` (`SameDesk`). A desk has a handle of a
+//! private object only where the user is logged in (`IsDiscreet`).
 #![tactic(auto)]
 
 mod desk;

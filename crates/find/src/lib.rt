@@ -7,6 +7,9 @@
 //! template matches every object.
 //!
 //! `search` reads one object at a time, and keeps no more of it than a note.
+//!
+//! Proved, by the names of contracts: `search` takes an object just where it matches (`searched`), the same where a masked value is taken
+//! away. A `Mark` is of what may be seen (`marks_are_blind`), and excludes no object that a template finds (`marks_pass_over`).
 #![tactic(auto)]
 
 mod laws;

@@ -10,4 +10,6 @@
 //! (`IsBlock-encrypted_block` in `KeySchedules`), of a text's blocks (`TextBlocks`) and of a number's bytes (`Numbers`).
 //!
 //! Section numbers are those of FIPS 197 of November 2001; its update of May 2023 keeps the algorithm.
+//!
+//! Proved, by the names of contracts: the examples of FIPS 197 are computed from what is written down here.
 #![tactic(auto)]

@@ -10,6 +10,9 @@
 //!
 //! No call takes memory. `masked`, `reveals`, `reveals_number` and what may be seen are the same for an
 //! object without its masked value, so no result depends on that value.
+//!
+//! Proved, by the names of contracts: `visible`, `writable`, `masked` and `reveals` are the access table, and the same of an object
+//! without its masked value (`on_mask`). Calls take the parts `visible`, `needs_read_write` and `reveals_number`.
 #![tactic(auto)]
 
 mod access;

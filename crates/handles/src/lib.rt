@@ -13,6 +13,10 @@
 //! An entry that is retired is marked and keeps its place, so that no entry behind it moves. Contracts
 //! don't see it. Retired entries are taken out only where a list is full. At least as many handles are
 //! then given before the next such walk as are left by it, unless an allocation fails.
+//!
+//! Proved, by the names of contracts: numbers rise from 1 and never return (`IsTable`). An object has one handle at most, found either
+//! way (`object_of`, `number_of`); a logout retires those of private objects. No clause says how long a bisection takes, or when entries
+//! are taken out.
 #![tactic(auto)]
 
 ghost use Rattle.std.specs.Prelude.{◌≡◌, ℕ, ◌+◌, ◌^◌, ◌<◌, ◌≤◌, ◌==◌, nat_lt, filter, find, length, not, None, Some, if◌then◌else◌, IsOk, IfSome, OnOk, vec_len};

@@ -9,6 +9,8 @@
 //! A clause speaks of the state of an `Hmac<D>` by `HoldsMessage D.holds D.hash D.BLOCK_SIZE h key message`
 //! of `specs/Stepwise.antt`: it has taken this message under this key. `HoldsMessage256` is that of SHA-256.
 //! Nothing is said of secrecy, of time, or of what stays in memory.
+//!
+//! Proved, by the names of contracts: HMAC of FIPS 198-1 and PBKDF2 of RFC 8018. Digests are what the kit's `sha2` says they are.
 #![tactic(auto)]
 
 ghost use Rattle.std.specs.Prelude.{◌≡◌};

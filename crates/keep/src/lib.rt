@@ -18,6 +18,15 @@
 //!
 //! `laws` proves what is found under an id after a change, and that an id which has lost its object never
 //! has one again.
+//!
+//! Proved, by the names of contracts: after an acknowledged change a keeper holds it, and a crash leaves it alone (`Changes`). After a
+//! fault it holds what it held, and a crash leaves what it could before, or the whole change (`Fails`). While the disk is faithful a
+//! crash leaves something (`survives`).
+//! - An inserted object's id is one more than the greatest ever given; `ids_never_return`.
+//! - Each write is counted once (`Counted`). No clause ties the count to the commits of a connection, which the kit's `sqlite` doesn't
+//!   count.
+//! - `Device` comes only where the count of failures rose, by one, or stands at its greatest value, and else the count stays
+//!   (`HasCause`). A steady keeper returns it only for an id that isn't there or after the greatest id (`steady`). `ListKeep` is one.
 #![tactic(auto)]
 
 mod keep;

@@ -25,6 +25,21 @@
 //! else writes the file and the disk is faithful: it returns what was written (`doubt` is 0; in memory always).
 //! After an acknowledged change a crash leaves the change alone, after a fault what
 //! it could leave before, or the whole change (`keep`).
+//!
+//! Proved, by the names of contracts: `SqlKeep` holds the contents that the connection's database stands for (`Holds`, `Stores`), while
+//! its disk is faithful. A crash leaves what one of the connection leaves (`MayLeave`, `IsStore`). What a crash leaves of a store in
+//! files is what the next opening finds (`crash_then_open`).
+//! - An opening adopts what stands for contents, makes a new store where there are no tables, and else returns why not (`Opened`,
+//!   `Adopts`, `NotOpened`): never `Damaged` for what stands for contents. Only files that a first opening may have left are taken for a
+//!   new store (`IsFirst`). A log with commits behind damage is never opened. The log was copied (`IsInFile`), or the disk said that it
+//!   was full (`HasNoRoom`).
+//! - A refusal comes with what is left (`Leaves`): the files as they were, or what sqlite reports that it left. That the file itself is
+//!   not written is tested. A disk that failed is never told as damage, and damage only of what was found (`ExcusesReading`,
+//!   `FailsToCopy`).
+//! - `given_back` gives a refused log its bytes again, or says that it hasn't; a crash before that keeps its commits (`GivesBack`).
+//! - Bodies of format 1 are read too, and opening leaves the same contents in format 2 (`HoldsEither`). A refusal leaves the store as it
+//!   was, and a crash then leaves it so or wholly in format 2.
+//! - A file that is made is for its owner alone (`own_mode`); that each is made so is read, since the language says nothing of that mode.
 #![tactic(auto)]
 
 mod changes;

@@ -17,6 +17,8 @@
 //!
 //! In CMAC no read and no branch depends on the key or the message, but on their lengths. Keys and states are not
 //! overwritten when they are dropped.
+//!
+//! Proved, by the names of contracts: the tags of both, by Update and Final (`tag_of`, `tag_length`).
 #![tactic(auto)]
 
 mod cmac_stream;

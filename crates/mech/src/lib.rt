@@ -11,6 +11,10 @@
 //! - A PIN's work is to check a PIN against a verifier, to make a new one's verifier, or both (C_Login,
 //!   C_InitPIN, C_SetPIN and C_InitToken; 5.5 and 5.6). It takes no memory. Tries are counted elsewhere,
 //!   before the check and after it, and nothing is claimed of the time that a check takes.
+//!
+//! Proved, by the names of contracts: a `Done` has the definition's value of its job (`outcome_of`), or an allocation failure with the
+//! work as it was. A PIN is right exactly where its verifier accepts it, and a signature where it is the whole MAC. An output is no
+//! longer than its work allows (`HasRoom`). No clause says that a PIN's work is never returned for an allocation failure.
 #![tactic(auto)]
 
 mod done;

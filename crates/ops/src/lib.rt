@@ -4,6 +4,8 @@
 //! Contracts see an operation that encrypts or decrypts as its mechanism with parameter and direction, the data taken, its
 //! output so far, and the key. The view of an application leaves the key out (`specs/Operations.antt`). They see
 //! one that signs or verifies as its mechanism, the data and the key; and a search as the handles that it didn't return yet.
+//!
+//! Proved, by the names of contracts: an operation begins, goes on or ends at one place and leaves the others (`placed`).
 #![tactic(auto)]
 
 mod place;

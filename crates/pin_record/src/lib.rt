@@ -18,6 +18,10 @@
 //! What applications may learn of a record is a definition, `record_view` of `specs/Records.antt`. No
 //! verifier is in it. But for `encode`, nothing here takes memory. Nothing is claimed of the time that
 //! a check takes.
+//!
+//! Proved, by the names of contracts: a `Verifier` accepts a PIN exactly where PBKDF2 makes its key of it (`accepts`). `begin_check`
+//! charges a try, and `end_check` of a right PIN leaves those in progress (`charged`, `checked`). The law `ten_tries`: at most ten wrong
+//! guesses of a PIN are checked between two successes or resets, however checks overlap or are abandoned.
 #![tactic(auto)]
 
 mod checks;

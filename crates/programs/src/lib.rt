@@ -19,6 +19,11 @@
 //!
 //! This crate is safe and tested. What it states is that it holds the seats as `hall_sockets::hold_sockets` asks, with the seed
 //! of the command line or of the file, and which exit status a failure has.
+//!
+//! Proved, by the names of contracts: the seats are four new ones, with the seed of the settings and 64 places at most (`ready_seats`,
+//! `settings_of`). `seed_of` is the next 32 bytes of its reader (`Consumes`), `trial_seed` what its digits spell, or zeros. Of the seed
+//! file itself no clause speaks. The exit status is one of the README's (`IsStatus`), and that of the failure (`status_of`). No clause
+//! speaks of what `Reported` and `Marked` log, nor of the copies of the log that `Marked` keeps.
 #![tactic(auto)]
 
 mod args;

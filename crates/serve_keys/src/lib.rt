@@ -4,6 +4,9 @@
 //! the written one to what the application sees, or that it was refused and nothing has changed. The clause is `AtDesk` where
 //! no store is used, `IsDone` where one is, and `IsDoneAs` where the call may return a job. `unwrap_key::unwrapped` takes the
 //! outcome of that job.
+//!
+//! Proved, by the names of contracts: C_GenerateKey and the result of C_UnwrapKey with at most one write, C_WrapKey and C_UnwrapKey with
+//! none.
 #![tactic(auto)]
 
 mod found_key;

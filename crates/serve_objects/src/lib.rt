@@ -10,6 +10,9 @@
 //!
 //! C_FindObjectsInit reads each object that the application sees once, and gives handles to those that its template
 //! matches and that have none. C_FindObjects returns the handles, a part at a time, and C_FindObjectsFinal ends the search.
+//!
+//! Proved, by the names of contracts: C_CreateObject, C_CopyObject, C_DestroyObject and C_SetAttributeValue with at most one write, the
+//! others with none.
 #![tactic(auto)]
 
 pub mod copy_object;

@@ -6,6 +6,9 @@
 //! answer is the model's to what the application sees, or that it was refused and nothing has changed: `IsDone` where a key is
 //! read from the store, `AtDesk` where none is. Work with a key is a job: the call returns it, and `cipher::piece`,
 //! `cipher::rest`, `cipher::bad_padding`, `mac::taken`, `mac::signed` and `mac::verified` answer its outcome.
+//!
+//! Proved, by the names of contracts: Init calls with no write; all others at the desk alone. `reply` and `left` say what a result
+//! returns and leaves.
 #![tactic(auto)]
 
 pub mod cipher;

@@ -9,6 +9,9 @@
 //! only then return its job. What its outcome does is defined by `login::right`, `set_pin::changed`, `init_pin::made`,
 //! `init_token::made` and `init_token::reset`, for a desk without the pending call. A wrong PIN changes nothing, since its
 //! charge is stored already.
+//!
+//! Proved, by the names of contracts: C_Login, C_SetPIN and C_InitToken store the charge of their check, one write, and return their job
+//! only then (`asker`). A result has one write at most. All others are at the desk alone, C_GetTokenInfo with no write.
 #![tactic(auto)]
 
 pub mod close_session;

@@ -11,6 +11,8 @@
 //! Contracts see the sessions as a list in the order in which they were opened, with the login and
 //! the number of the next one. How they are stored, in a slab whose keys are used again, is in no
 //! contract.
+//!
+//! Proved, by the names of contracts: numbers rise from 1 and never return (`IsTable`). All sessions of an application have one login.
 #![tactic(auto)]
 
 ghost use Rattle.std.specs.Prelude.{◌≡◌, ◌<◌, ◌==◌, [], length, find, map, count_by, nat_lt, nat_le, Some, None, is_some, option_copied, option_map, IsTrue, IsFalse, IfOk, OnOk, OnErr};

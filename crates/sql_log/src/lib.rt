@@ -7,6 +7,11 @@
 //! - `has_commits_behind` is whether commits stand behind a frame or a header that is damaged.
 //!
 //! The bytes are those of SQLite's fileformat2.html, section 4.
+//!
+//! Proved, by the names of contracts: commits that `has_commits_behind` finds behind damage are there (`IsDamaged`). It finds each run of
+//! two behind the first frame that fails (`IsPlainlyDamaged`). So it does each commit behind a header that is damaged in its salts or
+//! fourth byte alone. `put_back` leaves the file with just these bytes; a crash before that leaves what it had begun with alike
+//! (`KeepsBeginning`).
 #![tactic(auto)]
 
 mod damage;

@@ -15,6 +15,10 @@
 //! crash leaves what it could leave before, or the whole write; after `Ok` it leaves the write alone. All of
 //! it holds as long as the disk is faithful: it returns what was written. Each function but `make_tables` and
 //! `renew_bodies` first checks that the connection is open (`ensure_open`): sqlite says nothing of one that is shut.
+//!
+//! Proved, by the names of contracts: by `sql_statements`, while the disk is faithful: each write is one statement or one transaction.
+//! After `Ok` the bodies are changed just so (`RowsChanged`), after a refusal as they were (`RowsFailed`). A read writes nothing
+//! (`OnlyReads`).
 #![tactic(auto)]
 
 mod listing;

@@ -5,6 +5,8 @@
 //! socket, as the system reads it.
 //!
 //! What the system does is tested, and no clause speaks of it (`test_program`, `tests/door.py`).
+//!
+//! Proved, by the names of contracts: the exit status of `tokend status` is that of what it found, one of 0, 4, 8 and 9 (`status_of`).
 #![tactic(auto)]
 
 mod address;

@@ -25,6 +25,9 @@
 //! An update makes one allocation, of the length of the part and a block. The last call makes that one
 //! and, for a padding, at most two more. No read and no branch depends on the key or the data, as in `aes_vector`, but on
 //! their lengths and on whether a padding is right.
+//!
+//! Proved, by the names of contracts: SP 800-38A in parts (`IsRight`, `IsRest`, `IsOnlyRest`), with the lengths that `room_of` returns
+//! before any work (`length`, `wanted`). Neither a refusal nor an allocation failure changes a stream (`err`).
 #![tactic(auto)]
 
 mod cbc_decryption;

@@ -23,6 +23,10 @@
 //! A copied or changed key that is sensitive or unextractable stays so: what is masked of it is masked
 //! in the copy. `unwrap_fault` and its kin report on an unwrapped key before its value is known.
 //! Which attributes a call takes, and the defaults, are the table of the crate `attrs`.
+//!
+//! Proved, by the names of contracts: the object that the table and the template make, or the code of the first condition that holds
+//! (`Answers`). `Memory` comes only where none holds; no clause says that it comes only where an allocation failed. A copied or changed
+//! key that is sensitive or unextractable stays so (`guarded`). A changed object stays where it is and public or private (`placed`).
 #![tactic(auto)]
 
 mod ahead;

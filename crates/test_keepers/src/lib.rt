@@ -1,4 +1,6 @@
 //! Keepers for tests. Each passes calls on to another one: `FailingKeep` fails once, `UnreadKeep` at each read of an object.
+//!
+//! Proved, by the names of contracts: keepers for tests over any other. That their n-th call, or each read of an object, fails is tested.
 #![tactic(auto)]
 
 mod unread_keep;

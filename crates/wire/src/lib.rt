@@ -10,6 +10,10 @@
 //!   returns the next one without a copy, and `consume` drops it. After a length above the limit it returns
 //!   `TooLong` for ever.
 //! - `write_reply_over` writes a reply's frame over the last one, whose memory it takes.
+//!
+//! Proved, by the names of contracts: what is read is encoded so (`found`), and what is encoded so is read (`only`). Each fault but an
+//! allocation failure comes just where its condition stands (`exact`). A reply within its limits has an encoding (`fits`). A stream has
+//! one way to be split (`one_split`).
 #![tactic(auto)]
 
 mod call;
