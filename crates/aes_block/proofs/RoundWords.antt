@@ -103,7 +103,8 @@ pub inverse_mixed_state : (x m : State)
     → word_bytes m.2 ≡ word_product inverse_mix_polynomial (inverse_substitute_bytes (diagonal x.2 x.1 x.0 x.3))
     → word_bytes m.3 ≡ word_product inverse_mix_polynomial (inverse_substitute_bytes (diagonal x.3 x.2 x.1 x.0))
     → state_bytes m ≡ inverse_mix_columns (inverse_shift_rows (inverse_substitute_bytes (state_bytes x)))
-unfolding state_bytes word_bytes diagonal inverse_mix_columns multiply_columns columns column inverse_shift_rows state byte_at inverse_substitute_bytes
+unfolding state_bytes word_bytes diagonal inverse_mix_columns multiply_columns columns column inverse_shift_rows state byte_at
+    inverse_substitute_bytes
 inverse_mixed_state x m e0 e1 e2 e3 = λ i. e0 i ++ (e1 i ++ (e2 i ++ e3 i))
 
 -- a byte through the S-box and back

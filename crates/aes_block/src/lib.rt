@@ -52,9 +52,9 @@ impl Model for Key {
 
     ghost Value = { List ℕ };
 
-    ghost use Rattle.aes_block.specs.StoredKey.{key_bytes, IsExpanded};
+    ghost use Rattle.aes_block.specs.StoredKey.{scheduled_key_bytes, IsExpanded};
 
-    ghost view = { key_bytes };
+    ghost view = { scheduled_key_bytes };
 
     ghost invariant = { IsExpanded };
 }

@@ -31,7 +31,8 @@ pub chained-append : (key message more : List ℕ) (i : ℕ) → 16 * i ≤ leng
 unfolding chained
 chained-append key message more zero le = refl
 chained-append key message more (suc i) le =
-    λ t. encrypted_block key (xor_bytes (chained-append key message more i (omega arith) t) (block_of-append message more i (omega arith) t))
+    λ t. encrypted_block key (xor_bytes (chained-append key message more i (omega arith) t)
+    (block_of-append message more i (omega arith) t))
 
 -- a block further, behind q blocks
 pub chained-next : (key message text before : List ℕ) (q i : ℕ) → text ≡ drop (16 * q) message → before ≡ chained key message (q + i)

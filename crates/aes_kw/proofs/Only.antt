@@ -51,7 +51,8 @@ unfolding wrapped
 wrapped-steps key x n count = ap (λ m. after_steps key m (initial_value ++ x) (6 * m)) count
 
 -- the value of registers that begin with the initial value
-pub wrapped-row : (key row bytes : List ℕ) (n : ℕ) → length row ≡ 8 * n + 8 → half row 0 ≡ initial_value → after_steps key n row (6 * n) ≡ bytes
+pub wrapped-row : (key row bytes : List ℕ) (n : ℕ) → length row ≡ 8 * n + 8 → half row 0 ≡ initial_value
+    → after_steps key n row (6 * n) ≡ bytes
     → wrapped key (drop 8 row) ≡ bytes
 unfolding half
 wrapped-row key row bytes n size first is =
@@ -77,7 +78,8 @@ module _ (key : List ℕ) (n t s : ℕ) (next : t ≡ suc s) (old new : List ℕ
       → after_steps key n x t ≡ old → after_steps key n x s ≡ new
   unfolding after_steps
   only-more x is_key some bytes size only is =
-      only (after_steps key n x s) (AreBytes-after_steps key is_key n some x bytes size s) (length-after_steps key is_key n some x bytes size s)
+      only (after_steps key n x s) (AreBytes-after_steps key is_key n some x bytes size s)
+      (length-after_steps key is_key n some x bytes size s)
       (ap (λ k. step key n k (after_steps key n x s)) next ∙ sym (ap (after_steps key n x) next) ∙ is)
 
 -- the registers that a value's wrapping comes from

@@ -93,7 +93,8 @@ half-with_before row i j x le lt =
     ∙ ap (take 8) (ap (λ k. drop (8 * j) (take k row)) split ∙ drop-take (8 * j) (8 * i - 8 * j) row)
     ∙ take-take 8 (8 * i - 8 * j) (drop (8 * j) row) (omega arith)
 
-half-with_behind : (row : List ℕ) (i j : ℕ) (x : List ℕ) → 8 * i + 8 ≤ length row → length x ≡ 8 → i < j → half (with_half row i x) j ≡ half row j
+half-with_behind : (row : List ℕ) (i j : ℕ) (x : List ℕ) → 8 * i + 8 ≤ length row → length x ≡ 8 → i < j
+    → half (with_half row i x) j ≡ half row j
 unfolding half with_half
 half-with_behind row i j x le sx lt =
     let front : List ℕ = take (8 * i) row in

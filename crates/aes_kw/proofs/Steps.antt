@@ -16,7 +16,8 @@ index-bounds n t some = let lt : (t - 1) % n < n = mod-lt (t - 1) some in (omega
 
 -- ---- a row of n + 1 halves, of which half 0 and half i are others
 
-module _ (row : List ℕ) (n i : ℕ) (size : length row ≡ 8 * n + 8) (low : 1 ≤ i) (high : i ≤ n) (a r : List ℕ) (sa : length a ≡ 8) (sr : length r ≡ 8) where
+module _ (row : List ℕ) (n i : ℕ) (size : length row ≡ 8 * n + 8) (low : 1 ≤ i) (high : i ≤ n) (a r : List ℕ) (sa : length a ≡ 8)
+    (sr : length r ≡ 8) where
   inner : length (with_half row 0 a) ≡ length row
   inner = length-with_half row 0 a (omega arith) sa
 
@@ -42,7 +43,8 @@ module _ (row : List ℕ) (n i : ℕ) (size : length row ≡ 8 * n + 8) (low : 1
   with_two-is other other_size first same rest =
       same_rows (with_half (with_half row 0 a) i r) other (n + 1) (length-with_two ∙ omega arith) (other_size ∙ omega arith)
       (λ j lt. elim (cases_eq j 0) [
-        | inl zero_is ↦ ap (half (with_half (with_half row 0 a) i r)) zero_is ∙ half-with_two_first ∙ sym first ∙ ap (half other) (sym zero_is)
+        | inl zero_is ↦ ap (half (with_half (with_half row 0 a) i r)) zero_is ∙ half-with_two_first ∙ sym first
+            ∙ ap (half other) (sym zero_is)
         | inr nz ↦ elim (cases_eq j i) [
           | inl i_is ↦ ap (half (with_half (with_half row 0 a) i r)) i_is ∙ half-with_two_same ∙ sym same ∙ ap (half other) (sym i_is)
           | inr ni ↦ half-with_two_other j nz ni ∙ rest j nz ni
@@ -112,7 +114,8 @@ module _ (key : List ℕ) (n t : ℕ) (some : 1 ≤ n) where
 
     pub length-step : length (step key n t x) ≡ 8 * n + 8
     unfolding step
-    length-step = let bounds = index-bounds n t some in length-with_two x n index size bounds.0 bounds.1 check_after (half after 1) length-check length-second
+    length-step = let bounds = index-bounds n t some in
+        length-with_two x n index size bounds.0 bounds.1 check_after (half after 1) length-check length-second
 
     pub AreBytes-step : AreBytes (step key n t x)
     unfolding step
@@ -120,7 +123,8 @@ module _ (key : List ℕ) (n t : ℕ) (some : 1 ≤ n) where
         let is_block : IsBlock after = IsBlock-encrypted in
         AreBytes-with_half (with_half x 0 check_after) index (half after 1)
         (AreBytes-with_half x 0 check_after bytes
-        (AreBytes-xor_bytes (half after 0) (to_be_bytes w64 t) length-first (AreBytes-half after 0 is_block.bytes) (AreBytes-to_be_bytes t)))
+        (AreBytes-xor_bytes (half after 0) (to_be_bytes w64 t) length-first (AreBytes-half after 0 is_block.bytes)
+        (AreBytes-to_be_bytes t)))
         (AreBytes-half after 1 is_block.bytes)
 
     -- from registers after a step: what the step encrypted, to what
@@ -130,8 +134,12 @@ module _ (key : List ℕ) (n t : ℕ) (some : 1 ≤ n) where
     step-block s check is check_is =
         let bounds = index-bounds n t some in
         let is_block : IsBlock after = IsBlock-encrypted in
-        let first : half s 0 ≡ check_after = ap (λ r. half r 0) (sym is) ∙ half-with_two_first x n index size bounds.0 bounds.1 check_after (half after 1) length-check length-second in
-        let same : half s index ≡ half after 1 = ap (λ r. half r index) (sym is) ∙ half-with_two_same x n index size bounds.0 bounds.1 check_after (half after 1) length-check length-second in
+        let first : half s 0 ≡ check_after =
+        ap (λ r. half r 0) (sym is) ∙ half-with_two_first x n index size bounds.0 bounds.1 check_after
+        (half after 1) length-check length-second in
+        let same : half s index ≡ half after 1 =
+        ap (λ r. half r index) (sym is)
+        ∙ half-with_two_same x n index size bounds.0 bounds.1 check_after (half after 1) length-check length-second in
         let added : check ≡ half after 0 =
         check_is ∙ ap (λ l. xor_bytes l (to_be_bytes w64 t)) first ∙ xor_bytes-twice (half after 0) (to_be_bytes w64 t) length-first in
         sym ((λ u. added u ++ same u) ∙ halves-block after is_block.size)
@@ -144,9 +152,11 @@ module _ (key : List ℕ) (n t : ℕ) (some : 1 ≤ n) where
         let bounds = index-bounds n t some in
         let x0 : length (half x 0) ≡ 8 = length-half x 0 (omega arith) in
         let xi : length (half x index) ≡ 8 = length-half x index (omega arith) in
-        let s_size : length s ≡ 8 * n + 8 = ap length (sym is) ∙ length-with_two x n index size bounds.0 bounds.1 check_after (half after 1) length-check length-second in
+        let s_size : length s ≡ 8 * n + 8 =
+        ap length (sym is) ∙ length-with_two x n index size bounds.0 bounds.1 check_after (half after 1) length-check length-second in
         let first : half d 0 ≡ half x 0 = ap (λ e. half e 0) (sym block) ∙ half-first (half x 0) (half x index) x0 in
         let second : half d 1 ≡ half x index = ap (λ e. half e 1) (sym block) ∙ half-second (half x 0) (half x index) x0 xi in
         sym ((λ u. with_half (with_half s 0 (first u)) index (second u))
         ∙ with_two-is s n index s_size bounds.0 bounds.1 (half x 0) (half x index) x0 xi x size refl refl
-        (λ j nz ni. ap (λ r. half r j) (sym is) ∙ half-with_two_other x n index size bounds.0 bounds.1 check_after (half after 1) length-check length-second j nz ni))
+        (λ j nz ni. ap (λ r. half r j) (sym is)
+        ∙ half-with_two_other x n index size bounds.0 bounds.1 check_after (half after 1) length-check length-second j nz ni))

@@ -28,7 +28,8 @@ blocks_further f o out batch next n blocks m before count some each is =
     ∙ ap (λ l. o ++ l) (sym (first_blocks-add f q m) ∙ ap (first_blocks f) more)
 
 -- a block of a batch of a text in two parts
-pub block_at_batch : (front piece r : List ℕ) (n k : ℕ) → take (length front + length piece - 128 * n) r ≡ take 128 (drop (128 * n) (front ++ piece))
+pub block_at_batch : (front piece r : List ℕ) (n k : ℕ)
+    → take (length front + length piece - 128 * n) r ≡ take 128 (drop (128 * n) (front ++ piece))
     → k < 8 → 16 * (8 * n + k) + 16 ≤ length front + length piece → block_of r k ≡ block_of (front ++ piece) (8 * n + k)
 block_at_batch front piece r n k e lt within =
     block_in_batch (front ++ piece) r n k (ap (λ s. take (s - 128 * n) r) (length-append front piece) ∙ e) lt

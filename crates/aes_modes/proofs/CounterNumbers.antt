@@ -29,7 +29,8 @@ counter-fits v start m i le fits is within =
     let low : v % 2 ^ m + i < 2 ^ m = rw is within in
     let sum : 2 ^ ((128 - m) + m) ≡ 2 ^ 128 = let e : (128 - m) + m ≡ 128 = omega arith in ap (λ k. 2 ^ k) e in
     let high : v / 2 ^ m < 2 ^ (128 - m) = shr_below v (128 - m) m (rw sum fits) in
-    let room : (v / 2 ^ m + 1) * 2 ^ m ≤ 2 ^ (128 - m) * 2 ^ m = mul-le (v / 2 ^ m + 1) (2 ^ m) (2 ^ (128 - m)) (2 ^ m) (omega arith) (omega arith) in
+    let room : (v / 2 ^ m + 1) * 2 ^ m ≤ 2 ^ (128 - m) * 2 ^ m =
+    mul-le (v / 2 ^ m + 1) (2 ^ m) (2 ^ (128 - m)) (2 ^ m) (omega arith) (omega arith) in
     let whole : 2 ^ 128 ≡ 2 ^ m * 2 ^ (128 - m) = powers m le in
     omega (arith, shr_split v m)
 

@@ -55,10 +55,12 @@ module _ (key : List ℕ) (m : ℕ) (start : List ℕ) where
       → out ++ xor_bytes (block_of text i) output ≡ ctr_blocks key m start text (i + 1)
   unfolding ctr_block
   ctr_blocks-more text out output i before is =
-      (λ t. before t ++ xor_bytes (block_of text i) (is t)) ∙ sym (first_blocks-more (λ j. xor_bytes (block_of text j) (output_block key m start j)) i)
+      (λ t. before t ++ xor_bytes (block_of text i) (is t))
+      ∙ sym (first_blocks-more (λ j. xor_bytes (block_of text j) (output_block key m start j)) i)
 
   -- a whole block is encrypted alike whatever follows it
-  pub ctr_block-append : (xs ys : List ℕ) (i : ℕ) → 16 * i + 16 ≤ length xs → ctr_block key m start (xs ++ ys) i ≡ ctr_block key m start xs i
+  pub ctr_block-append : (xs ys : List ℕ) (i : ℕ) → 16 * i + 16 ≤ length xs
+      → ctr_block key m start (xs ++ ys) i ≡ ctr_block key m start xs i
   unfolding ctr_block
   ctr_block-append xs ys i le = ap (λ b. xor_bytes b (output_block key m start i)) (block_of-append xs ys i le)
 
@@ -77,7 +79,8 @@ module _ (key : List ℕ) (m : ℕ) (start : List ℕ) where
       ∙ ctr_blocks-more text out output n before output_is
       ∙ ap (ctr_blocks key m start text) count
 
-  pub ctr_encrypted-whole : (text : List ℕ) → length text % 16 ≡ 0 → ctr_blocks key m start text (length text / 16) ≡ ctr_encrypted key m start text
+  pub ctr_encrypted-whole : (text : List ℕ) → length text % 16 ≡ 0
+      → ctr_blocks key m start text (length text / 16) ≡ ctr_encrypted key m start text
   ctr_encrypted-whole text whole =
       let count : length text / 16 ≡ blocks_begun text = omega arith in ap (ctr_blocks key m start text) count
 
@@ -89,7 +92,8 @@ module _ (key : List ℕ) (m : ℕ) (start : List ℕ) where
         let o = blocks i in
         length-xor_short (block_of text i) (output_block key m start i) (omega (arith, length-block_of-le text i, o.size))
 
-    block_of-ctr : (text : List ℕ) (i : ℕ) → i < blocks_begun text → block_of (ctr_encrypted key m start text) i ≡ ctr_block key m start text i
+    block_of-ctr : (text : List ℕ) (i : ℕ) → i < blocks_begun text
+        → block_of (ctr_encrypted key m start text) i ≡ ctr_block key m start text i
     block_of-ctr text i lt =
         block_of-first_blocks (ctr_block key m start text) (blocks_begun text) i
         (λ j below. length-ctr_block text j ∙ length-block_of text j (omega arith))

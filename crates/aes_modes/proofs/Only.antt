@@ -87,7 +87,8 @@ module _ (key : List ℕ) (is_key : IsKey key) where
       sym (xor_bytes-twice x a (hx.size ∙ sym ha.size)) ∙ (λ t. xor_bytes (sums t) (before t)) ∙ xor_bytes-twice y b (hy.size ∙ sym hb.size)
 
   each_step : (iv x y : List ℕ) (i : ℕ) → chained key iv x (suc i) ≡ chained key iv y (suc i)
-      → encrypted_block key (xor_bytes (block_of x i) (chained key iv x i)) ≡ encrypted_block key (xor_bytes (block_of y i) (chained key iv y i))
+      → encrypted_block key (xor_bytes (block_of x i) (chained key iv x i))
+      ≡ encrypted_block key (xor_bytes (block_of y i) (chained key iv y i))
   unfolding chained
   each_step iv x y i same = same
 
@@ -131,4 +132,5 @@ module _ (key : List ℕ) (is_key : IsKey key) where
       → cbc_pad_encrypted key iv x ≡ cbc_pad_encrypted key iv y → x ≡ y
   cbc_pad_encrypted-only iv x y hi bx by same =
       padded-only x y
-      (cbc_encrypted-only iv (padded x) (padded y) hi (AreBytes-padded x bx) (AreBytes-padded y by) (IsWhole-padded x) (IsWhole-padded y) same)
+      (cbc_encrypted-only iv (padded x) (padded y) hi (AreBytes-padded x bx) (AreBytes-padded y by) (IsWhole-padded x)
+      (IsWhole-padded y) same)

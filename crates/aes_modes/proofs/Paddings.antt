@@ -58,7 +58,8 @@ last-padded x text e =
     (ap (λ t. get_or t (length text - 1) 0) (sym e) ∙ at, b.0, b.1, n)
 
 -- each byte of the padding is the count
-pub each-padded : (x text : List ℕ) (j : ℕ) → padded x ≡ text → length text - pad_count x ≤ j → j < length text → get_or text j 0 ≡ pad_count x
+pub each-padded : (x text : List ℕ) (j : ℕ) → padded x ≡ text → length text - pad_count x ≤ j → j < length text
+    → get_or text j 0 ≡ pad_count x
 each-padded x text j e le lt =
     let n : length text ≡ length x + pad_count x = ap length (sym e) ∙ length-padded x in
     ap (λ t. get_or t j 0) (sym e) ∙ padded-at x j (omega arith) (omega arith)
@@ -90,13 +91,15 @@ padded-only x y same =
 
 -- the last block: the bytes behind the whole blocks of the text, and the padding
 pub padded-last : (text : List ℕ)
-    → block_of text (length text / 16) ++ replicate (16 - length text % 16) (16 - length text % 16) ≡ block_of (padded text) (length text / 16)
+    → block_of text (length text / 16) ++ replicate (16 - length text % 16) (16 - length text % 16)
+    ≡ block_of (padded text) (length text / 16)
 unfolding padded pad_count
 padded-last text =
     let n : ℕ = length text / 16 in
     let rest : List ℕ = drop (16 * n) text in
     let k : ℕ = 16 - length text % 16 in
-    let whole : length (rest ++ replicate k k) ≤ 16 = omega (arith, length-append rest (replicate k k), length-replicate k k, length-drop (16 * n) text) in
+    let whole : length (rest ++ replicate k k) ≤ 16 =
+    omega (arith, length-append rest (replicate k k), length-replicate k k, length-drop (16 * n) text) in
     ap (λ l. l ++ replicate k k) (sym (block_of-rest text)) ∙ sym (block_of-behind text (replicate k k) n (omega arith) whole)
 
 whole_blocks : (key iv text : List ℕ) (n : ℕ) → 16 * n ≤ length text → cbc_blocks key iv (padded text) n ≡ cbc_blocks key iv text n

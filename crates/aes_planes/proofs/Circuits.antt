@@ -18,7 +18,8 @@ bare b = bit_xor (s_box b) 0x63
 
 pub IsSliced-circuit : (s : Eight) (j : ℕ) (x : List ℕ) → AreBytes x → IsSliced s j x
     → IsSliced (circuit s) j (with_constant (substitute_bytes x))
-unfolding circuit sums_of norm_of norm_inverse products_of output with_constant substitute_bytes bit terms_product remainder product inverse_below inverse from_bits affine s_box
+unfolding circuit sums_of norm_of norm_inverse products_of output with_constant substitute_bytes bit terms_product remainder product
+    inverse_below inverse from_bits affine s_box
 IsSliced-circuit s j x bytes is =
     let x0 = begun 7 bit7_table refl bytes is.bit7 in
     let x1 = begun 6 bit6_table refl bytes is.bit6 in

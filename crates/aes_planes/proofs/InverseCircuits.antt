@@ -27,7 +27,8 @@ not_bit6_table = 0x0000000000000000FFFFFFFFFFFFFFFF0000000000000000FFFFFFFFFFFFF
 
 pub IsSliced-circuit_back : (s : Eight) (j : ℕ) (x : List ℕ) → AreBytes x → IsSliced s j (with_constant x)
     → IsSliced (circuit_back s) j (inverse_substitute_bytes x)
-unfolding circuit_back sums_back norm_back norm_inverse_back products_back output_back with_constant inverse_substitute_bytes bit terms_product remainder product inverse_below inverse from_bits inverse_affine inverse_s_box
+unfolding circuit_back sums_back norm_back norm_inverse_back products_back output_back with_constant inverse_substitute_bytes bit
+    terms_product remainder product inverse_below inverse from_bits inverse_affine inverse_s_box
 IsSliced-circuit_back s j x bytes is =
     let u0 = begun_at offset 7 bit7_table refl bytes is.bit7 in
     let u1 = begun_at offset 6 not_bit6_table refl bytes is.bit6 in

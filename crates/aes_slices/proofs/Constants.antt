@@ -70,10 +70,12 @@ unfolding with_constant mix_columns multiply_columns columns column word_product
 mixed-constants = refl
 
 mixed_back-constants : inverse_mix_columns constants ≡ constants
-unfolding with_constant inverse_mix_columns multiply_columns columns column word_product coefficient byte_at bit terms_product remainder product
+unfolding with_constant inverse_mix_columns multiply_columns columns column word_product coefficient byte_at bit terms_product
+    remainder product
 mixed_back-constants = refl
 
-pub constant-mix_columns : (s : List ℕ) → IsBlock s → IsBlock (mix_columns s) → mix_columns (with_constant s) ≡ with_constant (mix_columns s)
+pub constant-mix_columns : (s : List ℕ) → IsBlock s → IsBlock (mix_columns s)
+    → mix_columns (with_constant s) ≡ with_constant (mix_columns s)
 constant-mix_columns s block made =
     ap mix_columns (sym (by_constants s block)) ∙ mix_columns-xor s constants block IsBlock-constants
     ∙ ap (xor_bytes (mix_columns s)) mixed-constants ∙ by_constants (mix_columns s) made

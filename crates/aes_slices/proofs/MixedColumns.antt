@@ -13,7 +13,7 @@ use Rattle.fips_197.proofs.FieldLaws.{product-xor}
 use Rattle.fips_197.proofs.Blocks.{AreBytes-at, by_bytes}
 use Rattle.aes_vector.specs.Rows.{pick}
 use Rattle.aes_vector.proofs.Basis.{thrice, once_product, xor_left}
-use Rattle.aes_slices.specs.Rows.{rows_next, rows_after_next, in_rows}
+use Rattle.aes_slices.specs.Rows.{plane_rows_next, rows_after_next, in_rows}
 
 turned : (a b c d : ℕ) → bit_xor (bit_xor (bit_xor a b) c) d ≡ bit_xor (bit_xor (bit_xor d a) b) c
 turned a b c d = simp (xor_comm, xor_left)
@@ -50,7 +50,7 @@ cell3 : (p q r u : ℕ) → q < 256 → r < 256 → u < 256
     → Cell p q r u ≡ bit_xor (bit_xor (bit_xor (product 3 q) (product 1 r)) (product 1 u)) (product 2 p)
 cell3 p q r u hq hr hu = cell2 p q r u hq hr hu ∙ turned (product 1 r) (product 1 u) (product 2 p) (product 3 q)
 
-pub mixed-of : (x : List ℕ) → IsBlock x → mixed_sum (pick rows_next (in_rows x)) (xor_bytes (in_rows x) (pick rows_next (in_rows x)))
+pub mixed-of : (x : List ℕ) → IsBlock x → mixed_sum (pick plane_rows_next (in_rows x)) (xor_bytes (in_rows x) (pick plane_rows_next (in_rows x)))
     ≡ in_rows (mix_columns x)
 unfolding mix_columns multiply_columns columns column word_product coefficient byte_at xor_bytes
 mixed-of x block =
@@ -60,7 +60,8 @@ mixed-of x block =
     let c1 = λ (p q r u : ℕ). cell1 (at p) (at q) (at r) (at u) (below q) (below r) (below u) in
     let c2 = λ (p q r u : ℕ). cell2 (at p) (at q) (at r) (at u) (below q) (below r) (below u) in
     let c3 = λ (p q r u : ℕ). cell3 (at p) (at q) (at r) (at u) (below q) (below r) (below u) in
-    subst (λ l. mixed_sum (pick rows_next (in_rows l)) (xor_bytes (in_rows l) (pick rows_next (in_rows l))) ≡ in_rows (mix_columns l)) (sym (by_bytes x block.size))
+    subst (λ l. mixed_sum (pick plane_rows_next (in_rows l)) (xor_bytes (in_rows l) (pick plane_rows_next (in_rows l)))
+    ≡ in_rows (mix_columns l)) (sym (by_bytes x block.size))
     (λ t. c0 0 1 2 3 t ∷ c0 4 5 6 7 t ∷ c0 8 9 10 11 t ∷ c0 12 13 14 15 t
     ∷ c1 1 2 3 0 t ∷ c1 5 6 7 4 t ∷ c1 9 10 11 8 t ∷ c1 13 14 15 12 t
     ∷ c2 2 3 0 1 t ∷ c2 6 7 4 5 t ∷ c2 10 11 8 9 t ∷ c2 14 15 12 13 t
@@ -142,11 +143,11 @@ back3 p q r u hp hq hr hu = back2 p q r u hp hq hr hu ∙ turned (product 13 r) 
 
 -- 3 p + 2 q of each byte p and the next row's q
 abbrev pub light : List ℕ → List ℕ
-light x = xor_bytes (map (product 2) (xor_bytes x (pick rows_next x))) x
+light x = xor_bytes (map (product 2) (xor_bytes x (pick plane_rows_next x))) x
 
 -- 13 p + 9 q
 abbrev pub heavy : List ℕ → List ℕ
-heavy x = xor_bytes (map (product 2) (map (product 2) (light x))) (xor_bytes x (pick rows_next x))
+heavy x = xor_bytes (map (product 2) (map (product 2) (light x))) (xor_bytes x (pick plane_rows_next x))
 
 abbrev pub back_sum : List ℕ → List ℕ
 back_sum x = xor_bytes (xor_bytes (heavy x) (pick rows_after_next (heavy x))) (light x)

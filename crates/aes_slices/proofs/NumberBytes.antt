@@ -39,4 +39,5 @@ AreBytes-bytes_low_first i (suc k) n =
 -- the lowest byte of the one number is the highest of the other, and so on
 pub to_le_bytes-swapped : (n : ℕ) → to_le_bytes w64 (swap_bytes w64 n) ≡ to_be_bytes w64 n
 to_le_bytes-swapped n =
-    ap reverse (be_bytes_8 (to_le_bytes w64 n) (swap_bytes w64 n) refl (AreBytes-at (to_le_bytes w64 n) (AreBytes-bytes_low_first 0 8 n)) refl)
+    ap reverse (be_bytes_8 (to_le_bytes w64 n) (swap_bytes w64 n) refl
+    (AreBytes-at (to_le_bytes w64 n) (AreBytes-bytes_low_first 0 8 n)) refl)

@@ -4,8 +4,8 @@ use Rattle.fips_197.specs.KeyExpansion.{IsKey}
 use Rattle.aes_slices.specs.declared.batch_key.BatchKey.TheInside.{Inside}
 
 -- the key's bytes
-abbrev pub key_bytes : Inside → List ℕ
-key_bytes k = k.key
+abbrev pub batch_key_bytes : Inside → List ℕ
+batch_key_bytes k = k.key
 
 -- the sliced key is the same
 pub record IsOne (k : Inside) : Type 0 where

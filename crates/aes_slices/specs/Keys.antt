@@ -22,6 +22,6 @@ abbrev pub key_bytes : Inside → List ℕ
 key_bytes k = k.key
 
 -- the planes are those of its round keys
-pub record IsPrepared (k : Inside) : Type 0 where
+pub record ArePlanesPrepared (k : Inside) : Type 0 where
   pub key : IsKey k.key
   pub planes : ArePlanes k.planes (round_count k.key) (key_expansion k.key)

@@ -30,9 +30,9 @@ impl Model for BatchKey {
 
     ghost Value = { List ℕ };
 
-    ghost use Rattle.aes_slices.specs.BatchKeys.{key_bytes, IsOne};
+    ghost use Rattle.aes_slices.specs.BatchKeys.{batch_key_bytes, IsOne};
 
-    ghost view = { key_bytes };
+    ghost view = { batch_key_bytes };
 
     ghost invariant = { IsOne };
 }

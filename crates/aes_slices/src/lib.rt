@@ -52,11 +52,11 @@ impl Model for SlicedKey {
 
     ghost Value = { List ℕ };
 
-    ghost use Rattle.aes_slices.specs.Keys.{key_bytes, IsPrepared};
+    ghost use Rattle.aes_slices.specs.Keys.{key_bytes, ArePlanesPrepared};
 
     ghost view = { key_bytes };
 
-    ghost invariant = { IsPrepared };
+    ghost invariant = { ArePlanesPrepared };
 }
 
 impl SlicedKey {

@@ -7,7 +7,7 @@ ghost use Rattle.fips_197.specs.Cipher.{shift_rows};
 ghost use Rattle.fips_197.specs.InverseCipher.{inverse_shift_rows};
 ghost use Rattle.aes_vector.specs.Rows.{pick};
 ghost use Rattle.aes_planes.specs.Planes.{IsSliced};
-ghost use Rattle.aes_slices.specs.Rows.{by_rows, rows_shifted, rows_shifted_last, rows_shifted_back, rows_shifted_back_last, rows_next, rows_after_next, in_rows};
+ghost use Rattle.aes_slices.specs.Rows.{row_by_row, plane_rows_shifted, rows_shifted_last, plane_rows_shifted_back, rows_shifted_back_last, plane_rows_next, rows_after_next, in_rows};
 
 use aes_planes::Eight;
 use std::simd::prelude::*;
@@ -15,7 +15,7 @@ use std::simd::prelude::*;
 /// A block or a plane row after row.
 #[inline(always)]
 pub(crate) fn by_row(x: u8x16) -> u8x16
-    ensures { result ≡ pick by_rows x }
+    ensures { result ≡ pick row_by_row x }
 {
     x.swizzle([0, 4, 8, 12, 1, 5, 9, 13, 2, 6, 10, 14, 3, 7, 11, 15])
 }
@@ -23,7 +23,7 @@ pub(crate) fn by_row(x: u8x16) -> u8x16
 // ShiftRows (FIPS 197, 5.1.2) on a plane.
 #[inline(always)]
 fn shifted(x: u8x16) -> u8x16
-    ensures { result ≡ pick rows_shifted x }
+    ensures { result ≡ pick plane_rows_shifted x }
 {
     x.swizzle([0, 1, 2, 3, 5, 6, 7, 4, 10, 11, 8, 9, 15, 12, 13, 14])
 }
@@ -39,7 +39,7 @@ fn shifted_last(x: u8x16) -> u8x16
 // InvShiftRows (5.3.1) on a plane.
 #[inline(always)]
 fn shifted_back(x: u8x16) -> u8x16
-    ensures { result ≡ pick rows_shifted_back x }
+    ensures { result ≡ pick plane_rows_shifted_back x }
 {
     x.swizzle([0, 1, 2, 3, 7, 4, 5, 6, 10, 11, 8, 9, 13, 14, 15, 12])
 }
@@ -55,7 +55,7 @@ fn shifted_back_last(x: u8x16) -> u8x16
 // Each row of a plane in the place of the one before it.
 #[inline(always)]
 fn next_row(x: u8x16) -> u8x16
-    ensures { result ≡ pick rows_next x }
+    ensures { result ≡ pick plane_rows_next x }
 {
     x.swizzle([4, 5, 6, 7, 8, 9, 10, 11, 12, 13, 14, 15, 0, 1, 2, 3])
 }
@@ -158,7 +158,7 @@ pub(crate) fn rows_shifted_back_last(s: Eight) -> Eight
 /// Each row in the place of the one before it.
 #[inline(always)]
 pub(crate) fn next_rows(s: Eight) -> Eight
-    ensures { (j : ℕ) (x : List ℕ) → IsSliced s j x → IsSliced result j (pick rows_next x) }
+    ensures { (j : ℕ) (x : List ℕ) → IsSliced s j x → IsSliced result j (pick plane_rows_next x) }
 {
     Eight {
         v0: next_row(s.v0),

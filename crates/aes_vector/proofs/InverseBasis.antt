@@ -15,33 +15,43 @@ use Rattle.aes_vector.proofs.Basis.{is_linear, linear-at, low-xor, high-xor, low
 abbrev pub bare_inverse : ℕ → ℕ
 bare_inverse b = in_tables INVERSE_BASIS_LOW INVERSE_BASIS_HIGH b
 
-nine-checked : agree_below (λ b. of_inverse NINE_UPPER NINE_LOWER (inverse_basis b) == bare_inverse (product 9 (inverse_s_box b))) (λ _. true) 256 ≡ true
+nine-checked : agree_below (λ b. of_inverse NINE_UPPER NINE_LOWER (inverse_basis b) == bare_inverse (product 9 (inverse_s_box b)))
+    (λ _. true) 256 ≡ true
 unfolding bit terms_product remainder product inverse_below inverse from_bits inverse_affine inverse_s_box
 nine-checked = refl
 
 pub nine-at : (b : ℕ) → b < 256 → of_inverse NINE_UPPER NINE_LOWER (inverse_basis b) ≡ bare_inverse (product 9 (inverse_s_box b))
-nine-at b lt = same_below (λ b. of_inverse NINE_UPPER NINE_LOWER (inverse_basis b)) (λ b. bare_inverse (product 9 (inverse_s_box b))) 256 b nine-checked lt
+nine-at b lt = same_below (λ b. of_inverse NINE_UPPER NINE_LOWER (inverse_basis b))
+    (λ b. bare_inverse (product 9 (inverse_s_box b))) 256 b nine-checked lt
 
-thirteen-checked : agree_below (λ b. of_inverse THIRTEEN_UPPER THIRTEEN_LOWER (inverse_basis b) == bare_inverse (product 13 (inverse_s_box b))) (λ _. true) 256 ≡ true
+thirteen-checked : agree_below
+    (λ b. of_inverse THIRTEEN_UPPER THIRTEEN_LOWER (inverse_basis b) == bare_inverse (product 13 (inverse_s_box b))) (λ _. true) 256 ≡ true
 unfolding bit terms_product remainder product inverse_below inverse from_bits inverse_affine inverse_s_box
 thirteen-checked = refl
 
-pub thirteen-at : (b : ℕ) → b < 256 → of_inverse THIRTEEN_UPPER THIRTEEN_LOWER (inverse_basis b) ≡ bare_inverse (product 13 (inverse_s_box b))
-thirteen-at b lt = same_below (λ b. of_inverse THIRTEEN_UPPER THIRTEEN_LOWER (inverse_basis b)) (λ b. bare_inverse (product 13 (inverse_s_box b))) 256 b thirteen-checked lt
+pub thirteen-at : (b : ℕ) → b < 256
+    → of_inverse THIRTEEN_UPPER THIRTEEN_LOWER (inverse_basis b) ≡ bare_inverse (product 13 (inverse_s_box b))
+thirteen-at b lt = same_below (λ b. of_inverse THIRTEEN_UPPER THIRTEEN_LOWER (inverse_basis b))
+    (λ b. bare_inverse (product 13 (inverse_s_box b))) 256 b thirteen-checked lt
 
-eleven-checked : agree_below (λ b. of_inverse ELEVEN_UPPER ELEVEN_LOWER (inverse_basis b) == bare_inverse (product 11 (inverse_s_box b))) (λ _. true) 256 ≡ true
+eleven-checked : agree_below (λ b. of_inverse ELEVEN_UPPER ELEVEN_LOWER (inverse_basis b) == bare_inverse
+    (product 11 (inverse_s_box b))) (λ _. true) 256 ≡ true
 unfolding bit terms_product remainder product inverse_below inverse from_bits inverse_affine inverse_s_box
 eleven-checked = refl
 
 pub eleven-at : (b : ℕ) → b < 256 → of_inverse ELEVEN_UPPER ELEVEN_LOWER (inverse_basis b) ≡ bare_inverse (product 11 (inverse_s_box b))
-eleven-at b lt = same_below (λ b. of_inverse ELEVEN_UPPER ELEVEN_LOWER (inverse_basis b)) (λ b. bare_inverse (product 11 (inverse_s_box b))) 256 b eleven-checked lt
+eleven-at b lt = same_below (λ b. of_inverse ELEVEN_UPPER ELEVEN_LOWER (inverse_basis b))
+    (λ b. bare_inverse (product 11 (inverse_s_box b))) 256 b eleven-checked lt
 
-fourteen-checked : agree_below (λ b. of_inverse FOURTEEN_UPPER FOURTEEN_LOWER (inverse_basis b) == bare_inverse (product 14 (inverse_s_box b))) (λ _. true) 256 ≡ true
+fourteen-checked : agree_below
+    (λ b. of_inverse FOURTEEN_UPPER FOURTEEN_LOWER (inverse_basis b) == bare_inverse (product 14 (inverse_s_box b))) (λ _. true) 256 ≡ true
 unfolding bit terms_product remainder product inverse_below inverse from_bits inverse_affine inverse_s_box
 fourteen-checked = refl
 
-pub fourteen-at : (b : ℕ) → b < 256 → of_inverse FOURTEEN_UPPER FOURTEEN_LOWER (inverse_basis b) ≡ bare_inverse (product 14 (inverse_s_box b))
-fourteen-at b lt = same_below (λ b. of_inverse FOURTEEN_UPPER FOURTEEN_LOWER (inverse_basis b)) (λ b. bare_inverse (product 14 (inverse_s_box b))) 256 b fourteen-checked lt
+pub fourteen-at : (b : ℕ) → b < 256
+    → of_inverse FOURTEEN_UPPER FOURTEEN_LOWER (inverse_basis b) ≡ bare_inverse (product 14 (inverse_s_box b))
+fourteen-at b lt = same_below (λ b. of_inverse FOURTEEN_UPPER FOURTEEN_LOWER (inverse_basis b))
+    (λ b. bare_inverse (product 14 (inverse_s_box b))) 256 b fourteen-checked lt
 
 end-checked : agree_below (λ b. of_inverse END_UPPER END_LOWER (inverse_basis b) == inverse_s_box b) (λ _. true) 256 ≡ true
 unfolding bit terms_product remainder product inverse_below inverse from_bits inverse_affine inverse_s_box
@@ -61,12 +71,15 @@ INVERSE_BASIS_HIGH-linear = refl
 pub bare_inverse-xor : (a b : ℕ) → a < 256 → b < 256 → bare_inverse (bit_xor a b) ≡ bit_xor (bare_inverse a) (bare_inverse b)
 bare_inverse-xor a b ha hb =
     (λ i. bit_xor (look INVERSE_BASIS_LOW (low-xor a b i)) (look INVERSE_BASIS_HIGH (high-xor a b i)))
-    ∙ (λ i. bit_xor (linear-at INVERSE_BASIS_LOW INVERSE_BASIS_LOW-linear (low a) (low b) (low-lt a) (low-lt b) i) (linear-at INVERSE_BASIS_HIGH INVERSE_BASIS_HIGH-linear (high a) (high b) (omega arith) (omega arith) i))
-    ∙ swapped_middle (look INVERSE_BASIS_LOW (low a)) (look INVERSE_BASIS_LOW (low b)) (look INVERSE_BASIS_HIGH (high a)) (look INVERSE_BASIS_HIGH (high b))
+    ∙ (λ i. bit_xor (linear-at INVERSE_BASIS_LOW INVERSE_BASIS_LOW-linear (low a) (low b) (low-lt a) (low-lt b) i)
+    (linear-at INVERSE_BASIS_HIGH INVERSE_BASIS_HIGH-linear (high a) (high b) (omega arith) (omega arith) i))
+    ∙ swapped_middle (look INVERSE_BASIS_LOW (low a)) (look INVERSE_BASIS_LOW (low b)) (look INVERSE_BASIS_HIGH (high a))
+    (look INVERSE_BASIS_HIGH (high b))
 
 -- a byte of a round: from those of its column, each times a coefficient, and the key's
 pub cell_back : (p q r u k : ℕ) → p < 256 → q < 256 → r < 256 → u < 256 → k < 256
-    → bit_xor (bit_xor (bit_xor (bit_xor (bare_inverse (product 9 u)) (bare_inverse (product 13 r))) (bare_inverse (product 11 q))) (bare_inverse (product 14 p))) (inverse_basis k)
+    → bit_xor (bit_xor (bit_xor (bit_xor (bare_inverse (product 9 u)) (bare_inverse (product 13 r))) (bare_inverse (product 11 q)))
+    (bare_inverse (product 14 p))) (inverse_basis k)
     ≡ inverse_basis (bit_xor (bit_xor (bit_xor (bit_xor (product 14 p) (product 11 q)) (product 13 r)) (product 9 u)) k)
 cell_back p q r u k hp hq hr hu hk =
     let a = product 9 u in let b = product 13 r in let c = product 11 q in let d = product 14 p in let e = bit_xor k 99 in
@@ -79,5 +92,6 @@ cell_back p q r u k hp hq hr hu hk =
     ∙ (λ i. bit_xor (bit_xor (bit_xor (bare_inverse-xor a b ha hb i) (bare_inverse c)) (bare_inverse d)) (bare_inverse e)))
     ∙ ap bare_inverse (upside_down a b c d k 99)
   where
-    upside_down : (a b c d k t : ℕ) → bit_xor (bit_xor (bit_xor (bit_xor a b) c) d) (bit_xor k t) ≡ bit_xor (bit_xor (bit_xor (bit_xor (bit_xor d c) b) a) k) t
+    upside_down : (a b c d k t : ℕ)
+        → bit_xor (bit_xor (bit_xor (bit_xor a b) c) d) (bit_xor k t) ≡ bit_xor (bit_xor (bit_xor (bit_xor (bit_xor d c) b) a) k) t
     upside_down a b c d k t = simp (xor_comm, xor_assoc, xor_left)

@@ -13,9 +13,13 @@ pub attribute-without : (t : AttrType) (es : List Entry) (n : ℕ) → n ≢ att
 attribute-without t [] n other = refl
 attribute-without t (e ∷ es) n other =
     let rest = attribute-without t es n other in
-    let step : (b : Bool) → eqb e.attr_type (attr_type_number t) ≡ b → attribute (cond (not b) (e ∷ without t es) (without t es)) n ≡ attribute (e ∷ es) n =
-    λ b. elim b as (λ c. eqb e.attr_type (attr_type_number t) ≡ c → attribute (cond (not c) (e ∷ without t es) (without t es)) n ≡ attribute (e ∷ es) n) [
-      | true ↦ λ h. let differs : eqb e.attr_type n ≡ false = ne_eqb e.attr_type n (λ same. other (sym same ∙ eqb-true e.attr_type (attr_type_number t) h)) in rest ∙ sym (ap (λ (c : Bool). cond c (Some e.value) (attribute es n)) differs)
+    let step : (b : Bool) → eqb e.attr_type (attr_type_number t) ≡ b
+    → attribute (cond (not b) (e ∷ without t es) (without t es)) n ≡ attribute (e ∷ es) n =
+    λ b. elim b as (λ c. eqb e.attr_type (attr_type_number t) ≡ c
+    → attribute (cond (not c) (e ∷ without t es) (without t es)) n ≡ attribute (e ∷ es) n) [
+      | true ↦ λ h. let differs : eqb e.attr_type n ≡ false =
+          ne_eqb e.attr_type n (λ same. other (sym same ∙ eqb-true e.attr_type (attr_type_number t) h)) in
+          rest ∙ sym (ap (λ (c : Bool). cond c (Some e.value) (attribute es n)) differs)
       | false ↦ λ h. ap (λ (o : Option (List ℕ)). cond (eqb e.attr_type n) (Some e.value) o) rest
     ] in
     step (eqb e.attr_type (attr_type_number t)) refl
@@ -24,8 +28,10 @@ without-none : (t : AttrType) (es : List Entry) → attribute (without t es) (at
 without-none t [] = refl
 without-none t (e ∷ es) =
     let rest = without-none t es in
-    let step : (b : Bool) → eqb e.attr_type (attr_type_number t) ≡ b → attribute (cond (not b) (e ∷ without t es) (without t es)) (attr_type_number t) ≡ None =
-    λ b. elim b as (λ c. eqb e.attr_type (attr_type_number t) ≡ c → attribute (cond (not c) (e ∷ without t es) (without t es)) (attr_type_number t) ≡ None) [
+    let step : (b : Bool) → eqb e.attr_type (attr_type_number t) ≡ b
+    → attribute (cond (not b) (e ∷ without t es) (without t es)) (attr_type_number t) ≡ None =
+    λ b. elim b as (λ c. eqb e.attr_type (attr_type_number t) ≡ c
+    → attribute (cond (not c) (e ∷ without t es) (without t es)) (attr_type_number t) ≡ None) [
       | true ↦ λ h. rest
       | false ↦ λ h. ap (λ (c : Bool). cond c (Some e.value) (attribute (without t es) (attr_type_number t))) h ∙ rest
     ] in
@@ -35,17 +41,22 @@ without-without : (t : AttrType) (es : List Entry) → without t (without t es) 
 without-without t [] = refl
 without-without t (e ∷ es) =
     let rest = without-without t es in
-    let step : (b : Bool) → eqb e.attr_type (attr_type_number t) ≡ b → without t (cond (not b) (e ∷ without t es) (without t es)) ≡ cond (not b) (e ∷ without t es) (without t es) =
-    λ b. elim b as (λ c. eqb e.attr_type (attr_type_number t) ≡ c → without t (cond (not c) (e ∷ without t es) (without t es)) ≡ cond (not c) (e ∷ without t es) (without t es)) [
+    let step : (b : Bool) → eqb e.attr_type (attr_type_number t) ≡ b
+    → without t (cond (not b) (e ∷ without t es) (without t es)) ≡ cond (not b) (e ∷ without t es) (without t es) =
+    λ b. elim b as (λ c. eqb e.attr_type (attr_type_number t) ≡ c
+    → without t (cond (not c) (e ∷ without t es) (without t es)) ≡ cond (not c) (e ∷ without t es) (without t es)) [
       | true ↦ λ h. rest
-      | false ↦ λ h. ap (λ (c : Bool). cond (not c) (e ∷ without t (without t es)) (without t (without t es))) h ∙ ap (λ (xs : List Entry). e ∷ xs) rest
+      | false ↦ λ h. ap (λ (c : Bool). cond (not c) (e ∷ without t (without t es)) (without t (without t es))) h
+          ∙ ap (λ (xs : List Entry). e ∷ xs) rest
     ] in
     step (eqb e.attr_type (attr_type_number t)) refl
 
 -- mask leaves each other attribute
 pub attribute-mask : (es : List Entry) (n : ℕ) → n ≢ attr_type_number attr.Value → attribute (mask es) n ≡ attribute es n
 attribute-mask es n other =
-    let step : (b : Bool) → attribute (cond b (without attr.Value es) es) n ≡ attribute es n = λ b. elim b as (λ c. attribute (cond c (without attr.Value es) es) n ≡ attribute es n) [ true ↦ attribute-without attr.Value es n other | false ↦ refl ] in
+    let step : (b : Bool) → attribute (cond b (without attr.Value es) es) n ≡ attribute es n =
+    λ b. elim b as (λ c. attribute (cond c (without attr.Value es) es) n
+    ≡ attribute es n) [ true ↦ attribute-without attr.Value es n other | false ↦ refl ] in
     step (is_masked es)
 
 -- a masked object has no value
@@ -53,7 +64,8 @@ pub attribute-mask-value : (es : List Entry) → is_masked es ≡ true → attri
 attribute-mask-value es h = ap (λ (b : Bool). attribute_of (cond b (without attr.Value es) es) attr.Value) h ∙ without-none attr.Value es
 
 pub class_of-mask : (es : List Entry) → class_of (mask es) ≡ class_of es
-class_of-mask es = ap (λ (v : Option (List ℕ)). class_at (number_of v)) (attribute-mask es (attr_type_number attr.Class) (λ e. absurd (omega (arith, e))))
+class_of-mask es = ap (λ (v : Option (List ℕ)). class_at (number_of v))
+    (attribute-mask es (attr_type_number attr.Class) (λ e. absurd (omega (arith, e))))
 
 pub flag-mask : (es : List Entry) (t : AttrType) → attr_type_number t ≢ attr_type_number attr.Value → flag (mask es) t ≡ flag es t
 flag-mask es t other = ap is_true (attribute-mask es (attr_type_number t) other)
@@ -69,8 +81,12 @@ is_masked-mask es =
 -- masking twice is masking once
 pub mask-mask : (es : List Entry) → mask (mask es) ≡ mask es
 mask-mask es =
-    let step : (b : Bool) → is_masked es ≡ b → cond b (without attr.Value (cond b (without attr.Value es) es)) (cond b (without attr.Value es) es) ≡ cond b (without attr.Value es) es =
-    λ b. elim b as (λ c. is_masked es ≡ c → cond c (without attr.Value (cond c (without attr.Value es) es)) (cond c (without attr.Value es) es) ≡ cond c (without attr.Value es) es) [
+    let step : (b : Bool) → is_masked es ≡ b
+    → cond b (without attr.Value (cond b (without attr.Value es) es)) (cond b (without attr.Value es) es)
+    ≡ cond b (without attr.Value es) es =
+    λ b. elim b as (λ c. is_masked es ≡ c
+    → cond c (without attr.Value (cond c (without attr.Value es) es)) (cond c (without attr.Value es) es)
+    ≡ cond c (without attr.Value es) es) [
       | true ↦ λ h. without-without attr.Value es
       | false ↦ λ h. refl
     ] in

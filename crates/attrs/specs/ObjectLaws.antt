@@ -76,7 +76,8 @@ attr_type_number-small attr.Destroyable = lit≤ tt
 attr_type_number-small attr.WrapWithTrusted = lit≤ tt
 
 form_small : (f : Form) (bytes : List ℕ) → has_form f bytes ≡ true → length bytes ≤ 1024
-form_small Truth bytes e = let h = eqb-true (length bytes) 1 (and_parts (eqb (length bytes) 1) (ltb (get_or bytes 0 0) 2) e).0 in omega (arith, h)
+form_small Truth bytes e = let h = eqb-true (length bytes) 1 (and_parts (eqb (length bytes) 1) (ltb (get_or bytes 0 0) 2) e).0 in
+    omega (arith, h)
 form_small Number bytes e = omega (arith, eqb-true (length bytes) 8 e)
 form_small Bytes bytes e = leb-true (length bytes) 1024 e
 
@@ -85,7 +86,8 @@ pub record IsSmall (e : Entry) : Type 0 where
   pub number_small : e.attr_type ≤ 1000
   pub value_small : length e.value ≤ 1024
 
-pub fits_rows-small : (rs : List AttributeRow) (es : List Entry) → fits_rows rs es ≡ true → AllByRecursion IsSmall es × (length es ≡ length rs)
+pub fits_rows-small : (rs : List AttributeRow) (es : List Entry) → fits_rows rs es ≡ true → AllByRecursion IsSmall es
+    × (length es ≡ length rs)
 fits_rows-small [] [] e = (tt, refl)
 fits_rows-small [] (x ∷ es) e = absurd cc
 fits_rows-small (r ∷ rs) [] e = absurd cc
@@ -93,14 +95,21 @@ fits_rows-small (r ∷ rs) (x ∷ es) e =
     let a = and_parts (eqb x.attr_type (row_number r) && has_form r.form x.value) (fits_rows rs es) e in
     let b = and_parts (eqb x.attr_type (row_number r)) (has_form r.form x.value) a.0 in
     let n : x.attr_type ≡ row_number r = eqb-true x.attr_type (row_number r) b.0 in
-    let rest = fits_rows-small rs es a.1 in
-    ((record { number_small = rw n (attr_type_number-small r.attribute); value_small = form_small r.form x.value b.1 }, rest.0), omega (arith, rest.1))
+    let rest = fits_rows-small rs es a.1 in (
+      (record { number_small = rw n (attr_type_number-small r.attribute); value_small = form_small r.form x.value b.1 }, rest.0),
+      omega (arith, rest.1),
+    )
 
 length-filter : (p : AttributeRow → Bool) (rs : List AttributeRow) → length (filter p rs) ≤ length rs
 length-filter p [] = lit≤ tt
 length-filter p (r ∷ rs) =
     let h = length-filter p rs in
-    let step : (b : Bool) → length (cond b (r ∷ filter p rs) (filter p rs)) ≤ length (r ∷ rs) = λ b. elim b as (λ c. length (cond c (r ∷ filter p rs) (filter p rs)) ≤ length (r ∷ rs)) [ true ↦ omega (arith, h) | false ↦ omega (arith, h) ] in
+    let step : (b : Bool) → length (cond b (r ∷ filter p rs) (filter p rs)) ≤ length (r ∷ rs) =
+    λ b. elim b as (λ c. length (cond c (r ∷ filter p rs) (filter p rs)) ≤ length (r ∷ rs)) [
+      | true ↦ omega
+          (arith, h)
+      | false ↦ omega (arith, h)
+    ] in
     step (p r)
 
 length-attribute_table : length attribute_table ≡ 28
@@ -111,17 +120,18 @@ rows_few : (c : ObjectClass) → length (rows_of c) ≤ 28
 rows_few c = omega (arith, length-filter (is_held_by c) attribute_table, length-attribute_table)
 
 -- what an object is, by its class
-pub record HasRows (es : List Entry) : Type 0 where
+pub record HasClassRows (es : List Entry) : Type 0 where
   pub class : ObjectClass
   pub class_is : class_of es ≡ Some class
   pub rows : fits_rows (rows_of class) es ≡ true
 
-has_rows : (o : Option ObjectClass) (es : List Entry) → class_of es ≡ o → is_of_class o es ≡ true → HasRows es
+has_rows : (o : Option ObjectClass) (es : List Entry) → class_of es ≡ o → is_of_class o es ≡ true → HasClassRows es
 has_rows None es c e = absurd cc
 has_rows (Some Data) es c e = record { class = Data; class_is = c; rows = e }
-has_rows (Some SecretKey) es c e = record { class = SecretKey; class_is = c; rows = (and_parts (fits_rows (rows_of SecretKey) es) (has_key_value es) e).0 }
+has_rows (Some SecretKey) es c e =
+    record { class = SecretKey; class_is = c; rows = (and_parts (fits_rows (rows_of SecretKey) es) (has_key_value es) e).0 }
 
-pub IsObject-rows : (es : List Entry) → IsObject es → HasRows es
+pub IsObject-rows : (es : List Entry) → IsObject es → HasClassRows es
 IsObject-rows es is = has_rows (class_of es) es refl is
 
 pub IsObject-small : (es : List Entry) → IsObject es → AllByRecursion IsSmall es × (length es ≤ 28)
@@ -131,7 +141,8 @@ IsObject-small es is =
     (t.0, omega (arith, t.1, rows_few h.class))
 
 -- an attribute of the rows is there
-pub fits_rows-held : (rs : List AttributeRow) (es : List Entry) (n : ℕ) → fits_rows rs es ≡ true → list_any (λ r. eqb (row_number r) n) rs ≡ true → attribute es n ≡ None → ⊥
+pub fits_rows-held : (rs : List AttributeRow) (es : List Entry) (n : ℕ) → fits_rows rs es ≡ true
+    → list_any (λ r. eqb (row_number r) n) rs ≡ true → attribute es n ≡ None → ⊥
 fits_rows-held [] [] n e held none = cc
 fits_rows-held [] (x ∷ es) n e held none = cc
 fits_rows-held (r ∷ rs) [] n e held none = cc
@@ -139,8 +150,10 @@ fits_rows-held (r ∷ rs) (x ∷ es) n e held none =
     let a = and_parts (eqb x.attr_type (row_number r) && has_form r.form x.value) (fits_rows rs es) e in
     let b = and_parts (eqb x.attr_type (row_number r)) (has_form r.form x.value) a.0 in
     let same : eqb (row_number r) n ≡ eqb x.attr_type n = ap (λ (m : ℕ). eqb m n) (sym (eqb-true x.attr_type (row_number r) b.0)) in
-    let step : (t : Bool) → eqb x.attr_type n ≡ t → (t || list_any (λ r. eqb (row_number r) n) rs) ≡ true → cond t (Some x.value) (attribute es n) ≡ None → ⊥ =
-    λ t. elim t as (λ u. eqb x.attr_type n ≡ u → (u || list_any (λ r. eqb (row_number r) n) rs) ≡ true → cond u (Some x.value) (attribute es n) ≡ None → ⊥) [
+    let step : (t : Bool) → eqb x.attr_type n ≡ t → (t || list_any (λ r. eqb (row_number r) n) rs) ≡ true
+    → cond t (Some x.value) (attribute es n) ≡ None → ⊥ =
+    λ t. elim t as (λ u. eqb x.attr_type n ≡ u → (u || list_any (λ r. eqb (row_number r) n) rs) ≡ true
+    → cond u (Some x.value) (attribute es n) ≡ None → ⊥) [
       | true ↦ λ h k m. cc
       | false ↦ λ h k m. fits_rows-held rs es n a.1 k m
     ] in

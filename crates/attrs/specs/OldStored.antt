@@ -38,12 +38,12 @@ renewed_of None es = es
 renewed_of (Some Data) es = es
 renewed_of (Some SecretKey) es = placed (false_of attr.WrapWithTrusted) (placed (false_of attr.Trusted) es)
 
-abbrev pub renewed : List Entry → List Entry
-renewed es = renewed_of (class_of es) es
+abbrev pub renewed_entries : List Entry → List Entry
+renewed_entries es = renewed_of (class_of es) es
 
 abbrev pub if_renewed : Option (List Entry) → Option (List Entry)
 if_renewed None = None
-if_renewed (Some es) = if_object (Some (renewed es))
+if_renewed (Some es) = if_object (Some (renewed_entries es))
 
 -- the object with an old stored form
 unfoldable pub object_old_stored : List ℕ → Option (List Entry)

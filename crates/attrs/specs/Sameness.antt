@@ -21,7 +21,8 @@ same_entry-Decides e f =
     Decides-like {P = (e.attr_type ≡ f.attr_type) × (e.value ≡ f.value)} {Q = e ≡ f} (same_entry e f)
     (λ p i. record { attr_type = p.0 i; value = p.1 i })
     (λ p. (ap (λ (x : Entry). x.attr_type) p, ap (λ (x : Entry). x.value) p))
-    (Decides-and (e.attr_type == f.attr_type) (bytes_eq e.value f.value) (Decides-eqb e.attr_type f.attr_type) (bytes_eq-Decides e.value f.value))
+    (Decides-and (e.attr_type == f.attr_type) (bytes_eq e.value f.value) (Decides-eqb e.attr_type f.attr_type)
+    (bytes_eq-Decides e.value f.value))
 
 pub same_object-Decides : (x y : List Entry) → Decides (same_object x y) (x ≡ y)
 same_object-Decides x y = slice_eq-Decides {E = same_entry} same_entry-Decides x y (same_object x y) refl

@@ -26,7 +26,7 @@ object_stored [] = None
 object_stored (b ∷ bytes) = if b == 2 then if_object (whole stored_entries bytes) else None
 
 -- what a decoder returns is the object, unless memory runs out
-abbrev pub Decodes : {X : Type 0} → Result X DecodeFault → Option X → Type 0
-Decodes (Ok x) o = o ≡ Some x
-Decodes (Err faults.Form) o = o ≡ None
-Decodes (Err faults.Memory) o = Unit {0}
+abbrev pub DecodesObject : {X : Type 0} → Result X DecodeFault → Option X → Type 0
+DecodesObject (Ok x) o = o ≡ Some x
+DecodesObject (Err faults.Form) o = o ≡ None
+DecodesObject (Err faults.Memory) o = Unit {0}

@@ -13,11 +13,12 @@ use Rattle.ck_types.specs.Canonical.{IsCanonical, IsBytes, number16_canonical, n
 use Rattle.attrs.specs.declared.fault.DecodeFault.{DecodeFault}
 use Rattle.attrs.specs.Objects.{is_object, IsObject}
 use Rattle.attrs.specs.ObjectLaws.{IsSmall, IsObject-small}
-use Rattle.attrs.specs.Stored.{stored_entry, stored_entries, stored_form, object_stored, if_object, Decodes}
+use Rattle.attrs.specs.Stored.{stored_entry, stored_entries, stored_form, object_stored, if_object, DecodesObject}
 
 stored_entry_canonical : IsCanonical stored_entry
 stored_entry_canonical =
-    mapped_canonical (pair number32 byte_string) (λ p. record { attr_type = p.0; value = p.1 }) (λ e. (e.attr_type, e.value)) (λ x. refl) (λ y. refl)
+    mapped_canonical (pair number32 byte_string) (λ p. record { attr_type = p.0; value = p.1 }) (λ e. (e.attr_type, e.value))
+    (λ x. refl) (λ y. refl)
     (pair_canonical number32 byte_string number32_canonical byte_string_canonical)
 
 pub stored_entries_canonical : IsCanonical stored_entries
@@ -25,7 +26,8 @@ stored_entries_canonical = counted_canonical number16 stored_entry number16_cano
 
 pub small_fit : (es : List Entry) → AllByRecursion IsSmall es → AllByRecursion stored_entry.Fits es
 small_fit [] small = tt
-small_fit (e ∷ es) small = let s : IsSmall e = small.0 in ((omega (arith, s.number_small), omega (arith, s.value_small)), small_fit es small.1)
+small_fit (e ∷ es) small = let s : IsSmall e = small.0 in
+    ((omega (arith, s.number_small), omega (arith, s.value_small)), small_fit es small.1)
 
 pub object_fits : (es : List Entry) → IsObject es → stored_entries.Fits es
 object_fits es is = let s = IsObject-small es is in (omega (arith, s.1), small_fit es s.0)
@@ -50,9 +52,11 @@ object_stored-sound (b ∷ bytes) es fits e =
 
 pub object_stored-complete : (es : List Entry) → IsObject es → object_stored (stored_form es) ≡ Some es
 unfolding object_stored
-object_stored-complete es is = ap if_object (whole_complete stored_entries stored_entries_canonical es (object_fits es is)) ∙ ap (λ (b : Bool). cond b (Some es) None) is
+object_stored-complete es is = ap if_object (whole_complete stored_entries stored_entries_canonical es (object_fits es is))
+    ∙ ap (λ (b : Bool). cond b (Some es) None) is
 
-pub is_found : (bytes : List ℕ) (r : Result (List Entry) DecodeFault) → IsBytes bytes → Decodes r (object_stored bytes) → IfOk r (λ o. bytes ≡ stored_form o)
+pub is_found : (bytes : List ℕ) (r : Result (List Entry) DecodeFault) → IsBytes bytes → DecodesObject r (object_stored bytes)
+    → IfOk r (λ o. bytes ≡ stored_form o)
 is_found bytes (Ok es) fits given = object_stored-sound bytes es fits given
 is_found bytes (Err e) fits given = tt
 
@@ -66,9 +70,13 @@ entry_small es xs i x same is lt at =
     subst IsSmall (sym at) (all i x lt)
 
 -- one attribute more
-pub size_more : (es : List Entry) (i : ℕ) (x : Entry) → i < length es → x ≡ get_or es i x → length (flat_map stored_entry.encode (take (i + 1) es)) ≡ length (flat_map stored_entry.encode (take i es)) + (8 + length x.value)
+pub size_more : (es : List Entry) (i : ℕ) (x : Entry) → i < length es → x ≡ get_or es i x
+    → length (flat_map stored_entry.encode (take (i + 1) es)) ≡ length (flat_map stored_entry.encode (take i es)) + (8 + length x.value)
 size_more es i x lt at =
     let parts : take (i + 1) es ≡ take i es ++ x ∷ [] = take_more es i x lt ∙ ap (λ (y : Entry). take i es ++ y ∷ []) (sym at) in
     let more : flat_map stored_entry.encode (take (i + 1) es) ≡ flat_map stored_entry.encode (take i es) ++ (stored_entry.encode x ++ []) =
-    ap (flat_map stored_entry.encode) parts ∙ flat_map-append stored_entry.encode (take i es) (x ∷ []) ∙ ap (λ (y : List ℕ). flat_map stored_entry.encode (take i es) ++ y) (flat_map-cons stored_entry.encode x []) in
-    ap length more ∙ length-append (flat_map stored_entry.encode (take i es)) (stored_entry.encode x ++ []) ∙ ap (λ (y : List ℕ). length (flat_map stored_entry.encode (take i es)) + length y) (append-nil (stored_entry.encode x)) ∙ omega arith
+    ap (flat_map stored_entry.encode) parts ∙ flat_map-append stored_entry.encode (take i es) (x ∷ [])
+    ∙ ap (λ (y : List ℕ). flat_map stored_entry.encode (take i es) ++ y) (flat_map-cons stored_entry.encode x []) in
+    ap length more ∙ length-append (flat_map stored_entry.encode (take i es)) (stored_entry.encode x ++ [])
+    ∙ ap (λ (y : List ℕ). length (flat_map stored_entry.encode (take i es)) + length y) (append-nil (stored_entry.encode x))
+    ∙ omega arith

@@ -3,8 +3,8 @@
 ghost use Rattle.std.specs.Prelude.{◌≡◌, ◌≤◌, IfOk, Some, List, false, insert, length};
 ghost use Rattle.ck_types.specs.declared.entry.Entry.{Entry as AnEntry};
 ghost use Rattle.attrs.specs.Objects.{IsObject};
-ghost use Rattle.attrs.specs.Stored.{Decodes};
-ghost use Rattle.attrs.specs.OldStored.{false_of, has_new_flags, object_old_stored, old_form, index_in, placed, renewed};
+ghost use Rattle.attrs.specs.Stored.{DecodesObject};
+ghost use Rattle.attrs.specs.OldStored.{false_of, has_new_flags, object_old_stored, old_form, index_in, placed, renewed_entries};
 
 use crate::check::class_in;
 use crate::fault::DecodeFault;
@@ -55,7 +55,7 @@ fn with_false(
 
 /// The attributes, and those of a key which format 1 hasn't.
 fn renewed(alloc: Global, entries: Vec<Entry>) -> Result<Vec<Entry>, AllocError>
-    ensures { IfOk result (λ more. more.items ≡ renewed entries.items) }
+    ensures { IfOk result (λ more. more.items ≡ renewed_entries entries.items) }
 {
     match class_in(entries.as_slice()) {
         None | Some(ObjectClass::Data) => Ok(entries),
@@ -68,7 +68,7 @@ fn renewed(alloc: Global, entries: Vec<Entry>) -> Result<Vec<Entry>, AllocError>
 
 #[tactic(auto, unfolding(crate::specs::OldStored::object_old_stored))]
 fn decoded(alloc: Global, bytes: &[u8]) -> Result<Object, DecodeFault>
-    ensures { Decodes result (object_old_stored bytes.now) }
+    ensures { DecodesObject result (object_old_stored bytes.now) }
 {
     let [FORMAT, bytes @ ..] = bytes else {
         return Err(DecodeFault::Form);
@@ -91,8 +91,8 @@ fn decoded(alloc: Global, bytes: &[u8]) -> Result<Object, DecodeFault>
 /// the bytes are no object's stored form of format 1, `Memory` where memory for the object ran out.
 pub fn decode_old(alloc: Global, bytes: &[u8]) -> Result<Object, DecodeFault>
     ensures found { IfOk result (λ object. (bytes.now ≡ old_form object) × (has_new_flags object ≡ false)) }
-    ensures only { (object : List AnEntry) → IsObject object → has_new_flags object ≡ false → bytes.now ≡ old_form object → Decodes result (Some object) }
-    ensures exact { Decodes result (object_old_stored bytes.now) }
+    ensures only { (object : List AnEntry) → IsObject object → has_new_flags object ≡ false → bytes.now ≡ old_form object → DecodesObject result (Some object) }
+    ensures exact { DecodesObject result (object_old_stored bytes.now) }
 {
     decoded(alloc, bytes)
 }

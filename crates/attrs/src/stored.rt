@@ -5,7 +5,7 @@ ghost use Rattle.ck_types.specs.declared.entry.Entry.{Entry as AnEntry};
 ghost use Rattle.ck_types.specs.Format.{decode_many, whole};
 ghost use Rattle.ck_types.specs.Coding.{Decodes as DecodesFormat};
 ghost use Rattle.attrs.specs.Objects.{IsObject};
-ghost use Rattle.attrs.specs.Stored.{stored_form, object_stored, stored_entry, stored_entries, Decodes};
+ghost use Rattle.attrs.specs.Stored.{stored_form, object_stored, stored_entry, stored_entries, DecodesObject};
 
 use crate::fault::DecodeFault;
 use crate::object::Object;
@@ -59,7 +59,7 @@ pub(crate) fn decode_all(alloc: Global, bytes: &[u8]) -> Result<Vec<Entry>, Code
 
 #[tactic(auto, unfolding(crate::specs::Stored::object_stored))]
 fn decoded(alloc: Global, bytes: &[u8]) -> Result<Object, DecodeFault>
-    ensures { Decodes result (object_stored bytes.now) }
+    ensures { DecodesObject result (object_stored bytes.now) }
 {
     let [FORMAT, bytes @ ..] = bytes else {
         return Err(DecodeFault::Form);
@@ -79,8 +79,8 @@ fn decoded(alloc: Global, bytes: &[u8]) -> Result<Object, DecodeFault>
 /// memory for the object ran out.
 pub fn decode(alloc: Global, bytes: &[u8]) -> Result<Object, DecodeFault>
     ensures found { IfOk result (λ object. bytes.now ≡ stored_form object) }
-    ensures only { (object : List AnEntry) → IsObject object → bytes.now ≡ stored_form object → Decodes result (Some object) }
-    ensures exact { Decodes result (object_stored bytes.now) }
+    ensures only { (object : List AnEntry) → IsObject object → bytes.now ≡ stored_form object → DecodesObject result (Some object) }
+    ensures exact { DecodesObject result (object_stored bytes.now) }
 {
     decoded(alloc, bytes)
 }

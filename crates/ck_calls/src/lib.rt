@@ -3,12 +3,13 @@
 //! - `Call` has a variant for each of the 41 calls, with named fields, and `Function` names them alone.
 //! - `Reply` is what a call returns: a code, or what comes with `CKR_OK`, with `CKR_BUFFER_TOO_SMALL` or
 //!   with the codes of C_GetAttributeValue.
-//! - `need` is how many random bytes a call takes, by the call alone.
+//! - `need` is how many random bytes a call takes, by the call alone. `AppCall` is a call of an application, with these.
 //!
 //! Proved, by the names of contracts: numbers and variants are each other's inverse (`IsInverse`). `need` is the number of a call's
 //! random bytes (`random_bytes`).
 #![tactic(auto)]
 
+mod app_call;
 mod call;
 mod codec;
 mod fields;
@@ -16,6 +17,7 @@ mod function;
 mod random;
 mod reply;
 
+pub use app_call::AppCall;
 pub use call::Call;
 pub use fields::{AttributeQuery, Mechanism, Query};
 pub use function::Function;

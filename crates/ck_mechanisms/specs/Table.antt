@@ -36,19 +36,19 @@ purpose_of mechanism.AesCtr = Cipher
 purpose_of mechanism.AesCmac = Mac
 purpose_of mechanism.AesKeyWrap = Wrapping
 
-abbrev pub key_type_of : MechType → KeyType
-key_type_of mechanism.Sha256Hmac = GenericSecret
-key_type_of mechanism.Sha224Hmac = GenericSecret
-key_type_of mechanism.Sha384Hmac = GenericSecret
-key_type_of mechanism.Sha512Hmac = GenericSecret
-key_type_of mechanism.GenericSecretKeyGen = GenericSecret
-key_type_of mechanism.AesKeyGen = Aes
-key_type_of mechanism.AesEcb = Aes
-key_type_of mechanism.AesCbc = Aes
-key_type_of mechanism.AesCbcPad = Aes
-key_type_of mechanism.AesCtr = Aes
-key_type_of mechanism.AesCmac = Aes
-key_type_of mechanism.AesKeyWrap = Aes
+abbrev pub mech_key_type : MechType → KeyType
+mech_key_type mechanism.Sha256Hmac = GenericSecret
+mech_key_type mechanism.Sha224Hmac = GenericSecret
+mech_key_type mechanism.Sha384Hmac = GenericSecret
+mech_key_type mechanism.Sha512Hmac = GenericSecret
+mech_key_type mechanism.GenericSecretKeyGen = GenericSecret
+mech_key_type mechanism.AesKeyGen = Aes
+mech_key_type mechanism.AesEcb = Aes
+mech_key_type mechanism.AesCbc = Aes
+mech_key_type mechanism.AesCbcPad = Aes
+mech_key_type mechanism.AesCtr = Aes
+mech_key_type mechanism.AesCmac = Aes
+mech_key_type mechanism.AesKeyWrap = Aes
 
 -- CKF_ENCRYPT and CKF_DECRYPT, CKF_SIGN and CKF_VERIFY, CKF_GENERATE, CKF_WRAP and CKF_UNWRAP
 abbrev pub flags_of : Purpose → ℕ
@@ -66,7 +66,7 @@ sizes_in _ GenericSecret = (1, 512)
 
 abbrev pub info_of : MechType → MechanismInfo
 info_of m =
-    let sizes : ℕ × ℕ = sizes_in (purpose_of m) (key_type_of m) in
+    let sizes : ℕ × ℕ = sizes_in (purpose_of m) (mech_key_type m) in
     record { min_key_size = sizes.0; max_key_size = sizes.1; flags = flags_of (purpose_of m) }
 
 -- ---- by a number

@@ -1,7 +1,7 @@
 //! The table of mechanisms.
 
 ghost use Rattle.std.specs.Prelude.{◌≡◌};
-ghost use Rattle.ck_mechanisms.specs.Table.{flags_of, info_of, key_type_of, listed, mechanism_at, mechanism_for, purpose_of, sizes_in};
+ghost use Rattle.ck_mechanisms.specs.Table.{flags_of, info_of, mech_key_type, listed, mechanism_at, mechanism_for, purpose_of, sizes_in};
 
 use crate::purpose::Purpose;
 use ck_calls::MechanismInfo;
@@ -43,7 +43,7 @@ pub fn purpose_of(mechanism: MechType) -> Purpose
 
 /// The type of a mechanism's keys.
 pub fn key_type_of(mechanism: MechType) -> KeyType
-    ensures { result ≡ key_type_of mechanism }
+    ensures { result ≡ mech_key_type mechanism }
 {
     match mechanism {
         MechType::Sha224Hmac

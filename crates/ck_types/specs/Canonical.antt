@@ -47,7 +47,10 @@ pub record Takes (bytes text rest : List ℕ) : Type 0 where
   pub rest_fits : IsBytes rest
 
 pub takes_then : (a x b y c : List ℕ) → Takes a x b → Takes b y c → Takes a (x ++ y) c
-takes_then a x b y c p q = record { parts = p.parts ∙ ap (λ (t : List ℕ). x ++ t) q.parts ∙ sym (append_assoc x y c); rest_fits = q.rest_fits }
+takes_then a x b y c p q = record {
+  parts = p.parts ∙ ap (λ (t : List ℕ). x ++ t) q.parts ∙ sym (append_assoc x y c);
+  rest_fits = q.rest_fits;
+}
 
 pub takes_more : (b : ℕ) (bytes text rest : List ℕ) → Takes bytes text rest → Takes (b ∷ bytes) (b ∷ text) rest
 takes_more b bytes text rest p = record { parts = ap (λ (t : List ℕ). b ∷ t) p.parts; rest_fits = p.rest_fits }
@@ -56,7 +59,8 @@ takes_more b bytes text rest p = record { parts = ap (λ (t : List ℕ). b ∷ t
 -- encoding begins with.
 pub record IsCanonical {A : Type 0} (c : Format A) : Type 0 where
   -- What is decoded is encoded by the bytes that were taken, and fits.
-  pub sound : (bytes : List ℕ) (x : A) (rest : List ℕ) → IsBytes bytes → c.decode bytes ≡ Some (x, rest) → Takes bytes (c.encode x) rest × c.Fits x
+  pub sound : (bytes : List ℕ) (x : A) (rest : List ℕ) → IsBytes bytes → c.decode bytes ≡ Some (x, rest)
+      → Takes bytes (c.encode x) rest × c.Fits x
   -- What fits is decoded from its encoding, whatever follows.
   pub complete : (x : A) (rest : List ℕ) → c.Fits x → c.decode (c.encode x ++ rest) ≡ Some (x, rest)
 
@@ -92,19 +96,29 @@ wide64 = record {
   below = λ bytes fits. omega (arith, fits 0, fits 1, fits 2, fits 3, fits 4, fits 5, fits 6, fits 7);
 }
 
-number_sound : (w : Width) (limit : ℕ) (wide : IsWide w limit) (bytes : List ℕ) (n : ℕ) (rest : List ℕ) → IsBytes bytes → (number w limit).decode bytes ≡ Some (n, rest) → Takes bytes (to_be_bytes w n) rest × (n < limit)
+number_sound : (w : Width) (limit : ℕ) (wide : IsWide w limit) (bytes : List ℕ) (n : ℕ) (rest : List ℕ) → IsBytes bytes
+    → (number w limit).decode bytes ≡ Some (n, rest) → Takes bytes (to_be_bytes w n) rest × (n < limit)
 number_sound w limit wide bytes n rest fits e =
     let g = unless_ok (ltb (length bytes) (byte_len w)) (from_be_bytes w (take (byte_len w) bytes), drop (byte_len w) bytes) (n, rest) e in
     let long : byte_len w ≤ length bytes = ltb-false _ _ g.0 in
     let n-is : from_be_bytes w (take (byte_len w) bytes) ≡ n = ap (λ (p : ℕ × List ℕ). p.0) g.1 in
     let rest-is : drop (byte_len w) bytes ≡ rest = ap (λ (p : ℕ × List ℕ). p.1) g.1 in
-    let front : to_be_bytes w n ≡ take (byte_len w) bytes = rw (← n-is) (wide.back (take (byte_len w) bytes) (omega (arith, length-take (byte_len w) bytes)) (IsBytes-take (byte_len w) bytes fits)) in
-    (record { parts = rw (front, ← rest-is) (sym (take-append-drop (byte_len w) bytes)); rest_fits = rw (← rest-is) (IsBytes-drop (byte_len w) bytes fits) }, rw (← n-is) (wide.below (take (byte_len w) bytes) (IsBytes-take (byte_len w) bytes fits)))
+    let front : to_be_bytes w n ≡ take (byte_len w) bytes =
+    rw (← n-is) (wide.back (take (byte_len w) bytes) (omega (arith, length-take (byte_len w) bytes))
+    (IsBytes-take (byte_len w) bytes fits)) in (
+      record {
+        parts = rw (front, ← rest-is) (sym (take-append-drop (byte_len w) bytes));
+        rest_fits = rw (← rest-is) (IsBytes-drop (byte_len w) bytes fits);
+      },
+      rw (← n-is) (wide.below (take (byte_len w) bytes) (IsBytes-take (byte_len w) bytes fits)),
+    )
 
-number_complete : (w : Width) (limit : ℕ) (wide : IsWide w limit) (n : ℕ) (rest : List ℕ) → n < limit → (number w limit).decode (to_be_bytes w n ++ rest) ≡ Some (n, rest)
+number_complete : (w : Width) (limit : ℕ) (wide : IsWide w limit) (n : ℕ) (rest : List ℕ) → n < limit
+    → (number w limit).decode (to_be_bytes w n ++ rest) ≡ Some (n, rest)
 number_complete w limit wide n rest lt =
     let len = wide.len n in
-    let long : ltb (length (to_be_bytes w n ++ rest)) (byte_len w) ≡ false = le-ltb _ _ (omega (arith, length-append (to_be_bytes w n) rest)) in
+    let long : ltb (length (to_be_bytes w n ++ rest)) (byte_len w) ≡ false =
+    le-ltb _ _ (omega (arith, length-append (to_be_bytes w n) rest)) in
     rw (long, take_at (to_be_bytes w n) rest (byte_len w) len, drop_at (to_be_bytes w n) rest (byte_len w) len, wide.again n lt) refl
 
 pub number_canonical : (w : Width) (limit : ℕ) → IsWide w limit → IsCanonical (number w limit)
@@ -121,7 +135,8 @@ number32_canonical = number_canonical w32 (2 ^ 32) wide32
 
 -- ---- so many bytes
 
-pub first_bytes_sound : (n : ℕ) (bytes text rest : List ℕ) → IsBytes bytes → first_bytes n bytes ≡ Some (text, rest) → Takes bytes text rest × (length text ≡ n)
+pub first_bytes_sound : (n : ℕ) (bytes text rest : List ℕ) → IsBytes bytes → first_bytes n bytes ≡ Some (text, rest)
+    → Takes bytes text rest × (length text ≡ n)
 first_bytes_sound n bytes text rest fits e =
     let g = unless_ok (ltb (length bytes) n) (take n bytes, drop n bytes) (text, rest) e in
     let long : n ≤ length bytes = ltb-false _ _ g.0 in
@@ -140,16 +155,19 @@ fixed_canonical n = record {
   complete = λ text rest len. subst (λ (k : ℕ). first_bytes k (text ++ rest) ≡ Some (text, rest)) len (first_bytes_complete text rest);
 }
 
-byte_string_sound : (bytes text rest : List ℕ) → IsBytes bytes → byte_string.decode bytes ≡ Some (text, rest) → Takes bytes (byte_string.encode text) rest × (length text < 2 ^ 32)
+byte_string_sound : (bytes text rest : List ℕ) → IsBytes bytes → byte_string.decode bytes ≡ Some (text, rest)
+    → Takes bytes (byte_string.encode text) rest × (length text < 2 ^ 32)
 byte_string_sound bytes text rest fits e =
     let b = bind_some (number32.decode bytes) (λ n. first_bytes n.0 n.1) (text, rest) e in
     let t = number32_canonical.sound bytes b.0.0 b.0.1 fits b.1 in
     let s = first_bytes_sound b.0.0 b.0.1 text rest t.0.rest_fits b.2 in
     (rw s.1 (takes_then bytes (to_be_bytes w32 b.0.0) b.0.1 text rest t.0 s.0), rw s.1 t.1)
 
-byte_string_complete : (text rest : List ℕ) → length text < 2 ^ 32 → byte_string.decode (byte_string.encode text ++ rest) ≡ Some (text, rest)
+byte_string_complete : (text rest : List ℕ) → length text < 2 ^ 32
+    → byte_string.decode (byte_string.encode text ++ rest) ≡ Some (text, rest)
 byte_string_complete text rest lt =
-    ap byte_string.decode (append_assoc (to_be_bytes w32 (length text)) text rest) ∙ rw (number32_canonical.complete (length text) (text ++ rest) lt) (first_bytes_complete text rest)
+    ap byte_string.decode (append_assoc (to_be_bytes w32 (length text)) text rest)
+    ∙ rw (number32_canonical.complete (length text) (text ++ rest) lt) (first_bytes_complete text rest)
 
 pub byte_string_canonical : IsCanonical byte_string
 byte_string_canonical = record { sound = byte_string_sound; complete = byte_string_complete }
@@ -164,47 +182,58 @@ pair_canonical {A} {B} a b p q = record {
       let one = p.sound bytes s.0.0 s.0.1 fits s.1 in
       let two = q.sound s.0.1 t.0.0 t.0.1 one.0.rest_fits t.1 in
       let made : (A × B) × List ℕ = ((s.0.0, t.0.0), t.0.1) in
-      subst (λ (y : (A × B) × List ℕ). Takes bytes (a.encode y.0.0 ++ b.encode y.0.1) y.1 × (a.Fits y.0.0 × b.Fits y.0.1)) (some_is made (x, rest) t.2)
+      subst (λ (y : (A × B) × List ℕ). Takes bytes (a.encode y.0.0 ++ b.encode y.0.1) y.1 × (a.Fits y.0.0 × b.Fits y.0.1))
+      (some_is made (x, rest) t.2)
       (takes_then bytes (a.encode s.0.0) s.0.1 (b.encode t.0.0) t.0.1 one.0 two.0, (one.1, two.1));
   complete = λ x rest fits.
-      ap (pair a b).decode (append_assoc (a.encode x.0) (b.encode x.1) rest) ∙ rw (p.complete x.0 (b.encode x.1 ++ rest) fits.0, q.complete x.1 rest fits.1) refl;
+      ap (pair a b).decode (append_assoc (a.encode x.0) (b.encode x.1) rest)
+      ∙ rw (p.complete x.0 (b.encode x.1 ++ rest) fits.0, q.complete x.1 rest fits.1) refl;
 }
 
-pub mapped_canonical : {A B : Type 0} (c : Format A) (to : A → B) (from : B → A) → ((x : A) → from (to x) ≡ x) → ((y : B) → to (from y) ≡ y) → IsCanonical c → IsCanonical (mapped c to from)
+pub mapped_canonical : {A B : Type 0} (c : Format A) (to : A → B) (from : B → A) → ((x : A) → from (to x) ≡ x)
+    → ((y : B) → to (from y) ≡ y) → IsCanonical c → IsCanonical (mapped c to from)
 mapped_canonical {A} {B} c to from there back p = record {
   sound = λ bytes y rest fits e.
       let s = bind_some (c.decode bytes) (λ x. Some (to x.0, x.1)) (y, rest) e in
       let t = p.sound bytes s.0.0 s.0.1 fits s.1 in
       let made : B × List ℕ = (to s.0.0, s.0.1) in
-      let at_x : Takes bytes (c.encode (from (to s.0.0))) s.0.1 × c.Fits (from (to s.0.0)) = subst (λ (x : A). Takes bytes (c.encode x) s.0.1 × c.Fits x) (sym (there s.0.0)) t in
+      let at_x : Takes bytes (c.encode (from (to s.0.0))) s.0.1 × c.Fits (from (to s.0.0)) =
+      subst (λ (x : A). Takes bytes (c.encode x) s.0.1 × c.Fits x) (sym (there s.0.0)) t in
       subst (λ (z : B × List ℕ). Takes bytes (c.encode (from z.0)) z.1 × c.Fits (from z.0)) (some_is made (y, rest) s.2) at_x;
   complete = λ y rest fits. rw (p.complete (from y) rest fits, back y) refl;
 }
 
-pub narrowed_canonical : {A B : Type 0} (c : Format A) (to : A → Option B) (from : B → A) → ((x : A) (y : B) → to x ≡ Some y → from y ≡ x) → ((y : B) → to (from y) ≡ Some y) → IsCanonical c → IsCanonical (narrowed c to from)
+pub narrowed_canonical : {A B : Type 0} (c : Format A) (to : A → Option B) (from : B → A)
+    → ((x : A) (y : B) → to x ≡ Some y → from y ≡ x) → ((y : B) → to (from y) ≡ Some y) → IsCanonical c → IsCanonical (narrowed c to from)
 narrowed_canonical {A} {B} c to from there back p = record {
   sound = λ bytes y rest fits e.
       let s = bind_some (c.decode bytes) (λ x. to x.0 >>= λ z. Some (z, x.1)) (y, rest) e in
       let u = bind_some (to s.0.0) (λ z. Some (z, s.0.1)) (y, rest) s.2 in
       let t = p.sound bytes s.0.0 s.0.1 fits s.1 in
-      let at_x : Takes bytes (c.encode (from u.0)) s.0.1 × c.Fits (from u.0) = subst (λ (x : A). Takes bytes (c.encode x) s.0.1 × c.Fits x) (sym (there s.0.0 u.0 u.1)) t in
+      let at_x : Takes bytes (c.encode (from u.0)) s.0.1 × c.Fits (from u.0) =
+      subst (λ (x : A). Takes bytes (c.encode x) s.0.1 × c.Fits x) (sym (there s.0.0 u.0 u.1)) t in
       subst (λ (z : B × List ℕ). Takes bytes (c.encode (from z.0)) z.1 × c.Fits (from z.0)) (some_is (u.0, s.0.1) (y, rest) u.2) at_x;
   complete = λ y rest fits. rw (p.complete (from y) rest fits, back y) refl;
 }
 
 -- ---- a value behind a flag
 
-optional_sound : {A : Type 0} (c : Format A) → IsCanonical c → (bytes : List ℕ) (o : Option A) (rest : List ℕ) → IsBytes bytes → decode_optional c bytes ≡ Some (o, rest) → Takes bytes (encode_optional c o) rest × Fits-optional c o
+optional_sound : {A : Type 0} (c : Format A) → IsCanonical c → (bytes : List ℕ) (o : Option A) (rest : List ℕ) → IsBytes bytes
+    → decode_optional c bytes ≡ Some (o, rest) → Takes bytes (encode_optional c o) rest × Fits-optional c o
 optional_sound c p [] o rest fits e = absurd cc
 optional_sound {A} c p (zero ∷ bytes) o rest fits e =
-    subst (λ (x : Option A × List ℕ). Takes (0 ∷ bytes) (encode_optional c x.0) x.1 × Fits-optional c x.0) (some_is (None, bytes) (o, rest) e) (record { parts = refl; rest_fits = rest_bytes 0 bytes fits }, tt)
+    subst (λ (x : Option A × List ℕ). Takes (0 ∷ bytes) (encode_optional c x.0) x.1 × Fits-optional c x.0)
+    (some_is (None, bytes) (o, rest) e) (record { parts = refl; rest_fits = rest_bytes 0 bytes fits }, tt)
 optional_sound {A} c p (suc zero ∷ bytes) o rest fits e =
     let b = bind_some (c.decode bytes) (λ x. Some (Some x.0, x.1)) (o, rest) e in
     let t = p.sound bytes b.0.0 b.0.1 (rest_bytes 1 bytes fits) b.1 in
-    subst (λ (x : Option A × List ℕ). Takes (1 ∷ bytes) (encode_optional c x.0) x.1 × Fits-optional c x.0) (some_is (Some b.0.0, b.0.1) (o, rest) b.2) (record { parts = ap (λ (w : List ℕ). 1 ∷ w) t.0.parts; rest_fits = t.0.rest_fits }, t.1)
+    subst (λ (x : Option A × List ℕ). Takes (1 ∷ bytes) (encode_optional c x.0) x.1 × Fits-optional c x.0)
+    (some_is (Some b.0.0, b.0.1) (o, rest) b.2)
+    (record { parts = ap (λ (w : List ℕ). 1 ∷ w) t.0.parts; rest_fits = t.0.rest_fits }, t.1)
 optional_sound c p (suc (suc b) ∷ bytes) o rest fits e = absurd cc
 
-optional_complete : {A : Type 0} (c : Format A) → IsCanonical c → (o : Option A) (rest : List ℕ) → Fits-optional c o → decode_optional c (encode_optional c o ++ rest) ≡ Some (o, rest)
+optional_complete : {A : Type 0} (c : Format A) → IsCanonical c → (o : Option A) (rest : List ℕ) → Fits-optional c o
+    → decode_optional c (encode_optional c o ++ rest) ≡ Some (o, rest)
 optional_complete c p None rest h = refl
 optional_complete c p (Some x) rest h = rw (p.complete x rest h) refl
 
@@ -220,7 +249,8 @@ limited_canonical limit c p = record {
       let g = when_ok (ltb a.0.0 limit) (Some a.0) (n, rest) a.2 in
       let t = p.sound bytes a.0.0 a.0.1 fits a.1 in
       let below : a.0.0 < limit = ltb-true _ _ g.0 in
-      subst (λ (m : ℕ × List ℕ). Takes bytes (c.encode m.0) m.1 × ((m.0 < limit) × c.Fits m.0)) (some_is a.0 (n, rest) g.1) (t.0, (below, t.1));
+      subst (λ (m : ℕ × List ℕ). Takes bytes (c.encode m.0) m.1 × ((m.0 < limit) × c.Fits m.0)) (some_is a.0 (n, rest) g.1)
+      (t.0, (below, t.1));
   complete = λ n rest fits.
       let below : ltb n limit ≡ true = lt-ltb _ _ fits.0 in
       rw (p.complete n rest fits.1, below) refl;
@@ -228,10 +258,13 @@ limited_canonical limit c p = record {
 
 -- ---- a count, and so many values
 
-pub many_sound : {A : Type 0} (c : Format A) → IsCanonical c → (n : ℕ) (bytes : List ℕ) (xs : List A) (rest : List ℕ) → IsBytes bytes → decode_many c n bytes ≡ Some (xs, rest) → Takes bytes (flat_map c.encode xs) rest × (length xs ≡ n) × AllByRecursion c.Fits xs
+pub many_sound : {A : Type 0} (c : Format A) → IsCanonical c → (n : ℕ) (bytes : List ℕ) (xs : List A) (rest : List ℕ)
+    → IsBytes bytes → decode_many c n bytes ≡ Some (xs, rest) → Takes bytes (flat_map c.encode xs) rest × (length xs ≡ n)
+    × AllByRecursion c.Fits xs
 unfolding decode_many
 many_sound {A} c p zero bytes xs rest fits e =
-    subst (λ (y : List A × List ℕ). Takes bytes (flat_map c.encode y.0) y.1 × (length y.0 ≡ 0) × AllByRecursion c.Fits y.0) (some_is ([], bytes) (xs, rest) e) (record { parts = refl; rest_fits = fits }, refl, tt)
+    subst (λ (y : List A × List ℕ). Takes bytes (flat_map c.encode y.0) y.1 × (length y.0 ≡ 0) × AllByRecursion c.Fits y.0)
+    (some_is ([], bytes) (xs, rest) e) (record { parts = refl; rest_fits = fits }, refl, tt)
 many_sound {A} c p (suc n) bytes xs rest fits e =
     let a = bind_some (c.decode bytes) (λ x. decode_many c n x.1 >>= λ y. Some (x.0 ∷ y.0, y.1)) (xs, rest) e in
     let b = bind_some (decode_many c n a.0.1) (λ y. Some (a.0.0 ∷ y.0, y.1)) (xs, rest) a.2 in
@@ -239,24 +272,32 @@ many_sound {A} c p (suc n) bytes xs rest fits e =
     let second = many_sound c p n a.0.1 b.0.0 b.0.1 first.0.rest_fits b.1 in
     let two = takes_then bytes (c.encode a.0.0) a.0.1 (flat_map c.encode b.0.0) b.0.1 first.0 second.0 in
     let made : List A × List ℕ = (a.0.0 ∷ b.0.0, b.0.1) in
-    subst (λ (y : List A × List ℕ). Takes bytes (flat_map c.encode y.0) y.1 × (length y.0 ≡ suc n) × AllByRecursion c.Fits y.0) (some_is made (xs, rest) b.2) (rw flat_map-cons two, ap suc second.1, (first.1, second.2))
+    subst (λ (y : List A × List ℕ). Takes bytes (flat_map c.encode y.0) y.1 × (length y.0 ≡ suc n) × AllByRecursion c.Fits y.0)
+    (some_is made (xs, rest) b.2) (rw flat_map-cons two, ap suc second.1, (first.1, second.2))
 
-pub many_complete : {A : Type 0} (c : Format A) → IsCanonical c → (xs : List A) (rest : List ℕ) → AllByRecursion c.Fits xs → decode_many c (length xs) (flat_map c.encode xs ++ rest) ≡ Some (xs, rest)
+pub many_complete : {A : Type 0} (c : Format A) → IsCanonical c → (xs : List A) (rest : List ℕ) → AllByRecursion c.Fits xs
+    → decode_many c (length xs) (flat_map c.encode xs ++ rest) ≡ Some (xs, rest)
 unfolding decode_many
 many_complete c p [] rest fits = refl
 many_complete c p (x ∷ xs) rest fits =
-    let regrouped : flat_map c.encode (x ∷ xs) ++ rest ≡ c.encode x ++ (flat_map c.encode xs ++ rest) = ap (λ (y : List ℕ). y ++ rest) (flat_map-cons c.encode x xs) ∙ append_assoc (c.encode x) (flat_map c.encode xs) rest in
-    ap (decode_many c (suc (length xs))) regrouped ∙ rw (p.complete x (flat_map c.encode xs ++ rest) fits.0, many_complete c p xs rest fits.1) refl
+    let regrouped : flat_map c.encode (x ∷ xs) ++ rest ≡ c.encode x ++ (flat_map c.encode xs ++ rest) =
+    ap (λ (y : List ℕ). y ++ rest) (flat_map-cons c.encode x xs) ∙ append_assoc (c.encode x) (flat_map c.encode xs) rest in
+    ap (decode_many c (suc (length xs))) regrouped
+    ∙ rw (p.complete x (flat_map c.encode xs ++ rest) fits.0, many_complete c p xs rest fits.1) refl
 
 pub counted_canonical : {A : Type 0} (count : Format ℕ) (c : Format A) → IsCanonical count → IsCanonical c → IsCanonical (counted count c)
 counted_canonical {A} count c q p = record {
   sound = λ bytes xs rest fits e.
       let a = bind_some (count.decode bytes) (λ n. decode_many c n.0 n.1) (xs, rest) e in
       let t = q.sound bytes a.0.0 a.0.1 fits a.1 in
-      let m = many_sound c p a.0.0 a.0.1 xs rest t.0.rest_fits a.2 in
-      (subst (λ (k : ℕ). Takes bytes (count.encode k ++ flat_map c.encode xs) rest) (sym m.1) (takes_then bytes (count.encode a.0.0) a.0.1 (flat_map c.encode xs) rest t.0 m.0), (subst count.Fits (sym m.1) t.1, m.2));
+      let m = many_sound c p a.0.0 a.0.1 xs rest t.0.rest_fits a.2 in (
+        subst (λ (k : ℕ). Takes bytes (count.encode k ++ flat_map c.encode xs) rest) (sym m.1)
+            (takes_then bytes (count.encode a.0.0) a.0.1 (flat_map c.encode xs) rest t.0 m.0),
+        (subst count.Fits (sym m.1) t.1, m.2),
+      );
   complete = λ xs rest fits.
-      ap (counted count c).decode (append_assoc (count.encode (length xs)) (flat_map c.encode xs) rest) ∙ rw (q.complete (length xs) (flat_map c.encode xs ++ rest) fits.0) (many_complete c p xs rest fits.1);
+      ap (counted count c).decode (append_assoc (count.encode (length xs)) (flat_map c.encode xs) rest)
+      ∙ rw (q.complete (length xs) (flat_map c.encode xs ++ rest) fits.0) (many_complete c p xs rest fits.1);
 }
 
 pub list_below_canonical : {A : Type 0} (limit : ℕ) (c : Format A) → IsCanonical c → IsCanonical (list_below limit c)
@@ -264,7 +305,8 @@ list_below_canonical limit c p = counted_canonical (limited limit number32) c (l
 
 -- ---- all of the bytes
 
-pub whole_sound : {A : Type 0} (c : Format A) → IsCanonical c → (bytes : List ℕ) (x : A) → IsBytes bytes → whole c bytes ≡ Some x → (bytes ≡ c.encode x) × c.Fits x
+pub whole_sound : {A : Type 0} (c : Format A) → IsCanonical c → (bytes : List ℕ) (x : A) → IsBytes bytes → whole c bytes ≡ Some x
+    → (bytes ≡ c.encode x) × c.Fits x
 whole_sound {A} c p bytes x fits e =
     let a = bind_some (c.decode bytes) (λ y. cond (eqb (length y.1) 0) (Some y.0) None) x e in
     let g = when_ok (eqb (length a.0.1) 0) (Some a.0.0) x a.2 in

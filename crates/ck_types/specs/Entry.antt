@@ -10,5 +10,6 @@ entry = mapped (pair number64 byte_string) (λ p. record { attr_type = p.0; valu
 
 pub entry_canonical : IsCanonical entry
 entry_canonical =
-    mapped_canonical (pair number64 byte_string) (λ p. record { attr_type = p.0; value = p.1 }) (λ e. (e.attr_type, e.value)) (λ x. refl) (λ y. refl)
+    mapped_canonical (pair number64 byte_string) (λ p. record { attr_type = p.0; value = p.1 }) (λ e. (e.attr_type, e.value))
+    (λ x. refl) (λ y. refl)
     (pair_canonical number64 byte_string number64_canonical byte_string_canonical)

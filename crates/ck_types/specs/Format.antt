@@ -20,7 +20,8 @@ abbrev pub number : Width → ℕ → Format ℕ
 number w limit = record {
   encode = to_be_bytes w;
   Fits = λ n. n < limit;
-  decode = λ bytes. if nat_lt (length bytes) (byte_len w) then None else Some (from_be_bytes w (take (byte_len w) bytes), drop (byte_len w) bytes);
+  decode = λ bytes. if nat_lt (length bytes) (byte_len w) then None else Some
+      (from_be_bytes w (take (byte_len w) bytes), drop (byte_len w) bytes);
 }
 
 abbrev pub number16 : Format ℕ

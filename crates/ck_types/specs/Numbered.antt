@@ -25,7 +25,8 @@ first_with-none number [] n h = refl
 first_with-none number (v ∷ vs) n h = rw (ne_eqb (number v) n (h v)) (first_with-none number vs n h)
 
 -- what the inverse of a numbering returns is what first_with finds
-pub first_with-inverse : {A : Type 0} (number : A → ℕ) (vs : List A) → ((v : A) → first_with number vs (number v) ≡ Some v) → (n : ℕ) (r : Option A) → IsInverse number n r → first_with number vs n ≡ r
+pub first_with-inverse : {A : Type 0} (number : A → ℕ) (vs : List A) → ((v : A) → first_with number vs (number v) ≡ Some v)
+    → (n : ℕ) (r : Option A) → IsInverse number n r → first_with number vs n ≡ r
 first_with-inverse number vs all n (Some v) h = ap (first_with number vs) (sym h) ∙ all v
 first_with-inverse number vs all n None h = first_with-none number vs n h
 
@@ -129,4 +130,5 @@ unfolding session_state_at
 session_state_at-again = all_session_state
 
 pub state_canonical : IsCanonical state
-state_canonical = narrowed_canonical number64 session_state_at session_state_number session_state_at-number session_state_at-again number64_canonical
+state_canonical = narrowed_canonical number64 session_state_at session_state_number session_state_at-number session_state_at-again
+    number64_canonical

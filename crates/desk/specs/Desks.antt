@@ -10,7 +10,7 @@ use Rattle.ck_calls.specs.declared.call.Call.{Call}
 use Rattle.lists.specs.Indexes.{updated_where}
 use Rattle.mech.specs.declared.job.Job.{Job}
 use Rattle.handles.specs.Handles.{HandleTable, no_handles, public_handles}
-use Rattle.sessions.specs.Sessions.{SessionTable, no_sessions, without_session, logged_out}
+use Rattle.sessions.specs.Sessions.{SessionTable, no_sessions, without_session, table_logged_out}
 use Rattle.desk.specs.declared.own_object.OwnObject.{OwnObject}
 use Rattle.ops.specs.Operations.{Operations, no_operations}
 
@@ -28,7 +28,15 @@ pub record DeskState : Type 0 where
 
 -- the desk of an application that has none yet
 abbrev pub empty_desk : DeskState
-empty_desk = record { sessions = no_sessions; own = []; own_capacity = 0; handles = no_handles; call = None; question = None; next_question = 1 }
+empty_desk = record {
+  sessions = no_sessions;
+  own = [];
+  own_capacity = 0;
+  handles = no_handles;
+  call = None;
+  question = None;
+  next_question = 1;
+}
 
 -- the same but for capacities
 abbrev pub SameDesk : DeskState → DeskState → Type 0
@@ -40,7 +48,8 @@ IsDiscreet d = is_user_in d.sessions.login ≡ false → AllByRecursion (λ h. h
 
 -- no call is taken: a call is pending, or a next number is used up
 abbrev pub is_busy : DeskState → Bool
-is_busy d = is_some d.question || (nat_le (2 ^ 63) d.sessions.next_number || (nat_le (2 ^ 63) d.handles.next_number || nat_le (2 ^ 63) d.next_question))
+is_busy d = is_some d.question ||
+    (nat_le (2 ^ 63) d.sessions.next_number || (nat_le (2 ^ 63) d.handles.next_number || nat_le (2 ^ 63) d.next_question))
 
 -- the session object under a handle
 abbrev pub own_at : List OwnObject → ℕ → Option (List Entry)
@@ -79,7 +88,7 @@ all_closed d =
 abbrev pub logged_out_desk : DeskState → DeskState
 logged_out_desk d =
     record d {
-      sessions = logged_out no_operations d.sessions;
+      sessions = table_logged_out no_operations d.sessions;
       own = filter (λ e. not (flag e.object Private)) d.own;
       handles = record d.handles { entries = public_handles d.handles.entries };
     }

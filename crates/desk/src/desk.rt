@@ -5,11 +5,11 @@ ghost use Rattle.fips_197.specs.KeyExpansion.{IsKey, IsKeyLength};
 ghost use Rattle.std.specs.Option.{option_copied};
 ghost use Rattle.std.specs.List.{position};
 ghost use Rattle.ck_types.specs.declared.user_type.UserType.TheVariants.{So};
-ghost use Rattle.handles.specs.Handles.{object_of, number_of, with_handle, without_object, HasRoomFor};
-ghost use Rattle.handles.specs.Handles.{IsTable as IsHandleTable};
+ghost use Rattle.handles.specs.Handles.{object_of, handle_number, with_handle, handles_without, HasRoomFor};
+ghost use Rattle.handles.specs.Handles.{IsHandleTable as IsHandleTable};
 ghost use Rattle.sessions.specs.Sessions.{session_at, state_of, has_read_only, with_session, with_work, IsTable};
 ghost use Rattle.guard.specs.Access.{is_user_in};
-ghost use Rattle.ops.specs.Operations.{mac_in, mac_of, no_operations, operation_in, operation_of, search_in, with_mac, with_operation, with_search};
+ghost use Rattle.ops.specs.Operations.{mac_in, mac_of, no_operations, operation_in, operation_of, search_in, table_with_mac, table_with_operation, with_search};
 ghost use Rattle.desk.specs.Desks.{DeskState, SameDesk, IsDiscreet, empty_desk, is_busy, own_at, replaced_own, closed, all_closed, logged_out_desk, over, with_call, with_question};
 ghost use Rattle.attrs.specs.Objects.{flag};
 ghost use Rattle.ck_types.specs.declared.attr_type.AttrType.TheVariants.{Private};
@@ -51,9 +51,25 @@ impl Model for Desk {
 
     ghost Value = { DeskState };
 
-    ghost view = { λ d. record { sessions = d.sessions; own = d.own.items; own_capacity = vec_capacity d.own; handles = d.handles; call = option_map (λ s. s.value) d.call; question = d.question; next_question = d.next_question } };
+    ghost view = { λ d. record {
+      sessions = d.sessions;
+      own = d.own.items;
+      own_capacity = vec_capacity d.own;
+      handles = d.handles;
+      call = option_map (λ s. s.value) d.call;
+      question = d.question;
+      next_question = d.next_question;
+    } };
 
-    ghost invariant = { λ d. IsDiscreet (record { sessions = d.sessions; own = d.own.items; own_capacity = vec_capacity d.own; handles = d.handles; call = option_map (λ s. s.value) d.call; question = d.question; next_question = d.next_question }) };
+    ghost invariant = { λ d. IsDiscreet (record {
+      sessions = d.sessions;
+      own = d.own.items;
+      own_capacity = vec_capacity d.own;
+      handles = d.handles;
+      call = option_map (λ s. s.value) d.call;
+      question = d.question;
+      next_question = d.next_question;
+    }) };
 }
 
 impl Desk {
@@ -227,7 +243,7 @@ impl Desk {
     /// Begins an operation that encrypts or decrypts at a place of a session, continues it, or ends the one that is there.
     /// Without such a session nothing changes.
     pub fn set_operation(&mut self, session: u64, place: Place, operation: Option<Stream>)
-        ensures { self.new ≡ record self.old { sessions = with_operation self.old.sessions session place (option_map operation_of operation) } }
+        ensures { self.new ≡ record self.old { sessions = table_with_operation self.old.sessions session place (option_map operation_of operation) } }
     {
         if let Some(places) = self.sessions.work_mut(session) {
             places.set(place, operation);
@@ -244,7 +260,7 @@ impl Desk {
     /// Begins an operation that signs or verifies at a place of a session, continues it, or ends the one that is there.
     /// Without such a session nothing changes.
     pub fn set_mac(&mut self, session: u64, place: MacPlace, operation: Option<Mac>)
-        ensures { self.new ≡ record self.old { sessions = with_mac self.old.sessions session place (option_map mac_of operation) } }
+        ensures { self.new ≡ record self.old { sessions = table_with_mac self.old.sessions session place (option_map mac_of operation) } }
     {
         if let Some(places) = self.sessions.work_mut(session) {
             places.set_mac(place, operation);
@@ -269,7 +285,10 @@ impl Desk {
 
     /// Removes the first `count` handles of a session's search, which are returned now. Without such a search nothing changes.
     pub fn advance_search(&mut self, session: u64, count: usize)
-        ensures { self.new ≡ record self.old { sessions = with_search self.old.sessions session (option_map (drop count) (search_in (session_at self.old.sessions.sessions session))) } }
+        ensures { self.new ≡ record self.old {
+          sessions = with_search self.old.sessions session
+              (option_map (drop count) (search_in (session_at self.old.sessions.sessions session)));
+        } }
     {
         if let Some(places) = self.sessions.work_mut(session) {
             places.advance_search(count);
@@ -364,14 +383,14 @@ impl Desk {
         requires room { HasRoomFor self.old.handles 1 }
         requires discreet { IsTrue private → is_user_in self.old.sessions.login ≡ true }
         ensures given { self.new ≡ record self.old { handles = with_handle self.old.handles id private } }
-        ensures handle { number_of self.new.handles.entries id ≡ Some result }
+        ensures handle { handle_number self.new.handles.entries id ≡ Some result }
     {
         self.handles.give(id, private)
     }
 
     /// Retires the handle of a token object, if it has one. Allocates nothing.
     pub fn retire(&mut self, id: u64)
-        ensures { self.new ≡ record self.old { handles = record self.old.handles { entries = without_object self.old.handles.entries id } } }
+        ensures { self.new ≡ record self.old { handles = record self.old.handles { entries = handles_without self.old.handles.entries id } } }
     {
         self.handles.retire(id);
     }

@@ -52,7 +52,10 @@ module _ (S : RattleType) (send : IsSend S) (sync : IsSync S) where
   writer_send = search (writer_inside, sendable) depth 10
 
   door_inside : IsSend (DoorInside.the_row S)
-  door_inside = declared_send (DoorInside.the_type S) (search (listener_send, sendable, crosses) depth 30, (search sendable depth 8, (list_send _, (search (sendable, crosses) depth 30, tt))))
+  door_inside = declared_send (DoorInside.the_type S) (
+    search (listener_send, sendable, crosses) depth 30,
+    (search sendable depth 8, (list_send _, (search (sendable, crosses) depth 30, tt))),
+  )
 
   pub door_send : IsSend (Door.the_row S)
   door_send = search (door_inside, sendable) depth 10

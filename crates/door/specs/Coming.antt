@@ -3,9 +3,9 @@ use Rattle.std.specs.Prelude.{◌≡◌, ◌≢◌, ℕ, List, [], ◌∷◌, No
 use Rattle.door.specs.Ends.{Reading, Writing}
 
 -- no connection of this application came
-abbrev pub IsFresh : ℕ → List ℕ → Type 0
-IsFresh app [] = Unit {0}
-IsFresh app (x ∷ xs) = (x ≢ app) × IsFresh app xs
+abbrev pub IsFreshApp : ℕ → List ℕ → Type 0
+IsFreshApp app [] = Unit {0}
+IsFreshApp app (x ∷ xs) = (x ≢ app) × IsFreshApp app xs
 
 -- the ends of an application's new connection
 abbrev pub AreEnds : ℕ → Reading × Writing → Type 0

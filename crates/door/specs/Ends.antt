@@ -28,7 +28,8 @@ pub record TookBytes (old new : Writing) (bytes : List ℕ) : Type 0 where
 
 -- a read gave the first bytes of the buffer, none only at the end or with no room; one that failed gave none
 abbrev pub ReadGives : {E : Type 0} → Reading → Reading → Result ℕ E → List ℕ → Type 0
-ReadGives old new r buf = MatchResult r (λ n. GaveBytes old new (take n buf) × (n ≡ 0 → 0 < length buf → IsAtEnd new.left)) (λ _. GaveBytes old new [])
+ReadGives old new r buf = MatchResult r (λ n. GaveBytes old new (take n buf) × (n ≡ 0 → 0 < length buf → IsAtEnd new.left))
+    (λ _. GaveBytes old new [])
 
 -- a write took the first of the bytes; one that failed took none
 abbrev pub WriteTakes : {E : Type 0} → Writing → Writing → Result ℕ E → List ℕ → Type 0

@@ -8,7 +8,7 @@
 //!
 //! Proved, by the names of contracts: an end gives or takes what its socket does, and stays of its application (`Source::read`,
 //! `Sink::write`: `ReadGives`, `WriteTakes`), for any `Socket`. The door lets a connection in for an application that had none
-//! (`IsFresh`), and gives both its ends (`AreEnds`).
+//! (`IsFreshApp`), and gives both its ends (`AreEnds`).
 #![tactic(auto)]
 
 mod ends;

@@ -1,7 +1,7 @@
 //! Who connects is let in, each once.
 
 ghost use Rattle.std.specs.Prelude.{◌≡◌, ◌∷◌, [], ◌++◌, IfErr, IfOk};
-ghost use Rattle.door.specs.Coming.{AreEnds, IsFresh};
+ghost use Rattle.door.specs.Coming.{AreEnds, IsFreshApp};
 
 use crate::pair::{Reader, Writer, ends_of};
 use crate::socket::Socket;
@@ -66,7 +66,7 @@ impl<S: Socket + Drop> Door<S> {
         app: u64,
         patience: Option<Duration>,
     ) -> io::Result<(Reader<S>, Writer<S>)>
-        requires fresh { IsFresh app self.old }
+        requires fresh { IsFreshApp app self.old }
         ensures came { IfOk result (λ ends. (self.new ≡ self.old ++ app ∷ []) × AreEnds app ends) }
         ensures none { IfErr result (λ _. self.new ≡ self.old) }
     {

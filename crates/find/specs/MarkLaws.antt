@@ -21,10 +21,12 @@ has_value-same (Some value) wanted h = ap (λ (bytes : List ℕ). Some bytes) ((
 
 -- an entry that the object matches is of a value that the object has
 attribute-matched : (o : List Entry) (e : Entry) → entry_matches o e ≡ true → attribute o e.attr_type ≡ Some e.value
-attribute-matched o e h = has_value-same (attribute o e.attr_type) e.value (and_parts (reveals o e.attr_type) (has_value (attribute o e.attr_type) e.value) h).1
+attribute-matched o e h = has_value-same (attribute o e.attr_type) e.value
+    (and_parts (reveals o e.attr_type) (has_value (attribute o e.attr_type) e.value) h).1
 
 -- the object has each value that the template wants
-attribute-wanted : (o template : List Entry) (n : ℕ) (value : List ℕ) → template_matches template o ≡ true → attribute template n ≡ Some value → attribute o n ≡ Some value
+attribute-wanted : (o template : List Entry) (n : ℕ) (value : List ℕ) → template_matches template o ≡ true
+    → attribute template n ≡ Some value → attribute o n ≡ Some value
 attribute-wanted o [] n value h is = absurd cc
 attribute-wanted o (e ∷ template) n value h is =
     let both = and_parts (entry_matches o e) (template_matches template o) h in
@@ -34,27 +36,41 @@ attribute-wanted o (e ∷ template) n value h is =
     ]
 
 -- so the object's mark has the hash that is wanted
-is_other_hash-matched : (o template : List Entry) (t : AttrType) → template_matches template o ≡ true → is_other_hash (option_map hash_of (attribute_of template t)) (hash_in (attribute_of o t)) ≡ false
-is_other_hash-matched o template t h = step (attribute_of template t) (λ value is. attribute-wanted o template (attr_type_number t) value h is) where
-  step : (wanted : Option (List ℕ)) → ((value : List ℕ) → wanted ≡ Some value → attribute_of o t ≡ Some value) → is_other_hash (option_map hash_of wanted) (hash_in (attribute_of o t)) ≡ false
-  step None has = refl
-  step (Some value) has = ap not (eq-eqb (hash_of value) (hash_in (attribute_of o t)) (sym (ap hash_in (has value refl))))
+is_other_hash-matched : (o template : List Entry) (t : AttrType) → template_matches template o ≡ true
+    → is_other_hash (option_map hash_of (attribute_of template t)) (hash_in (attribute_of o t)) ≡ false
+is_other_hash-matched o template t h =
+    step (attribute_of template t) (λ value is. attribute-wanted o template (attr_type_number t) value h is) where
+      step : (wanted : Option (List ℕ)) → ((value : List ℕ) → wanted ≡ Some value → attribute_of o t ≡ Some value)
+          → is_other_hash (option_map hash_of wanted) (hash_in (attribute_of o t)) ≡ false
+      step None has = refl
+      step (Some value) has = ap not (eq-eqb (hash_of value) (hash_in (attribute_of o t)) (sym (ap hash_in (has value refl))))
 
 -- and it is private or not, as is wanted
-is_other_truth-matched : (o template : List Entry) → template_matches template o ≡ true → is_other_truth (option_map truth_of (attribute_of template attr.Private)) (flag o attr.Private) ≡ false
-is_other_truth-matched o template h = step (attribute_of template attr.Private) (λ value is. attribute-wanted o template (attr_type_number attr.Private) value h is) where
-  step : (wanted : Option (List ℕ)) → ((value : List ℕ) → wanted ≡ Some value → attribute_of o attr.Private ≡ Some value) → is_other_truth (option_map truth_of wanted) (flag o attr.Private) ≡ false
-  step None has = refl
-  step (Some value) has = ap not ((booleans_Decides (is_true (Some value)) (flag o attr.Private)).1 (sym (ap is_true (has value refl))))
+is_other_truth-matched : (o template : List Entry) → template_matches template o ≡ true
+    → is_other_truth (option_map truth_of (attribute_of template attr.Private)) (flag o attr.Private) ≡ false
+is_other_truth-matched o template h =
+    step (attribute_of template attr.Private) (λ value is. attribute-wanted o template (attr_type_number attr.Private) value h is) where
+      step : (wanted : Option (List ℕ)) → ((value : List ℕ) → wanted ≡ Some value → attribute_of o attr.Private ≡ Some value)
+          → is_other_truth (option_map truth_of wanted) (flag o attr.Private) ≡ false
+      step None has = refl
+      step (Some value) has = ap not ((booleans_Decides (is_true (Some value)) (flag o attr.Private)).1 (sym (ap is_true (has value refl))))
 
 -- what is excluded is not found, since what the template finds is not excluded
-pub template_matches-excluded : (o template : List Entry) → excludes (wanted_of template) (mark_of o) ≡ true → template_matches template o ≡ false
+pub template_matches-excluded : (o template : List Entry) → excludes (wanted_of template) (mark_of o) ≡ true
+    → template_matches template o ≡ false
 template_matches-excluded o template h =
     let step : (b : Bool) → template_matches template o ≡ b → b ≡ false =
     λ b. elim b as (λ c. template_matches template o ≡ c → c ≡ false) [
       | true ↦ λ k.
           let no : excludes (wanted_of template) (mark_of o) ≡ false =
-          rw (is_other_truth-matched o template k, is_other_hash-matched o template attr.Class k, is_other_hash-matched o template attr.KeyType k, is_other_hash-matched o template attr.Label k, is_other_hash-matched o template attr.Id k, is_other_hash-matched o template attr.Application k) refl in
+          rw (
+            is_other_truth-matched o template k,
+            is_other_hash-matched o template attr.Class k,
+            is_other_hash-matched o template attr.KeyType k,
+            is_other_hash-matched o template attr.Label k,
+            is_other_hash-matched o template attr.Id k,
+            is_other_hash-matched o template attr.Application k,
+          ) refl in
           absurd cc
       | false ↦ λ k. refl
     ] in

@@ -11,4 +11,5 @@ pub is_visible-mask : (state : SessionState) (es : List Entry) → is_visible st
 is_visible-mask state es = ap (λ (b : Bool). not b || is_user state) (flag-mask es attr.Private (λ e. absurd (omega (arith, e))))
 
 pub is_writable-mask : (state : SessionState) (es : List Entry) → is_writable state (mask es) ≡ is_writable state es
-is_writable-mask state es = rw (flag-mask es attr.Private (λ e. absurd (omega (arith, e))), flag-mask es attr.Token (λ e. absurd (omega (arith, e)))) refl
+is_writable-mask state es = rw
+    (flag-mask es attr.Private (λ e. absurd (omega (arith, e))), flag-mask es attr.Token (λ e. absurd (omega (arith, e)))) refl

@@ -3,9 +3,10 @@ use Rattle.std.proofs.Common.{◌≡◌, ℕ, zero, suc, ◌≤◌, List, [], �
 use Rattle.model_worlds.specs.Worlds.{World}
 use Rattle.token.specs.States.{Lasting}
 use Rattle.hall_log.specs.Lists.{last, of}
-use Rattle.hall_log.specs.declared.event.AppCall.{AppCall}
+use Rattle.ck_calls.specs.declared.app_call.AppCall.{AppCall}
 use Rattle.hall_log.specs.Histories.{Exchange, History}
 use Rattle.hall_log.specs.Putting.{IsProper, pending}
+use Rattle.hall.specs.Terms.{MachineTerms}
 use Rattle.hall.specs.Beginning.{EndsAfter}
 use Rattle.hall.specs.Given.{IsSoFar}
 use Rattle.hall.specs.Held.{WereHeld}
@@ -29,14 +30,17 @@ none_beyond s (x ∷ xs) beyond proper = let own = (proper [] x xs refl).1 in ab
 pub of_seat : (stands : List Exchange → Type 0) (h : History) (n s : ℕ) → n ≡ s → EndsAfter stands (of n h) → EndsAfter stands (of s h)
 of_seat stands h n s is ends = subst (λ (k : ℕ). EndsAfter stands (of k h)) is ends
 
-pub held : {S T : Type 0} (stands : S → List Exchange → Type 0) (served : History → Type 0) (doubt failures : T → ℕ) (shows : T → World → Type 0) (leaves : T → Option Lasting → Type 0) (spare : T → World → ℕ → Type 0) (was_read : List Exchange → AppCall → Type 0)
-    (seats : S × S × S × S) (before after : T) (h : History) → IsSoFar doubt failures shows leaves spare was_read before after h → served h
-    → EndsAfter (stands seats.0) (of 0 h) → EndsAfter (stands seats.1) (of 1 h) → EndsAfter (stands seats.2) (of 2 h) → EndsAfter (stands seats.3) (of 3 h)
-    → WereHeld stands served doubt failures shows leaves spare seats before after
-held stands served doubt failures shows leaves spare was_read seats before after h so told e0 e1 e2 e3 =
+pub held : {S T : Type 0} (stands : S → List Exchange → Type 0) (served : History → Type 0) (terms : MachineTerms T)
+    (was_read : List Exchange → AppCall → Type 0)
+    (seats : S × S × S × S) (before after : T) (h : History) → IsSoFar terms was_read before after h → served h
+    → EndsAfter (stands seats.0) (of 0 h) → EndsAfter (stands seats.1) (of 1 h) → EndsAfter (stands seats.2) (of 2 h)
+    → EndsAfter (stands seats.3) (of 3 h)
+    → WereHeld stands served terms seats before after
+held stands served terms was_read seats before after h so told e0 e1 e2 e3 =
     let proper = proper_so was_read h so.1 in
     let only : (s : ℕ) → 4 ≤ s → of s h ≡ [] = λ s beyond. none_beyond s (of s h) beyond (proper s) in
-    let settled = four_seats (λ s. pending (last (of s h)) ≡ None) e0.0 e1.0 e2.0 e3.0 (λ s beyond. ap (λ l. pending (last l)) (only s beyond)) in
+    let settled = four_seats (λ s. pending (last (of s h)) ≡ None) e0.0 e1.0 e2.0 e3.0
+    (λ s beyond. ap (λ l. pending (last l)) (only s beyond)) in
     record {
       history = h;
       told = told;

@@ -20,9 +20,9 @@ use Rattle.token.specs.States.{HasJobs, TakesJob, jobs_of, moved, IsStep, Lastin
 use Rattle.token.proofs.States.{open_is, step_reply, step_ask, step_finish, step_gone}
 use Rattle.hall_log.specs.declared.event.Event.{Event}
 use Rattle.hall_log.specs.declared.event.Event.TheVariants.{Call, Finish, Gone}
-use Rattle.hall_log.specs.Histories.{Exchange, app_of}
+use Rattle.hall_log.specs.Histories.{Exchange, event_app}
 use Rattle.hall_log.specs.Putting.{asks, pending, Follows}
-use Rattle.hall.specs.Histories.{Allowed, Tells, TellsResult, as_event, moved_by, own_job, told_by, waiting}
+use Rattle.hall.specs.Histories.{Allowed, TellsEvent, TellsResult, as_event, moved_by, own_job, told_by, waiting}
 
 -- ---- moves
 
@@ -35,26 +35,32 @@ event_moved_by event None = refl
 event_moved_by event (Some out) = event_moved event (resource_error_in (said_of out))
 
 -- a call by the answer is the event by the answer
-pub called_is : (w : World) (app : ℕ) (call : CallType) (words : Vec ℕ) (fault : Option Fault) → called w app call words.items fault ≡ happens w (moved (ModelCall app call words) fault)
+pub called_is : (w : World) (app : ℕ) (call : CallType) (words : Vec ℕ) (fault : Option Fault)
+    → called w app call words.items fault ≡ happens w (moved (ModelCall app call words) fault)
 called_is w app call words None = refl
 called_is w app call words (Some fault) = refl
 
-pub left_is : (prior : Option Lasting → Type 0) (w : World) (app : ℕ) (call : CallType) (words : Vec ℕ) (fault : Option Fault) (l : Option Lasting)
-    → LeavesBy prior (call_change w app call words.items) (called w app call words.items None) fault l → LeftBy prior w (moved (ModelCall app call words) fault) l
+pub left_is : (prior : Option Lasting → Type 0) (w : World) (app : ℕ) (call : CallType) (words : Vec ℕ) (fault : Option Fault)
+    (l : Option Lasting)
+    → LeavesBy prior (call_change w app call words.items) (called w app call words.items None) fault l
+    → LeftBy prior w (moved (ModelCall app call words) fault) l
 left_is prior w app call words None l x = x
 left_is prior w app call words (Some fault) l x = x
 
 -- what is returned is the answer's reply
-reply_is : (w : World) (app : ℕ) (call : CallType) (words : Vec ℕ) (r : ReplyType) (fault : Option Fault) → Replies r ≡ says_called w app call words.items fault → reply_to w (moved (ModelCall app call words) fault) ≡ (app, r) ∷ []
+reply_is : (w : World) (app : ℕ) (call : CallType) (words : Vec ℕ) (r : ReplyType) (fault : Option Fault)
+    → Replies r ≡ says_called w app call words.items fault → reply_to w (moved (ModelCall app call words) fault) ≡ (app, r) ∷ []
 reply_is w app call words r None says = ap (told app) (sym says)
 reply_is w app call words r (Some fault) says = ap (told app) (sym says)
 
-result_is : (w : World) (app : ℕ) (job : Job) (out : Out) → TellsResult w app job out → reply_to w (moved_by (ModelFinish app) (Some out)) ≡ told_by app (Some out)
+result_is : (w : World) (app : ℕ) (job : Job) (out : Out) → TellsResult w app job out
+    → reply_to w (moved_by (ModelFinish app) (Some out)) ≡ told_by app (Some out)
 result_is w app job (Reply r) t = t.1
 result_is w app job (Ask j) t = absurd t
 
-pub tells_is : (w : World) (event : Event) (answer : Option Out) → Tells w event answer → reply_to w (moved_by (as_event event) answer) ≡ told_by (app_of event) answer
-tells_is w (Call c) (Some (Reply r)) t = reply_is w c.app c.call c.words r (resource_error r) t.0
+pub tells_is : (w : World) (event : Event) (answer : Option Out) → TellsEvent w event answer
+    → reply_to w (moved_by (as_event event) answer) ≡ told_by (event_app event) answer
+tells_is w (Call c) (Some (Reply r)) t = reply_is w c.app c.call c.random r (resource_error r) t.0
 tells_is w (Call c) (Some (Ask j)) t = ap (told c.app) (sym t.0)
 tells_is w (Call c) None t = absurd t
 tells_is w (Finish app d) (Some out) t = result_is w app d.job.value out t
@@ -110,43 +116,51 @@ out_after (Call c) None out = out
 out_after (Finish app d) answer out = without app out
 out_after (Gone app) answer out = out
 
-takes_own : (app : ℕ) (out : List (ℕ × Job)) (p : Option Exchange) (job : Job) → pending p ≡ Some (app, job) → jobs_of app out ≡ waiting app p → TakesJob app out (Some job) (without app out)
+takes_own : (app : ℕ) (out : List (ℕ × Job)) (p : Option Exchange) (job : Job) → pending p ≡ Some (app, job)
+    → jobs_of app out ≡ waiting app p → TakesJob app out (Some job) (without app out)
 takes_own app out p job is owns = (
   owns ∙ ap (own_job app) is ∙ own_job-own app job ∙ ap (λ js. job ∷ js) (sym (jobs_of-without_own app out)),
   λ b differ. jobs_of-without_other b app out differ,
 )
 
-none_own : (app : ℕ) (out : List (ℕ × Job)) (p : Option Exchange) → pending p ≡ None → jobs_of app out ≡ waiting app p → jobs_of app out ≡ []
+none_own : (app : ℕ) (out : List (ℕ × Job)) (p : Option Exchange) → pending p ≡ None → jobs_of app out ≡ waiting app p
+    → jobs_of app out ≡ []
 none_own app out p is owns = owns ∙ ap (own_job app) is
 
-pub allowed_after : (w : World) (out : List (ℕ × Job)) → HasJobs w out → (p : Option Exchange) (event : Event) → Follows p event → jobs_of (app_of event) out ≡ waiting (app_of event) p → Allowed w event
+pub allowed_after : (w : World) (out : List (ℕ × Job)) → HasJobs w out → (p : Option Exchange) (event : Event) → Follows p event
+    → jobs_of (event_app event) out ≡ waiting (event_app event) p → Allowed w event
 allowed_after w out h p (Call c) f owns = tt
-allowed_after w out h p (Finish app d) f owns = (open_is w app out (without app out) d.job.value h (takes_own app out p d.job.value f owns)).0
+allowed_after w out h p (Finish app d) f owns =
+    (open_is w app out (without app out) d.job.value h (takes_own app out p d.job.value f owns)).0
 allowed_after w out h p (Gone app) f owns = tt
 
-jobs_result : (w : World) (out : List (ℕ × Job)) → HasJobs w out → (p : Option Exchange) (app : ℕ) (d : Done) (o : Out) → pending p ≡ Some (app, d.job.value) → jobs_of app out ≡ waiting app p
+jobs_result : (w : World) (out : List (ℕ × Job)) → HasJobs w out → (p : Option Exchange) (app : ℕ) (d : Done) (o : Out)
+    → pending p ≡ Some (app, d.job.value) → jobs_of app out ≡ waiting app p
     → TellsResult w app d.job.value o → HasJobs (happens w (moved_by (ModelFinish app) (Some o))) (without app out)
 jobs_result w out h p app d (Ask j) f owns t = absurd t
 jobs_result w out h p app d (Reply r) f owns t =
     let m : Move = moved_by (ModelFinish app) (Some (Reply r)) in
     let none : Option Lasting → Type 0 = λ l. ⊥ in
     let st : IsStep (λ v. v ≡ happens w m) none none w (ModelFinish app) ((app, r) ∷ []) (without app out) =
-    step_finish w out h app (λ v. v ≡ happens w m) none none (without app out) (jobs_of-without_own app out) (λ b differ. jobs_of-without_other b app out differ) d.job.value r t.0 t.1 refl (λ l x. absurd x) in
+    step_finish w out h app (λ v. v ≡ happens w m) none none (without app out) (jobs_of-without_own app out)
+    (λ b differ. jobs_of-without_other b app out differ) d.job.value r t.0 t.1 refl (λ l x. absurd x) in
     subst (λ v. HasJobs v (without app out)) st.shows st.jobs
 
-pub jobs_after : (w : World) (out : List (ℕ × Job)) → HasJobs w out → (p : Option Exchange) (event : Event) (answer : Option Out) → Follows p event → jobs_of (app_of event) out ≡ waiting (app_of event) p
-    → Tells w event answer → HasJobs (happens w (moved_by (as_event event) answer)) (out_after event answer out)
+pub jobs_after : (w : World) (out : List (ℕ × Job)) → HasJobs w out → (p : Option Exchange) (event : Event) (answer : Option Out)
+    → Follows p event → jobs_of (event_app event) out ≡ waiting (event_app event) p
+    → TellsEvent w event answer → HasJobs (happens w (moved_by (as_event event) answer)) (out_after event answer out)
 jobs_after w out h p (Call c) (Some (Reply r)) f owns t =
     let m : Move = moved_by (as_event (Call c)) (Some (Reply r)) in
     let none : Option Lasting → Type 0 = λ l. ⊥ in
-    let st : IsStep (λ v. v ≡ happens w m) none none w (ModelCall c.app c.call c.words) ((c.app, r) ∷ []) out =
-    step_reply w out h c.app (λ v. v ≡ happens w m) none none c.call c.words r t.0 (called_is w c.app c.call c.words (resource_error r)) (λ l x. absurd x) in
+    let st : IsStep (λ v. v ≡ happens w m) none none w (ModelCall c.app c.call c.random) ((c.app, r) ∷ []) out =
+    step_reply w out h c.app (λ v. v ≡ happens w m) none none c.call c.random r t.0
+    (called_is w c.app c.call c.random (resource_error r)) (λ l x. absurd x) in
     subst (λ v. HasJobs v out) st.shows st.jobs
 jobs_after w out h p (Call c) (Some (Ask j)) f owns t =
     let m : Move = moved_by (as_event (Call c)) (Some (Ask j)) in
     let none : Option Lasting → Type 0 = λ l. ⊥ in
-    let st : IsStep (λ v. v ≡ happens w m) none none w (ModelCall c.app c.call c.words) [] (out ++ (c.app, j) ∷ []) =
-    step_ask w out h c.app (λ v. v ≡ happens w m) none none c.call c.words j t.1 t.0 refl (λ l x. absurd x) in
+    let st : IsStep (λ v. v ≡ happens w m) none none w (ModelCall c.app c.call c.random) [] (out ++ (c.app, j) ∷ []) =
+    step_ask w out h c.app (λ v. v ≡ happens w m) none none c.call c.random j t.1 t.0 refl (λ l x. absurd x) in
     subst (λ v. HasJobs v (out ++ (c.app, j) ∷ [])) st.shows st.jobs
 jobs_after w out h p (Call c) None f owns t = absurd t
 jobs_after w out h p (Finish app d) (Some o) f owns t = jobs_result w out h p app d o f owns t
@@ -162,10 +176,12 @@ jobs_after w out h p (Gone app) (Some o) f owns t = absurd t
 -- ---- whose they are
 
 -- those of the seat's applications are of its last exchange
-pub own_after : (w : World) (out : List (ℕ × Job)) (p : Option Exchange) (event : Event) (answer : Option Out) (a : ℕ) → Follows p event → jobs_of a out ≡ waiting a p
-    → Tells w event answer → jobs_of a (out_after event answer out) ≡ own_job a (asks event answer)
+pub own_after : (w : World) (out : List (ℕ × Job)) (p : Option Exchange) (event : Event) (answer : Option Out) (a : ℕ)
+    → Follows p event → jobs_of a out ≡ waiting a p
+    → TellsEvent w event answer → jobs_of a (out_after event answer out) ≡ own_job a (asks event answer)
 own_after w out p (Call c) (Some (Reply r)) a f owns t = none_own a out p f owns
-own_after w out p (Call c) (Some (Ask j)) a f owns t = jobs_of-push a out (c.app, j) ∙ ap (λ js. js ++ own_job a (Some (c.app, j))) (none_own a out p f owns)
+own_after w out p (Call c) (Some (Ask j)) a f owns t = jobs_of-push a out (c.app, j)
+    ∙ ap (λ js. js ++ own_job a (Some (c.app, j))) (none_own a out p f owns)
 own_after w out p (Call c) None a f owns t = absurd t
 own_after w out p (Finish app d) answer a f owns t = elim (cases_eq a app) [
   | inl is ↦ ap (λ b. jobs_of b (without app out)) is ∙ jobs_of-without_own app out
@@ -174,9 +190,11 @@ own_after w out p (Finish app d) answer a f owns t = elim (cases_eq a app) [
 own_after w out p (Gone app) answer a f owns t = none_own a out p f owns
 
 -- and the others' stay
-pub other_after : (out : List (ℕ × Job)) (event : Event) (answer : Option Out) (a : ℕ) → a ≢ app_of event → jobs_of a (out_after event answer out) ≡ jobs_of a out
+pub other_after : (out : List (ℕ × Job)) (event : Event) (answer : Option Out) (a : ℕ) → a ≢ event_app event
+    → jobs_of a (out_after event answer out) ≡ jobs_of a out
 other_after out (Call c) (Some (Reply r)) a differ = refl
-other_after out (Call c) (Some (Ask j)) a differ = jobs_of-push a out (c.app, j) ∙ ap (λ js. jobs_of a out ++ js) (own_job-other a c.app j differ) ∙ append-nil (jobs_of a out)
+other_after out (Call c) (Some (Ask j)) a differ = jobs_of-push a out (c.app, j)
+    ∙ ap (λ js. jobs_of a out ++ js) (own_job-other a c.app j differ) ∙ append-nil (jobs_of a out)
 other_after out (Call c) None a differ = refl
 other_after out (Finish app d) answer a differ = jobs_of-without_other a app out differ
 other_after out (Gone app) answer a differ = refl

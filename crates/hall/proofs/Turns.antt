@@ -6,13 +6,13 @@ use Rattle.hall_log.specs.Lists.{last, of}
 use Rattle.hall_log.specs.Log.{served}
 use Rattle.hall_log.specs.SeatLogs.{SeatLog, done_by}
 use Rattle.hall_log.specs.declared.entry.Entry.{Entry}
-use Rattle.hall_log.specs.declared.event.AppCall.{AppCall}
+use Rattle.ck_calls.specs.declared.app_call.AppCall.{AppCall}
 use Rattle.hall_log.specs.declared.event.Event.{Event}
 use Rattle.hall_log.specs.declared.event.Event.TheVariants.{Call}
-use Rattle.hall_log.specs.Histories.{Exchange, app_of}
+use Rattle.hall_log.specs.Histories.{Exchange, event_app}
 use Rattle.hall_log.specs.Putting.{IsProper, IsThere, asks, pending}
 use Rattle.hall_log.proofs.Lists.{last_snoc}
-use Rattle.hall.specs.SeatEvents.{asked_by, asked_in, heard_by, heard_in}
+use Rattle.hall.specs.SeatEvents.{seat_events_of, asked_in, heard_by, heard_in}
 
 pub proper_front : (s : ℕ) (xs ys : List Exchange) → IsProper s (xs ++ ys) → IsProper s xs
 proper_front s xs ys proper before d after is = proper before d (after ++ ys) (ap (λ l. l ++ ys) is ∙ append_assoc before (d ∷ after) ys)
@@ -25,8 +25,10 @@ no_app : (app : ℕ) → None ≢ Some app
 no_app app e = cc
 
 -- by a call nobody goes
-pub there_still : (app : ℕ) (old new : List Exchange) (c : AppCall) (o : Option Out) → IsThere app old → new ≡ old ++ (Call c, o) ∷ [] → IsThere app new
-there_still app old new c o there is = subst (IsThere app) (sym is) (IsThere-append app old ((Call c, o) ∷ []) there ((λ e. no_app app e), tt))
+pub there_still : (app : ℕ) (old new : List Exchange) (c : AppCall) (o : Option Out) → IsThere app old
+    → new ≡ old ++ (Call c, o) ∷ [] → IsThere app new
+there_still app old new c o there is =
+    subst (IsThere app) (sym is) (IsThere-append app old ((Call c, o) ∷ []) there ((λ e. no_app app e), tt))
 
 -- what is pending after the last exchange
 pub pending_is : (old new : List Exchange) (x : Exchange) → new ≡ old ++ x ∷ [] → pending (last new) ≡ asks x.0 x.1
@@ -37,11 +39,13 @@ two_more a b c x y e f = f ∙ ap (λ l. l ++ y ∷ []) e ∙ append_assoc a (x 
 
 pub asked_in-append : (xs ys : List Exchange) → asked_in (xs ++ ys) ≡ asked_in xs ++ asked_in ys
 asked_in-append [] ys = refl
-asked_in-append (x ∷ xs) ys = ap (λ l. asked_by x.0 ++ l) (asked_in-append xs ys) ∙ sym (append_assoc (asked_by x.0) (asked_in xs) (asked_in ys))
+asked_in-append (x ∷ xs) ys = ap (λ l. seat_events_of x.0 ++ l) (asked_in-append xs ys)
+    ∙ sym (append_assoc (seat_events_of x.0) (asked_in xs) (asked_in ys))
 
 pub heard_in-append : (xs ys : List Exchange) → heard_in (xs ++ ys) ≡ heard_in xs ++ heard_in ys
 heard_in-append [] ys = refl
-heard_in-append (x ∷ xs) ys = ap (λ l. heard_by (app_of x.0) x.1 ++ l) (heard_in-append xs ys) ∙ sym (append_assoc (heard_by (app_of x.0) x.1) (heard_in xs) (heard_in ys))
+heard_in-append (x ∷ xs) ys = ap (λ l. heard_by (event_app x.0) x.1 ++ l) (heard_in-append xs ys)
+    ∙ sym (append_assoc (heard_by (event_app x.0) x.1) (heard_in xs) (heard_in ys))
 
 pub if_some : {A : Type 0} (o : Option A) (P Q : A → Type 0) → ((x : A) → P x → Q x) → IfSome o P → IfSome o Q
 if_some None P Q f h = tt

@@ -6,8 +6,9 @@ use Rattle.hall_log.specs.Putting.{pending}
 use Rattle.hall_log.specs.SeatLogs.{SeatLog, done_by, IsIdle}
 
 -- A seat may begin with this end of the log, which is of its number: nothing was put, and the seat stands so.
-abbrev pub BeginsWith : {S : Type 0} → (S → ℕ) → (S → List ℕ) → (List ℕ → Type 0) → (S → List Exchange → Type 0) → SeatLog → S → Type 0
-BeginsWith number fixed knows stands log seat = (number seat ≡ log.seat) × knows (fixed seat) × IsIdle log × (done_by log ≡ []) × stands seat []
+abbrev pub SeatBeginsWith : {S : Type 0} → (S → ℕ) → (S → List ℕ) → (List ℕ → Type 0) → (S → List Exchange → Type 0) → SeatLog → S → Type 0
+SeatBeginsWith number fixed knows stands log seat = (number seat ≡ log.seat) × knows (fixed seat) × IsIdle log × (done_by log ≡ [])
+    × stands seat []
 
 -- It has no job left, and stands as after these exchanges of its own.
 abbrev pub EndsAfter : (List Exchange → Type 0) → List Exchange → Type 0

@@ -5,6 +5,7 @@ use Rattle.token.specs.States.{HasJobs, Lasting}
 use Rattle.hall_log.specs.Lists.{of, last}
 use Rattle.hall_log.specs.Histories.{Exchange, History}
 use Rattle.hall_log.specs.Putting.{pending}
+use Rattle.hall.specs.Terms.{MachineTerms}
 use Rattle.hall.specs.Histories.{AllProper, Counts, IsHistory, SpendsOver, replies_in, told_in}
 
 -- The history is an interleaving of what four seats put: each kept to its order, and has no job left.
@@ -16,7 +17,7 @@ pub record Interleaves (history : History) : Type 0 where
 -- What four seats put was one history, which the machine took, and which the log has (`served`): each seat stands as after its own
 -- exchanges there. The machine is given as it was and as it is now. Where its store is faithful and no call was pending, the history
 -- is a run from the world that it refined. While it had an id for each object to come, no answer was CKR_DEVICE_ERROR.
-pub record WereHeld {S T : Type 0} (stands : S → List Exchange → Type 0) (served : History → Type 0) (doubt failures : T → ℕ) (shows : T → World → Type 0) (leaves : T → Option Lasting → Type 0) (spare : T → World → ℕ → Type 0)
+pub record WereHeld {S T : Type 0} (stands : S → List Exchange → Type 0) (served : History → Type 0) (terms : MachineTerms T)
     (seats : S × S × S × S) (before after : T) : Type 0 where
   pub history : History
   pub told : served history
@@ -25,6 +26,7 @@ pub record WereHeld {S T : Type 0} (stands : S → List Exchange → Type 0) (se
   pub part1 : stands seats.1 (of 1 history)
   pub part2 : stands seats.2 (of 2 history)
   pub part3 : stands seats.3 (of 3 history)
-  pub counts : Counts (doubt before) (doubt after) (failures before) (failures after) (replies_in (told_in history))
-  pub runs : doubt after ≡ 0 → (w : World) → shows before w → HasJobs w [] → IsHistory (shows after) (leaves before) (leaves after) w history
-  pub spends : SpendsOver spare before after history
+  pub counts : Counts (terms.doubt before) (terms.doubt after) (terms.failures before) (terms.failures after) (replies_in (told_in history))
+  pub runs : terms.doubt after ≡ 0 → (w : World) → terms.shows before w → HasJobs w []
+      → IsHistory (terms.shows after) (terms.leaves before) (terms.leaves after) w history
+  pub spends : SpendsOver terms before after history

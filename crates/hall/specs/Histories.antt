@@ -14,9 +14,10 @@ use Rattle.token.specs.States.{HasJobs, IsOpen, jobs_of, moved, AccountsFor, IsR
 use Rattle.hall_log.specs.Lists.{of, last}
 use Rattle.hall_log.specs.declared.event.Event.{Event}
 use Rattle.hall_log.specs.declared.event.Event.TheVariants.{Call, Finish, Gone}
-use Rattle.hall_log.specs.Histories.{Exchange, History, app_of}
+use Rattle.hall_log.specs.Histories.{Exchange, History, event_app}
 use Rattle.hall_log.specs.Putting.{IsProper, pending}
 use Rattle.hall_log.specs.Suiting.{HistorySuits}
+use Rattle.hall.specs.Terms.{MachineTerms}
 
 abbrev pub AllProper : History → Type 0
 AllProper xs = (s : ℕ) → IsProper s (of s xs)
@@ -25,7 +26,7 @@ AllProper xs = (s : ℕ) → IsProper s (of s xs)
 
 -- the event, of which a result is that of the application's job
 abbrev pub as_event : Event → ModelEvent
-as_event (Call c) = ModelCall c.app c.call c.words
+as_event (Call c) = ModelCall c.app c.call c.random
 as_event (Finish app done) = ModelFinish app
 as_event (Gone app) = ModelGone app
 
@@ -54,31 +55,34 @@ told_by app (Some out) = told_out app out
 
 abbrev pub told_in : History → List (ℕ × ReplyType)
 told_in [] = []
-told_in (x ∷ xs) = told_by (app_of x.1.0) x.1.1 ++ told_in xs
+told_in (x ∷ xs) = told_by (event_app x.1.0) x.1.1 ++ told_in xs
 
 -- What is answered to an event is what the model says there; a job is the application's, and a result is of the job of
 -- its pending call.
 abbrev pub TellsResult : World → ℕ → Job → Out → Type 0
-TellsResult w app job (Reply reply) = IsOpen w app job × (reply_to w (moved (ModelFinish app) (resource_error_in (said_of (Reply reply)))) ≡ (app, reply) ∷ [])
+TellsResult w app job (Reply reply) = IsOpen w app job
+    × (reply_to w (moved (ModelFinish app) (resource_error_in (said_of (Reply reply)))) ≡ (app, reply) ∷ [])
 TellsResult w app job (Ask other) = ⊥
 
-abbrev pub Tells : World → Event → Option Out → Type 0
-Tells w (Call c) (Some out) = (said_of out ≡ says_called w c.app c.call c.words.items (resource_error_in (said_of out))) × IsFor c.app out
-Tells w (Finish app done) (Some out) = TellsResult w app done.job.value out
-Tells w (Gone app) None = Unit {0}
-Tells w (Call c) None = ⊥
-Tells w (Finish app done) None = ⊥
-Tells w (Gone app) (Some out) = ⊥
+abbrev pub TellsEvent : World → Event → Option Out → Type 0
+TellsEvent w (Call c) (Some out) = (said_of out ≡ says_called w c.app c.call c.random.items (resource_error_in (said_of out)))
+    × IsFor c.app out
+TellsEvent w (Finish app done) (Some out) = TellsResult w app done.job.value out
+TellsEvent w (Gone app) None = Unit {0}
+TellsEvent w (Call c) None = ⊥
+TellsEvent w (Finish app done) None = ⊥
+TellsEvent w (Gone app) (Some out) = ⊥
 
 -- and so for each event, in the world that those before it made
 abbrev pub Unfolds : World → History → Type 0
 Unfolds w [] = Unit {0}
-Unfolds w (x ∷ xs) = Tells w x.1.0 x.1.1 × Unfolds (happens w (move_in x.1)) xs
+Unfolds w (x ∷ xs) = TellsEvent w x.1.0 x.1.1 × Unfolds (happens w (move_in x.1)) xs
 
 -- An event took place in the world: what is answered to it is what the model says; what refined the world refines the next; and
 -- a crash leaves no more than the event's change.
-pub record Takes (showing : World → Type 0) (prior left : Option Lasting → Type 0) (w : World) (event : Event) (answer : Option Out) : Type 0 where
-  pub tells : Tells w event answer
+pub record EventTakesPlace (showing : World → Type 0) (prior left : Option Lasting → Type 0) (w : World) (event : Event)
+    (answer : Option Out) : Type 0 where
+  pub tells : TellsEvent w event answer
   pub shows : showing (happens w (moved_by (as_event event) answer))
   pub leaves : (l : Option Lasting) → left l → LeftBy prior w (moved_by (as_event event) answer) l
 
@@ -112,12 +116,14 @@ ids_in (x ∷ xs) = ids_by x.1.0 + ids_in xs
 
 -- What had the ids that the event may take and so many more blames the device in no reply, and has so many after it.
 abbrev pub Spends : (World → ℕ → Type 0) → (World → ℕ → Type 0) → World → Event → Option Out → Type 0
-Spends had has w event answer = (count : ℕ) → had w (count + ids_by event) → (blames (replies_in (told_by (app_of event) answer)) ≡ 0) × has (happens w (moved_by (as_event event) answer)) count
+Spends had has w event answer = (count : ℕ) → had w (count + ids_by event)
+    → (blames (replies_in (told_by (event_app event) answer)) ≡ 0) × has (happens w (moved_by (as_event event) answer)) count
 
 -- A machine that had an id for each call and each result of the history answered none by CKR_DEVICE_ERROR, where no call was
 -- pending before. It has as many left as it had beyond these.
-abbrev pub SpendsOver : {T : Type 0} → (T → World → ℕ → Type 0) → T → T → History → Type 0
-SpendsOver spare old new history = (w : World) (count : ℕ) → spare old w (count + ids_in history) → HasJobs w [] → (blames (replies_in (told_in history)) ≡ 0) × spare new (after w (moves_in history)) count
+abbrev pub SpendsOver : {T : Type 0} → MachineTerms T → T → T → History → Type 0
+SpendsOver terms old new history = (w : World) (count : ℕ) → terms.spare old w (count + ids_in history) → HasJobs w []
+    → (blames (replies_in (told_in history)) ≡ 0) × terms.spare new (after w (moves_in history)) count
 
 -- ---- the jobs that seats have
 
@@ -140,11 +146,12 @@ pub record RunSoFar (showing : World → Type 0) (prior left : Option Lasting �
 
 -- What became of a machine by a history: where no call was pending and the seats did as they should, it unfolded. While there was
 -- an id for each object to come, no answer was CKR_DEVICE_ERROR.
-pub record HasServed {T : Type 0} (doubt failures : T → ℕ) (shows : T → World → Type 0) (leaves : T → Option Lasting → Type 0) (spare : T → World → ℕ → Type 0) (old new : T) (history : History) : Type 0 where
+pub record HasServed {T : Type 0} (terms : MachineTerms T) (old new : T) (history : History) : Type 0 where
   pub suited : HistorySuits history
-  pub counts : Counts (doubt old) (doubt new) (failures old) (failures new) (replies_in (told_in history))
-  pub runs : doubt new ≡ 0 → (w : World) → shows old w → HasJobs w [] → AllProper history → RunSoFar (shows new) (leaves old) (leaves new) w history
-  pub spends : AllProper history → SpendsOver spare old new history
+  pub counts : Counts (terms.doubt old) (terms.doubt new) (terms.failures old) (terms.failures new) (replies_in (told_in history))
+  pub runs : terms.doubt new ≡ 0 → (w : World) → terms.shows old w → HasJobs w [] → AllProper history
+      → RunSoFar (terms.shows new) (terms.leaves old) (terms.leaves new) w history
+  pub spends : AllProper history → SpendsOver terms old new history
 
 -- A whole history from the world: each event was answered as the model says at its place, and all is a run of the token's
 -- (`IsRun`). After it no call is pending. So each application got what its own trace determines.

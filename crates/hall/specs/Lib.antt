@@ -4,3 +4,4 @@ pub mod Held
 pub mod Histories
 pub mod SeatEvents
 pub mod SpareIds
+pub mod Terms

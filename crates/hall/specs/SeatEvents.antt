@@ -5,10 +5,10 @@ use Rattle.mech.specs.declared.job.Job.{Job}
 use Rattle.mech.specs.declared.done.Done.{Done}
 use Rattle.serve_base.specs.declared.out.Out.{Out}
 use Rattle.serve_base.specs.declared.out.Out.TheVariants.{Reply as OutReply, Ask}
-use Rattle.hall_log.specs.declared.event.AppCall.{AppCall}
+use Rattle.ck_calls.specs.declared.app_call.AppCall.{AppCall}
 use Rattle.hall_log.specs.declared.event.Event.{Event}
 use Rattle.hall_log.specs.declared.event.Event.TheVariants.{Call, Finish, Gone}
-use Rattle.hall_log.specs.Histories.{Exchange, app_of}
+use Rattle.hall_log.specs.Histories.{Exchange, event_app}
 use Rattle.hall_log.specs.Putting.{IsThere, WasRead}
 use Rattle.hall.specs.declared.seats.SeatEvent.{SeatEvent}
 use Rattle.hall.specs.declared.seats.SeatEvent.TheVariants.{Call as SeatCall, Gone as SeatGone}
@@ -36,14 +36,14 @@ StandsThen stands waits before (SeatCall c) = waits before c
 StandsThen stands waits before (SeatGone app) = stands (before ++ (Gone app, None) ∷ [])
 
 -- what a seat put, among its events
-abbrev pub asked_by : Event → List SeatEvent
-asked_by (Call c) = SeatCall c ∷ []
-asked_by (Finish app done) = []
-asked_by (Gone app) = SeatGone app ∷ []
+abbrev pub seat_events_of : Event → List SeatEvent
+seat_events_of (Call c) = SeatCall c ∷ []
+seat_events_of (Finish app done) = []
+seat_events_of (Gone app) = SeatGone app ∷ []
 
 abbrev pub asked_in : List Exchange → List SeatEvent
 asked_in [] = []
-asked_in (x ∷ xs) = asked_by x.0 ++ asked_in xs
+asked_in (x ∷ xs) = seat_events_of x.0 ++ asked_in xs
 
 -- the replies that it got, each with its application
 abbrev pub heard_out : ℕ → Out → List (ℕ × Reply)
@@ -56,17 +56,18 @@ heard_by app (Some out) = heard_out app out
 
 abbrev pub heard_in : List Exchange → List (ℕ × Reply)
 heard_in [] = []
-heard_in (x ∷ xs) = heard_by (app_of x.0) x.1 ++ heard_in xs
+heard_in (x ∷ xs) = heard_by (event_app x.0) x.1 ++ heard_in xs
 
 -- the exchanges of one turn: a reply at once, or a job and then the reply to its result
 abbrev pub IsTurn : SeatEvent → List Exchange → Type 0
 IsTurn (SeatCall c) more =
     ((r : Reply) × (more ≡ (Call c, Some (OutReply r)) ∷ []))
-    ⊎ ((j : Job) × (d : Done) × (r : Reply) × (d.job.value ≡ j) × (more ≡ (Call c, Some (Ask j)) ∷ (Finish c.app d, Some (OutReply r)) ∷ []))
+    ⊎ ((j : Job) × (d : Done) × (r : Reply) × (d.job.value ≡ j)
+    × (more ≡ (Call c, Some (Ask j)) ∷ (Finish c.app d, Some (OutReply r)) ∷ []))
 IsTurn (SeatGone app) more = more ≡ (Gone app, None) ∷ []
 
 -- The reply to the call that a seat waits for: its last exchanges are that call's turn, in which it heard this reply of it.
-pub record IsReplyTo (waits : List Exchange → AppCall → Type 0) (now : List Exchange) (app : ℕ) (reply : Reply) : Type 0 where
+pub record IsAwaitedReply (waits : List Exchange → AppCall → Type 0) (now : List Exchange) (app : ℕ) (reply : Reply) : Type 0 where
   pub before : List Exchange
   pub call : AppCall
   pub more : List Exchange

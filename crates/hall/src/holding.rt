@@ -1,12 +1,10 @@
 //! Four seats in threads of their own, and the token in the calling one.
 
 ghost use Rattle.std.specs.Prelude.{◌≡◌, [], IfOk, IfErr};
-ghost use Rattle.token.specs.States.{Shows, MayLeave};
 ghost use Rattle.hall_log.specs.Histories.{History};
 ghost use Rattle.hall_log.specs.Log.{served};
 ghost use Rattle.hall.specs.Given.{IsLed, IsSoFar, Serves};
 ghost use Rattle.hall.specs.Held.{WereHeld};
-ghost use Rattle.hall.specs.SpareIds.{HasSpareIds};
 
 use crate::closing::{SeatThreads, close_all};
 use crate::fault::HallFault;
@@ -21,13 +19,11 @@ use crate::worker::{Worker, Workers};
 use hall_channels::inbox::Inbox;
 use hall_channels::outbox::Outbox;
 use hall_log::{Naming, Opened, Server};
-use keep::Keep;
 use std::alloc::Global;
 use std::snapshot::Snapshot;
 use std::sync::{Arc, Wait};
 use std::thread::Threads;
 use std::time::Clock;
-use token::Token;
 
 /// The token and the seats, seat 0 first, once all seats have ended.
 #[derive(Drop)]
@@ -83,7 +79,7 @@ fn serve_all<
     workers: Workers<J, S>,
 ) -> Result<Held<M, S>, (HallFault, M)>
     requires server { server ≡ [] }
-    requires all { (now : M) (h : History) → IsSoFar M.doubt M.failures M.shows M.leaves M.spare J.was_read machine now h → J.served h }
+    requires all { (now : M) (h : History) → IsSoFar M.terms J.was_read machine now h → J.served h }
     requires numbers { (S.number workers.0.thread.promise.seat.value ≡ 0) × (S.number workers.1.thread.promise.seat.value ≡ 1)
         × (S.number workers.2.thread.promise.seat.value ≡ 2) × (S.number workers.3.thread.promise.seat.value ≡ 3) }
     ensures over { IfOk result (λ h. S.over h.seats.0 × S.over h.seats.1 × S.over h.seats.2 × S.over h.seats.3) }
@@ -91,9 +87,9 @@ fn serve_all<
         × (S.fixed h.seats.1 ≡ S.fixed workers.1.thread.promise.seat.value)
         × (S.fixed h.seats.2 ≡ S.fixed workers.2.thread.promise.seat.value)
         × (S.fixed h.seats.3 ≡ S.fixed workers.3.thread.promise.seat.value)) }
-    ensures held { IfOk result (λ h. WereHeld S.stands J.served M.doubt M.failures M.shows M.leaves M.spare h.seats machine h.token) }
+    ensures held { IfOk result (λ h. WereHeld S.stands J.served M.terms h.seats machine h.token) }
     ensures thread { IfErr result (λ e. e.0 ≡ HallFault.Thread) }
-    ensures led { IfErr result (λ e. IsLed M.doubt M.failures M.shows M.leaves M.spare machine e.1) }
+    ensures led { IfErr result (λ e. IsLed M.terms machine e.1) }
 {
     let (mut outboxes, threads) = permit_all(rt, workers);
     let began = Snapshot::of(&machine);
@@ -114,8 +110,22 @@ fn serve_all<
     }
 }
 
-/// Holds four seats before a machine, with stacks of these sizes, or of the usual size at 0. One that is too large is refused.
-pub(crate) fn hold_machine<
+/// Stacks of the usual size.
+pub const USUAL_STACKS: (usize, usize, usize, usize) = (0, 0, 0, 0);
+
+/// Holds four seats, the first with number 0, in threads of their own before a machine, as the token, until each has no more. It stays
+/// in the calling thread; the seats' threads run its jobs, each of which passes the `Gate` first. What each seat got is
+/// specified where no call is pending, as of a new token or of one that was held before.
+///
+/// `J` names the new log. It is required what its members mean: `served` are just the histories that the machine has served since it
+/// was handed over, in which each seat put what it might.
+///
+/// The threads have stacks of so many bytes, seat 0's first, or of the usual size at 0 (`USUAL_STACKS`).
+///
+/// It may wait, as long as a seat or the `Gate` does. It allocates the channels and the threads. An allocation failure is
+/// `HallFault::Memory`. A thread that is not started, as one whose stack is too large, or a channel that ended early is
+/// `HallFault::Thread`. The seats are dropped then.
+pub fn hold<
     J: Naming + Send + Sync + 'static,
     M: Machine + Drop,
     S: Seat<J> + Drop + Send + 'static,
@@ -131,16 +141,23 @@ pub(crate) fn hold_machine<
     stacks: (usize, usize, usize, usize),
 ) -> Result<Held<M, S>, (HallFault, M)>
     requires book { opened.seen.book ≡ J.book }
-    requires all { (now : M) (h : History) → IsSoFar M.doubt M.failures M.shows M.leaves M.spare J.was_read machine now h → J.served h }
+    // What it means that a history was served: the machine has served it, and each event in it was one that its seat might put.
+    requires means { (h : History) → J.served h → Serves M.terms J.was_read machine h }
+    requires all { (h : History) → Serves M.terms J.was_read machine h → J.served h }
     requires numbers { (S.number seats.0 ≡ 0) × (S.number seats.1 ≡ 1) × (S.number seats.2 ≡ 2) × (S.number seats.3 ≡ 3) }
     requires knows { S.knows (S.fixed seats.0) × S.knows (S.fixed seats.1) × S.knows (S.fixed seats.2) × S.knows (S.fixed seats.3) }
     requires stands { S.stands seats.0 [] × S.stands seats.1 [] × S.stands seats.2 [] × S.stands seats.3 [] }
+    // Each seat has returned that there is no more.
     ensures over { IfOk result (λ h. S.over h.seats.0 × S.over h.seats.1 × S.over h.seats.2 × S.over h.seats.3) }
+    // What never changes of a seat is as it was.
     ensures fixed { IfOk result (λ h. (S.fixed h.seats.0 ≡ S.fixed seats.0) × (S.fixed h.seats.1 ≡ S.fixed seats.1)
         × (S.fixed h.seats.2 ≡ S.fixed seats.2) × (S.fixed h.seats.3 ≡ S.fixed seats.3)) }
-    ensures held { IfOk result (λ h. WereHeld S.stands J.served M.doubt M.failures M.shows M.leaves M.spare h.seats machine h.token) }
+    // What the four seats put is one history, which is a run of the token's: each seat stands as after what it has there.
+    ensures held { IfOk result (λ h. WereHeld S.stands J.served M.terms h.seats machine h.token) }
+    // Where an allocation failed, the machine is as it was.
     ensures memory { IfErr result (λ e. e.0 ≡ HallFault.Memory → e.1 ≡ machine) }
-    ensures led { IfErr result (λ e. IsLed M.doubt M.failures M.shows M.leaves M.spare machine e.1) }
+    // At any fault some history leads to the machine that is returned.
+    ensures led { IfErr result (λ e. IsLed M.terms machine e.1) }
 {
     let Ok(ready) = open(alloc, opened) else {
         return Err((HallFault::Memory, machine));
@@ -154,93 +171,4 @@ pub(crate) fn hold_machine<
         Ok(workers) => serve_all(&rt, alloc, machine, server, inbox, workers),
         Err(fault) => Err((fault, machine)),
     }
-}
-
-/// Holds four seats, the first with number 0, in threads of their own before the token, until each has no more. The token stays
-/// in the calling thread; the seats' threads run its jobs, each of which passes the `Gate` first. What each seat got is
-/// specified where no call is pending, as of a new token or of one that was held.
-///
-/// `J` names the new log. It is required what its members mean: `served` are just the histories that the token has served since it
-/// was handed over, in which each seat put what it might.
-///
-/// It may wait, as long as a seat or the `Gate` does. It allocates the channels and the threads. An allocation failure is
-/// `HallFault::Memory`, and a thread that is not started, or a channel that ended early, `HallFault::Thread`; the seats are
-/// dropped then.
-pub fn hold<
-    J: Naming + Send + Sync + 'static,
-    K: Keep,
-    S: Seat<J> + Drop + Send + 'static,
-    G: Gate + Send + Sync + Drop + 'static,
-    R: Threads + Wait + Clock + Copy + Send + Drop + 'static,
->(
-    rt: R,
-    alloc: Global,
-    opened: Opened,
-    token: Token<K>,
-    seats: (S, S, S, S),
-    gate: &Arc<G, Global>,
-) -> Result<Held<Token<K>, S>, (HallFault, Token<K>)>
-    requires book { opened.seen.book ≡ J.book }
-    // What it means that a history was served: the token has served it, and each event in it was one that its seat might put.
-    requires means { (h : History) → J.served h → Serves K.terms J.was_read token h }
-    requires all { (h : History) → Serves K.terms J.was_read token h → J.served h }
-    requires numbers { (S.number seats.0 ≡ 0) × (S.number seats.1 ≡ 1) × (S.number seats.2 ≡ 2) × (S.number seats.3 ≡ 3) }
-    requires knows { S.knows (S.fixed seats.0) × S.knows (S.fixed seats.1) × S.knows (S.fixed seats.2) × S.knows (S.fixed seats.3) }
-    requires stands { S.stands seats.0 [] × S.stands seats.1 [] × S.stands seats.2 [] × S.stands seats.3 [] }
-    // Each seat has returned that there is no more.
-    ensures over { IfOk result (λ h. S.over h.seats.0 × S.over h.seats.1 × S.over h.seats.2 × S.over h.seats.3) }
-    // What never changes of a seat is as it was.
-    ensures fixed { IfOk result (λ h. (S.fixed h.seats.0 ≡ S.fixed seats.0) × (S.fixed h.seats.1 ≡ S.fixed seats.1)
-        × (S.fixed h.seats.2 ≡ S.fixed seats.2) × (S.fixed h.seats.3 ≡ S.fixed seats.3)) }
-    // What the four seats put is one history, which is a run of the token's: each seat stands as after what it has there.
-    ensures held { IfOk result (λ h. WereHeld S.stands J.served (λ t. K.terms.doubt t.store.keep) (λ t. K.terms.failures t.store.keep)
-        (Shows K.terms) (MayLeave K.terms) (HasSpareIds K.terms) h.seats token h.token) }
-    // Where an allocation failed, the token is as it was.
-    ensures memory { IfErr result (λ e. e.0 ≡ HallFault.Memory → e.1 ≡ token) }
-    // At any fault some history leads to the token that is returned.
-    ensures led { IfErr result (λ e. IsLed (λ t. K.terms.doubt t.store.keep) (λ t. K.terms.failures t.store.keep)
-        (Shows K.terms) (MayLeave K.terms) (HasSpareIds K.terms) token e.1) }
-{
-    hold_machine::<J, Token<K>, S, G, R>(rt, alloc, opened, token, seats, gate, (0, 0, 0, 0))
-}
-
-/// As `hold`, with stacks of so many bytes, seat 0's first, or of the usual size at 0. A thread whose stack is too large is not
-/// started, which is `HallFault::Thread`.
-pub fn hold_with<
-    J: Naming + Send + Sync + 'static,
-    K: Keep,
-    S: Seat<J> + Drop + Send + 'static,
-    G: Gate + Send + Sync + Drop + 'static,
-    R: Threads + Wait + Clock + Copy + Send + Drop + 'static,
->(
-    rt: R,
-    alloc: Global,
-    opened: Opened,
-    token: Token<K>,
-    seats: (S, S, S, S),
-    gate: &Arc<G, Global>,
-    stacks: (usize, usize, usize, usize),
-) -> Result<Held<Token<K>, S>, (HallFault, Token<K>)>
-    requires book { opened.seen.book ≡ J.book }
-    // What it means that a history was served: the token has served it, and each event in it was one that its seat might put.
-    requires means { (h : History) → J.served h → Serves K.terms J.was_read token h }
-    requires all { (h : History) → Serves K.terms J.was_read token h → J.served h }
-    requires numbers { (S.number seats.0 ≡ 0) × (S.number seats.1 ≡ 1) × (S.number seats.2 ≡ 2) × (S.number seats.3 ≡ 3) }
-    requires knows { S.knows (S.fixed seats.0) × S.knows (S.fixed seats.1) × S.knows (S.fixed seats.2) × S.knows (S.fixed seats.3) }
-    requires stands { S.stands seats.0 [] × S.stands seats.1 [] × S.stands seats.2 [] × S.stands seats.3 [] }
-    // Each seat has returned that there is no more.
-    ensures over { IfOk result (λ h. S.over h.seats.0 × S.over h.seats.1 × S.over h.seats.2 × S.over h.seats.3) }
-    // What never changes of a seat is as it was.
-    ensures fixed { IfOk result (λ h. (S.fixed h.seats.0 ≡ S.fixed seats.0) × (S.fixed h.seats.1 ≡ S.fixed seats.1)
-        × (S.fixed h.seats.2 ≡ S.fixed seats.2) × (S.fixed h.seats.3 ≡ S.fixed seats.3)) }
-    // What the four seats put is one history, which is a run of the token's: each seat stands as after what it has there.
-    ensures held { IfOk result (λ h. WereHeld S.stands J.served (λ t. K.terms.doubt t.store.keep) (λ t. K.terms.failures t.store.keep)
-        (Shows K.terms) (MayLeave K.terms) (HasSpareIds K.terms) h.seats token h.token) }
-    // Where an allocation failed, the token is as it was.
-    ensures memory { IfErr result (λ e. e.0 ≡ HallFault.Memory → e.1 ≡ token) }
-    // At any fault some history leads to the token that is returned.
-    ensures led { IfErr result (λ e. IsLed (λ t. K.terms.doubt t.store.keep) (λ t. K.terms.failures t.store.keep)
-        (Shows K.terms) (MayLeave K.terms) (HasSpareIds K.terms) token e.1) }
-{
-    hold_machine::<J, Token<K>, S, G, R>(rt, alloc, opened, token, seats, gate, stacks)
 }

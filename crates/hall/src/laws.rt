@@ -6,10 +6,10 @@ ghost use Rattle.model_worlds.specs.Worlds.{World, after, replies};
 ghost use Rattle.model_worlds.specs.Traces.{replies_to, replies_told, trace};
 ghost use Rattle.keep.specs.Contents.{Contents, greatest_id};
 ghost use Rattle.token.specs.States.{HasJobs, ShowsAfter, TokenState, blames, opening};
-ghost use Rattle.hall_log.specs.Histories.{AllMay, Exchange, app_of, History};
+ghost use Rattle.hall_log.specs.Histories.{AllMay, Exchange, event_app, History};
 ghost use Rattle.hall_log.specs.Putting.{MayPut};
 ghost use Rattle.hall.specs.Given.{IsSoFar};
-ghost use Rattle.hall.specs.Histories.{AllProper, IsHistory, Tells, Unfolds, ids_in, moves_in, replies_in, told_in};
+ghost use Rattle.hall.specs.Histories.{AllProper, IsHistory, TellsEvent, Unfolds, ids_in, moves_in, replies_in, told_in};
 ghost use Rattle.hall.specs.SpareIds.{HasSpareIds};
 
 use crate::machine::Machine;
@@ -20,7 +20,7 @@ use keep::Keep;
 /// events before it made.
 pub fn answered_in_place()
     ensures { (w : World) (before : History) (x : ℕ × Exchange) (rest : History) → Unfolds w (before ++ x ∷ rest)
-        → Tells (after w (moves_in before)) x.1.0 x.1.1 }
+        → TellsEvent (after w (moves_in before)) x.1.0 x.1.1 }
 {}
 
 /// A beginning of a history that unfolds unfolds too. So what a daemon gave before it was killed is covered as well.
@@ -36,14 +36,14 @@ pub fn told_by_trace()
 
 /// Each event of a history of proper seats is of an application of its own seat, and so is its answer.
 pub fn own_seat()
-    ensures { (before : History) (x : ℕ × Exchange) (rest : History) → AllProper (before ++ x ∷ rest) → app_of x.1.0 % 4 ≡ x.0 }
+    ensures { (before : History) (x : ℕ × Exchange) (rest : History) → AllProper (before ++ x ∷ rest) → event_app x.1.0 % 4 ≡ x.0 }
 {}
 
 /// What `hold` returns of a whole history: it unfolds, and its replies are those of the token's run.
 pub fn whole_history<M: Machine>()
-    ensures unfolds { (m n : M) (w : World) (history : History) → IsHistory (M.shows n) (M.leaves m) (M.leaves n) w history
+    ensures unfolds { (m n : M) (w : World) (history : History) → IsHistory (M.terms.shows n) (M.terms.leaves m) (M.terms.leaves n) w history
         → Unfolds w history }
-    ensures told { (m n : M) (w : World) (history : History) → IsHistory (M.shows n) (M.leaves m) (M.leaves n) w history
+    ensures told { (m n : M) (w : World) (history : History) → IsHistory (M.terms.shows n) (M.terms.leaves m) (M.terms.leaves n) w history
         → told_in history ≡ replies w (moves_in history) }
 {}
 
@@ -51,16 +51,16 @@ pub fn whole_history<M: Machine>()
 /// daemon has served that was killed.
 pub fn given_so_far<M: Machine, J: Naming>()
     ensures { (m n : M) (w : World) (history : History)
-        → IsSoFar M.doubt M.failures M.shows M.leaves M.spare J.was_read m n history
-        → M.doubt n ≡ 0 → M.shows m w → HasJobs w [] → Unfolds w history }
+        → IsSoFar M.terms J.was_read m n history
+        → M.terms.doubt n ≡ 0 → M.terms.shows m w → HasJobs w [] → Unfolds w history }
 {}
 
 /// No answer that was given at any moment is CKR_DEVICE_ERROR, where the machine had an id for each call and each result that it had
 /// served.
 pub fn spared_so_far<M: Machine, J: Naming>()
     ensures { (m n : M) (w : World) (history : History) (count : ℕ)
-        → IsSoFar M.doubt M.failures M.shows M.leaves M.spare J.was_read m n history
-        → M.spare m w (count + ids_in history) → HasJobs w [] → blames (replies_in (told_in history)) ≡ 0 }
+        → IsSoFar M.terms J.was_read m n history
+        → M.terms.spare m w (count + ids_in history) → HasJobs w [] → blames (replies_in (told_in history)) ≡ 0 }
 {}
 
 /// Each seat kept to its order in what was served, and each event was of an application of its own seat that was there.

@@ -4,7 +4,6 @@
 //! remainder s modulo 4. `hold` gives each seat a thread, and keeps the token in the calling one. A seat's thread takes the
 //! seat's `next` event and puts it before the token. Where the token returns a job, the thread passes a `Gate` and runs it. Then
 //! it gives the seat the reply. So the token takes one event after the other, and the work with keys is done beside it.
-//! `hold_with` sets the sizes of the threads' stacks.
 //!
 //! # What is promised
 //!
@@ -38,7 +37,7 @@
 //! Proved, by the names of contracts: where `hold` returns `Held`, each seat is over (`over`), and one history has each event once, each
 //! seat's in order (`held`: `WereHeld`, `Interleaves`). It is the log's, and each seat stands as after what it has there. While the disk
 //! is faithful it is a run from each world that the token refined (`IsHistory`), if no call was pending before. Before the end each seat
-//! asks what it may (`MayAsk`), and takes what the history that it is told has of it (`IsReplyTo`). After a fault some history leads to
+//! asks what it may (`MayAsk`), and takes what the history that it is told has of it (`IsAwaitedReply`). After a fault some history leads to
 //! the token that is returned (`memory`, `led`: `IsLed`). The laws stand in `ISOLATION.md`.
 #![tactic(auto)]
 
@@ -58,7 +57,6 @@ mod token_machine;
 mod worker;
 
 pub use fault::HallFault;
-pub use hall_log::AppCall;
-pub use holding::{Held, hold, hold_with};
+pub use holding::{Held, USUAL_STACKS, hold};
 pub use machine::Machine;
 pub use seats::{Gate, Seat, SeatEvent};

@@ -8,14 +8,14 @@ ghost use Rattle.hall_log.specs.SeatLogs.{done_by, IsIdle};
 ghost use Rattle.hall_log.specs.declared.event.Event.TheVariants.{Call, Finish};
 ghost use Rattle.mech.specs.declared.done.Done.{Done as DoneType};
 ghost use Rattle.serve_base.specs.declared.out.Out.TheVariants.{Reply as OutReply};
-ghost use Rattle.hall.specs.Beginning.{BeginsWith, EndsAfter};
+ghost use Rattle.hall.specs.Beginning.{SeatBeginsWith, EndsAfter};
 ghost use Rattle.hall.specs.SeatEvents.{heard_in, IsTurn, MayAsk, StandsThen};
 ghost use Rattle.hall.specs.declared.seats.SeatEvent.TheVariants.{Call as SeatCall};
 
 use crate::seats::{Gate, Seat, SeatEvent};
-use ck_calls::Reply;
+use ck_calls::{AppCall, Reply};
 use hall_channels::port::Port;
-use hall_log::{AppCall, Event, Naming};
+use hall_log::{Event, Naming};
 use std::alloc::Global;
 use std::sync::Wait;
 use std::time::Clock;
@@ -150,7 +150,7 @@ pub(crate) fn run_permitted<J: Naming, S: Seat<J>, G: Gate, R: Wait + Clock>(
     port: &mut Port<J>,
     gate: &G,
 ) -> bool
-    requires begins { BeginsWith S.number S.fixed S.knows S.stands port.old.putter seat.old }
+    requires begins { SeatBeginsWith S.number S.fixed S.knows S.stands port.old.putter seat.old }
     ensures same { port.new.putter.seat ≡ port.old.putter.seat }
     ensures fixed { S.fixed seat.new ≡ S.fixed seat.old }
     ensures idle { IsTrue result → IsIdle port.new.putter }

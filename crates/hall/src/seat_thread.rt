@@ -4,7 +4,7 @@ ghost use Rattle.std.specs.Prelude.{◌≡◌, true, Bool, IfOk, IfSome};
 ghost use Rattle.hall_log.specs.Lists.{of};
 ghost use Rattle.hall_log.specs.Log.{served};
 ghost use Rattle.hall_log.specs.SeatLogs.{done_by, IsIdle};
-ghost use Rattle.hall.specs.Beginning.{BeginsWith, EndsAfter};
+ghost use Rattle.hall.specs.Beginning.{SeatBeginsWith, EndsAfter};
 
 use crate::fault::HallFault;
 use crate::seat_loop::run_permitted;
@@ -47,7 +47,7 @@ pub(crate) trait Runs<S> {
 }
 
 impl<J: Naming, S: Seat<J>> Runs<S> for Port<J> {
-    ghost ready = { λ port seat. BeginsWith S.number S.fixed S.knows S.stands port.putter seat };
+    ghost ready = { λ port seat. SeatBeginsWith S.number S.fixed S.knows S.stands port.putter seat };
 
     ghost ran = { λ old port new whole. whole ≡ true → S.over new × (S.fixed new ≡ S.fixed old) × (port.putter.seat ≡ S.number old)
         × IsIdle port.putter × EndsAfter (S.stands new) (done_by port.putter) };
@@ -98,7 +98,7 @@ pub(crate) fn start<
     seat: S,
     port: Port<J>,
 ) -> Result<SeatThread<J, S>, HallFault>
-    requires begins { BeginsWith S.number S.fixed S.knows S.stands port.putter seat }
+    requires begins { SeatBeginsWith S.number S.fixed S.knows S.stands port.putter seat }
     ensures { IfOk result (λ h. h.promise.seat.value ≡ seat) }
 {
     let Ok(gate) = Arc::try_clone(gate) else {

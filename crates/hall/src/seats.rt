@@ -3,10 +3,10 @@
 ghost use Rattle.std.specs.Prelude.{◌≡◌, ℕ, List, IfSome, IfNone, MatchOption};
 ghost use Rattle.hall_log.specs.Lists.{of};
 ghost use Rattle.hall_log.specs.Log.{served};
-ghost use Rattle.hall.specs.SeatEvents.{IsReplyTo, MayAsk, StandsThen};
+ghost use Rattle.hall.specs.SeatEvents.{IsAwaitedReply, MayAsk, StandsThen};
 
-use ck_calls::Reply;
-use hall_log::{AppCall, Naming, Told};
+use ck_calls::{AppCall, Reply};
+use hall_log::{Naming, Told};
 
 /// What a seat puts before the token of itself.
 #[derive(Drop)]
@@ -23,7 +23,7 @@ pub enum SeatEvent {
 /// Each call of it is told a history that the token has served (`Told`), in which all that this seat has put was answered.
 pub trait Seat<J: Naming> {
     ghost use Rattle.hall_log.specs.Histories.{Exchange};
-    ghost use Rattle.hall_log.specs.declared.event.AppCall.{AppCall};
+    ghost use Rattle.ck_calls.specs.declared.app_call.AppCall.{AppCall};
 
     /// Its number, from 0 to 3.
     ghost number: { Self → ℕ };
@@ -58,7 +58,7 @@ pub trait Seat<J: Naming> {
     /// Takes the reply to its last call, which was of this application. It can't fail, so `next` allocates for it before.
     fn take(&mut self, app: u64, reply: Reply, told: &Told<J>)
         requires knows { knows (fixed self.old) }
-        requires reply { IsReplyTo (waits self.old) (of (number self.old) (served told.now)) app reply }
+        requires reply { IsAwaitedReply (waits self.old) (of (number self.old) (served told.now)) app reply }
         ensures number { number self.new ≡ number self.old }
         ensures fixed { fixed self.new ≡ fixed self.old }
         ensures stands { stands self.new (of (number self.old) (served told.now)) };

@@ -29,7 +29,7 @@ pub(crate) struct Serving<M, J: Naming> {
 /// What the machine answers to an event: None to a disconnect.
 fn answer<M: Machine>(alloc: Global, machine: &mut M, event: Event) -> Option<Out>
     ensures suits { Suits event result }
-    ensures did { Did M.doubt M.failures M.shows M.leaves M.spare machine.old machine.new event result }
+    ensures did { Did M.terms machine.old machine.new event result }
 {
     match event {
         Event::Call(call) => Some(machine.call(alloc, call)),
@@ -50,12 +50,12 @@ fn serve<M: Machine, J: Naming, R: Wait>(
     outboxes: &mut [Outbox<J>],
     posted: Posted<J>,
 ) -> bool
-    requires so { IsSoFar M.doubt M.failures M.shows M.leaves M.spare J.was_read serving.old.began.value serving.old.machine (served serving.old.server) }
-    requires all { (now : M) (h : History) → IsSoFar M.doubt M.failures M.shows M.leaves M.spare J.was_read serving.old.began.value now h → J.served h }
+    requires so { IsSoFar M.terms J.was_read serving.old.began.value serving.old.machine (served serving.old.server) }
+    requires all { (now : M) (h : History) → IsSoFar M.terms J.was_read serving.old.began.value now h → J.served h }
     ensures began { serving.new.began.value ≡ serving.old.began.value }
-    ensures so { IsTrue result → IsSoFar M.doubt M.failures M.shows M.leaves M.spare J.was_read serving.new.began.value serving.new.machine
+    ensures so { IsTrue result → IsSoFar M.terms J.was_read serving.new.began.value serving.new.machine
         (served serving.new.server) }
-    ensures led { IsLed M.doubt M.failures M.shows M.leaves M.spare serving.new.began.value serving.new.machine }
+    ensures led { IsLed M.terms serving.new.began.value serving.new.machine }
 {
     if !serving.server.is_next(&posted.post) {
         drop(posted);
@@ -84,12 +84,12 @@ pub(crate) fn serve_seats<M: Machine, J: Naming, R: Wait + Clock>(
     inbox: &mut Inbox<J>,
     outboxes: &mut [Outbox<J>],
 ) -> bool
-    requires so { IsSoFar M.doubt M.failures M.shows M.leaves M.spare J.was_read serving.old.began.value serving.old.machine (served serving.old.server) }
-    requires all { (now : M) (h : History) → IsSoFar M.doubt M.failures M.shows M.leaves M.spare J.was_read serving.old.began.value now h → J.served h }
+    requires so { IsSoFar M.terms J.was_read serving.old.began.value serving.old.machine (served serving.old.server) }
+    requires all { (now : M) (h : History) → IsSoFar M.terms J.was_read serving.old.began.value now h → J.served h }
     ensures began { serving.new.began.value ≡ serving.old.began.value }
-    ensures so { IsTrue result → IsSoFar M.doubt M.failures M.shows M.leaves M.spare J.was_read serving.new.began.value serving.new.machine
+    ensures so { IsTrue result → IsSoFar M.terms J.was_read serving.new.began.value serving.new.machine
         (served serving.new.server) }
-    ensures led { IsLed M.doubt M.failures M.shows M.leaves M.spare serving.new.began.value serving.new.machine }
+    ensures led { IsLed M.terms serving.new.began.value serving.new.machine }
 {
     let mut ended: u64 = 0;
     for _ in rt.forever() {

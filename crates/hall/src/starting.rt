@@ -1,7 +1,7 @@
 //! The start of all threads.
 
 ghost use Rattle.std.specs.Prelude.{◌≡◌, IfOk};
-ghost use Rattle.hall.specs.Beginning.{BeginsWith};
+ghost use Rattle.hall.specs.Beginning.{SeatBeginsWith};
 
 use crate::fault::HallFault;
 use crate::link::{Link, Links};
@@ -38,7 +38,7 @@ fn start_worker<
     seat: S,
     link: Link<J>,
 ) -> Result<Worker<J, S>, HallFault>
-    requires begins { BeginsWith S.number S.fixed S.knows S.stands link.port.putter seat }
+    requires begins { SeatBeginsWith S.number S.fixed S.knows S.stands link.port.putter seat }
     ensures { IfOk result (λ w. w.thread.promise.seat.value ≡ seat) }
 {
     let Link { outbox, port } = link;
@@ -62,10 +62,10 @@ pub(crate) fn start_all<
     seats: (S, S, S, S),
     links: Links<J>,
 ) -> Result<Workers<J, S>, HallFault>
-    requires first { BeginsWith S.number S.fixed S.knows S.stands links.0.0.port.putter seats.0 }
-    requires second { BeginsWith S.number S.fixed S.knows S.stands links.0.1.port.putter seats.1 }
-    requires third { BeginsWith S.number S.fixed S.knows S.stands links.1.0.port.putter seats.2 }
-    requires fourth { BeginsWith S.number S.fixed S.knows S.stands links.1.1.port.putter seats.3 }
+    requires first { SeatBeginsWith S.number S.fixed S.knows S.stands links.0.0.port.putter seats.0 }
+    requires second { SeatBeginsWith S.number S.fixed S.knows S.stands links.0.1.port.putter seats.1 }
+    requires third { SeatBeginsWith S.number S.fixed S.knows S.stands links.1.0.port.putter seats.2 }
+    requires fourth { SeatBeginsWith S.number S.fixed S.knows S.stands links.1.1.port.putter seats.3 }
     ensures worker0 { IfOk result (λ r. r.0.thread.promise.seat.value ≡ seats.0) }
     ensures worker1 { IfOk result (λ r. r.1.thread.promise.seat.value ≡ seats.1) }
     ensures worker2 { IfOk result (λ r. r.2.thread.promise.seat.value ≡ seats.2) }

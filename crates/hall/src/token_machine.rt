@@ -1,30 +1,20 @@
 //! The token takes one event after the other. What isn't done at each call isn't inlined into its loop.
 
 ghost use Rattle.keep.specs.Keeping.{Terms};
-ghost use Rattle.token.specs.States.{Shows, MayLeave};
-ghost use Rattle.hall.specs.SpareIds.{HasSpareIds};
+ghost use Rattle.hall.specs.Terms.{token_terms};
 
 use crate::machine::Machine;
-use ck_calls::Reply;
-use hall_log::AppCall;
+use ck_calls::{AppCall, Reply};
 use keep::Keep;
 use std::alloc::Global;
 use token::{Done, Out, Token};
 
 impl<K: Keep> Machine for Token<K> {
-    ghost doubt = { λ t. K.terms.doubt t.store.keep };
-
-    ghost failures = { λ t. K.terms.failures t.store.keep };
-
-    ghost shows = { λ t w. Shows K.terms t w };
-
-    ghost leaves = { λ t l. MayLeave K.terms t l };
-
-    ghost spare = { λ t w n. HasSpareIds K.terms t w n };
+    ghost terms = { token_terms K.terms };
 
     fn call(&mut self, alloc: Global, call: AppCall) -> Out {
-        let AppCall { app, call, words } = call;
-        Token::call(self, alloc, app, call, &words)
+        let AppCall { app, call, random } = call;
+        Token::call(self, alloc, app, call, &random)
     }
 
     #[inline(never)]

@@ -52,7 +52,7 @@ use Rattle.hall_channels.proofs.EndsCross.{receiver_send, sender_send}
 use Rattle.lists.specs.contracts.ghost_bytes.GhostBytes as GhostBytes
 use Rattle.streams.specs.contracts.stream.Stream.TheInside as Inside
 use Rattle.aes_vector.specs.contracts.Key as Key
-use Rattle.hall_log.specs.contracts.event.AppCall as AppCall
+use Rattle.ck_calls.specs.contracts.app_call.AppCall as AppCall
 
 kept_send : IsSend Kept.the_row
 kept_send = search sendable depth 8
@@ -133,10 +133,25 @@ cell_send : IsSend JobCell.the_row
 cell_send = variants_send JobCell.enum ((work_send, tt), ((outcome_send, tt), (tt, tt)))
 
 job_send : IsSend Job.the_row
-job_send = declared_send Job.the_type (search sendable depth 20, (search sendable depth 20, (search sendable depth 60 fits 20000, (search sendable depth 20, (search (work_send, sendable, crosses) depth 20, (Box-send JobCell.the_row cell_send, tt))))))
+job_send = declared_send Job.the_type (
+  search sendable depth 20,
+  (
+    search sendable depth 20,
+    (
+      search sendable depth 60 fits 20000,
+      (search sendable depth 20, (search (work_send, sendable, crosses) depth 20, (Box-send JobCell.the_row cell_send, tt))),
+    ),
+  ),
+)
 
 done_send : IsSend Done.the_row
-done_send = declared_send Done.the_type (search sendable depth 20, (search sendable depth 20, (search sendable depth 60 fits 20000, (Box-send JobCell.the_row cell_send, (search (job_send, sendable, crosses) depth 20, tt)))))
+done_send = declared_send Done.the_type (
+  search sendable depth 20,
+  (
+    search sendable depth 20,
+    (search sendable depth 60 fits 20000, (Box-send JobCell.the_row cell_send, (search (job_send, sendable, crosses) depth 20, tt))),
+  ),
+)
 
 reply_send : IsSend Reply.the_row
 reply_send = search (items_send, label_send, sendable, crosses) depth 200 fits 100000
@@ -181,15 +196,33 @@ call_send = variants_send Call.enum (
                         (
                           (search sendable depth 20, (search (items_send, entry_send, sendable) depth 20, tt)),
                           (
-                            (search sendable depth 20, (search sendable depth 20, (search (items_send, entry_send, sendable) depth 20, tt))),
+                            (
+                              search sendable depth 20,
+                              (
+                                search sendable depth 20,
+                                (search (items_send, entry_send, sendable) depth 20, tt),
+                              ),
+                            ),
                             (
                               (search sendable depth 20, (search sendable depth 20, tt)),
                               (
                                 (search sendable depth 20, (search sendable depth 20, tt)),
                                 (
-                                  (search sendable depth 20, (search sendable depth 20, (search (items_send, query_send, sendable) depth 20, tt))),
                                   (
-                                    (search sendable depth 20, (search sendable depth 20, (search (items_send, entry_send, sendable) depth 20, tt))),
+                                    search sendable depth 20,
+                                    (
+                                      search sendable depth 20,
+                                      (search (items_send, query_send, sendable) depth 20, tt),
+                                    ),
+                                  ),
+                                  (
+                                    (
+                                      search sendable depth 20,
+                                      (
+                                        search sendable depth 20,
+                                        (search (items_send, entry_send, sendable) depth 20, tt),
+                                      ),
+                                    ),
                                     (
                                       (search sendable depth 20, (search (items_send, entry_send, sendable) depth 20, tt)),
                                       (
@@ -197,45 +230,168 @@ call_send = variants_send Call.enum (
                                         (
                                           (search sendable depth 20, tt),
                                           (
-                                            (search sendable depth 20, (search (mechanism_send, sendable, crosses) depth 20, (search sendable depth 20, tt))),
                                             (
-                                              (search sendable depth 20, (search (items_send, sendable) depth 20, (search (sendable, crosses) depth 20, tt))),
+                                              search sendable depth 20,
                                               (
-                                                (search sendable depth 20, (search (items_send, sendable) depth 20, (search (sendable, crosses) depth 20, tt))),
+                                                search (mechanism_send, sendable, crosses) depth 20,
+                                                (search sendable depth 20, tt),
+                                              ),
+                                            ),
+                                            (
+                                              (
+                                                search sendable depth 20,
+                                                (
+                                                  search (items_send, sendable) depth 20,
+                                                  (search (sendable, crosses) depth 20, tt),
+                                                ),
+                                              ),
+                                              (
+                                                (
+                                                  search sendable depth 20,
+                                                  (
+                                                    search (items_send, sendable) depth 20,
+                                                    (search (sendable, crosses) depth 20, tt),
+                                                  ),
+                                                ),
                                                 (
                                                   (search sendable depth 20, (search (sendable, crosses) depth 20, tt)),
                                                   (
-                                                    (search sendable depth 20, (search (mechanism_send, sendable, crosses) depth 20, (search sendable depth 20, tt))),
                                                     (
-                                                      (search sendable depth 20, (search (items_send, sendable) depth 20, (search (sendable, crosses) depth 20, tt))),
+                                                      search sendable depth 20,
                                                       (
-                                                        (search sendable depth 20, (search (items_send, sendable) depth 20, (search (sendable, crosses) depth 20, tt))),
+                                                        search (mechanism_send, sendable, crosses) depth 20,
+                                                        (search sendable depth 20, tt),
+                                                      ),
+                                                    ),
+                                                    (
+                                                      (
+                                                        search sendable depth 20,
+                                                        (
+                                                          search (items_send, sendable) depth 20,
+                                                          (search (sendable, crosses) depth 20, tt),
+                                                        ),
+                                                      ),
+                                                      (
+                                                        (
+                                                          search sendable depth 20,
+                                                          (
+                                                            search (items_send, sendable) depth 20,
+                                                            (search (sendable, crosses) depth 20, tt),
+                                                          ),
+                                                        ),
                                                         (
                                                           (search sendable depth 20, (search (sendable, crosses) depth 20, tt)),
                                                           (
-                                                            (search sendable depth 20, (search (mechanism_send, sendable, crosses) depth 20, (search sendable depth 20, tt))),
                                                             (
-                                                              (search sendable depth 20, (search (items_send, sendable) depth 20, (search (sendable, crosses) depth 20, tt))),
+                                                              search sendable depth 20,
+                                                              (
+                                                                search
+                                                                    (mechanism_send, sendable, crosses) depth 20,
+                                                                (search sendable depth 20, tt),
+                                                              ),
+                                                            ),
+                                                            (
+                                                              (
+                                                                search sendable depth 20,
+                                                                (
+                                                                  search (items_send, sendable) depth 20,
+                                                                  (search (sendable, crosses) depth 20, tt),
+                                                                ),
+                                                              ),
                                                               (
                                                                 (search sendable depth 20, (search (items_send, sendable) depth 20, tt)),
                                                                 (
                                                                   (search sendable depth 20, (search (sendable, crosses) depth 20, tt)),
                                                                   (
-                                                                    (search sendable depth 20, (search (mechanism_send, sendable, crosses) depth 20, (search sendable depth 20, tt))),
                                                                     (
-                                                                      (search sendable depth 20, (search (items_send, sendable) depth 20, (search (items_send, sendable) depth 20, tt))),
+                                                                      search sendable depth 20,
                                                                       (
-                                                                        (search sendable depth 20, (search (items_send, sendable) depth 20, tt)),
+                                                                        search
+                                                                            (mechanism_send, sendable, crosses) depth 20,
+                                                                        (search sendable depth 20, tt),
+                                                                      ),
+                                                                    ),
+                                                                    (
+                                                                      (
+                                                                        search sendable depth 20,
                                                                         (
-                                                                          (search sendable depth 20, (search (items_send, sendable) depth 20, tt)),
+                                                                          search
+                                                                              (items_send, sendable) depth 20,
+                                                                          (search (items_send, sendable) depth 20, tt),
+                                                                        ),
+                                                                      ),
+                                                                      (
+                                                                        (
+                                                                          search sendable depth 20,
                                                                           (
-                                                                            (search sendable depth 20, (mechanism_send, (search (items_send, entry_send, sendable) depth 20, tt))),
+                                                                            search
+                                                                                (items_send, sendable) depth 20,
+                                                                            tt,
+                                                                          ),
+                                                                        ),
+                                                                        (
+                                                                          (
+                                                                            search sendable depth 20,
                                                                             (
-                                                                              (search sendable depth 20, (mechanism_send, (search sendable depth 20, (search sendable depth 20, (search (sendable, crosses) depth 20, tt))))),
+                                                                              search
+                                                                                  (items_send, sendable) depth 20,
+                                                                              tt,
+                                                                            ),
+                                                                          ),
+                                                                          (
+                                                                            (
+                                                                              search sendable depth 20,
                                                                               (
-                                                                                (search sendable depth 20, (mechanism_send, (search sendable depth 20, (search (items_send, sendable) depth 20, (search (items_send, entry_send, sendable) depth 20, tt))))),
+                                                                                mechanism_send,
+                                                                                (search (items_send, entry_send, sendable) depth 20, tt),
+                                                                              ),
+                                                                            ),
+                                                                            (
+                                                                              (
+                                                                                search sendable depth 20,
                                                                                 (
-                                                                                  (search sendable depth 20, (search sendable depth 20, tt)),
+                                                                                  mechanism_send,
+                                                                                  (
+                                                                                    search sendable depth 20,
+                                                                                    (
+                                                                                      search sendable depth
+                                                                                          20,
+                                                                                      (search (sendable, crosses) depth 20, tt),
+                                                                                    ),
+                                                                                  ),
+                                                                                ),
+                                                                              ),
+                                                                              (
+                                                                                (
+                                                                                  search sendable depth 20,
+                                                                                  (
+                                                                                    mechanism_send,
+                                                                                    (
+                                                                                      search sendable depth 20,
+                                                                                      (
+                                                                                        search
+                                                                                            (items_send, sendable) depth 20,
+                                                                                        (
+                                                                                          search (
+                                                                                            items_send,
+                                                                                            entry_send,
+                                                                                            sendable,
+                                                                                          ) depth 20,
+                                                                                          tt,
+                                                                                        ),
+                                                                                      ),
+                                                                                    ),
+                                                                                  ),
+                                                                                ),
+                                                                                (
+                                                                                  (
+                                                                                    search sendable depth 20,
+                                                                                    (
+                                                                                      search sendable depth
+                                                                                          20,
+                                                                                      tt,
+                                                                                    ),
+                                                                                  ),
                                                                                   tt,
                                                                                 ),
                                                                               ),
@@ -283,7 +439,8 @@ appcall_send : IsSend AppCall.the_row
 appcall_send = declared_send AppCall.the_type (search sendable depth 20, (call_send, (search (sendable, crosses) depth 20, tt)))
 
 event_send : IsSend Event.the_row
-event_send = variants_send Event.enum ((appcall_send, tt), ((search sendable depth 20, (done_send, tt)), ((search sendable depth 20, tt), tt)))
+event_send = variants_send Event.enum
+    ((appcall_send, tt), ((search sendable depth 20, (done_send, tt)), ((search sendable depth 20, tt), tt)))
 
 pub message_send : IsSend Message.the_row
 message_send = declared_send Message.the_type (event_send, (out_send, tt))
@@ -307,7 +464,17 @@ module _ (J : RattleType) (n : _) where
   inward_send = variants_send (Inward.enum J n) ((posted_send, tt), ((search sendable depth 20, (search sendable depth 20, tt)), tt))
 
   outward_send : IsSend (Outward.the_row J n)
-  outward_send = variants_send (Outward.enum J n) ((Box-send Message.the_row message_send, tt), ((answered_send, tt), ((returned_send, tt), (tt, tt))))
+  outward_send = variants_send (Outward.enum J n)
+      ((Box-send Message.the_row message_send, tt), ((answered_send, tt), ((returned_send, tt), (tt, tt))))
 
   pub port_send : IsSend (Port.the_row J n)
-  port_send = declared_send (Port.the_type J n) (option_send (Box.the_row Message.the_row Global.the_row global) (Box-send Message.the_row message_send), (putter_send J n, (sender_send (Inward.the_row J n) inward_send, (receiver_send (Outward.the_row J n) outward_send, (search sendable depth 20, tt)))))
+  port_send = declared_send (Port.the_type J n) (
+    option_send (Box.the_row Message.the_row Global.the_row global) (Box-send Message.the_row message_send),
+    (
+      putter_send J n,
+      (
+        sender_send (Inward.the_row J n) inward_send,
+        (receiver_send (Outward.the_row J n) outward_send, (search sendable depth 20, tt)),
+      ),
+    ),
+  )

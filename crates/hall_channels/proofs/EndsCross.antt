@@ -53,17 +53,39 @@ receiving_send C s y = search (sendable, crosses) depth 20
 option_send : (T : RattleType) → IsSend T → IsSend (Option.the_row T)
 option_send T s = search (sendable, crosses) depth 20
 
-rows_of_send : (M V R : RattleType) (p : _) (q : _) → IsSend M → IsSend (Rows.the_row (Badge.the_row (Key.the_row M)) (Doing.the_row M V) (Rounds.the_row R) (Option.the_row M) (Key.the_row M) (Lockers.the_row Whole.the_row) Global.the_row p q ghosts)
-rows_of_send M V R p q m = rows_send (Badge.the_row (Key.the_row M)) (Doing.the_row M V) (Rounds.the_row R) (Option.the_row M) (Key.the_row M) (Lockers.the_row Whole.the_row) p q (badge_send (Key.the_row M)) (option_send M m)
+rows_of_send : (M V R : RattleType) (p : _) (q : _) → IsSend M
+    → IsSend (Rows.the_row (Badge.the_row (Key.the_row M)) (Doing.the_row M V) (Rounds.the_row R) (Option.the_row M) (Key.the_row M)
+    (Lockers.the_row Whole.the_row) Global.the_row p q ghosts)
+rows_of_send M V R p q m = rows_send (Badge.the_row (Key.the_row M)) (Doing.the_row M V) (Rounds.the_row R) (Option.the_row M)
+    (Key.the_row M) (Lockers.the_row Whole.the_row) p q (badge_send (Key.the_row M)) (option_send M m)
 
-rows_of_sync : (M V R : RattleType) (p : _) (q : _) → IsSend M → IsSync (Rows.the_row (Badge.the_row (Key.the_row M)) (Doing.the_row M V) (Rounds.the_row R) (Option.the_row M) (Key.the_row M) (Lockers.the_row Whole.the_row) Global.the_row p q ghosts)
-rows_of_sync M V R p q m = rows_sync (Badge.the_row (Key.the_row M)) (Doing.the_row M V) (Rounds.the_row R) (Option.the_row M) (Key.the_row M) (Lockers.the_row Whole.the_row) p q (badge_send (Key.the_row M)) (option_send M m)
+rows_of_sync : (M V R : RattleType) (p : _) (q : _) → IsSend M
+    → IsSync (Rows.the_row (Badge.the_row (Key.the_row M)) (Doing.the_row M V) (Rounds.the_row R) (Option.the_row M) (Key.the_row M)
+    (Lockers.the_row Whole.the_row) Global.the_row p q ghosts)
+rows_of_sync M V R p q m = rows_sync (Badge.the_row (Key.the_row M)) (Doing.the_row M V) (Rounds.the_row R) (Option.the_row M)
+    (Key.the_row M) (Lockers.the_row Whole.the_row) p q (badge_send (Key.the_row M)) (option_send M m)
 
-sending_of : (M V R : RattleType) (p : _) (q : _) → IsSend M → IsSend (Sending.the_row (Rows.the_row (Badge.the_row (Key.the_row M)) (Doing.the_row M V) (Rounds.the_row R) (Option.the_row M) (Key.the_row M) (Lockers.the_row Whole.the_row) Global.the_row p q ghosts) Global.the_row ghosts)
-sending_of M V R p q m = sending_send (Rows.the_row (Badge.the_row (Key.the_row M)) (Doing.the_row M V) (Rounds.the_row R) (Option.the_row M) (Key.the_row M) (Lockers.the_row Whole.the_row) Global.the_row p q ghosts) (both_send (Rows.the_row (Badge.the_row (Key.the_row M)) (Doing.the_row M V) (Rounds.the_row R) (Option.the_row M) (Key.the_row M) (Lockers.the_row Whole.the_row) Global.the_row p q ghosts) (rows_of_send M V R p q m)) (both_sync (Rows.the_row (Badge.the_row (Key.the_row M)) (Doing.the_row M V) (Rounds.the_row R) (Option.the_row M) (Key.the_row M) (Lockers.the_row Whole.the_row) Global.the_row p q ghosts) (rows_of_sync M V R p q m))
+sending_of : (M V R : RattleType) (p : _) (q : _) → IsSend M
+    → IsSend (Sending.the_row (Rows.the_row (Badge.the_row (Key.the_row M)) (Doing.the_row M V) (Rounds.the_row R)
+    (Option.the_row M) (Key.the_row M) (Lockers.the_row Whole.the_row) Global.the_row p q ghosts) Global.the_row ghosts)
+sending_of M V R p q m = sending_send
+    (Rows.the_row (Badge.the_row (Key.the_row M)) (Doing.the_row M V) (Rounds.the_row R) (Option.the_row M) (Key.the_row M)
+    (Lockers.the_row Whole.the_row) Global.the_row p q ghosts)
+    (both_send (Rows.the_row (Badge.the_row (Key.the_row M)) (Doing.the_row M V) (Rounds.the_row R) (Option.the_row M)
+    (Key.the_row M) (Lockers.the_row Whole.the_row) Global.the_row p q ghosts) (rows_of_send M V R p q m))
+    (both_sync (Rows.the_row (Badge.the_row (Key.the_row M)) (Doing.the_row M V) (Rounds.the_row R) (Option.the_row M)
+    (Key.the_row M) (Lockers.the_row Whole.the_row) Global.the_row p q ghosts) (rows_of_sync M V R p q m))
 
-receiving_of : (M V R : RattleType) (p : _) (q : _) → IsSend M → IsSend (Receiving.the_row (Rows.the_row (Badge.the_row (Key.the_row M)) (Doing.the_row M V) (Rounds.the_row R) (Option.the_row M) (Key.the_row M) (Lockers.the_row Whole.the_row) Global.the_row p q ghosts) Global.the_row ghosts)
-receiving_of M V R p q m = receiving_send (Rows.the_row (Badge.the_row (Key.the_row M)) (Doing.the_row M V) (Rounds.the_row R) (Option.the_row M) (Key.the_row M) (Lockers.the_row Whole.the_row) Global.the_row p q ghosts) (both_send (Rows.the_row (Badge.the_row (Key.the_row M)) (Doing.the_row M V) (Rounds.the_row R) (Option.the_row M) (Key.the_row M) (Lockers.the_row Whole.the_row) Global.the_row p q ghosts) (rows_of_send M V R p q m)) (both_sync (Rows.the_row (Badge.the_row (Key.the_row M)) (Doing.the_row M V) (Rounds.the_row R) (Option.the_row M) (Key.the_row M) (Lockers.the_row Whole.the_row) Global.the_row p q ghosts) (rows_of_sync M V R p q m))
+receiving_of : (M V R : RattleType) (p : _) (q : _) → IsSend M
+    → IsSend (Receiving.the_row (Rows.the_row (Badge.the_row (Key.the_row M)) (Doing.the_row M V) (Rounds.the_row R)
+    (Option.the_row M) (Key.the_row M) (Lockers.the_row Whole.the_row) Global.the_row p q ghosts) Global.the_row ghosts)
+receiving_of M V R p q m = receiving_send
+    (Rows.the_row (Badge.the_row (Key.the_row M)) (Doing.the_row M V) (Rounds.the_row R) (Option.the_row M) (Key.the_row M)
+    (Lockers.the_row Whole.the_row) Global.the_row p q ghosts)
+    (both_send (Rows.the_row (Badge.the_row (Key.the_row M)) (Doing.the_row M V) (Rounds.the_row R) (Option.the_row M)
+    (Key.the_row M) (Lockers.the_row Whole.the_row) Global.the_row p q ghosts) (rows_of_send M V R p q m))
+    (both_sync (Rows.the_row (Badge.the_row (Key.the_row M)) (Doing.the_row M V) (Rounds.the_row R) (Option.the_row M)
+    (Key.the_row M) (Lockers.the_row Whole.the_row) Global.the_row p q ghosts) (rows_of_sync M V R p q m))
 
 abbrev pass_row : (M V : RattleType) → RattleType
 pass_row M V = Seat.the_row (Badge.the_row (Key.the_row M)) (Doing.the_row M V)
@@ -72,13 +94,21 @@ pass_send : (M V : RattleType) → IsSend (pass_row M V)
 pass_send M V = seat_send (Badge.the_row (Key.the_row M)) (Doing.the_row M V) (badge_send (Key.the_row M))
 
 sender_inside : (M : RattleType) → IsSend M → IsSend (SenderInside.the_row M)
-sender_inside M m = declared_send (SenderInside.the_type M) (sending_of M unit Free.the_row (rounds.ghosts M unit Free.the_row (free.ghosts M) rounds.no_dict) (lockers.ghosts M M Whole.the_row (whole.ghosts M) lockers.no_dict) m, (pass_send M unit, tt))
+sender_inside M m = declared_send (SenderInside.the_type M) (
+  sending_of M unit Free.the_row (rounds.ghosts M unit Free.the_row (free.ghosts M) rounds.no_dict)
+      (lockers.ghosts M M Whole.the_row (whole.ghosts M) lockers.no_dict) m,
+  (pass_send M unit, tt),
+)
 
 pub sender_send : (M : RattleType) → IsSend M → IsSend (Sender.the_row M)
 sender_send M m = search (sender_inside M m, sendable) depth 10
 
 receiver_inside : (M : RattleType) → IsSend M → IsSend (ReceiverInside.the_row M)
-receiver_inside M m = declared_send (ReceiverInside.the_type M) (receiving_of M unit Free.the_row (rounds.ghosts M unit Free.the_row (free.ghosts M) rounds.no_dict) (lockers.ghosts M M Whole.the_row (whole.ghosts M) lockers.no_dict) m, (pass_send M unit, tt))
+receiver_inside M m = declared_send (ReceiverInside.the_type M) (
+  receiving_of M unit Free.the_row (rounds.ghosts M unit Free.the_row (free.ghosts M) rounds.no_dict)
+      (lockers.ghosts M M Whole.the_row (whole.ghosts M) lockers.no_dict) m,
+  (pass_send M unit, tt),
+)
 
 pub receiver_send : (M : RattleType) → IsSend M → IsSend (Receiver.the_row M)
 receiver_send M m = search (receiver_inside M m, sendable) depth 10

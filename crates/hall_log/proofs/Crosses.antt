@@ -32,13 +32,16 @@ module _ (J : RattleType) (n : _) where
   told_send = search (told_inside, sendable) depth 10
 
   pub post_send : IsSend (Post.the_row J n)
-  post_send = declared_send (Post.the_type J n) (search sendable depth 8, (search sendable depth 8, (event_snapshot, (reached_send, (told_send, tt)))))
+  post_send = declared_send (Post.the_type J n)
+      (search sendable depth 8, (search sendable depth 8, (event_snapshot, (reached_send, (told_send, tt)))))
 
   pub receipt_send : IsSend (Receipt.the_row J n)
-  receipt_send = declared_send (Receipt.the_type J n) (search sendable depth 8, (search sendable depth 8, (search sendable depth 20, (told_send, tt))))
+  receipt_send = declared_send (Receipt.the_type J n)
+      (search sendable depth 8, (search sendable depth 8, (search sendable depth 20, (told_send, tt))))
 
   putter_inside : IsSend (PutterInside.the_row J n)
-  putter_inside = declared_send (PutterInside.the_type J n) (search sendable depth 8, (search sendable depth 8, (search (word_send, sendable) depth 20, (reached_send, (told_send, tt)))))
+  putter_inside = declared_send (PutterInside.the_type J n)
+      (search sendable depth 8, (search sendable depth 8, (search (word_send, sendable) depth 20, (reached_send, (told_send, tt)))))
 
   pub putter_send : IsSend (Putter.the_row J n)
   putter_send = search (putter_inside, sendable) depth 10

@@ -7,7 +7,8 @@ use Rattle.hall_log.specs.Lists.{of, last}
 module _ {A : Type 0} where
   pub of-append : (s : ℕ) (xs ys : List (ℕ × A)) → of s (xs ++ ys) ≡ of s xs ++ of s ys
   of-append s [] ys = refl
-  of-append s (x ∷ xs) ys = elim (nat_eq x.0 s) as (λ b. cond b (x.1 ∷ of s (xs ++ ys)) (of s (xs ++ ys)) ≡ cond b (x.1 ∷ of s xs) (of s xs) ++ of s ys)
+  of-append s (x ∷ xs) ys = elim (nat_eq x.0 s) as
+      (λ b. cond b (x.1 ∷ of s (xs ++ ys)) (of s (xs ++ ys)) ≡ cond b (x.1 ∷ of s xs) (of s xs) ++ of s ys)
       [ true ↦ ap (λ l. x.1 ∷ l) (of-append s xs ys) | false ↦ of-append s xs ys ]
 
   pub of-one : (s : ℕ) (t : ℕ) (a : A) → t ≡ s → of s ((t, a) ∷ []) ≡ a ∷ []
@@ -30,7 +31,8 @@ module _ {A : Type 0} where
   last_snoc (y ∷ z ∷ zs) x = last_snoc (z ∷ zs) x
 
   -- an index of a list that is one longer is one of the list, or the new one
-  pub get_more : (xs : List A) (a b : A) (k : ℕ) → slice_get (xs ++ a ∷ []) k ≡ Some b → (slice_get xs k ≡ Some b) ⊎ ((k ≡ length xs) × (a ≡ b))
+  pub get_more : (xs : List A) (a b : A) (k : ℕ) → slice_get (xs ++ a ∷ []) k ≡ Some b → (slice_get xs k ≡ Some b)
+      ⊎ ((k ≡ length xs) × (a ≡ b))
   get_more [] a b zero e = inr (refl, cc)
   get_more [] a b (suc k) e = cc
   get_more (x ∷ xs) a b zero e = inl e

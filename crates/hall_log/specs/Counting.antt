@@ -14,6 +14,6 @@ abbrev pub AreCounts : Counts → History → Type 0
 AreCounts c history = (s : ℕ) → s < 4 → count_of c s ≡ length (of s history)
 
 -- one more of seat s
-pub record Counted (s : ℕ) (old new : Counts) : Type 0 where
+pub record SeatCounted (s : ℕ) (old new : Counts) : Type 0 where
   pub own : count_of new s ≡ count_of old s + 1
   pub others : (t : ℕ) → t < 4 → nat_eq s t ≡ false → count_of new t ≡ count_of old t

@@ -14,10 +14,10 @@ Exchange = Event × Option Out
 abbrev pub History : Type 0
 History = List (ℕ × Exchange)
 
-abbrev pub app_of : Event → ℕ
-app_of (Call c) = c.app
-app_of (Finish app done) = app
-app_of (Gone app) = app
+abbrev pub event_app : Event → ℕ
+event_app (Call c) = c.app
+event_app (Finish app done) = app
+event_app (Gone app) = app
 
 abbrev pub events : List Exchange → List Event
 events [] = []
@@ -30,7 +30,7 @@ answered (x ∷ xs) = x.1 ∷ answered xs
 
 -- each event is of an application of its own seat
 abbrev pub AllOwn : History → Type 0
-AllOwn history = AllByRecursion (λ x. app_of x.1.0 % 4 ≡ x.0) history
+AllOwn history = AllByRecursion (λ x. event_app x.1.0 % 4 ≡ x.0) history
 
 -- each event was one that its seat may put, after what was served of it before
 abbrev pub AllMayFrom : (ℕ → List Exchange → Event → Type 0) → History → History → Type 0

@@ -28,7 +28,8 @@ Orderly log = (s : ℕ) → IsPrefix (events (of s (served log))) (puts s log)
 -- a word counts what each seat put, and one what was served
 abbrev pub words_of : List Entry → List Cell
 words_of log =
-    (length (puts 0 log), true) ∷ (length (puts 1 log), true) ∷ (length (puts 2 log), true) ∷ (length (puts 3 log), true) ∷ (length (served log), true) ∷ []
+    (length (puts 0 log), true) ∷ (length (puts 1 log), true) ∷ (length (puts 2 log), true) ∷ (length (puts 3 log), true)
+    ∷ (length (served log), true) ∷ []
 
 pub record IsKept (cells : List Cell) (log : List Entry) : Type 0 where
   pub words : cells ≡ words_of log

@@ -3,11 +3,11 @@ use Rattle.std.specs.Prelude.{◌≡◌, ◌≢◌, ℕ, ◌%◌, List, [], ◌�
 use Rattle.mech.specs.declared.job.Job.{Job}
 use Rattle.serve_base.specs.declared.out.Out.{Out}
 use Rattle.serve_base.specs.declared.out.Out.TheVariants.{Reply, Ask}
-use Rattle.hall_log.specs.declared.event.AppCall.{AppCall}
+use Rattle.ck_calls.specs.declared.app_call.AppCall.{AppCall}
 use Rattle.hall_log.specs.declared.event.Event.{Event}
 use Rattle.hall_log.specs.declared.event.Event.TheVariants.{Call, Finish, Gone}
 use Rattle.hall_log.specs.Lists.{last}
-use Rattle.hall_log.specs.Histories.{Exchange, app_of}
+use Rattle.hall_log.specs.Histories.{Exchange, event_app}
 
 -- ---- jobs
 
@@ -58,10 +58,11 @@ WasRead was_read before (Gone app) = Unit {0}
 -- disconnected. A call was read.
 pub record MayPut (was_read : List Exchange → AppCall → Type 0) (s : ℕ) (before : List Exchange) (event : Event) : Type 0 where
   pub follows : Follows (last before) event
-  pub own : app_of event % 4 ≡ s
-  pub there : IsThere (app_of event) before
+  pub own : event_app event % 4 ≡ s
+  pub there : IsThere (event_app event) before
   pub read : WasRead was_read before event
 
 -- Each event of seat s follows so, and is of an application of that seat, which has not disconnected.
 abbrev pub IsProper : ℕ → List Exchange → Type 0
-IsProper s xs = (before : List Exchange) (x : Exchange) (after : List Exchange) → xs ≡ before ++ x ∷ after → Follows (last before) x.0 × (app_of x.0 % 4 ≡ s) × IsThere (app_of x.0) before
+IsProper s xs = (before : List Exchange) (x : Exchange) (after : List Exchange) → xs ≡ before ++ x ∷ after
+    → Follows (last before) x.0 × (event_app x.0 % 4 ≡ s) × IsThere (event_app x.0) before

@@ -31,7 +31,7 @@ mod serving;
 mod stepping;
 
 pub use entry::Entry;
-pub use event::{AppCall, Event};
+pub use event::Event;
 pub use naming::Naming;
 pub use opened::Opened;
 pub use post::{Post, Receipt};

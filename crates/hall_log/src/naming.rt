@@ -10,7 +10,7 @@ pub trait Naming {
     ghost use Rattle.logbook.specs.Pages.{Book};
     ghost use Rattle.hall_log.specs.Histories.{AllOwn, Exchange, History};
     ghost use Rattle.hall_log.specs.Suiting.{HistorySuits};
-    ghost use Rattle.hall_log.specs.declared.event.AppCall.{AppCall};
+    ghost use Rattle.ck_calls.specs.declared.app_call.AppCall.{AppCall};
 
     /// The book that the log is of.
     ghost book: { Book };

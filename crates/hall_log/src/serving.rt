@@ -6,7 +6,7 @@ ghost use Rattle.hall_log.specs.Histories.{AllOwn};
 ghost use Rattle.hall_log.specs.Log.{served};
 ghost use Rattle.hall_log.specs.Putting.{MayPut};
 ghost use Rattle.hall_log.specs.SeatLogs.{done_by, IsIdle};
-ghost use Rattle.hall_log.specs.Counting.{Counted, count_of};
+ghost use Rattle.hall_log.specs.Counting.{SeatCounted, count_of};
 
 use crate::entry::Entry;
 use crate::naming::Naming;
@@ -54,7 +54,7 @@ impl<J: Naming> Model for Server<J> {
 /// The counts once one event more of a seat was served.
 fn counted(seat: u64, counts: Counts) -> Option<Counts>
     requires { seat < 4 }
-    ensures { IfSome result (λ r. Counted seat counts r) }
+    ensures { IfSome result (λ r. SeatCounted seat counts r) }
 {
     let Counts {
         first,

@@ -91,7 +91,13 @@ seat_send S L C send sync l c = declared_send (SocketSeat.the_type S L C) (
                                                         search sendable depth 20,
                                                         (
                                                           search sendable depth 8,
-                                                          (search sendable depth 8, (search sendable depth 8, (search sendable depth 8, tt))),
+                                                          (
+                                                            search sendable depth 8,
+                                                            (
+                                                              search sendable depth 8,
+                                                              (search sendable depth 8, tt),
+                                                            ),
+                                                          ),
                                                         ),
                                                       ),
                                                     ),

@@ -3,13 +3,13 @@ use Rattle.std.specs.Prelude.{◌≡◌, ◌⊎◌, ◌%◌, ◌∷◌, [], ◌+
 use Rattle.ck_calls.specs.declared.reply.Reply.{Reply}
 use Rattle.door.specs.Ends.{Reading, Writing}
 use Rattle.serve_base.specs.Short.{IsShortCall}
-use Rattle.hall_log.specs.declared.event.AppCall.{AppCall}
+use Rattle.ck_calls.specs.declared.app_call.AppCall.{AppCall}
 use Rattle.hall_log.specs.Histories.{Exchange}
 use Rattle.hall.specs.SeatEvents.{asked_in, heard_in, seat_app}
 use Rattle.hall.specs.declared.seats.SeatEvent.{SeatEvent}
 use Rattle.hall.specs.declared.seats.SeatEvent.TheVariants.{Call, Gone}
 use Rattle.line_places.specs.declared.client.Client.{Client}
-use Rattle.line_places.specs.Keeping.{HasGone, IsAt, IsOwed}
+use Rattle.line_places.specs.Keeping.{HasGone, IsClientAt, IsOwed}
 use Rattle.line_places.specs.Permitting.{MayGoOnAt}
 use Rattle.line_places.specs.Tying.{AllTied}
 use Rattle.hall_sockets.specs.declared.seat.SocketSeat.{SocketSeat}
@@ -20,7 +20,7 @@ IsTied given seat = ∥ AllTied given (λ r. r) (λ w. w) seat.clients.places.it
 
 -- nobody is at a place
 abbrev pub IsEmptyAt : {S L C : Type 0} → SocketSeat S L C → ℕ → Type 0
-IsEmptyAt seat j = (c : Client Reading Writing) → ¬ IsAt seat.clients.places.items j c
+IsEmptyAt seat j = (c : Client Reading Writing) → ¬ IsClientAt seat.clients.places.items j c
 
 -- nobody is at any
 abbrev pub IsNobodyLeft : {S L C : Type 0} → SocketSeat S L C → Type 0
@@ -42,8 +42,8 @@ abbrev pub Rests : {S L C : Type 0} → SocketSeat S L C → SocketSeat S L C �
 Rests old new = (new.clients ≡ old.clients) × (new.asked.items ≡ old.asked.items)
 
 -- between two events it gives and takes nothing, and nobody disconnects
-abbrev pub Stays : {S L C : Type 0} → (ℕ → List ℕ → Type 0) → SocketSeat S L C → SocketSeat S L C → Type 0
-Stays given old new =
+abbrev pub SeatStays : {S L C : Type 0} → (ℕ → List ℕ → Type 0) → SocketSeat S L C → SocketSeat S L C → Type 0
+SeatStays given old new =
     (new.clients.number ≡ old.clients.number)
     × (new.clients.seed ≡ old.clients.seed)
     × (new.clients.past.items ≡ old.clients.past.items)
@@ -57,32 +57,32 @@ abbrev pub MayEnd : {S L C : Type 0} → SocketSeat S L C → Type 0
 MayEnd seat = (seat.has_failed ≡ true) ⊎ ((seat.was_told ≡ true) ⊎ ((seat.left ≡ 0) × (seat.count ≡ 0)))
 
 -- it has ended: it might, and nobody is left
-abbrev pub IsDone : {S L C : Type 0} → SocketSeat S L C → Type 0
-IsDone seat = MayEnd seat × IsNobodyLeft seat
+abbrev pub SeatIsDone : {S L C : Type 0} → SocketSeat S L C → Type 0
+SeatIsDone seat = MayEnd seat × IsNobodyLeft seat
 
 -- nobody went, and nothing changed by which it may end
 abbrev pub IsStill : {S L C : Type 0} → SocketSeat S L C → SocketSeat S L C → Type 0
 IsStill old new = (new.clients ≡ old.clients) × (MayEnd old → MayEnd new)
 
 -- the application of an event is of this seat, and is there
-abbrev pub IsThere : {S L C : Type 0} → SocketSeat S L C → ℕ → Type 0
-IsThere seat app = (app % 4 ≡ seat.clients.number) × (¬ HasGone seat.clients.past.items app)
+abbrev pub SeatHasApp : {S L C : Type 0} → SocketSeat S L C → ℕ → Type 0
+SeatHasApp seat app = (app % 4 ≡ seat.clients.number) × (¬ HasGone seat.clients.past.items app)
 
 -- after a call, which has data that fits into a frame, the seat may take its reply, and after a disconnect the application is there no more
-abbrev pub IsNoted : {S L C : Type 0} → SocketSeat S L C → SeatEvent → Type 0
-IsNoted seat (Call c) = IsOwed seat.clients.places.items seat.answering c.app × IsShortCall c.call
-IsNoted seat (Gone app) = HasGone seat.clients.past.items app
+abbrev pub EventIsNoted : {S L C : Type 0} → SocketSeat S L C → SeatEvent → Type 0
+EventIsNoted seat (Call c) = IsOwed seat.clients.places.items seat.answering c.app × IsShortCall c.call
+EventIsNoted seat (Gone app) = HasGone seat.clients.past.items app
 
 -- an event is given, which the seat keeps, or nothing
-abbrev pub Gives : {S L C : Type 0} → (ℕ → List ℕ → Type 0) → SocketSeat S L C → SocketSeat S L C → Option SeatEvent → Type 0
-Gives given old new None = Stays given old new
-Gives given old new (Some event) =
+abbrev pub SeatGives : {S L C : Type 0} → (ℕ → List ℕ → Type 0) → SocketSeat S L C → SocketSeat S L C → Option SeatEvent → Type 0
+SeatGives given old new None = SeatStays given old new
+SeatGives given old new (Some event) =
     (new.clients.number ≡ old.clients.number)
     × (new.clients.seed ≡ old.clients.seed)
     × (new.clients.told.items ≡ old.clients.told.items)
     × (new.asked.items ≡ old.asked.items ++ event ∷ [])
-    × IsThere old (seat_app event)
-    × IsNoted new event
+    × SeatHasApp old (seat_app event)
+    × EventIsNoted new event
     × ((app : ℕ) → HasGone old.clients.past.items app → HasGone new.clients.past.items app)
     × (IsTied given old → IsTied given new)
 
@@ -90,13 +90,14 @@ Gives given old new (Some event) =
 
 -- that what is to be written to whoever is at a place may be, and so however nothing is given and taken meanwhile
 abbrev pub MayGoOnFrom : {S L C : Type 0} → (ℕ → List ℕ → Type 0) → (ℕ → List ℕ → List ℕ → Type 0) → SocketSeat S L C → Type 0
-MayGoOnFrom {S} {L} {C} given allows seat = (now : SocketSeat S L C) → Stays given seat now → (j : ℕ) → MayGoOnAt given allows (λ r. r) (λ w. w) now.clients.places.items j
+MayGoOnFrom {S} {L} {C} given allows seat = (now : SocketSeat S L C) → SeatStays given seat now → (j : ℕ)
+    → MayGoOnAt given allows (λ r. r) (λ w. w) now.clients.places.items j
 
 -- ---- by its exchanges
 
 -- it gave and took what it did by these
-abbrev pub StandsAfter : {S L C : Type 0} → (ℕ → List ℕ → Type 0) → SocketSeat S L C → List Exchange → Type 0
-StandsAfter given seat xs = (seat.asked.items ≡ asked_in xs) × (seat.clients.told.items ≡ heard_in xs) × IsTied given seat
+abbrev pub SeatStandsAfter : {S L C : Type 0} → (ℕ → List ℕ → Type 0) → SocketSeat S L C → List Exchange → Type 0
+SeatStandsAfter given seat xs = (seat.asked.items ≡ asked_in xs) × (seat.clients.told.items ≡ heard_in xs) × IsTied given seat
 
 -- it gave this call after these, and has no reply yet
 abbrev pub WaitsFor : {S L C : Type 0} → (ℕ → List ℕ → Type 0) → SocketSeat S L C → List Exchange → AppCall → Type 0
@@ -108,8 +109,8 @@ WaitsFor given seat before c =
     × IsShortCall c.call
 
 -- it takes a reply, and nothing else
-abbrev pub Hears : {S L C : Type 0} → (ℕ → List ℕ → Type 0) → SocketSeat S L C → SocketSeat S L C → ℕ → Reply → Type 0
-Hears given old new app reply =
+abbrev pub SeatHears : {S L C : Type 0} → (ℕ → List ℕ → Type 0) → SocketSeat S L C → SocketSeat S L C → ℕ → Reply → Type 0
+SeatHears given old new app reply =
     (new.clients.number ≡ old.clients.number)
     × (new.clients.seed ≡ old.clients.seed)
     × (new.asked.items ≡ old.asked.items)

@@ -1,6 +1,6 @@
 -- What a seat gave and took.
 use Rattle.std.specs.Prelude.{ℕ, List, [], ◌∷◌, map}
-use Rattle.hall_log.specs.declared.event.AppCall.{AppCall}
+use Rattle.ck_calls.specs.declared.app_call.AppCall.{AppCall}
 use Rattle.hall.specs.declared.seats.SeatEvent.{SeatEvent}
 use Rattle.hall.specs.declared.seats.SeatEvent.TheVariants.{Call, Gone}
 use Rattle.line_places.specs.declared.client.Client.{Client}

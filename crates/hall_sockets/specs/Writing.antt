@@ -5,7 +5,7 @@ use Rattle.door.specs.Ends.{HasGiven}
 use Rattle.wire.specs.Messages.{frame, most}
 use Rattle.model_worlds.specs.Traces.{replies_to}
 use Rattle.hall_log.specs.Lists.{of}
-use Rattle.hall_log.specs.declared.event.AppCall.{AppCall}
+use Rattle.ck_calls.specs.declared.app_call.AppCall.{AppCall}
 use Rattle.hall_log.specs.Histories.{Exchange, History}
 use Rattle.hall.specs.Histories.{told_in}
 use Rattle.line_places.specs.Due.{Due}
@@ -40,7 +40,8 @@ seed_in [] = []
 seed_in (number ∷ seed) = seed
 
 -- A log's name is of a seat, of which this never changes, and whose sockets give so: a call that was read counts as read.
-pub record IsNameOf (given : ℕ → List ℕ → Type 0) (named_given : ℕ → List ℕ → Type 0) (named_seed : List ℕ) (was_read : List Exchange → AppCall → Type 0) (fixed : List ℕ) : Type 0 where
+pub record IsNameOf (given : ℕ → List ℕ → Type 0) (named_given : ℕ → List ℕ → Type 0) (named_seed : List ℕ)
+    (was_read : List Exchange → AppCall → Type 0) (fixed : List ℕ) : Type 0 where
   pub seed : named_seed ≡ seed_in fixed
   pub gives : (app : ℕ) (bytes : List ℕ) → given app bytes → named_given app bytes
   pub reads : (before : List Exchange) (c : AppCall) → ∥ IsRead named_given named_seed before c ∥₁ → was_read before c

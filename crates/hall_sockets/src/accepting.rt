@@ -1,7 +1,7 @@
 //! How a seat comes to its connections.
 
 ghost use Rattle.std.specs.Prelude.{◌≡◌, IsTrue};
-ghost use Rattle.hall_sockets.specs.Staying.{Rests, Stays};
+ghost use Rattle.hall_sockets.specs.Staying.{Rests, SeatStays};
 
 use crate::seat::SocketSeat;
 use crate::waiting::{LISTENER, PATIENCE};
@@ -59,7 +59,7 @@ impl<S: Socket + Drop, L: Log, C: Clock> SocketSeat<S, L, C> {
 
     /// Accepts one who waits, unless a seat with fewer connections is to.
     pub(crate) fn accept_next(&mut self)
-        ensures { Stays S.given self.old self.new }
+        ensures { SeatStays S.given self.old self.new }
     {
         if !self.may_accept {
             return;
@@ -114,7 +114,7 @@ impl<S: Socket + Drop, L: Log, C: Clock> SocketSeat<S, L, C> {
 
     /// Accepts one, to stand at a place that is free.
     fn accept_at(&mut self, place: usize)
-        ensures { Stays S.given self.old self.new }
+        ensures { SeatStays S.given self.old self.new }
     {
         match self.seat_at(place) {
             Ok(Some(fd)) => self.begin(place, fd),
@@ -126,7 +126,7 @@ impl<S: Socket + Drop, L: Log, C: Clock> SocketSeat<S, L, C> {
     /// Accepts one for a place, whom the seat waits for from now on, and returns the connection's descriptor. None where nobody may come
     /// to the place, and where whoever came can't be waited for.
     fn seat_at(&mut self, place: usize) -> io::Result<Option<RawFd>>
-        ensures { Stays S.given self.old self.new }
+        ensures { SeatStays S.given self.old self.new }
     {
         let Some(app) = self.clients.next_app(place) else {
             return Ok(None);

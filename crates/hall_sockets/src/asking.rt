@@ -3,15 +3,14 @@
 ghost use Rattle.std.specs.Prelude.{◌≡◌, ◌%◌, ◌∷◌, [], ◌++◌, ℕ, IfSome, IfNone};
 ghost use Rattle.hall.specs.SeatEvents.{seat_app};
 ghost use Rattle.line_places.specs.Keeping.{HasGone};
-ghost use Rattle.hall_sockets.specs.Staying.{Gives, IsEmptyAt, IsNobodyLeft, IsStill, MayEnd, MayGoOnFrom, Stays};
+ghost use Rattle.hall_sockets.specs.Staying.{SeatGives, IsEmptyAt, IsNobodyLeft, IsStill, MayEnd, MayGoOnFrom, SeatStays};
 
 use crate::audit::Audited;
 use crate::seat::SocketSeat;
 use crate::sockets::Title;
 use door::{Licence, Outgoing, Socket};
 use hall::SeatEvent;
-use line::Ending;
-use line_places::Came;
+use line::{Ending, Next};
 use log::{Log, error, info, warn};
 use std::time::Clock;
 
@@ -21,14 +20,14 @@ impl<S: Socket + Drop, L: Log, C: Clock> SocketSeat<S, L, C> {
     where
         S: Outgoing<N>,
         requires may { MayGoOnFrom S.given (N.allows licence.now) self.old }
-        ensures { Gives S.given self.old self.new result }
+        ensures { SeatGives S.given self.old self.new result }
     {
         self.asked_since = self.asked_since.saturating_add(1);
         match self
             .clients
             .next_call(self.alloc, place, licence, &mut self.piece)
         {
-            Came::Call(call) => {
+            Next::Call(call) => {
                 let audited = Audited::of(&call.call);
                 let event = SeatEvent::Call(call);
                 self.asked.push(&event);
@@ -39,12 +38,12 @@ impl<S: Socket + Drop, L: Log, C: Clock> SocketSeat<S, L, C> {
                 self.note(place);
                 Some(event)
             }
-            Came::Nothing => {
+            Next::Nothing => {
                 let is_stuck = self.is_pending(place);
                 self.watch(place, is_stuck);
                 None
             }
-            Came::Ended(ending) => {
+            Next::Ended(ending) => {
                 self.report(place, &ending);
                 self.end(place)
             }
@@ -75,7 +74,7 @@ impl<S: Socket + Drop, L: Log, C: Clock> SocketSeat<S, L, C> {
     /// The connection at a place ends, and its application disconnects.
     #[inline(never)]
     pub(crate) fn end(&mut self, place: usize) -> Option<SeatEvent>
-        ensures gives { Gives S.given self.old self.new result }
+        ensures gives { SeatGives S.given self.old self.new result }
         ensures none { IfNone result (IsStill self.old self.new × IsEmptyAt self.new place) }
     {
         let app = self.clients.close(place)?;
@@ -90,7 +89,7 @@ impl<S: Socket + Drop, L: Log, C: Clock> SocketSeat<S, L, C> {
     /// One of the connections ends, if there is one, and the others need not wait for this seat to accept anybody.
     #[inline(never)]
     pub(crate) fn leave(&mut self) -> Option<SeatEvent>
-        ensures gives { Gives S.given self.old self.new result }
+        ensures gives { SeatGives S.given self.old self.new result }
         ensures none { IfNone result ((MayEnd self.old → MayEnd self.new) × IsNobodyLeft self.new) }
     {
         self.loads.close(self.clients.number);
@@ -106,7 +105,7 @@ impl<S: Socket + Drop, L: Log, C: Clock> SocketSeat<S, L, C> {
     /// The connection of which nothing came for too long ends, if there is one.
     #[inline(never)]
     pub(crate) fn end_idle(&mut self) -> Option<SeatEvent>
-        ensures { Gives S.given self.old self.new result }
+        ensures { SeatGives S.given self.old self.new result }
     {
         let Some(place) = self.idle_place() else {
             self.looked = self.time;

@@ -3,18 +3,19 @@
 ghost use Rattle.std.specs.Prelude.{◌≡◌, ℕ, List, IfOk, IfErr};
 ghost use Rattle.token.specs.States.{Shows, MayLeave};
 ghost use Rattle.hall_log.specs.Histories.{Exchange, History};
-ghost use Rattle.hall_log.specs.declared.event.AppCall.{AppCall};
+ghost use Rattle.ck_calls.specs.declared.app_call.AppCall.{AppCall};
+ghost use Rattle.hall.specs.Terms.{token_terms};
 ghost use Rattle.hall.specs.Given.{IsLed, Serves};
 ghost use Rattle.hall.specs.SpareIds.{HasSpareIds};
 ghost use Rattle.hall_sockets.specs.Served.{WereServed};
-ghost use Rattle.hall_sockets.specs.Staying.{AreNew, IsDone};
+ghost use Rattle.hall_sockets.specs.Staying.{AreNew, SeatIsDone};
 ghost use Rattle.hall_sockets.specs.Writing.{IsRead};
 
 use crate::leave::Leave;
 use crate::seat::SocketSeat;
 use door::Outgoing;
 use hall::laws::own_seat;
-use hall::{Gate, HallFault, Held, hold};
+use hall::{Gate, HallFault, Held, USUAL_STACKS, hold};
 use hall_log::{Naming, Opened};
 use keep::Keep;
 use line::accounts;
@@ -73,8 +74,8 @@ pub fn hold_over<
     requires book { opened.seen.book ≡ J.book }
     requires seed { J.seed ≡ seats.0.clients.seed }
     // What it means that a history was served: the token has served it, and each event in it was one that its seat might put.
-    requires means { (h : History) → J.served h → Serves K.terms J.was_read token h }
-    requires all { (h : History) → Serves K.terms J.was_read token h → J.served h }
+    requires means { (h : History) → J.served h → Serves (token_terms K.terms) J.was_read token h }
+    requires all { (h : History) → Serves (token_terms K.terms) J.was_read token h → J.served h }
     // What it means that bytes were given: a socket's read gave them.
     requires given { (app : ℕ) (bytes : List ℕ) → J.given app bytes → S.given app bytes }
     requires gives { (app : ℕ) (bytes : List ℕ) → S.given app bytes → J.given app bytes }
@@ -82,19 +83,18 @@ pub fn hold_over<
     requires was_read { (before : List Exchange) (call : AppCall) → J.was_read before call → ∥ IsRead J.given J.seed before call ∥₁ }
     requires reads { (before : List Exchange) (call : AppCall) → ∥ IsRead J.given J.seed before call ∥₁ → J.was_read before call }
     // Each connection was served by one history, which is a run of the token's, and the log's.
-    ensures served { IfOk result (λ h. WereServed (λ t. K.terms.doubt t.store.keep) (λ t. K.terms.failures t.store.keep)
-        (Shows K.terms) (MayLeave K.terms) (HasSpareIds K.terms) J.served S.given seats.0.clients.seed h.seats token h.token) }
+    ensures served { IfOk result (λ h. WereServed (token_terms K.terms) J.served S.given seats.0.clients.seed h.seats token h.token) }
     // Each seat ended where it might: it failed, or was told to, or had its connections. Nobody is left at a place of it.
-    ensures over { IfOk result (λ h. IsDone h.seats.0 × IsDone h.seats.1 × IsDone h.seats.2 × IsDone h.seats.3) }
+    ensures over { IfOk result (λ h. SeatIsDone h.seats.0 × SeatIsDone h.seats.1 × SeatIsDone h.seats.2 × SeatIsDone h.seats.3) }
     // Where an allocation failed, the token is as it was.
     ensures memory { IfErr result (λ e. e.0 ≡ HallFault.Memory → e.1 ≡ token) }
     // At any fault some history leads to the token that is returned.
-    ensures led { IfErr result (λ e. IsLed (λ t. K.terms.doubt t.store.keep) (λ t. K.terms.failures t.store.keep)
-        (Shows K.terms) (MayLeave K.terms) (HasSpareIds K.terms) token e.1) }
+    ensures led { IfErr result (λ e. IsLed (token_terms K.terms) token e.1) }
 {
     accounts();
     own_seat();
-    hold::<J, K, SocketSeat<S, L, C>, G, R>(rt, alloc, opened, token, seats, gate)
+    let stacks = USUAL_STACKS;
+    hold::<J, Token<K>, SocketSeat<S, L, C>, G, R>(rt, alloc, opened, token, seats, gate, stacks)
 }
 
 /// Holds four new seats on Unix sockets, of whose bytes nothing is known, over a log that `J` names.
@@ -116,17 +116,15 @@ fn hold_named<
     requires new { AreNew seats.0.clients.seed seats }
     requires book { opened.seen.book ≡ J.book }
     requires seed { J.seed ≡ seats.0.clients.seed }
-    requires means { (h : History) → J.served h → Serves K.terms J.was_read token h }
-    requires all { (h : History) → Serves K.terms J.was_read token h → J.served h }
+    requires means { (h : History) → J.served h → Serves (token_terms K.terms) J.was_read token h }
+    requires all { (h : History) → Serves (token_terms K.terms) J.was_read token h → J.served h }
     requires gives { (app : ℕ) (bytes : List ℕ) → J.given app bytes }
     requires was_read { (before : List Exchange) (call : AppCall) → J.was_read before call → ∥ IsRead J.given J.seed before call ∥₁ }
     requires reads { (before : List Exchange) (call : AppCall) → ∥ IsRead J.given J.seed before call ∥₁ → J.was_read before call }
-    ensures served { IfOk result (λ h. WereServed (λ t. K.terms.doubt t.store.keep) (λ t. K.terms.failures t.store.keep)
-        (Shows K.terms) (MayLeave K.terms) (HasSpareIds K.terms) J.served (λ app bytes. Unit {0}) seats.0.clients.seed h.seats token h.token) }
-    ensures over { IfOk result (λ h. IsDone h.seats.0 × IsDone h.seats.1 × IsDone h.seats.2 × IsDone h.seats.3) }
+    ensures served { IfOk result (λ h. WereServed (token_terms K.terms) J.served (λ app bytes. Unit {0}) seats.0.clients.seed h.seats token h.token) }
+    ensures over { IfOk result (λ h. SeatIsDone h.seats.0 × SeatIsDone h.seats.1 × SeatIsDone h.seats.2 × SeatIsDone h.seats.3) }
     ensures memory { IfErr result (λ e. e.0 ≡ HallFault.Memory → e.1 ≡ token) }
-    ensures led { IfErr result (λ e. IsLed (λ t. K.terms.doubt t.store.keep) (λ t. K.terms.failures t.store.keep)
-        (Shows K.terms) (MayLeave K.terms) (HasSpareIds K.terms) token e.1) }
+    ensures led { IfErr result (λ e. IsLed (token_terms K.terms) token e.1) }
 {
     hold_over::<J, K, UnixStream, L, C, G, R>(rt, alloc, opened, token, seats, gate)
 }
@@ -147,14 +145,12 @@ pub fn hold_sockets<
     gate: &Arc<G, Global>,
 ) -> Result<Held<Token<K>, SocketSeat<UnixStream, L, C>>, (HallFault, Token<K>)>
     requires { AreNew seats.0.clients.seed seats }
-    ensures served { IfOk result (λ h. WereServed (λ t. K.terms.doubt t.store.keep) (λ t. K.terms.failures t.store.keep)
-        (Shows K.terms) (MayLeave K.terms) (HasSpareIds K.terms)
-        (Serves K.terms (λ before call. ∥ IsRead (λ app bytes. Unit {0}) seats.0.clients.seed before call ∥₁) token)
+    ensures served { IfOk result (λ h. WereServed (token_terms K.terms)
+        (Serves (token_terms K.terms) (λ before call. ∥ IsRead (λ app bytes. Unit {0}) seats.0.clients.seed before call ∥₁) token)
         (λ app bytes. Unit {0}) seats.0.clients.seed h.seats token h.token) }
-    ensures over { IfOk result (λ h. IsDone h.seats.0 × IsDone h.seats.1 × IsDone h.seats.2 × IsDone h.seats.3) }
+    ensures over { IfOk result (λ h. SeatIsDone h.seats.0 × SeatIsDone h.seats.1 × SeatIsDone h.seats.2 × SeatIsDone h.seats.3) }
     ensures memory { IfErr result (λ e. e.0 ≡ HallFault.Memory → e.1 ≡ token) }
-    ensures led { IfErr result (λ e. IsLed (λ t. K.terms.doubt t.store.keep) (λ t. K.terms.failures t.store.keep)
-        (Shows K.terms) (MayLeave K.terms) (HasSpareIds K.terms) token e.1) }
+    ensures led { IfErr result (λ e. IsLed (token_terms K.terms) token e.1) }
 {
     hold_named::<Brand, K, L, C, G, R>(rt, alloc, Opened::new(), token, seats, gate)
 }

@@ -31,7 +31,7 @@
 //! reader gave (`IsRead`). `hold_over` has that for any sockets and a log with any name that means what it requires, with the bytes at
 //! the end (`served`: `WereServed`). `hold_sockets` is the same for Unix sockets and a new log. Both ask for four new seats with one seed
 //! (`AreNew`). A seat is over where it noted that it failed, was told to, or has had its connections, and nobody is left (`over`:
-//! `IsDone`). No clause says that these notes are true, which seat accepts a connection (`Loads`), that each is asked in turn, or that an
+//! `SeatIsDone`). No clause says that these notes are true, which seat accepts a connection (`Loads`), that each is asked in turn, or that an
 //! idle one is ended.
 #![tactic(auto)]
 

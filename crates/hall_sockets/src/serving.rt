@@ -3,7 +3,7 @@
 ghost use Rattle.std.specs.Prelude.{◌≡◌, ◌∷◌, true};
 ghost use Rattle.line_places.specs.Keeping.{IsOwed};
 ghost use Rattle.line_places.specs.Permitting.{MayTakeAt};
-ghost use Rattle.hall_sockets.specs.Staying.{Hears, IsDone, StandsAfter, WaitsFor};
+ghost use Rattle.hall_sockets.specs.Staying.{SeatHears, SeatIsDone, SeatStandsAfter, WaitsFor};
 ghost use Rattle.hall_sockets.specs.Writing.{IsNameOf};
 
 use crate::leave::Leave;
@@ -25,9 +25,9 @@ impl<J: Naming, S: Outgoing<Leave<J>> + Drop, L: Log, C: Clock + Drop> Seat<J>
 
     ghost knows = { λ fixed. IsNameOf S.given J.given J.seed J.was_read fixed };
 
-    ghost over = { λ s. (s.has_ended ≡ true) × IsDone s };
+    ghost over = { λ s. (s.has_ended ≡ true) × SeatIsDone s };
 
-    ghost stands = { λ s xs. StandsAfter S.given s xs };
+    ghost stands = { λ s xs. SeatStandsAfter S.given s xs };
 
     ghost waits = { λ s before call. WaitsFor S.given s before call };
 
@@ -58,7 +58,7 @@ impl<S: Socket + Drop, L: Log, C: Clock> SocketSeat<S, L, C> {
         S: Outgoing<N>,
         requires owed { IsOwed self.old.clients.places.items self.old.answering app }
         requires may { MayTakeAt (N.allows licence.now) (λ w. w) self.old.clients.places.items self.old.answering reply }
-        ensures { Hears S.given self.old self.new app reply }
+        ensures { SeatHears S.given self.old self.new app reply }
     {
         let place = self.answering;
         if let Some(call) = self.audited {

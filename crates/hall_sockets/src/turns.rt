@@ -1,7 +1,7 @@
 //! A seat's turns: its connections, one after the other.
 
 ghost use Rattle.std.specs.Prelude.{IfNone, IsTrue};
-ghost use Rattle.hall_sockets.specs.Staying.{Gives, IsDone, MayEnd, MayGoOnFrom, Rests};
+ghost use Rattle.hall_sockets.specs.Staying.{SeatGives, SeatIsDone, MayEnd, MayGoOnFrom, Rests};
 
 use crate::seat::SocketSeat;
 use crate::waiting::PATIENCE;
@@ -23,8 +23,8 @@ impl<S: Socket + Drop, L: Log, C: Clock> SocketSeat<S, L, C> {
     where
         S: Outgoing<N>,
         requires may { MayGoOnFrom S.given (N.allows licence.now) self.old }
-        ensures gives { Gives S.given self.old self.new result }
-        ensures done { IfNone result (IsDone self.new) }
+        ensures gives { SeatGives S.given self.old self.new result }
+        ensures done { IfNone result (SeatIsDone self.new) }
     {
         match self.turns(licence) {
             Some(event) => Some(event),
@@ -37,7 +37,7 @@ impl<S: Socket + Drop, L: Log, C: Clock> SocketSeat<S, L, C> {
     where
         S: Outgoing<N>,
         requires may { MayGoOnFrom S.given (N.allows licence.now) self.old }
-        ensures gives { Gives S.given self.old self.new result }
+        ensures gives { SeatGives S.given self.old self.new result }
         ensures may { IfNone result (MayEnd self.new) }
     {
         'turns: for _ in 0..u64::MAX {
@@ -69,7 +69,7 @@ impl<S: Socket + Drop, L: Log, C: Clock> SocketSeat<S, L, C> {
     where
         S: Outgoing<N>,
         requires may { MayGoOnFrom S.given (N.allows licence.now) self.old }
-        ensures { Gives S.given self.old self.new result }
+        ensures { SeatGives S.given self.old self.new result }
     {
         if self.asked_since >= TURNS {
             return self.look_round(Duration::ZERO);
@@ -101,7 +101,7 @@ impl<S: Socket + Drop, L: Log, C: Clock> SocketSeat<S, L, C> {
     where
         S: Outgoing<N>,
         requires may { MayGoOnFrom S.given (N.allows licence.now) self.old }
-        ensures { Gives S.given self.old self.new result }
+        ensures { SeatGives S.given self.old self.new result }
     {
         if !self.is_alone() {
             return self.look_round(Duration::from_secs(PATIENCE));
@@ -115,7 +115,7 @@ impl<S: Socket + Drop, L: Log, C: Clock> SocketSeat<S, L, C> {
     /// Looks who has something, for so long at most. Ends a connection that is idle, or accepts one who waits.
     #[inline(never)]
     fn look_round(&mut self, longest: Duration) -> Option<SeatEvent>
-        ensures { Gives S.given self.old self.new result }
+        ensures { SeatGives S.given self.old self.new result }
     {
         self.look(longest);
         match self.end_late() {
@@ -129,7 +129,7 @@ impl<S: Socket + Drop, L: Log, C: Clock> SocketSeat<S, L, C> {
 
     /// Ends a connection that is idle, once a second.
     fn end_late(&mut self) -> Option<SeatEvent>
-        ensures { Gives S.given self.old self.new result }
+        ensures { SeatGives S.given self.old self.new result }
     {
         if self.must_look() {
             self.end_idle()

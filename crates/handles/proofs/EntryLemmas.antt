@@ -19,7 +19,8 @@ module _ (key : Handle → ℕ) (k : ℕ) (xs : List Entry) where
   absent-left none = absent-kept key k (handles_in xs) (sym (absent-in none))
 
   module _ (rise : KeysRise (λ e. key e.handle) xs) where
-    pub found-in : (x : Entry) → find (λ e. eqb (key e.handle) k) xs ≡ Some x → (if x.retired then None else Some x.handle) ≡ find (λ h. eqb (key h) k) (handles_in xs)
+    pub found-in : (x : Entry) → find (λ e. eqb (key e.handle) k) xs ≡ Some x
+        → (if x.retired then None else Some x.handle) ≡ find (λ h. eqb (key h) k) (handles_in xs)
     found-in x found = sym (live-found (λ e. e.retired) (λ e. e.handle) key k xs x rise found)
 
     -- at the index where an entry has the key
@@ -35,30 +36,41 @@ module _ (key : Handle → ℕ) (k : ℕ) (xs : List Entry) where
       same-at x e read same d = key-at d ∙ sym (read-key x read) ∙ sym same
 
       -- it is retired
-      pub retired-left : (x : Entry) → x ≡ get_or xs at x → handles_in (set xs at (record { handle = x.handle; retired = true })) ≡ filter (λ h. not (eqb (key h) k)) (handles_in xs)
-      retired-left x read = live-hidden (λ e. e.retired) (λ e. e.handle) key k xs at (record { handle = x.handle; retired = true }) rise index.0 key-at refl
+      pub retired-left : (x : Entry) → x ≡ get_or xs at x
+          → handles_in (set xs at (record { handle = x.handle; retired = true })) ≡ filter (λ h. not (eqb (key h) k)) (handles_in xs)
+      retired-left x read = live-hidden (λ e. e.retired) (λ e. e.handle) key k xs at
+          (record { handle = x.handle; retired = true }) rise index.0 key-at refl
 
-      pub retired-rise : (x : Entry) → x ≡ get_or xs at x → KeysRise (λ e. key e.handle) (set xs at (record { handle = x.handle; retired = true }))
-      retired-rise x read = KeysRise-set (λ e. key e.handle) xs at (record { handle = x.handle; retired = true }) (same-at x (record { handle = x.handle; retired = true }) read refl) rise
+      pub retired-rise : (x : Entry) → x ≡ get_or xs at x
+          → KeysRise (λ e. key e.handle) (set xs at (record { handle = x.handle; retired = true }))
+      retired-rise x read = KeysRise-set (λ e. key e.handle) xs at (record { handle = x.handle; retired = true })
+          (same-at x (record { handle = x.handle; retired = true }) read refl) rise
 
-      pub retired-numbers : (x : Entry) → x ≡ get_or xs at x → (next : ℕ) → NumbersRise (λ e. key e.handle) 1 xs next → NumbersRise (λ e. key e.handle) 1 (set xs at (record { handle = x.handle; retired = true })) next
-      retired-numbers x read next numbers = NumbersRise-set (λ e. key e.handle) 1 next xs at (record { handle = x.handle; retired = true }) (same-at x (record { handle = x.handle; retired = true }) read refl) numbers
+      pub retired-numbers : (x : Entry) → x ≡ get_or xs at x → (next : ℕ) → NumbersRise (λ e. key e.handle) 1 xs next
+          → NumbersRise (λ e. key e.handle) 1 (set xs at (record { handle = x.handle; retired = true })) next
+      retired-numbers x read next numbers =
+          NumbersRise-set (λ e. key e.handle) 1 next xs at (record { handle = x.handle; retired = true })
+          (same-at x (record { handle = x.handle; retired = true }) read refl) numbers
 
       -- a handle is put in the place of a retired one
       gone-at : find (λ h. eqb (key h) k) (handles_in xs) ≡ None → (d : Entry) → (get_or xs at d).retired ≡ true
       gone-at none d = elim (cases_Bool (get_or xs at d).retired) [
         | inl gone ↦ gone
         | inr stays ↦
-            let some : Some (get_or xs at d).handle ≡ None = ap (λ b. cond b None (Some (get_or xs at d).handle)) (sym stays) ∙ found-in (get_or xs at d) (index.1 d) ∙ none in
+            let some : Some (get_or xs at d).handle ≡ None =
+            ap (λ b. cond b None (Some (get_or xs at d).handle)) (sym stays) ∙ found-in (get_or xs at d) (index.1 d) ∙ none in
             absurd cc
       ]
 
-      pub revived : (h : Handle) → key h ≡ k → find (λ x. eqb (key x) k) (handles_in xs) ≡ None → handles_in (set xs at (record { handle = h; retired = false })) ≡ placed key h (handles_in xs)
-      revived h is none = live-revived (λ e. e.retired) (λ e. e.handle) key xs at (record { handle = h; retired = false }) rise index.0 (λ d. key-at d ∙ sym is) (gone-at none) refl
+      pub revived : (h : Handle) → key h ≡ k → find (λ x. eqb (key x) k) (handles_in xs) ≡ None
+          → handles_in (set xs at (record { handle = h; retired = false })) ≡ placed key h (handles_in xs)
+      revived h is none = live-revived (λ e. e.retired) (λ e. e.handle) key xs at
+          (record { handle = h; retired = false }) rise index.0 (λ d. key-at d ∙ sym is) (gone-at none) refl
 
       pub revived-rise : (h : Handle) → key h ≡ k → KeysRise (λ e. key e.handle) (set xs at (record { handle = h; retired = false }))
       revived-rise h is = KeysRise-set (λ e. key e.handle) xs at (record { handle = h; retired = false }) (λ d. key-at d ∙ sym is) rise
 
 -- a handle is put among entries of which none has its key
-pub put-between : (key : Handle → ℕ) (h : Handle) (xs : List Entry) → KeysRise (λ e. key e.handle) xs → handles_in (placed (λ e. key e.handle) (record { handle = h; retired = false }) xs) ≡ placed key h (handles_in xs)
+pub put-between : (key : Handle → ℕ) (h : Handle) (xs : List Entry) → KeysRise (λ e. key e.handle) xs
+    → handles_in (placed (λ e. key e.handle) (record { handle = h; retired = false }) xs) ≡ placed key h (handles_in xs)
 put-between key h xs rise = live-placed (λ e. e.retired) (λ e. e.handle) key (record { handle = h; retired = false }) xs rise refl

@@ -10,24 +10,30 @@ use Rattle.lists.proofs.InOrderLemmas.{All-filter, All-weaken, placed-cases}
 use Rattle.handles.specs.Live.{live}
 
 -- what is read at an index is what stands there whatever the default
-pub item-at : {S : Type 0} (r : Option S) (xs : List S) (at : ℕ) (e : S) → ((d : S) → r ≡ Some (get_or xs at d)) → e ≡ get_or xs at e → (d : S) → get_or xs at d ≡ e
-item-at r xs at e each is d = let same : Some (get_or xs at d) ≡ Some (get_or xs at e) = sym (each d) ∙ each e in let k : get_or xs at d ≡ get_or xs at e = cc in k ∙ sym is
+pub item-at : {S : Type 0} (r : Option S) (xs : List S) (at : ℕ) (e : S) → ((d : S) → r ≡ Some (get_or xs at d))
+    → e ≡ get_or xs at e → (d : S) → get_or xs at d ≡ e
+item-at r xs at e each is d = let same : Some (get_or xs at d) ≡ Some (get_or xs at e) = sym (each d) ∙ each e in
+    let k : get_or xs at d ≡ get_or xs at e = cc in k ∙ sym is
 
 -- ---- rising keys
 module _ {S : Type 0} (key : S → ℕ) where
-  All-set : (P : ℕ → Type 0) (xs : List S) (at : ℕ) (s : S) → ((d : S) → key (get_or xs at d) ≡ key s) → AllByRecursion (λ x. P (key x)) xs → AllByRecursion (λ x. P (key x)) (set xs at s)
+  All-set : (P : ℕ → Type 0) (xs : List S) (at : ℕ) (s : S) → ((d : S) → key (get_or xs at d) ≡ key s)
+      → AllByRecursion (λ x. P (key x)) xs → AllByRecursion (λ x. P (key x)) (set xs at s)
   All-set P [] at s same all = tt
   All-set P (x ∷ xs) zero s same all = (subst P (same x) all.0, all.1)
   All-set P (x ∷ xs) (suc at) s same all = (all.0, All-set P xs at s same all.1)
 
-  pub KeysRise-set : (xs : List S) (at : ℕ) (s : S) → ((d : S) → key (get_or xs at d) ≡ key s) → KeysRise key xs → KeysRise key (set xs at s)
+  pub KeysRise-set : (xs : List S) (at : ℕ) (s : S) → ((d : S) → key (get_or xs at d) ≡ key s) → KeysRise key xs
+      → KeysRise key (set xs at s)
   KeysRise-set [] at s same rise = tt
   KeysRise-set (x ∷ xs) zero s same rise = (subst (λ n. AllByRecursion (λ y. n < key y) xs) (same x) rise.0, rise.1)
   KeysRise-set (x ∷ xs) (suc at) s same rise = (All-set (λ n. key x < n) xs at s same rise.0, KeysRise-set xs at s same rise.1)
 
-  pub NumbersRise-set : (low next : ℕ) (xs : List S) (at : ℕ) (s : S) → ((d : S) → key (get_or xs at d) ≡ key s) → NumbersRise key low xs next → NumbersRise key low (set xs at s) next
+  pub NumbersRise-set : (low next : ℕ) (xs : List S) (at : ℕ) (s : S) → ((d : S) → key (get_or xs at d) ≡ key s)
+      → NumbersRise key low xs next → NumbersRise key low (set xs at s) next
   NumbersRise-set low next [] at s same rise = rise
-  NumbersRise-set low next (x ∷ xs) zero s same rise = (subst (λ n. low ≤ n) (same x) rise.0, subst (λ n. NumbersRise key (n + 1) xs next) (same x) rise.1)
+  NumbersRise-set low next (x ∷ xs) zero s same rise =
+      (subst (λ n. low ≤ n) (same x) rise.0, subst (λ n. NumbersRise key (n + 1) xs next) (same x) rise.1)
   NumbersRise-set low next (x ∷ xs) (suc at) s same rise = (rise.0, NumbersRise-set (key x + 1) next xs at s same rise.1)
 
   pub KeysRise-filter : (test : S → Bool) (xs : List S) → KeysRise key xs → KeysRise key (filter test xs)
@@ -53,12 +59,21 @@ module _ {S : Type 0} (key : S → ℕ) where
   pub KeysRise-placed : (e : S) (xs : List S) → find (λ x. key x == key e) xs ≡ None → KeysRise key xs → KeysRise key (placed key e xs)
   KeysRise-placed e [] none rise = (tt, tt)
   KeysRise-placed e (x ∷ xs) none rise = elim (placed-cases key e x xs) [
-    | inl here ↦ rw here.1 ((here.0, All-weaken (λ y. key x < key y) (λ y. key e < key y) (λ y lt. omega (arith, lt, here.0)) xs rise.0), rise)
+    | inl here ↦ rw here.1 (
+      (
+        here.0,
+        All-weaken (λ y. key x < key y) (λ y. key e < key y) (λ y lt. omega (arith, lt, here.0)) xs rise.0,
+      ),
+      rise,
+    )
     | inr later ↦ elim (cases_eq (key x) (key e)) [
       | inl is ↦ let some : Some x ≡ None = rw (eq-eqb (key x) (key e) is) at none in absurd cc
       | inr differ ↦
           let below : key x < key e = omega (arith, later.0, differ) in
-          rw later.1 (placed-All (λ y. key x < key y) e xs below rise.0, KeysRise-placed e xs (rw (ne_eqb (key x) (key e) differ) at none) rise.1)
+          rw later.1 (
+            placed-All (λ y. key x < key y) e xs below rise.0,
+            KeysRise-placed e xs (rw (ne_eqb (key x) (key e) differ) at none) rise.1,
+          )
     ]
   ]
 
@@ -69,7 +84,8 @@ module _ {S : Type 0} (key : S → ℕ) where
   -- no greater key is this one
   all-kept : (k : ℕ) (xs : List S) → AllByRecursion (λ x. k < key x) xs → filter (λ x. not (key x == k)) xs ≡ xs
   all-kept k [] all = refl
-  all-kept k (x ∷ xs) all = let lt : k < key x = all.0 in rw (ne_eqb (key x) k (λ is. omega (arith, is, lt))) (ap (λ ys. x ∷ ys) (all-kept k xs all.1))
+  all-kept k (x ∷ xs) all = let lt : k < key x = all.0 in
+      rw (ne_eqb (key x) k (λ is. omega (arith, is, lt))) (ap (λ ys. x ∷ ys) (all-kept k xs all.1))
 
   -- no key is this one
   pub absent-kept : (k : ℕ) (xs : List S) → find (λ x. key x == k) xs ≡ None → xs ≡ filter (λ x. not (key x == k)) xs
@@ -89,7 +105,8 @@ module _ {S E : Type 0} (is_gone : S → Bool) (item : S → E) where
   live-taken [] = refl
   live-taken (x ∷ xs) = step (is_gone x) refl (live-taken xs) where
     step : (b : Bool) → is_gone x ≡ b → live is_gone item (filter (λ s. not (is_gone s)) xs) ≡ live is_gone item xs
-        → live is_gone item (cond (not b) (x ∷ filter (λ s. not (is_gone s)) xs) (filter (λ s. not (is_gone s)) xs)) ≡ cond b (live is_gone item xs) (item x ∷ live is_gone item xs)
+        → live is_gone item (cond (not b) (x ∷ filter (λ s. not (is_gone s)) xs) (filter (λ s. not (is_gone s)) xs))
+        ≡ cond b (live is_gone item xs) (item x ∷ live is_gone item xs)
     step true is h = h
     step false is h = rw is (ap (λ ys. item x ∷ ys) h)
 
@@ -107,11 +124,14 @@ module _ {S E : Type 0} (is_gone : S → Bool) (item : S → E) where
     | inr stays ↦ rw stays (omega (arith, rest))
   ]
 
-  pub live-filter : (test : E → Bool) (xs : List S) → live is_gone item (filter (λ s. not (is_gone s) && test (item s)) xs) ≡ filter test (live is_gone item xs)
+  pub live-filter : (test : E → Bool) (xs : List S)
+      → live is_gone item (filter (λ s. not (is_gone s) && test (item s)) xs) ≡ filter test (live is_gone item xs)
   live-filter test [] = refl
   live-filter test (x ∷ xs) = step (is_gone x) (test (item x)) refl refl (live-filter test xs) where
-    step : (b t : Bool) → is_gone x ≡ b → test (item x) ≡ t → live is_gone item (filter (λ s. not (is_gone s) && test (item s)) xs) ≡ filter test (live is_gone item xs)
-        → live is_gone item (cond (not b && t) (x ∷ filter (λ s. not (is_gone s) && test (item s)) xs) (filter (λ s. not (is_gone s) && test (item s)) xs)) ≡ filter test (cond b (live is_gone item xs) (item x ∷ live is_gone item xs))
+    step : (b t : Bool) → is_gone x ≡ b → test (item x) ≡ t
+        → live is_gone item (filter (λ s. not (is_gone s) && test (item s)) xs) ≡ filter test (live is_gone item xs)
+        → live is_gone item (cond (not b && t) (x ∷ filter (λ s. not (is_gone s) && test (item s)) xs)
+        (filter (λ s. not (is_gone s) && test (item s)) xs)) ≡ filter test (cond b (live is_gone item xs) (item x ∷ live is_gone item xs))
     step true t is it h = h
     step false true is it h = rw (is, it) (ap (λ ys. item x ∷ ys) h)
     step false false is it h = rw it h
@@ -131,13 +151,16 @@ module _ {S E : Type 0} (is_gone : S → Bool) (item : S → E) where
       | inr stays ↦ rw stays (all.0, rest)
     ]
 
-    pub live-found : (k : ℕ) (xs : List S) (s : S) → KeysRise (λ x. key (item x)) xs → find (λ x. key (item x) == k) xs ≡ Some s → find (λ e. key e == k) (live is_gone item xs) ≡ (if is_gone s then None else Some (item s))
+    pub live-found : (k : ℕ) (xs : List S) (s : S) → KeysRise (λ x. key (item x)) xs → find (λ x. key (item x) == k) xs ≡ Some s
+        → find (λ e. key e == k) (live is_gone item xs) ≡ (if is_gone s then None else Some (item s))
     live-found k [] s rise found = absurd cc
     live-found k (x ∷ xs) s rise found = elim (cases_eq (key (item x)) k) [
       | inl is ↦
           let some : Some x ≡ Some s = rw (eq-eqb (key (item x)) k is) at found in
           let same : x ≡ s = cc in
-          let rest : find (λ e. key e == k) (live is_gone item xs) ≡ None = none-above key k (live is_gone item xs) (live-above k xs (subst (λ n. AllByRecursion (λ y. n < key (item y)) xs) is rise.0)) in
+          let rest : find (λ e. key e == k) (live is_gone item xs) ≡ None =
+          none-above key k (live is_gone item xs)
+          (live-above k xs (subst (λ n. AllByRecursion (λ y. n < key (item y)) xs) is rise.0)) in
           rw (← same) (elim (cases_Bool (is_gone x)) [
             | inl gone ↦ rw gone rest
             | inr stays ↦ rw (stays, eq-eqb (key (item x)) k is) refl
@@ -163,11 +186,14 @@ module _ {S E : Type 0} (is_gone : S → Bool) (item : S → E) where
     ]
 
     -- an entry becomes one that is gone
-    pub live-hidden : (k : ℕ) (xs : List S) (at : ℕ) (s : S) → KeysRise (λ x. key (item x)) xs → at < length xs → ((d : S) → key (item (get_or xs at d)) ≡ k) → is_gone s ≡ true → live is_gone item (set xs at s) ≡ filter (λ e. not (key e == k)) (live is_gone item xs)
+    pub live-hidden : (k : ℕ) (xs : List S) (at : ℕ) (s : S) → KeysRise (λ x. key (item x)) xs → at < length xs
+        → ((d : S) → key (item (get_or xs at d)) ≡ k) → is_gone s ≡ true
+        → live is_gone item (set xs at s) ≡ filter (λ e. not (key e == k)) (live is_gone item xs)
     live-hidden k [] at s rise lt is gone = absurd (omega (arith, lt))
     live-hidden k (x ∷ xs) zero s rise lt is gone =
         let here : key (item x) ≡ k = is x in
-        let rest : filter (λ e. not (key e == k)) (live is_gone item xs) ≡ live is_gone item xs = all-kept key k (live is_gone item xs) (live-above k xs (subst (λ n. AllByRecursion (λ y. n < key (item y)) xs) here rise.0)) in
+        let rest : filter (λ e. not (key e == k)) (live is_gone item xs) ≡ live is_gone item xs =
+        all-kept key k (live is_gone item xs) (live-above k xs (subst (λ n. AllByRecursion (λ y. n < key (item y)) xs) here rise.0)) in
         rw gone (elim (cases_Bool (is_gone x)) [
           | inl was ↦ rw was (sym rest)
           | inr was ↦ rw (was, eq-eqb (key (item x)) k here) (sym rest)
@@ -183,7 +209,9 @@ module _ {S E : Type 0} (is_gone : S → Bool) (item : S → E) where
         ]
 
     -- an entry that is gone becomes one that isn't
-    pub live-revived : (xs : List S) (at : ℕ) (s : S) → KeysRise (λ x. key (item x)) xs → at < length xs → ((d : S) → key (item (get_or xs at d)) ≡ key (item s)) → ((d : S) → is_gone (get_or xs at d) ≡ true) → is_gone s ≡ false → live is_gone item (set xs at s) ≡ placed key (item s) (live is_gone item xs)
+    pub live-revived : (xs : List S) (at : ℕ) (s : S) → KeysRise (λ x. key (item x)) xs → at < length xs
+        → ((d : S) → key (item (get_or xs at d)) ≡ key (item s)) → ((d : S) → is_gone (get_or xs at d) ≡ true) → is_gone s ≡ false
+        → live is_gone item (set xs at s) ≡ placed key (item s) (live is_gone item xs)
     live-revived [] at s rise lt is gone stays = absurd (omega (arith, lt))
     live-revived (x ∷ xs) zero s rise lt is gone stays =
         let here : key (item x) ≡ key (item s) = is x in
@@ -200,13 +228,19 @@ module _ {S E : Type 0} (is_gone : S → Bool) (item : S → E) where
         ]
 
     -- an entry is put among the others
-    pub live-placed : (s : S) (xs : List S) → KeysRise (λ x. key (item x)) xs → is_gone s ≡ false → live is_gone item (placed (λ x. key (item x)) s xs) ≡ placed key (item s) (live is_gone item xs)
+    pub live-placed : (s : S) (xs : List S) → KeysRise (λ x. key (item x)) xs → is_gone s ≡ false
+        → live is_gone item (placed (λ x. key (item x)) s xs) ≡ placed key (item s) (live is_gone item xs)
     live-placed s [] rise stays = rw stays refl
     live-placed s (x ∷ xs) rise stays = elim (placed-cases (λ y. key (item y)) s x xs) [
       | inl here ↦
-          let above : AllByRecursion (λ y. key (item s) < key (item y)) (x ∷ xs) = (here.0, All-weaken (λ y. key (item x) < key (item y)) (λ y. key (item s) < key (item y)) (λ y lt. omega (arith, lt, here.0)) xs rise.0) in
+          let above : AllByRecursion (λ y. key (item s) < key (item y)) (x ∷ xs) = (
+            here.0,
+            All-weaken (λ y. key (item x) < key (item y)) (λ y. key (item s) < key (item y))
+                (λ y lt. omega (arith, lt, here.0)) xs rise.0,
+          ) in
           let first = placed-first key (item s) (live is_gone item (x ∷ xs)) (live-above (key (item s)) (x ∷ xs) above) in
-          ap (live is_gone item) here.1 ∙ ap (λ b. cond b (live is_gone item (x ∷ xs)) (item s ∷ live is_gone item (x ∷ xs))) stays ∙ sym first
+          ap (live is_gone item) here.1 ∙ ap (λ b. cond b (live is_gone item (x ∷ xs)) (item s ∷ live is_gone item (x ∷ xs))) stays
+          ∙ sym first
       | inr later ↦
           let rest = live-placed s xs rise.1 stays in
           ap (live is_gone item) later.1 ∙ (elim (cases_Bool (is_gone x)) [

@@ -20,18 +20,21 @@ no_handles = record { entries = []; next_number = 1; capacity = 0 }
 abbrev pub object_of : List Handle → ℕ → Option ℕ
 object_of hs handle = option_map (λ h. h.id) (find (λ h. h.handle == handle) hs)
 
-abbrev pub number_of : List Handle → ℕ → Option ℕ
-number_of hs id = option_map (λ h. h.handle) (find (λ h. h.id == id) hs)
+abbrev pub handle_number : List Handle → ℕ → Option ℕ
+handle_number hs id = option_map (λ h. h.handle) (find (λ h. h.id == id) hs)
 
 -- an object has a handle: the one that it had, or else the next
 abbrev pub with_handle : HandleTable → ℕ → Bool → HandleTable
 with_handle t id private =
-    if is_some (number_of t.entries id) then t
-    else record t { entries = t.entries ++ record { handle = t.next_number; id = id; private = private } ∷ []; next_number = t.next_number + 1 }
+    if is_some (handle_number t.entries id) then t
+    else record t {
+      entries = t.entries ++ record { handle = t.next_number; id = id; private = private } ∷ [];
+      next_number = t.next_number + 1;
+    }
 
 -- the handles that are left when an object is gone, and when private objects are seen no more
-abbrev pub without_object : List Handle → ℕ → List Handle
-without_object hs id = filter (λ h. not (h.id == id)) hs
+abbrev pub handles_without : List Handle → ℕ → List Handle
+handles_without hs id = filter (λ h. not (h.id == id)) hs
 
 abbrev pub public_handles : List Handle → List Handle
 public_handles hs = filter (λ h. not h.private) hs
@@ -47,7 +50,7 @@ AreDistinct (h ∷ hs) = AllByRecursion (λ x. x.id == h.id ≡ false) hs × Are
 
 -- what is true of every table: numbers count from 1 and were given once each, and each object has
 -- one handle at most
-pub record IsTable (next_number : ℕ) (hs : List Handle) : Type 0 where
+pub record IsHandleTable (next_number : ℕ) (hs : List Handle) : Type 0 where
   pub rising : NumbersRise (λ h. h.handle) 1 hs next_number
   pub distinct : AreDistinct hs
 

@@ -14,16 +14,16 @@
 //! don't see it. Retired entries are taken out only where a list is full. At least as many handles are
 //! then given before the next such walk as are left by it, unless an allocation fails.
 //!
-//! Proved, by the names of contracts: numbers rise from 1 and never return (`IsTable`). An object has one handle at most, found either
-//! way (`object_of`, `number_of`); a logout retires those of private objects. No clause says how long a bisection takes, or when entries
+//! Proved, by the names of contracts: numbers rise from 1 and never return (`IsHandleTable`). An object has one handle at most, found either
+//! way (`object_of`, `handle_number`); a logout retires those of private objects. No clause says how long a bisection takes, or when entries
 //! are taken out.
 #![tactic(auto)]
 
 ghost use Rattle.std.specs.Prelude.{◌≡◌, ℕ, ◌+◌, ◌^◌, ◌<◌, ◌≤◌, ◌==◌, nat_lt, filter, find, length, not, None, Some, if◌then◌else◌, IsOk, IfSome, OnOk, vec_len};
 ghost use Rattle.std.specs.List.{insert};
 ghost use Rattle.std.specs.Vec.{vec_capacity};
-ghost use Rattle.handles.specs.Handles.{no_handles, object_of, number_of, with_handle, without_object, public_handles, HasRoomFor, IsTable};
-ghost use Rattle.handles.specs.Stored.{handles_in, id_in, number_in, without_retired, IsTaken};
+ghost use Rattle.handles.specs.Handles.{no_handles, object_of, handle_number, with_handle, handles_without, public_handles, HasRoomFor, IsHandleTable};
+ghost use Rattle.handles.specs.Stored.{handles_in, entry_id, entry_number, without_retired, IsTaken};
 ghost use Rattle.lists.specs.Bisection.{KeysRise, IsIndexOf};
 ghost use Rattle.lists.specs.InOrder.{NumbersRise, placed};
 
@@ -115,8 +115,8 @@ impl Handles {
     /// The id of the object whose handle this is.
     pub fn object_of(&self, handle: u64) -> Option<u64>
         ensures object { result ≡ object_of self.now.entries handle }
-        ensures matched { IfSome result (λ id. number_of self.now.entries id ≡ Some handle) }
-        ensures table { IsTable self.now.next_number self.now.entries }
+        ensures matched { IfSome result (λ id. handle_number self.now.entries id ≡ Some handle) }
+        ensures table { IsHandleTable self.now.next_number self.now.entries }
     {
         match find_handle(&self.entries, handle) {
             Some(found) => Some(found.id),
@@ -126,9 +126,9 @@ impl Handles {
 
     /// The handle of the object with this id.
     pub fn number_of(&self, id: u64) -> Option<u64>
-        ensures handle { result ≡ number_of self.now.entries id }
+        ensures handle { result ≡ handle_number self.now.entries id }
         ensures matched { IfSome result (λ handle. object_of self.now.entries handle ≡ Some id) }
-        ensures table { IsTable self.now.next_number self.now.entries }
+        ensures table { IsHandleTable self.now.next_number self.now.entries }
     {
         match find_id(&self.by_id, id) {
             Some(found) => Some(found.handle),
@@ -154,7 +154,7 @@ impl Handles {
         requires fits { self.old.next_number + 1 < 2 ^ 64 }
         requires room { HasRoomFor self.old 1 }
         ensures given { self.new ≡ with_handle self.old id private }
-        ensures handle { number_of self.new.entries id ≡ Some result }
+        ensures handle { handle_number self.new.entries id ≡ Some result }
     {
         if let Some(found) = find_id(&self.by_id, id) {
             return found.handle;
@@ -189,7 +189,7 @@ impl Handles {
 
     /// Retires the handle of an object, if it has one. No memory is taken.
     pub fn retire(&mut self, id: u64)
-        ensures { self.new ≡ record self.old { entries = without_object self.old.entries id } }
+        ensures { self.new ≡ record self.old { entries = handles_without self.old.entries id } }
     {
         if let Some(found) = retire_id(&mut self.by_id, id) {
             retire_handle(&mut self.entries, found.handle);
@@ -207,23 +207,23 @@ impl Handles {
 
 /// Where the handle with this number stands among entries by rising number, or where it would go.
 fn index_of_handle(entries: &[Entry], handle: u64) -> Result<usize, usize>
-    requires { KeysRise number_in entries.now }
-    ensures { IsIndexOf number_in entries.now handle result }
+    requires { KeysRise entry_number entries.now }
+    ensures { IsIndexOf entry_number entries.now handle result }
 {
     entries.binary_search_by_key(&handle, |entry| entry.handle.handle)
 }
 
 /// Where the handle of this object stands among entries by rising id, or where it would go.
 fn index_of_id(entries: &[Entry], id: u64) -> Result<usize, usize>
-    requires { KeysRise id_in entries.now }
-    ensures { IsIndexOf id_in entries.now id result }
+    requires { KeysRise entry_id entries.now }
+    ensures { IsIndexOf entry_id entries.now id result }
 {
     entries.binary_search_by_key(&id, |entry| entry.handle.id)
 }
 
 /// The handle with this number, if it isn't retired.
 fn find_handle(entries: &[Entry], handle: u64) -> Option<Handle>
-    requires { KeysRise number_in entries.now }
+    requires { KeysRise entry_number entries.now }
     ensures { result ≡ find (λ h. h.handle == handle) (handles_in entries.now) }
 {
     match index_of_handle(entries, handle) {
@@ -234,7 +234,7 @@ fn find_handle(entries: &[Entry], handle: u64) -> Option<Handle>
 
 /// The handle of this object, if it isn't retired.
 fn find_id(entries: &[Entry], id: u64) -> Option<Handle>
-    requires { KeysRise id_in entries.now }
+    requires { KeysRise entry_id entries.now }
     ensures { result ≡ find (λ h. h.id == id) (handles_in entries.now) }
 {
     match index_of_id(entries, id) {
@@ -245,9 +245,9 @@ fn find_id(entries: &[Entry], id: u64) -> Option<Handle>
 
 /// Retires the handle with this number.
 fn retire_handle(entries: &mut Vec<Entry>, handle: u64)
-    requires { KeysRise number_in entries.old.items }
+    requires { KeysRise entry_number entries.old.items }
     ensures left { handles_in entries.new.items ≡ filter (λ h. not (h.handle == handle)) (handles_in entries.old.items) }
-    ensures numbers { (next : ℕ) → NumbersRise number_in 1 entries.old.items next → NumbersRise number_in 1 entries.new.items next }
+    ensures numbers { (next : ℕ) → NumbersRise entry_number 1 entries.old.items next → NumbersRise entry_number 1 entries.new.items next }
     ensures capacity { vec_capacity entries.new ≡ vec_capacity entries.old }
 {
     if let Ok(at) = index_of_handle(entries, handle) {
@@ -257,10 +257,10 @@ fn retire_handle(entries: &mut Vec<Entry>, handle: u64)
 
 /// Retires the handle of this object, and returns it.
 fn retire_id(entries: &mut Vec<Entry>, id: u64) -> Option<Handle>
-    requires { KeysRise id_in entries.old.items }
+    requires { KeysRise entry_id entries.old.items }
     ensures found { result ≡ find (λ h. h.id == id) (handles_in entries.old.items) }
-    ensures left { handles_in entries.new.items ≡ without_object (handles_in entries.old.items) id }
-    ensures rise { KeysRise id_in entries.new.items }
+    ensures left { handles_in entries.new.items ≡ handles_without (handles_in entries.old.items) id }
+    ensures rise { KeysRise entry_id entries.new.items }
     ensures capacity { vec_capacity entries.new ≡ vec_capacity entries.old }
 {
     match index_of_id(entries, id) {
@@ -275,11 +275,11 @@ fn retire_id(entries: &mut Vec<Entry>, id: u64) -> Option<Handle>
 
 /// Puts a handle among entries by rising id, where no live one is of its object. Memory is reserved for it.
 fn put_by_id(entries: &mut Vec<Entry>, handle: Handle)
-    requires rise { KeysRise id_in entries.old.items }
+    requires rise { KeysRise entry_id entries.old.items }
     requires new { find (λ h. h.id == handle.id) (handles_in entries.old.items) ≡ None }
     requires room { vec_len entries.old < vec_capacity entries.old }
     ensures put { handles_in entries.new.items ≡ placed (λ h. h.id) handle (handles_in entries.old.items) }
-    ensures rise { KeysRise id_in entries.new.items }
+    ensures rise { KeysRise entry_id entries.new.items }
     ensures capacity { vec_capacity entries.new ≡ vec_capacity entries.old }
 {
     let entry = Entry {
@@ -343,8 +343,8 @@ fn reserve_entries(entries: &mut Vec<Entry>, additional: usize) -> Result<(), Al
 /// Takes out the retired handles, and those of private objects.
 fn take_out_private(entries: &mut Vec<Entry>)
     ensures left { handles_in entries.new.items ≡ public_handles (handles_in entries.old.items) }
-    ensures numbers { (next : ℕ) → NumbersRise number_in 1 entries.old.items next → NumbersRise number_in 1 entries.new.items next }
-    ensures rise { KeysRise id_in entries.old.items → KeysRise id_in entries.new.items }
+    ensures numbers { (next : ℕ) → NumbersRise entry_number 1 entries.old.items next → NumbersRise entry_number 1 entries.new.items next }
+    ensures rise { KeysRise entry_id entries.old.items → KeysRise entry_id entries.new.items }
     ensures capacity { vec_capacity entries.new ≡ vec_capacity entries.old }
 {
     entries.retain(|entry| !entry.retired && !entry.handle.private);

@@ -2,13 +2,13 @@
 use Rattle.std.proofs.Common.{◌≡◌, ℕ, zero, suc, ◌≤◌, List, length, refl, sym, ◌∙◌, arith}
 use Rattle.std.proofs.lemmas.List.{take_all}
 use Rattle.sha2.proofs.Facts256.{length-sha256}
-use Rattle.hmac_sha2.specs.Hmac.{xor_bytes, hmac, hmac256}
+use Rattle.hmac_sha2.specs.Hmac.{xor_strings, hmac, hmac256}
 use Rattle.hmac_sha2.specs.Pbkdf2.{iterate, block, blocks, derived_key, pbkdf2}
 use Rattle.hmac_sha2.proofs.XorBytes.{length-xor_bytes}
 
 -- one more round
 pub block-suc : (prf : List ℕ → List ℕ → List ℕ) (password salt : List ℕ) (n i : ℕ) → 1 ≤ n
-    → block prf password salt (suc n) i ≡ xor_bytes (block prf password salt n i) (iterate prf password salt i (suc n))
+    → block prf password salt (suc n) i ≡ xor_strings (block prf password salt n i) (iterate prf password salt i (suc n))
 unfolding block
 block-suc prf password salt zero i some = absurd (omega arith)
 block-suc prf password salt (suc n) i some = refl

@@ -5,10 +5,10 @@ use Rattle.sha2.specs.Sha256.{sha224, sha256}
 use Rattle.sha2.specs.Sha512.{sha384, sha512}
 
 -- the exclusive or of two strings of bytes, as far as both go
-unfoldable pub xor_bytes : List ℕ → List ℕ → List ℕ
-xor_bytes xs [] = []
-xor_bytes [] (y ∷ ys) = []
-xor_bytes (x ∷ xs) (y ∷ ys) = bit_xor x y ∷ xor_bytes xs ys
+unfoldable pub xor_strings : List ℕ → List ℕ → List ℕ
+xor_strings xs [] = []
+xor_strings [] (y ∷ ys) = []
+xor_strings (x ∷ xs) (y ∷ ys) = bit_xor x y ∷ xor_strings xs ys
 
 -- a string of at most B bytes, with zeros up to B (4, steps 2 and 3)
 unfoldable pub zero_padded : ℕ → List ℕ → List ℕ
@@ -28,7 +28,7 @@ outer_pad = 0x5C
 
 -- K0 with a pad (4, steps 4 and 7)
 unfoldable pub padded_key : (List ℕ → List ℕ) → ℕ → ℕ → List ℕ → List ℕ
-padded_key hash block_size pad key = xor_bytes (block_key hash block_size key) (replicate block_size pad)
+padded_key hash block_size pad key = xor_strings (block_key hash block_size key) (replicate block_size pad)
 
 -- the tag of a message under a key (4, steps 4 to 9)
 unfoldable pub hmac : (List ℕ → List ℕ) → ℕ → List ℕ → List ℕ → List ℕ

@@ -2,7 +2,7 @@
 -- password and a text. The names in brackets are the RFC's.
 use Rattle.std.specs.Prelude.{ℕ, zero, suc, ◌+◌, ◌-◌, ◌/◌, List, [], ◌++◌, take}
 use Rattle.std.specs.Int.{w32, to_be_bytes}
-use Rattle.hmac_sha2.specs.Hmac.{xor_bytes, hmac256}
+use Rattle.hmac_sha2.specs.Hmac.{xor_strings, hmac256}
 
 -- the iterate U_n of block i: U_0 is S || INT (i), and each next one the PRF of the one before (step 3)
 unfoldable pub iterate : (List ℕ → List ℕ → List ℕ) → List ℕ → List ℕ → ℕ → ℕ → List ℕ
@@ -15,7 +15,7 @@ unfoldable pub block : (List ℕ → List ℕ → List ℕ) → List ℕ → Lis
 block prf password salt zero i = []
 block prf password salt (suc zero) i = iterate prf password salt i 1
 block prf password salt (suc (suc n)) i =
-    xor_bytes (block prf password salt (suc n) i) (iterate prf password salt i (suc (suc n)))
+    xor_strings (block prf password salt (suc n) i) (iterate prf password salt i (suc (suc n)))
 
 -- T_1 || … || T_l (step 4)
 unfoldable pub blocks : (ℕ → List ℕ) → ℕ → List ℕ

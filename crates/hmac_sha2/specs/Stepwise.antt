@@ -8,7 +8,8 @@ use Rattle.hmac_sha2.specs.declared.stepwise.Hmac.{Hmac}
 
 -- h has taken this message under this key. Its two hashers, of which `holds` has what message each
 -- holds, begin with the key under the inner and the outer pad.
-pub record HoldsMessage {D : Type 0} (holds : D → List ℕ → Type 0) (hash : List ℕ → List ℕ) (block_size : ℕ) (h : Hmac D) (key message : List ℕ) : Type 0 where
+pub record HoldsMessage {D : Type 0} (holds : D → List ℕ → Type 0) (hash : List ℕ → List ℕ) (block_size : ℕ) (h : Hmac D)
+    (key message : List ℕ) : Type 0 where
   pub inner : holds h.inner (padded_key hash block_size inner_pad key ++ message)
   pub outer : holds h.outer (padded_key hash block_size outer_pad key)
 

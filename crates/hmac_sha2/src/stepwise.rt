@@ -1,5 +1,5 @@
 ghost use Rattle.std.specs.Prelude.{◌≡◌, ℕ, ◌≤◌, ◌++◌, List, [], length, replicate, ⊤};
-ghost use Rattle.hmac_sha2.specs.Hmac.{xor_bytes, zero_padded, inner_pad, outer_pad, hmac};
+ghost use Rattle.hmac_sha2.specs.Hmac.{xor_strings, zero_padded, inner_pad, outer_pad, hmac};
 
 use super::hash_function::{HashFunction, LONGEST_BLOCK};
 use super::xor::xor_into;
@@ -14,7 +14,7 @@ const OUTER_PAD: u8 = 0x5c;
 fn begun<D: HashFunction>(key: &[u8], pad: u8) -> D
     requires { length key.now ≤ D.BLOCK_SIZE }
     ensures { D.holds result
-        (xor_bytes (zero_padded D.BLOCK_SIZE key.now) (replicate D.BLOCK_SIZE pad)) }
+        (xor_strings (zero_padded D.BLOCK_SIZE key.now) (replicate D.BLOCK_SIZE pad)) }
 {
     let mut block = [pad; LONGEST_BLOCK];
     xor_into(&mut block, key);
@@ -42,9 +42,9 @@ where
     fn under(key: &[u8]) -> Hmac<D>
         requires { length key.now ≤ D.BLOCK_SIZE }
         ensures inner { D.holds result.inner
-            (xor_bytes (zero_padded D.BLOCK_SIZE key.now) (replicate D.BLOCK_SIZE inner_pad)) }
+            (xor_strings (zero_padded D.BLOCK_SIZE key.now) (replicate D.BLOCK_SIZE inner_pad)) }
         ensures outer { D.holds result.outer
-            (xor_bytes (zero_padded D.BLOCK_SIZE key.now) (replicate D.BLOCK_SIZE outer_pad)) }
+            (xor_strings (zero_padded D.BLOCK_SIZE key.now) (replicate D.BLOCK_SIZE outer_pad)) }
     {
         Hmac {
             inner: begun(key, INNER_PAD),

@@ -34,7 +34,8 @@ module _ {K : Type 0} (terms : Terms K) (old new : K) where
   -- the change isn't made, and a crash leaves what it could leave before, or the whole change
   pub record Fails (step : Contents → Contents) : Type 0 where
     pub held : (c : Contents) → terms.holds old c → terms.holds new c
-    pub crash : (c : Contents) (left : Option Contents) → terms.holds old c → terms.may_leave new left → terms.may_leave old left ⊎ (left ≡ Some (step c))
+    pub crash : (c : Contents) (left : Option Contents) → terms.holds old c → terms.may_leave new left → terms.may_leave old left
+        ⊎ (left ≡ Some (step c))
 
   -- No fault of the disk and no failure is forgotten, and a keeper that is steady stays so. At least and at most so many writes
   -- were tried.

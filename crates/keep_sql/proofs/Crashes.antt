@@ -16,8 +16,10 @@ use Rattle.keep_sql_model.specs.SqlState.{SqlState, sql_terms}
 use Rattle.keep_sql_model.proofs.Reopened.{found_held}
 use Rattle.keep_sql.specs.CrashThenOpen.{HoldsLeft}
 
-module _ {D N : Type 0} {g : Ghosts D} {h : Ghosts N} (k : SqlState (FileStore D g)) (next : SqlState (FileStore N h)) (image : Image) (clean : HasCleanDisk (file_state k.conn)) (numbered : IsTrue (view k.conn.store).is_numbered)
-    (sound : AreDatabases (recovers k.conn.store)) (may : (state k.conn.store).may_leave image) (it : OpenedFile image next) (sure : HasCleanDisk (file_state next.conn)) where
+module _ {D N : Type 0} {g : Ghosts D} {h : Ghosts N} (k : SqlState (FileStore D g)) (next : SqlState (FileStore N h))
+    (image : Image) (clean : HasCleanDisk (file_state k.conn)) (numbered : IsTrue (view k.conn.store).is_numbered)
+    (sound : AreDatabases (recovers k.conn.store)) (may : (state k.conn.store).may_leave image) (it : OpenedFile image next)
+    (sure : HasCleanDisk (file_state next.conn)) where
   pub finds_left : ¬ ((left : Option Contents) → (sql_terms over_files).may_leave k left → ¬ HoldsLeft next left)
   finds_left none =
       let was_sure : HasCleanDisk (file_state it.was) = omega (arith, it.opened.clean) in

@@ -17,7 +17,8 @@ both_clean true true it = (refl, refl)
 both_clean true false it = absurd (cc)
 both_clean false b it = absurd (cc)
 
-pub left_by : {D : Type 0} {g : Ghosts D} (files : Files D) (was : Held (FileStore D g)) (fault : OpenFault) (rest : Left D g) → (HasCleanDisk (file_state was) → IsOpened was) → (HasCleanDisk (file_state was) → FindsIn (image_of g files) (file_state was))
+pub left_by : {D : Type 0} {g : Ghosts D} (files : Files D) (was : Held (FileStore D g)) (fault : OpenFault) (rest : Left D g)
+    → (HasCleanDisk (file_state was) → IsOpened was) → (HasCleanDisk (file_state was) → FindsIn (image_of g files) (file_state was))
     → LeavesConnection was fault rest → Leaves files fault rest
 left_by files was fault left.Nothing is_open finds it = absurd it
 left_by files was fault (left.Files now) is_open finds it = absurd it

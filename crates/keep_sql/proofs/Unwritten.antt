@@ -7,7 +7,8 @@ use Rattle.sql_statements.specs.Tables.{token_schema}
 use Rattle.sql_statements.specs.Store.{ShowsNow, Unwritten}
 use Rattle.keep_sql_model.specs.Store.{Holds, IsAt, Stayed, Stores}
 
-at_same : (new : State) (db : Database) (c : Contents) → ShowsNow new db → db.schema ≡ token_schema → Stores db.trees c → IsDatabase db → IsAt new c
+at_same : (new : State) (db : Database) (c : Contents) → ShowsNow new db → db.schema ≡ token_schema → Stores db.trees c
+    → IsDatabase db → IsAt new c
 at_same new db c shows schema stores sound = record {
   schema = ap (λ (d : Database). d.schema) shows.now ∙ schema;
   settled = shows.settled ∙ sym shows.now;

@@ -21,6 +21,7 @@ HoldsLeft next None = ⊤
 -- leave. sqlite keeps the two facts of the store for each connection (`into_store`).
 abbrev pub CrashThenOpen : {D N : Type 0} → Ghosts D → Ghosts N → Type 0
 CrashThenOpen {D} {N} g h =
-    (k : SqlState (FileStore D g)) (next : SqlState (FileStore N h)) (image : Image) → HasCleanDisk (file_state k.conn) → IsTrue (view k.conn.store).is_numbered → AreDatabases (recovers k.conn.store)
+    (k : SqlState (FileStore D g)) (next : SqlState (FileStore N h)) (image : Image) → HasCleanDisk (file_state k.conn)
+    → IsTrue (view k.conn.store).is_numbered → AreDatabases (recovers k.conn.store)
     → (state k.conn.store).may_leave image → OpenedFile image next → HasCleanDisk (file_state next.conn)
     → ¬ ((left : Option Contents) → (sql_terms over_files).may_leave k left → ¬ HoldsLeft next left)

@@ -6,7 +6,7 @@ use Rattle.keep_sql.specs.declared.taking.Found.{Found}
 use Rattle.keep_sql_model.specs.Renewals.{FindsRecord, IsCovered, IsOfRow}
 use Rattle.sql_statements.specs.Rows.{bodies, ids_and_bodies}
 
-pub record Finds (trees : Trees) (f : Found) : Type 0 where
+pub record TablesFind (trees : Trees) (f : Found) : Type 0 where
   pub record_is : FindsRecord (bodies (trees 0)) f.token_record f.is_old
   pub covered : All (IsCovered f.renewals.items) (ids_and_bodies (trees 1))
   pub own : All (IsOfRow (ids_and_bodies (trees 1))) f.renewals.items

@@ -1,20 +1,13 @@
 -- Why files aren't opened. A disk that fails is told as that, and never as damage; damage is told as what was found.
-use Rattle.std.specs.Prelude.{◌≡◌, ◌≢◌, ◌≤◌, ⊤, length}
+use Rattle.std.specs.Prelude.{◌≤◌, ⊤, length}
 use Rattle.std.specs.declared.io.ErrorKind.{ErrorKind}
 use Rattle.std.specs.declared.io.ErrorKind.TheVariants as kind
 use Rattle.sqlite_disk.specs.declared.Disk.{Ghosts}
 use Rattle.sqlite_disk.specs.declared.Files.{Files}
 use Rattle.sqlite_disk.specs.Disk.{MoreFaults}
-use Rattle.sqlite_trees.specs.declared.error.StoreError.{StoreError}
-use Rattle.sqlite_trees.specs.View.{IsClean}
-use Rattle.sqlite_store.specs.FileStore.{view}
-use Rattle.sqlite.specs.declared.FileStore.{FileStore}
-use Rattle.sqlite.specs.declared.error.Error.{Error}
 use Rattle.sqlite.specs.declared.error.Error.TheVariants.{SqliteFailure}
 use Rattle.sqlite.specs.declared.error.ErrorCode.TheVariants.{CannotOpen, DatabaseBusy, OutOfMemory, SystemIoFailure}
-use Rattle.sqlite.specs.State.{store_error}
-use Rattle.sqlite.specs.Held.{Held}
-use Rattle.sqlite.specs.Files.{ExcusesClose, faults_of, image_of}
+use Rattle.sqlite.specs.Files.{faults_of, image_of}
 use Rattle.sql_log.specs.Damage.{IsDamaged, IsFirst}
 use Rattle.keep_sql.specs.declared.refusal.OpenFault.{OpenFault}
 use Rattle.keep_sql.specs.declared.refusal.OpenFault.TheVariants.{Sqlite, FileLost, LogDamaged, NoTables, Keeper}
@@ -28,10 +21,6 @@ ExcusesReading g files now FileLost = (length (g.seen files.db) ≤ 1) × (¬ Is
 ExcusesReading g files now LogDamaged = IsDamaged (g.seen files.log)
 ExcusesReading g files now NoTables = ⊥
 ExcusesReading g files now (Keeper f) = ⊥
-
--- a log that can't be copied, by what the store is left as
-abbrev pub FailsToCopy : {D : Type 0} {g : Ghosts D} → Held (FileStore D g) → FileStore D g → Error → Type 0
-FailsToCopy c last e = IsClean (view last) → (cause : StoreError) × (e ≡ store_error cause) × ExcusesClose c last cause
 
 -- Before a file is opened, as the system has it: the path can't be opened, another process has the file, no memory, or a log without its
 -- file. So none of it is told as damage of a file that is there.

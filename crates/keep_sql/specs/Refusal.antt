@@ -20,7 +20,8 @@ use Rattle.keep.specs.declared.keep.KeepFault.{KeepFault}
 use Rattle.sql_log.specs.Bytes.{KeepsBeginning}
 use Rattle.sql_log.specs.Damage.{IsFirst}
 use Rattle.keep_sql_model.specs.Opening.{NotOpened, Opened, is_blank}
-use Rattle.keep_sql.specs.Reasons.{ExcusesReading, FailsToCopy}
+use Rattle.keep_sql.specs.Reasons.{ExcusesReading}
+use Rattle.sql_copying.specs.Copying.{FailsToCopy}
 use Rattle.keep_sql.specs.declared.refusal.OpenFault.{OpenFault}
 use Rattle.keep_sql.specs.declared.refusal.OpenFault.TheVariants.{Keeper, NoTables, Sqlite}
 use Rattle.keep_sql.specs.declared.refusal.Left.{Left}
@@ -43,7 +44,8 @@ module _ {D : Type 0} {g : Ghosts D} where
   LeavesConnection was fault (left.Sqlite rest) = ⊥
   LeavesConnection was fault (left.Connection conn) = (f : KeepFault) × (fault ≡ Keeper f) × NotOpened (file_state was) (file_state conn) f
   LeavesConnection was fault (left.Store store) =
-      (kept : Held (FileStore D g)) × (r : TokenRecord) × Opened (file_state was) (file_state kept) r × ((trees : Trees) → recovers store trees → (file_state kept).may_leave trees)
+      (kept : Held (FileStore D g)) × (r : TokenRecord) × Opened (file_state was) (file_state kept) r
+      × ((trees : Trees) → recovers store trees → (file_state kept).may_leave trees)
       × ((e : Error) × (fault ≡ Sqlite e) × FailsToCopy kept store e)
 
   -- a connection found what the files held; it had no tables where a first opening has left none, and is left as it was, or the keeper
@@ -52,11 +54,13 @@ module _ {D : Type 0} {g : Ghosts D} where
     pub was : Held (FileStore D g)
     pub is_open : HasCleanDisk (file_state was) → IsOpened was
     pub finds : HasCleanDisk (file_state was) → FindsIn (image_of g files) (file_state was)
-    pub leaves : ((fault ≡ NoTables) × (rest ≡ left.Connection was) × (is_blank (file_state was).now.schema ≡ true) × (HasCleanDisk (file_state was) → ¬ IsFirst (image_of g files))) ⊎ LeavesConnection was fault rest
+    pub leaves : ((fault ≡ NoTables) × (rest ≡ left.Connection was) × (is_blank (file_state was).now.schema ≡ true)
+        × (HasCleanDisk (file_state was) → ¬ IsFirst (image_of g files))) ⊎ LeavesConnection was fault rest
 
   abbrev pub Leaves : Files D → OpenFault → Left D g → Type 0
   Leaves files fault left.Nothing = ⊥
-  Leaves files fault (left.Files now) = OnlyReads g files.log now.log × OnlyReads g files.db now.db × (AreClean g now.log now.db → ExcusesReading g files now fault)
+  Leaves files fault (left.Files now) = OnlyReads g files.log now.log × OnlyReads g files.db now.db
+      × (AreClean g now.log now.db → ExcusesReading g files now fault)
   Leaves files fault (left.Sqlite rest) =
       (mid : Files D) × OnlyReads g files.log mid.log × OnlyReads g files.db mid.db × (IsCleanLeft rest → LeavesFiles mid rest)
       × ((e : Error) × (fault ≡ Sqlite e) × (IsCleanLeft rest → FailsToOpenFiles mid rest e))
@@ -69,7 +73,8 @@ module _ {D : Type 0} {g : Ghosts D} where
   AreLeftIn (left.Files files) it = it ≡ Some files
   AreLeftIn (left.Sqlite rest) it = IsSomeAnd it (λ now. (now.log, now.db) ≡ files_left rest)
   AreLeftIn (left.Connection conn) it =
-      IsSomeAnd it (λ now. (last : FileStore D g) × IsQuiet store.view store.faults recovers store.is_shielded conn.store last × ((now.log, now.db) ≡ store.files last))
+      IsSomeAnd it (λ now. (last : FileStore D g) × IsQuiet store.view store.faults recovers store.is_shielded conn.store last
+      × ((now.log, now.db) ≡ store.files last))
   AreLeftIn (left.Store last) it = IsSomeAnd it (λ now. (now.log, now.db) ≡ store.files last)
 
   -- the same of a refusal

@@ -15,12 +15,12 @@ ghost use Rattle.keep_sql_model.specs.OpenedFile.{HasNoRoom, IsInFile, OpenedFil
 ghost use Rattle.keep_sql_model.specs.SqlState.{sql_terms};
 ghost use Rattle.keep_sql.specs.Refusal.{Leaves, LeavesConnection};
 
-use crate::copying::copied;
 use crate::inspecting::inspect;
 use crate::opening::lacks_tables;
 use crate::refusal::{Left, OpenFault, Refused};
 use crate::sql_keep::{SqlKeep, with_record};
 use keep::{Keep, KeepFault};
+use sql_copying::copied;
 use sqlite::{Alter, Connection, FileStore, Files, MemStore, Options};
 use sqlite_disk::Disk;
 use std::alloc::Global;
@@ -31,8 +31,10 @@ pub const LOG_FRAMES: usize = 64;
 /// The keeper over a connection that nobody wants back.
 fn adopt<S: Alter + Drop>(alloc: Global, conn: Connection<S>) -> Result<SqlKeep<S>, KeepFault>
     ensures opened { IfOk result (λ k. Opened (state S.Store conn) (state S.Store k.conn) k.token_record) }
-    ensures found { (c : Contents) → HoldsEither (state S.Store conn) c → IfOk result (λ k. HasCleanDisk (state S.Store k.conn) → Adopts (sql_terms S.Store) k c) }
-    ensures fresh { (state S.Store conn).now.schema ≡ no_schema → IfOk result (λ k. HasCleanDisk (state S.Store k.conn) → Adopts (sql_terms S.Store) k (new_contents new_record)) }
+    ensures found { (c : Contents) → HoldsEither (state S.Store conn) c
+        → IfOk result (λ k. HasCleanDisk (state S.Store k.conn) → Adopts (sql_terms S.Store) k c) }
+    ensures fresh { (state S.Store conn).now.schema ≡ no_schema
+        → IfOk result (λ k. HasCleanDisk (state S.Store k.conn) → Adopts (sql_terms S.Store) k (new_contents new_record)) }
     ensures counts { IfOk result (λ k. (k.failures ≡ 0) × (k.tried ≡ 0)) }
     ensures undamaged { (state S.Store conn).now.schema ≡ no_schema → ((h : _) → HasCleanDisk (state S.Store h)) → IsErrOf result Damaged → ⊥ }
 {
@@ -59,7 +61,8 @@ fn settle<D: Disk + Drop>(
 ) -> Result<SqlKeep<FileStore<D>>, (OpenFault, Left<D>)>
     ensures opened { IfOk result (λ k. Opened (file_state conn) (file_state k.conn) k.token_record) }
     ensures found { (c : Contents) → HoldsEither (file_state conn) c → IfOk result (λ k. HasCleanDisk (file_state k.conn) → Adopts (sql_terms over_files) k c) }
-    ensures fresh { (file_state conn).now.schema ≡ no_schema → IfOk result (λ k. HasCleanDisk (file_state k.conn) → Adopts (sql_terms over_files) k (new_contents new_record)) }
+    ensures fresh { (file_state conn).now.schema ≡ no_schema
+        → IfOk result (λ k. HasCleanDisk (file_state k.conn) → Adopts (sql_terms over_files) k (new_contents new_record)) }
     ensures file { IfOk result (λ k. IsInFile k.conn ⊎ HasNoRoom k.conn) }
     ensures counts { IfOk result (λ k. (k.failures ≡ 0) × (k.tried ≡ 0)) }
     ensures leaves { IfErr result (λ e. LeavesConnection conn e.0 e.1) }

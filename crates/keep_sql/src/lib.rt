@@ -27,7 +27,7 @@
 //! it could leave before, or the whole change (`keep`).
 //!
 //! Proved, by the names of contracts: `SqlKeep` holds the contents that the connection's database stands for (`Holds`, `Stores`), while
-//! its disk is faithful. A crash leaves what one of the connection leaves (`MayLeave`, `IsStore`). What a crash leaves of a store in
+//! its disk is faithful. A crash leaves what one of the connection leaves (`StateMayLeave`, `IsStore`). What a crash leaves of a store in
 //! files is what the next opening finds (`crash_then_open`).
 //! - An opening adopts what stands for contents, makes a new store where there are no tables, and else returns why not (`Opened`,
 //!   `Adopts`, `NotOpened`): never `Damaged` for what stands for contents. Only files that a first opening may have left are taken for a
@@ -43,7 +43,6 @@
 #![tactic(auto)]
 
 mod changes;
-mod copying;
 mod files;
 mod inspecting;
 mod laws;

@@ -52,9 +52,11 @@ fn create<S: Alter>(alloc: Global, conn: &mut Connection<S>) -> Result<Record, K
     ensures clean { doubt (state S.Store conn.old).is_clean ≤ doubt (state S.Store conn.new).is_clean }
     ensures made { (state S.Store conn.old).now.schema ≡ no_schema → HasCleanDisk (state S.Store conn.new)
         → IfOk result (λ r. IsTrue (state S.Store conn.new).is_open × IsAt (state S.Store conn.new) (new_contents new_record) × (r ≡ new_record)) }
-    ensures same { (db : Database) → IsReady (state S.Store conn.old) → Sees (state S.Store conn.old) db → HasCleanDisk (state S.Store conn.new) → IsTrue (state S.Store conn.new).is_open
+    ensures same { (db : Database) → IsReady (state S.Store conn.old) → Sees (state S.Store conn.old) db
+        → HasCleanDisk (state S.Store conn.new) → IsTrue (state S.Store conn.new).is_open
         → OnErr result (ShowsNow (state S.Store conn.new) db) }
-    ensures crash { (state S.Store conn.old).now.schema ≡ no_schema → HasCleanDisk (state S.Store conn.new) → (left : Trees) → (state S.Store conn.new).may_leave left
+    ensures crash { (state S.Store conn.old).now.schema ≡ no_schema → HasCleanDisk (state S.Store conn.new) → (left : Trees)
+        → (state S.Store conn.new).may_leave left
         → (state S.Store conn.old).may_leave left ⊎ IsStore left (new_contents new_record) }
     ensures undamaged { IsErrOf result Damaged → ⊥ }
 {
@@ -73,9 +75,11 @@ fn make_new<S: Alter>(alloc: Global, conn: &mut Connection<S>) -> Result<Record,
     ensures made { (state S.Store conn.old).now.schema ≡ no_schema → HasCleanDisk (state S.Store conn.new)
         → IfOk result (λ r. IsTrue (state S.Store conn.new).is_open × IsAt (state S.Store conn.new) (new_contents new_record) × (r ≡ new_record)) }
     ensures only { OnOk result (is_blank (state S.Store conn.old).now.schema ≡ true) }
-    ensures same { (db : Database) → IsReady (state S.Store conn.old) → Sees (state S.Store conn.old) db → HasCleanDisk (state S.Store conn.new) → IsTrue (state S.Store conn.new).is_open
+    ensures same { (db : Database) → IsReady (state S.Store conn.old) → Sees (state S.Store conn.old) db
+        → HasCleanDisk (state S.Store conn.new) → IsTrue (state S.Store conn.new).is_open
         → OnErr result (ShowsNow (state S.Store conn.new) db) }
-    ensures crash { (state S.Store conn.old).now.schema ≡ no_schema → HasCleanDisk (state S.Store conn.new) → (left : Trees) → (state S.Store conn.new).may_leave left
+    ensures crash { (state S.Store conn.old).now.schema ≡ no_schema → HasCleanDisk (state S.Store conn.new) → (left : Trees)
+        → (state S.Store conn.new).may_leave left
         → (state S.Store conn.old).may_leave left ⊎ IsStore left (new_contents new_record) }
     ensures unwritten { IsErrOf result Damaged → conn.new ≡ conn.old }
     ensures undamaged { (state S.Store conn.old).now.schema ≡ no_schema → IsErrOf result Damaged → ⊥ }
@@ -89,8 +93,10 @@ fn make_new<S: Alter>(alloc: Global, conn: &mut Connection<S>) -> Result<Record,
 
 /// Opens a store over a connection that is open.
 fn open_ready<S: Alter>(alloc: Global, conn: &mut Connection<S>) -> Result<Record, KeepFault>
-    ensures opened { IsReady (state S.Store conn.old) → Sees (state S.Store conn.old) (state S.Store conn.old).now → IfOk result (Opened (state S.Store conn.old) (state S.Store conn.new)) }
-    ensures not_opened { IsReady (state S.Store conn.old) → Sees (state S.Store conn.old) (state S.Store conn.old).now → IfErr result (NotOpened (state S.Store conn.old) (state S.Store conn.new)) }
+    ensures opened { IsReady (state S.Store conn.old) → Sees (state S.Store conn.old) (state S.Store conn.old).now
+        → IfOk result (Opened (state S.Store conn.old) (state S.Store conn.new)) }
+    ensures not_opened { IsReady (state S.Store conn.old) → Sees (state S.Store conn.old) (state S.Store conn.old).now
+        → IfErr result (NotOpened (state S.Store conn.old) (state S.Store conn.new)) }
 {
     if has_tables(conn) {
         take_over(alloc, conn)

@@ -129,7 +129,8 @@ impl<S: Start> SqlKeep<FileStore<FileFrom<S>>> {
     pub fn open(rt: &HostRuntime, path: &str, start: S) -> Result<Self, Refused<FileFrom<S>>>
         ensures opened { IfOk result (OpenedFile (image_at S.Start)) }
         ensures memory { path.now ≡ codes ":memory:" → IsErrAnd result (λ r. r.fault ≡ OpenFault.Sqlite (SqliteFailure CannotOpen)) }
-        ensures leaves { IfErr result (λ r. ((r.left ≡ Left.Nothing) × IsOfSystem r.fault) ⊎ ((files : _) × IsFresh true files.log × IsFresh false files.db × Leaves files r.fault r.left)) }
+        ensures leaves { IfErr result (λ r. ((r.left ≡ Left.Nothing) × IsOfSystem r.fault)
+            ⊎ ((files : _) × IsFresh true files.log × IsFresh false files.db × Leaves files r.fault r.left)) }
     {
         let files = match open_pair(rt, path, start) {
             Ok(files) => files,

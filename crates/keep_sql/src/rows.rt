@@ -9,7 +9,7 @@ ghost use Rattle.attrs.specs.declared.fault.DecodeFault.TheVariants.{Form};
 ghost use Rattle.pin_record.specs.Records.{TokenRecord};
 ghost use Rattle.keep.specs.Contents.{Contents, IsTokenObject, object_at};
 ghost use Rattle.keep.specs.declared.keep.KeepFault.TheVariants.{Damaged};
-ghost use Rattle.keep_sql_model.specs.Store.{Shows, encoded};
+ghost use Rattle.keep_sql_model.specs.Store.{RowShows, encoded};
 ghost use Rattle.attrs.specs.OldStored.{has_new_flags};
 ghost use Rattle.keep_sql_model.specs.Formats.{IsRecordBody, is_old as is_old_in, old_encoded};
 ghost use Rattle.keep_sql_model.specs.Rows.{ShowRecordEither, ShowsEither, first_number};
@@ -54,7 +54,7 @@ fn read_fault(fault: DecodeFault) -> KeepFault
 
 /// The object of a row of one body.
 pub(crate) fn stored_object(alloc: Global, row: &Row) -> Result<Object, KeepFault>
-    ensures found { (c : Contents) (id : ℕ) → Shows c id row.now → IfOk result (λ x. object_at c id ≡ Some x) }
+    ensures found { (c : Contents) (id : ℕ) → RowShows c id row.now → IfOk result (λ x. object_at c id ≡ Some x) }
     ensures token { IfOk result IsTokenObject }
     ensures open { IsErrOf result Damaged → ⊥ }
 {

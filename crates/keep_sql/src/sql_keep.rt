@@ -79,7 +79,8 @@ pub(crate) fn with_record<S: Alter + Drop>(
 ) -> SqlKeep<S>
     ensures is { (result.conn ≡ conn) × (result.token_record ≡ token_record) }
     ensures counts { (result.failures ≡ 0) × (result.tried ≡ 0) }
-    ensures adopts { (c : Contents) → HasCleanDisk (state S.Store conn) → IsTrue (state S.Store conn).is_open → IsAt (state S.Store conn) c → token_record ≡ c.token_record → Adopts (sql_terms S.Store) result c }
+    ensures adopts { (c : Contents) → HasCleanDisk (state S.Store conn) → IsTrue (state S.Store conn).is_open → IsAt (state S.Store conn) c
+        → token_record ≡ c.token_record → Adopts (sql_terms S.Store) result c }
 {
     SqlKeep {
         conn,
@@ -106,8 +107,10 @@ impl<S: Alter + Drop> SqlKeep<S> {
         mut conn: Connection<S>,
     ) -> Result<Self, (KeepFault, Connection<S>)>
         ensures opened { IfOk result (λ k. Opened (state S.Store conn) (state S.Store k.conn) k.token_record) }
-        ensures found { (c : Contents) → HoldsEither (state S.Store conn) c → IfOk result (λ k. (⟦<SqlKeep<S> as Keep>⟧.terms).doubt k ≡ 0 → Adopts ⟦<SqlKeep<S> as Keep>⟧.terms k c) }
-        ensures fresh { (state S.Store conn).now.schema ≡ no_schema → IfOk result (λ k. (⟦<SqlKeep<S> as Keep>⟧.terms).doubt k ≡ 0 → Adopts ⟦<SqlKeep<S> as Keep>⟧.terms k (new_contents new_record)) }
+        ensures found { (c : Contents) → HoldsEither (state S.Store conn) c
+            → IfOk result (λ k. (⟦<SqlKeep<S> as Keep>⟧.terms).doubt k ≡ 0 → Adopts ⟦<SqlKeep<S> as Keep>⟧.terms k c) }
+        ensures fresh { (state S.Store conn).now.schema ≡ no_schema
+            → IfOk result (λ k. (⟦<SqlKeep<S> as Keep>⟧.terms).doubt k ≡ 0 → Adopts ⟦<SqlKeep<S> as Keep>⟧.terms k (new_contents new_record)) }
         ensures counts { IfOk result (λ k. (k.failures ≡ 0) × (k.tried ≡ 0)) }
         ensures back { IfErr result (λ e. NotOpened (state S.Store conn) (state S.Store e.1) e.0) }
     {

@@ -21,7 +21,11 @@ pub stayed_fails : (old mid new : State) (step : Contents → Contents) → Stay
 stayed_fails old mid new step stayed failed = record {
   clean = omega (arith, stayed.clean, failed.clean);
   held = λ c h. failed.held c (stayed.held c h);
-  crash = λ c left h may. elim (failed.crash c left (stayed.held c h) may) [ inl before ↦ inl (stayed.crash c left h before) | inr made ↦ inr made ];
+  crash = λ c left h may. elim (failed.crash c left (stayed.held c h) may) [
+    | inl before ↦ inl
+        (stayed.crash c left h before)
+    | inr made ↦ inr made
+  ];
 }
 
 pub only_read : (old new : State) (step : Contents → Contents) → Stayed old new → Failed old new step

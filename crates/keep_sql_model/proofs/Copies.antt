@@ -38,9 +38,11 @@ same_tables [] [] (u ∷ us) one two = absurd two
 same_tables [] (t ∷ ts) us one two = absurd one
 same_tables (r ∷ rows) [] us one two = absurd one
 same_tables (r ∷ rows) (t ∷ ts) [] one two = absurd two
-same_tables (r ∷ rows) (t ∷ ts) (u ∷ us) one two = ap₂ (λ (x : Table) (xs : List Table). x ∷ xs) (same_table r t u one.0 two.0) (same_tables rows ts us one.1 two.1)
+same_tables (r ∷ rows) (t ∷ ts) (u ∷ us) one two =
+    ap₂ (λ (x : Table) (xs : List Table). x ∷ xs) (same_table r t u one.0 two.0) (same_tables rows ts us one.1 two.1)
 
-none_too : {T U V : Type 0} (R : T → U → Type 0) (Q : T → V → Type 0) (rows : List T) (bs : List V) → AllZip R rows [] → AllZip Q rows bs → bs ≡ []
+none_too : {T U V : Type 0} (R : T → U → Type 0) (Q : T → V → Type 0) (rows : List T) (bs : List V) → AllZip R rows []
+    → AllZip Q rows bs → bs ≡ []
 none_too R Q [] [] one two = refl
 none_too R Q [] (b ∷ bs) one two = absurd two
 none_too R Q (r ∷ rows) bs one two = absurd one
@@ -51,7 +53,8 @@ one_listed objects s one two =
     let tables = same_tables _ _ _ one.tables two.tables in
     let indexes = none_too _ _ _ s.indexes one.indexes two.indexes in
     let views = none_too _ _ _ s.views one.views two.views in
-    ap (λ (ts : List Table). record s { tables = ts }) (sym tables) ∙ ap (λ (xs : _). record s { tables = token_schema.tables; indexes = xs }) indexes
+    ap (λ (ts : List Table). record s { tables = ts }) (sym tables)
+    ∙ ap (λ (xs : _). record s { tables = token_schema.tables; indexes = xs }) indexes
     ∙ ap (λ (vs : _). record s { tables = token_schema.tables; indexes = []; views = vs }) views
 
 -- trees that list a token's tables list no others

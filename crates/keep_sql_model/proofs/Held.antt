@@ -12,7 +12,7 @@ use Rattle.pin_record.specs.Stored.{IsRecord, record_stored}
 use Rattle.pin_record.proofs.StoredLaws.{record_stored-complete}
 use Rattle.keep.specs.Contents.{Contents}
 use Rattle.sql_statements.specs.Store.{counter_rows, OnlyReads, Sees, SeesTables, ShowsNow, Unwritten}
-use Rattle.keep_sql_model.specs.Store.{AreObjects, Body, Holds, IsAt, IsStore, ReadsAs, Stayed, Stores, encoded, encoded_record, object_row, record_row}
+use Rattle.keep_sql_model.specs.Store.{AreObjects, Body, Holds, IsAt, IsStore, ReadsAs, Stayed, Stores, encoded, encoded_record, row_of_object, record_row}
 
 object_of : (a b : Body) → IsObject a → IsObject b → encoded a ≡ encoded b → a ≡ b
 unfolding encoded
@@ -24,7 +24,7 @@ unfolding encoded_record
 record_of r q one two same =
     let both : Some r ≡ Some q = sym (record_stored-complete r one) ∙ ap record_stored same ∙ record_stored-complete q two in cc
 
-one_list : (xs ys : List (ℕ × Body)) → AreObjects xs → AreObjects ys → map object_row xs ≡ map object_row ys → xs ≡ ys
+one_list : (xs ys : List (ℕ × Body)) → AreObjects xs → AreObjects ys → map row_of_object xs ≡ map row_of_object ys → xs ≡ ys
 one_list [] [] these those h = refl
 one_list [] (y ∷ ys) these those h = absurd (cc)
 one_list (x ∷ xs) [] these those h = absurd (cc)
@@ -32,7 +32,7 @@ one_list (x ∷ xs) (y ∷ ys) these those h =
     let id : x.0 ≡ y.0 = cc in
     let bytes : encoded x.1 ≡ encoded y.1 = cc in
     let body : x.1 ≡ y.1 = object_of x.1 y.1 these.0 those.0 bytes in
-    let more : map object_row xs ≡ map object_row ys = cc in
+    let more : map row_of_object xs ≡ map row_of_object ys = cc in
     let rest : xs ≡ ys = one_list xs ys these.1 those.1 more in
     let first : x ≡ y = ap (λ (a : ℕ). (a, x.1)) id ∙ ap (λ (b : Body). (y.0, b)) body in
     cc
@@ -50,7 +50,8 @@ one_contents trees c d one two =
     let rows : record_row c.token_record ∷ [] ≡ record_row d.token_record ∷ [] = sym one.record_is ∙ two.record_is in
     let bytes : encoded_record c.token_record ≡ encoded_record d.token_record = cc in
     let token : c.token_record ≡ d.token_record = record_of _ _ one.is_record two.is_record bytes in
-    ap (λ (xs : List (ℕ × Body)). record c { objects = xs }) objects ∙ ap (λ (r : TokenRecord). record c { objects = d.objects; token_record = r }) token ∙ ap (λ (n : ℕ). record d { last_id = n }) last
+    ap (λ (xs : List (ℕ × Body)). record c { objects = xs }) objects
+    ∙ ap (λ (r : TokenRecord). record c { objects = d.objects; token_record = r }) token ∙ ap (λ (n : ℕ). record d { last_id = n }) last
 
 -- what tables read as, where they hold contents
 pub reads_one : (trees : Trees) (c : Contents) (left : Option Contents) → IsStore trees c → ReadsAs trees left → left ≡ Some c
@@ -59,7 +60,10 @@ reads_one trees c (Some d) it reads = ap (λ (x : Contents). Some x) (one_conten
 
 -- an open connection that is at contents has their store
 pub store_at : (s : State) (c : Contents) → IsAt s c → IsStore s.now.trees c
-store_at s c at = record { stores = at.stores; sound = subst (λ (x : Schema). IsDatabase (record { schema = x; trees = s.now.trees })) at.schema at.sound }
+store_at s c at = record {
+  stores = at.stores;
+  sound = subst (λ (x : Schema). IsDatabase (record { schema = x; trees = s.now.trees })) at.schema at.sound;
+}
 
 -- what an open connection that is at contents sees
 pub sees_at : (s : State) (c : Contents) → IsAt s c → Sees s s.now

@@ -38,7 +38,8 @@ stored_either trees c it = record {
 }
 
 -- a store that an opening finds is held
-pub found_held : {N : Type 0} {h : Ghosts N} (next : SqlState (FileStore N h)) (image : Image) (it : OpenedFile image next) → HasCleanDisk (file_state next.conn) → (c : Contents) → IsStore (file_state it.was).committed.trees c
+pub found_held : {N : Type 0} {h : Ghosts N} (next : SqlState (FileStore N h)) (image : Image) (it : OpenedFile image next)
+    → HasCleanDisk (file_state next.conn) → (c : Contents) → IsStore (file_state it.was).committed.trees c
     → Adopts (sql_terms over_files) next c
 found_held next image it clean c left = it.found c (λ sure up.
     let open_now = it.is_open sure in
@@ -46,7 +47,8 @@ found_held next image it clean c left = it.found c (λ sure up.
     let live = (open_now.1 up).0 in
     let trees : (file_state it.was).committed.trees ≡ (file_state it.was).now.trees = ap (λ (d : Database). d.trees) (sym opens.clean) in
     record {
-      schema = one_schema (file_state it.was).now.trees (file_state it.was).now.schema (subst (λ (t : Trees). IsSound token_schema t) trees left.sound) live;
+      schema = one_schema (file_state it.was).now.trees (file_state it.was).now.schema
+          (subst (λ (t : Trees). IsSound token_schema t) trees left.sound) live;
       settled = sym opens.clean;
       autocommit = opens.autocommit;
       stores = stored_either (file_state it.was).now.trees c (subst (λ (t : Trees). Stores t c) trees left.stores);

@@ -18,7 +18,7 @@ unfoldable pub old_encoded : Body → List ℕ
 old_encoded o = object.old_form o
 
 unfoldable pub old_encoded_record : TokenRecord → List ℕ
-old_encoded_record r = token.old_form r
+old_encoded_record r = token.old_record_form r
 
 -- the first byte is the format
 abbrev pub is_old : List ℕ → Bool

@@ -56,7 +56,8 @@ pub record OpenedFile {D : Type 0} {g : Ghosts D} (start : Image) (k : SqlState 
   pub undamaged : HasCleanDisk (file_state was) → ¬ IsPlainlyDamaged start.log
   pub opened : Opened (file_state was) (file_state k.conn) k.token_record
   pub found : (c : Contents) → HoldsEither (file_state was) c → HasCleanDisk (file_state k.conn) → Adopts (sql_terms over_files) k c
-  pub fresh : (file_state was).now.schema ≡ no_schema → HasCleanDisk (file_state k.conn) → Adopts (sql_terms over_files) k (new_contents new_record)
+  pub fresh : (file_state was).now.schema ≡ no_schema → HasCleanDisk (file_state k.conn)
+      → Adopts (sql_terms over_files) k (new_contents new_record)
   pub copied : IsInFile k.conn ⊎ HasNoRoom k.conn
   pub failures : k.failures ≡ 0
   pub tried : k.tried ≡ 0

@@ -60,14 +60,16 @@ pub record Opened (old new : State) (r : TokenRecord) : Type 0 where
 -- written at all. What holds contents, in whichever format, or has no table, isn't called damaged.
 pub record NotOpened (old new : State) (fault : KeepFault) : Type 0 where
   pub clean : doubt old.is_clean ≤ doubt new.is_clean
-  pub same : IsOurs old.now.schema → HasCleanDisk new → IsTrue new.is_open → (new.now ≡ old.now) × (new.committed ≡ old.committed) × (new.in_transaction ≡ old.in_transaction)
+  pub same : IsOurs old.now.schema → HasCleanDisk new → IsTrue new.is_open → (new.now ≡ old.now) × (new.committed ≡ old.committed)
+      × (new.in_transaction ≡ old.in_transaction)
   pub crash : IsOurs old.now.schema → ¬ HasOld old.now.trees → HasCleanDisk new → (left : Trees) → new.may_leave left
       → old.may_leave left ⊎ ((old.now.schema ≡ no_schema) × IsStore left (new_contents new_record))
   pub unwritten : fault ≡ Damaged → IsOurs old.now.schema → HasCleanDisk new → (left : Trees) → new.may_leave left → old.may_leave left
   pub held : (c : Contents) → Holds old c → Holds new c
   pub held_either : (c : Contents) → HoldsEither old c → HoldsEither new c
   pub left : (c : Contents) → Holds old c → HasCleanDisk new → (left : Trees) → new.may_leave left → old.may_leave left
-  pub left_either : (c : Contents) → HoldsEither old c → HasCleanDisk new → (left : Trees) → new.may_leave left → old.may_leave left ⊎ IsStore left c
+  pub left_either : (c : Contents) → HoldsEither old c → HasCleanDisk new → (left : Trees) → new.may_leave left → old.may_leave left
+      ⊎ IsStore left c
   pub undamaged : (c : Contents) → HoldsEither old c → HasCleanDisk new → fault ≢ Damaged
   pub fresh : old.now.schema ≡ no_schema → HasCleanDisk new → fault ≢ Damaged
 

@@ -23,10 +23,10 @@ unfoldable pub encoded : Body → List ℕ
 encoded o = object.stored_form o
 
 unfoldable pub encoded_record : TokenRecord → List ℕ
-encoded_record r = token.stored_form r
+encoded_record r = token.stored_record_form r
 
-abbrev pub object_row : ℕ × Body → Row
-object_row p = body_row (p.0, encoded p.1)
+abbrev pub row_of_object : ℕ × Body → Row
+row_of_object p = body_row (p.0, encoded p.1)
 
 abbrev pub record_row : TokenRecord → Row
 record_row r = body_row (1, encoded_record r)
@@ -38,7 +38,7 @@ AreObjects (e ∷ es) = IsObject e.1 × AreObjects es
 -- the tables are these contents, and no others
 pub record Stores (trees : Trees) (c : Contents) : Type 0 where
   pub record_is : trees 0 ≡ record_row c.token_record ∷ []
-  pub objects_are : trees 1 ≡ map object_row c.objects
+  pub objects_are : trees 1 ≡ map row_of_object c.objects
   pub count_is : trees 2 ≡ counter_rows c.last_id
   pub sound : IsSound c
   pub is_record : token.IsRecord c.token_record
@@ -67,28 +67,28 @@ abbrev pub Holds : State → Contents → Type 0
 Holds s c = HasCleanDisk s → IsTrue s.is_open → IsAt s c
 
 -- what a crash at this moment may leave
-abbrev pub MayLeave : State → Option Contents → Type 0
-MayLeave s left = HasCleanDisk s × ((trees : Trees) × s.may_leave trees × ReadsAs trees left)
+abbrev pub StateMayLeave : State → Option Contents → Type 0
+StateMayLeave s left = HasCleanDisk s × ((trees : Trees) × s.may_leave trees × ReadsAs trees left)
 
 -- a read
 pub record Stayed (old new : State) : Type 0 where
   pub clean : doubt old.is_clean ≤ doubt new.is_clean
   pub held : (c : Contents) → Holds old c → Holds new c
-  pub crash : (c : Contents) (left : Option Contents) → Holds old c → MayLeave new left → MayLeave old left
+  pub crash : (c : Contents) (left : Option Contents) → Holds old c → StateMayLeave new left → StateMayLeave old left
 
 -- an acknowledged change, and a refused one
 pub record Changed (old new : State) (step : Contents → Contents) : Type 0 where
   pub clean : doubt old.is_clean ≤ doubt new.is_clean
   pub held : (c : Contents) → Holds old c → Holds new (step c)
-  pub crash : (c : Contents) (left : Option Contents) → Holds old c → MayLeave new left → left ≡ Some (step c)
+  pub crash : (c : Contents) (left : Option Contents) → Holds old c → StateMayLeave new left → left ≡ Some (step c)
 
 pub record Failed (old new : State) (step : Contents → Contents) : Type 0 where
   pub clean : doubt old.is_clean ≤ doubt new.is_clean
   pub held : (c : Contents) → Holds old c → Holds new c
-  pub crash : (c : Contents) (left : Option Contents) → Holds old c → MayLeave new left → MayLeave old left ⊎ (left ≡ Some (step c))
+  pub crash : (c : Contents) (left : Option Contents) → Holds old c → StateMayLeave new left → StateMayLeave old left ⊎ (left ≡ Some (step c))
 
 -- a row that is the stored form of the object with an id
-pub record Shows (c : Contents) (id : ℕ) (row : Row) : Type 0 where
+pub record RowShows (c : Contents) (id : ℕ) (row : Row) : Type 0 where
   pub body : Body
   pub is : object_at c id ≡ Some body
   pub row_is : row ≡ Blob (encoded body) ∷ []

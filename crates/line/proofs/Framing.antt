@@ -28,7 +28,8 @@ use Rattle.serve_base.specs.Short.{IsCodeOfValues, IsShortValue, IsShort, IsShor
 
 -- ---- calls
 
-short-data : (function : Function) (session : ℕ) (input : List ℕ) (room : Option ℕ) → length (to_be_bytes w16 (function_number function) ++ data_fields.encode (session, (input, room))) ≤ most → IsShortData input room
+short-data : (function : Function) (session : ℕ) (input : List ℕ) (room : Option ℕ)
+    → length (to_be_bytes w16 (function_number function) ++ data_fields.encode (session, (input, room))) ≤ most → IsShortData input room
 short-data function session input None h = tt
 short-data function session input (Some room) h = omega (arith, h, length-append input (1 ∷ to_be_bytes w64 room))
 
@@ -50,7 +51,8 @@ each_fits : (vs : List AttributeValue) → AllByRecursion IsShortValue vs → Al
 each_fits [] short = tt
 each_fits (v ∷ vs) short = ((short.0.told, has_length v.len v.value short.0.value), each_fits vs short.1)
 
-within-values : (code : Rv) (vs : List AttributeValue) → IsCodeOfValues code → length vs ≤ MAX_ENTRIES → AllByRecursion attribute_value.Fits vs → IsWithinLimits (replies.AttributeValues code vs)
+within-values : (code : Rv) (vs : List AttributeValue) → IsCodeOfValues code → length vs ≤ MAX_ENTRIES
+    → AllByRecursion attribute_value.Fits vs → IsWithinLimits (replies.AttributeValues code vs)
 within-values rv.Ok vs is count each = (refl, count, each)
 within-values rv.AttributeSensitive vs is count each = (refl, count, each)
 within-values rv.AttributeTypeInvalid vs is count each = (refl, count, each)
@@ -70,19 +72,31 @@ numbers-length : (ns : List ℕ) → length (flat_map number64.encode ns) ≡ 8 
 numbers-length [] = refl
 numbers-length (n ∷ ns) = omega (arith, ap length (flat_map-cons number64.encode n ns), numbers-length ns)
 
-value-length : (n : ℕ) (value : Option (List ℕ)) → IfSome value (λ bytes. (length bytes ≡ n) × (length bytes ≤ 1024)) → length (encode_value value) ≤ 1025
+value-length : (n : ℕ) (value : Option (List ℕ)) → IfSome value (λ bytes. (length bytes ≡ n) × (length bytes ≤ 1024))
+    → length (encode_value value) ≤ 1025
 value-length n None short = omega arith
 value-length n (Some bytes) short = omega (arith, short.1)
 
 values-length : (vs : List AttributeValue) → AllByRecursion IsShortValue vs → length (flat_map attribute_value.encode vs) ≤ 1033 * length vs
 values-length [] short = omega arith
 values-length (v ∷ vs) short =
-    omega (arith, ap length (flat_map-cons attribute_value.encode v vs), length-append (attribute_value.encode v) (flat_map attribute_value.encode vs), value-length v.len v.value short.0.value, values-length vs short.1)
+    omega (
+      arith,
+      ap length (flat_map-cons attribute_value.encode v vs),
+      length-append (attribute_value.encode v) (flat_map attribute_value.encode vs),
+      value-length v.len v.value short.0.value,
+      values-length vs short.1,
+    )
 
 payload-length : (reply : Reply) → IsShort reply → Fits-reply reply → length (reply_payload reply) ≤ most
 payload-length (replies.Code code) short fits = omega arith
 payload-length (replies.TokenInfo info) short fits =
-    omega (arith, fits.1.0, length-append info.label ((pair number64 token_info_counts).encode (info.flags, (tt, (info.session_count, (tt, (info.rw_session_count, (tt, tt))))))))
+    omega (
+      arith,
+      fits.1.0,
+      length-append info.label
+          ((pair number64 token_info_counts).encode (info.flags, (tt, (info.session_count, (tt, (info.rw_session_count, (tt, tt))))))),
+    )
 payload-length (replies.MechanismList mechanisms) short fits = omega (arith, short, numbers-length mechanisms)
 payload-length (replies.MechanismInfo info) short fits = omega arith
 payload-length (replies.Session session) short fits = omega arith

@@ -24,36 +24,49 @@ pub front-none : (bytes : List ℕ) (a : Writing) (noted : List ℕ) → Front b
 front-none bytes a noted = record { front = []; whole = refl; wrote = took-nothing a; noted_is = sym (append-nil noted) }
 
 -- a write took some of the rest
-pub front-more : (bytes rest more piece : List ℕ) (count : ℕ) (a b c : Writing) (n n' n'' : List ℕ) → Front bytes rest a b n n' → TookBytes b c (take count rest) → piece ≡ take count rest → more ≡ drop count rest → n'' ≡ n' ++ piece → Front bytes more a c n n''
+pub front-more : (bytes rest more piece : List ℕ) (count : ℕ) (a b c : Writing) (n n' n'' : List ℕ) → Front bytes rest a b n n'
+    → TookBytes b c (take count rest) → piece ≡ take count rest → more ≡ drop count rest → n'' ≡ n' ++ piece → Front bytes more a c n n''
 front-more bytes rest more piece count a b c n n' n'' p q is m notes = record {
   front = p.front ++ take count rest;
-  whole = p.whole ∙ ap (λ (t : List ℕ). p.front ++ t) (sym (take-append-drop count rest) ∙ ap (λ (t : List ℕ). take count rest ++ t) (sym m)) ∙ sym (append_assoc p.front (take count rest) more);
+  whole = p.whole ∙ ap (λ (t : List ℕ). p.front ++ t)
+      (sym (take-append-drop count rest) ∙ ap (λ (t : List ℕ). take count rest ++ t) (sym m))
+      ∙ sym (append_assoc p.front (take count rest) more);
   wrote = took-more a b c p.front (take count rest) p.wrote q;
-  noted_is = notes ∙ ap (λ (t : List ℕ). n' ++ t) is ∙ ap (λ (t : List ℕ). t ++ take count rest) p.noted_is ∙ append_assoc n p.front (take count rest);
+  noted_is = notes ∙ ap (λ (t : List ℕ). n' ++ t) is ∙ ap (λ (t : List ℕ). t ++ take count rest) p.noted_is
+      ∙ append_assoc n p.front (take count rest);
 }
 
 -- it took none
-pub front-kept : (bytes rest : List ℕ) (a b c : Writing) (n n' : List ℕ) → Front bytes rest a b n n' → TookBytes b c [] → Front bytes rest a c n n'
-front-kept bytes rest a b c n n' p k = record { front = p.front; whole = p.whole; wrote = took-still a b c p.front p.wrote k; noted_is = p.noted_is }
+pub front-kept : (bytes rest : List ℕ) (a b c : Writing) (n n' : List ℕ) → Front bytes rest a b n n' → TookBytes b c []
+    → Front bytes rest a c n n'
+front-kept bytes rest a b c n n' p k =
+    record { front = p.front; whole = p.whole; wrote = took-still a b c p.front p.wrote k; noted_is = p.noted_is }
 
 -- it took no bytes of the rest
-pub front-nil : (bytes rest : List ℕ) (count : ℕ) (a b c : Writing) (n n' : List ℕ) → Front bytes rest a b n n' → TookBytes b c (take count rest) → count ≡ 0 → Front bytes rest a c n n'
+pub front-nil : (bytes rest : List ℕ) (count : ℕ) (a b c : Writing) (n n' : List ℕ) → Front bytes rest a b n n'
+    → TookBytes b c (take count rest) → count ≡ 0 → Front bytes rest a c n n'
 front-nil bytes rest count a b c n n' p q z = front-kept bytes rest a b c n n' p (subst (λ (k : ℕ). TookBytes b c (take k rest)) z q)
 
 pub front-took : (bytes rest : List ℕ) (a b : Writing) (n n' : List ℕ) → Front bytes rest a b n n' → Took a b n n'
 front-took bytes rest a b n n' p = record { part = p.front; wrote = p.wrote; noted_is = p.noted_is }
 
-pub front-puts : (bytes rest : List ℕ) (a b : Writing) (n n' : List ℕ) (lacking : ℕ) → Front bytes rest a b n n' → length rest ≡ lacking → Puts n n' bytes lacking
+pub front-puts : (bytes rest : List ℕ) (a b : Writing) (n n' : List ℕ) (lacking : ℕ) → Front bytes rest a b n n'
+    → length rest ≡ lacking → Puts n n' bytes lacking
 front-puts bytes rest a b n n' lacking p is = record { part = p.front; rest = rest; whole = p.whole; noted_is = p.noted_is; lacks = is }
 
 -- what is left of a frame of which all but the last bytes were taken
-pub puts-rest : (frame bytes : List ℕ) (sent lacking : ℕ) (n n' : List ℕ) → bytes ≡ drop sent frame → Puts n n' bytes lacking → n' ++ drop (length frame - lacking) frame ≡ n ++ drop sent frame
+pub puts-rest : (frame bytes : List ℕ) (sent lacking : ℕ) (n n' : List ℕ) → bytes ≡ drop sent frame → Puts n n' bytes lacking
+    → n' ++ drop (length frame - lacking) frame ≡ n ++ drop sent frame
 puts-rest frame bytes sent lacking n n' is p =
     let front : List ℕ = take sent frame ++ p.part in
-    let whole : frame ≡ front ++ p.rest = sym (take-append-drop sent frame) ∙ ap (λ (t : List ℕ). take sent frame ++ t) (sym is ∙ p.whole) ∙ sym (append_assoc (take sent frame) p.part p.rest) in
+    let whole : frame ≡ front ++ p.rest =
+    sym (take-append-drop sent frame) ∙ ap (λ (t : List ℕ). take sent frame ++ t) (sym is ∙ p.whole)
+    ∙ sym (append_assoc (take sent frame) p.part p.rest) in
     let count : length frame - lacking ≡ length front = omega (arith, ap length whole, length-append front p.rest, p.lacks) in
-    let left : drop (length frame - lacking) frame ≡ p.rest = ap (λ (k : ℕ). drop k frame) count ∙ ap (λ (t : List ℕ). drop (length front) t) whole ∙ drop-append_seam front p.rest in
-    ap (λ (t : List ℕ). n' ++ t) left ∙ ap (λ (t : List ℕ). t ++ p.rest) p.noted_is ∙ append_assoc n p.part p.rest ∙ ap (λ (t : List ℕ). n ++ t) (sym p.whole ∙ is)
+    let left : drop (length frame - lacking) frame ≡ p.rest =
+    ap (λ (k : ℕ). drop k frame) count ∙ ap (λ (t : List ℕ). drop (length front) t) whole ∙ drop-append_seam front p.rest in
+    ap (λ (t : List ℕ). n' ++ t) left ∙ ap (λ (t : List ℕ). t ++ p.rest) p.noted_is ∙ append_assoc n p.part p.rest
+    ∙ ap (λ (t : List ℕ). n ++ t) (sym p.whole ∙ is)
 
 -- ---- what was noted of several calls
 

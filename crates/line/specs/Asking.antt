@@ -10,7 +10,7 @@ use Rattle.wire.specs.declared.fault.WireFault.TheVariants as faults
 use Rattle.wire.specs.Messages.{call_in, frame, most, HasFrame}
 use Rattle.wire.specs.Replies.{HasReplyFrame}
 use Rattle.wire.specs.Stream.{IsPartial, IsTooLong}
-use Rattle.line.specs.declared.next.Given.{Given}
+use Rattle.ck_calls.specs.declared.app_call.AppCall.{AppCall}
 use Rattle.line.specs.declared.asked.Asked.{Asked}
 use Rattle.line.specs.declared.asked.Asked.TheVariants as asked
 use Rattle.line.specs.declared.asked.Piece.{Piece}
@@ -25,12 +25,14 @@ use Rattle.line.specs.State.{Outgoing}
 
 -- ---- a payload
 
--- it is a call, which takes its words
-pub record IsCall (payload : List ℕ) (words words' : ChaCha) (given : Given) : Type 0 where
+-- it is a call of the application, which takes its words
+pub record IsCall (payload : List ℕ) (words words' : ChaCha) (given : AppCall) : Type 0 where
   pub is : call_in payload ≡ Ok given.call
   pub took : (given.random.items, words') ≡ taken (random_bytes given.call) words
   pub count : length given.random.items ≡ random_bytes given.call
   pub framed : HasFrame given.call
+  pub app : given.app ≡ words.stream
+  pub same_app : words'.stream ≡ words.stream
 
 -- it is none, and is answered so
 pub record IsRefused (payload : List ℕ) (words words' : ChaCha) (reply : Reply) : Type 0 where
@@ -109,14 +111,14 @@ pub record Fed (noted noted' held held' : List ℕ) : Type 0 where
   pub noted_is : noted' ≡ noted ++ more
   pub held_is : held' ≡ held ++ more
 
-abbrev pub Takes : List ℕ → List ℕ → List ℕ → List ℕ → Reading → Piece → Type 0
-Takes noted noted' held held' reading piece.More = Fed noted noted' held held'
-Takes noted noted' held held' reading piece.Nothing = (noted' ≡ noted) × (held' ≡ held)
-Takes noted noted' held held' reading (piece.Ended endings.Closed) = (noted' ≡ noted) × (held ≡ []) × IsAtEnd reading.left
-Takes noted noted' held held' reading (piece.Ended endings.Cut) = (noted' ≡ noted) × (held ≢ []) × IsAtEnd reading.left
-Takes noted noted' held held' reading (piece.Ended (endings.Read error)) = noted' ≡ noted
-Takes noted noted' held held' reading (piece.Ended endings.Memory) = Unit {0}
-Takes noted noted' held held' reading (piece.Ended _) = ⊥
+abbrev pub PieceTakes : List ℕ → List ℕ → List ℕ → List ℕ → Reading → Piece → Type 0
+PieceTakes noted noted' held held' reading piece.More = Fed noted noted' held held'
+PieceTakes noted noted' held held' reading piece.Nothing = (noted' ≡ noted) × (held' ≡ held)
+PieceTakes noted noted' held held' reading (piece.Ended endings.Closed) = (noted' ≡ noted) × (held ≡ []) × IsAtEnd reading.left
+PieceTakes noted noted' held held' reading (piece.Ended endings.Cut) = (noted' ≡ noted) × (held ≢ []) × IsAtEnd reading.left
+PieceTakes noted noted' held held' reading (piece.Ended (endings.Read error)) = noted' ≡ noted
+PieceTakes noted noted' held held' reading (piece.Ended endings.Memory) = Unit {0}
+PieceTakes noted noted' held held' reading (piece.Ended _) = ⊥
 
 abbrev pub PieceBy : {T : Type 0} → Piece → Noting T → Noting T → Type 0
 PieceBy piece.More old new = Unfailing old new

@@ -10,7 +10,7 @@ use Rattle.wire.specs.Replies.{HasReplyFrame, IsWithinLimits, Fits-reply}
 use Rattle.wire.specs.Stream.{IsPartial, IsTooLong}
 use Rattle.line.specs.declared.ending.Ending.{Ending}
 use Rattle.line.specs.declared.ending.Ending.TheVariants as endings
-use Rattle.line.specs.declared.next.Given.{Given}
+use Rattle.ck_calls.specs.declared.app_call.AppCall.{AppCall}
 use Rattle.line.specs.declared.next.Next.{Next}
 use Rattle.line.specs.declared.next.Next.TheVariants as next
 use Rattle.watched.specs.Noting.{Noting, Unfailing, Settles, HasFailed}
@@ -39,16 +39,26 @@ pub record Advances (old new : Connected) : Type 0 where
   pub answered : new.answered ≡ old.answered + length payloads
 
 -- Then the next payload was a call, with the next of the words. All that was to be written is written.
-pub record Gives (old new : Connected) (given : Given) : Type 0 where
+pub record Gives (old new : Connected) (given : AppCall) : Type 0 where
   pub mid : Connected
   pub refused : Advances old mid
   pub call : Lets (λ p. IsCall p mid.words new.words given) mid.held new.held
-  pub same : new ≡ record { held = new.held; words = new.words; read = mid.read; written = mid.written; pending = []; answered = mid.answered; ended = None }
+  pub same : new ≡ record {
+    held = new.held;
+    words = new.words;
+    read = mid.read;
+    written = mid.written;
+    pending = [];
+    answered = mid.answered;
+    ended = None;
+  }
   pub all : mid.pending ≡ []
 
 -- What is to be written is of the last refusal, or something was to be written before and no payload was refused.
 abbrev pub Tail : List ℕ → List (List ℕ) → List ℕ → Type 0
-Tail before payloads pending = ((before ≢ []) × (payloads ≡ [])) ⊎ ((front : List (List ℕ)) × (last : List ℕ) × (part : List ℕ) × (payloads ≡ front ++ last ∷ []) × (refusal_frame last ≡ part ++ pending))
+Tail before payloads pending = ((before ≢ []) × (payloads ≡ []))
+    ⊎ ((front : List (List ℕ)) × (last : List ℕ) × (part : List ℕ) × (payloads ≡ front ++ last ∷ [])
+    × (refusal_frame last ≡ part ++ pending))
 
 -- Nothing came, or the writer takes no more now.
 pub record Waits (old new : Connected) : Type 0 where
@@ -72,7 +82,15 @@ pub record Halts (old new : Connected) (ending : Ending) : Type 0 where
   pub mid : Connected
   pub refused : Advances old mid
   pub more : List ℕ
-  pub same : new ≡ record { held = new.held; words = mid.words; read = mid.read ++ more; written = mid.written; pending = mid.pending; answered = mid.answered; ended = Some ending }
+  pub same : new ≡ record {
+    held = new.held;
+    words = mid.words;
+    read = mid.read ++ more;
+    written = mid.written;
+    pending = mid.pending;
+    answered = mid.answered;
+    ended = Some ending;
+  }
   pub why : Why ending old.pending refused.payloads mid.held more mid.pending
 
 -- what comes next, or nothing for a caller
@@ -105,7 +123,8 @@ WritesTo (Some next.Nothing) (byte ∷ pending) old new = HasFailed old new
 WritesTo _ pending old new = Settles old new
 
 -- What came next of a connection over a reader and a writer: what was noted is what these gave and took.
-pub record Comes {R W : Type 0} (reading : R → Reading) (writing : W → Writing) (r r' : Noting R) (w w' : Noting W) (old new : Connected) (next : Option Next) : Type 0 where
+pub record Comes {R W : Type 0} (reading : R → Reading) (writing : W → Writing) (r r' : Noting R) (w w' : Noting W)
+    (old new : Connected) (next : Option Next) : Type 0 where
   pub does : Does old new next
   pub gave : Gave (reading r.inner) (reading r'.inner) old.read new.read
   pub took : Took (writing w.inner) (writing w'.inner) old.written new.written
@@ -137,7 +156,7 @@ standing None (byte ∷ pending) = Some next.Nothing
 -- ---- a reply
 
 -- the reply comes out, after all that came before
-pub record Answers (old new : Connected) (reply : Reply) : Type 0 where
+pub record ReplyComes (old new : Connected) (reply : Reply) : Type 0 where
   pub out : output new ≡ output old ++ reply_frame reply
   pub framed : HasReplyFrame reply
   pub answered : new.answered ≡ old.answered + 1
@@ -150,15 +169,23 @@ pub record Omits (old new : Connected) : Type 0 where
 
 -- by whether the connection ended
 abbrev pub SendsBy : Option Ending → Connected → Connected → Reply → Type 0
-SendsBy None old new reply = Answers old new reply
-SendsBy (Some (endings.Write error)) old new reply = Answers old new reply
+SendsBy None old new reply = ReplyComes old new reply
+SendsBy (Some (endings.Write error)) old new reply = ReplyComes old new reply
 SendsBy (Some endings.Memory) old new reply = Omits old new
 SendsBy (Some _) old new reply = ⊥
 
 -- A reply was taken, and nothing was read.
 pub record Tells (old new : Connected) (reply : Reply) : Type 0 where
   pub sends : SendsBy new.ended old new reply
-  pub same : new ≡ record { held = old.held; words = old.words; read = old.read; written = new.written; pending = new.pending; answered = new.answered; ended = new.ended }
+  pub same : new ≡ record {
+    held = old.held;
+    words = old.words;
+    read = old.read;
+    written = new.written;
+    pending = new.pending;
+    answered = new.answered;
+    ended = new.ended;
+  }
 
 -- by what the writer counted
 abbrev pub SendsTo : {T : Type 0} → Option Ending → List ℕ → Noting T → Noting T → Type 0
@@ -185,7 +212,15 @@ pub record Moves (old new : Connected) : Type 0 where
   pub out : output new ≡ output old
   pub by : FlushesBy new.ended
   pub idle : old.pending ≡ [] → (new.ended ≡ None) × (new.pending ≡ [])
-  pub same : new ≡ record { held = old.held; words = old.words; read = old.read; written = new.written; pending = new.pending; answered = old.answered; ended = new.ended }
+  pub same : new ≡ record {
+    held = old.held;
+    words = old.words;
+    read = old.read;
+    written = new.written;
+    pending = new.pending;
+    answered = old.answered;
+    ended = new.ended;
+  }
 
 -- A connection wrote to its writer of what is to be written.
 pub record Flushes {W : Type 0} (writing : W → Writing) (w w' : Noting W) (old new : Connected) : Type 0 where

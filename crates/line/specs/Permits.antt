@@ -16,7 +16,9 @@ IsGiven given r more = (more ≡ []) ⊎ given r.app (r.gave ++ more)
 
 -- what is to be written may be, and so may the refusals of what is no call, as more is given
 abbrev pub PermitsOn : (ℕ → List ℕ → Type 0) → (ℕ → List ℕ → List ℕ → Type 0) → Reading → Writing → Connected → Type 0
-PermitsOn given allows r w c = (payloads : List (List ℕ)) (more held : List ℕ) → AllByRecursion IsNoCall payloads → c.held ++ more ≡ flat_map frame payloads ++ held → IsGiven given r more → Permits allows w (c.pending ++ flat_map refusal_frame payloads)
+PermitsOn given allows r w c = (payloads : List (List ℕ)) (more held : List ℕ) → AllByRecursion IsNoCall payloads
+    → c.held ++ more ≡ flat_map frame payloads ++ held → IsGiven given r more
+    → Permits allows w (c.pending ++ flat_map refusal_frame payloads)
 
 -- a reader gave nothing more, or has given what it gave
 abbrev pub Knows : (ℕ → List ℕ → Type 0) → Reading → Reading → Type 0

@@ -1,14 +1,13 @@
 //! The steps of a connection.
 
 use crate::ending::Ending;
-use crate::next::Given;
-use ck_calls::Reply;
+use ck_calls::{AppCall, Reply};
 use std::io::Error;
 
 /// What the frame at the front of what is held comes to.
 #[derive(Drop)]
 pub(crate) enum Asked {
-    Call(Given),
+    Call(AppCall),
     /// A payload that is no call, and its reply.
     Refused(Reply),
     /// There is no whole frame.

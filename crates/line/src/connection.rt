@@ -61,7 +61,15 @@ impl Model for Connection {
 
     ghost Value = { Connected };
 
-    ghost view = { λ c. record { held = c.frames.bytes; words = c.words; read = c.read.bytes; written = c.out.written; pending = c.out.pending; answered = c.answered; ended = c.ended } };
+    ghost view = { λ c. record {
+      held = c.frames.bytes;
+      words = c.words;
+      read = c.read.bytes;
+      written = c.out.written;
+      pending = c.out.pending;
+      answered = c.answered;
+      ended = c.ended;
+    } };
 
     ghost invariant = { λ c. (c.frames.failed ≡ false) × (c.count ≡ min c.answered (2 ^ 64 - 1)) };
 }
@@ -139,7 +147,8 @@ impl Connection {
         requires may { self.old.ended ≡ None → PermitsOn R.given (L.allows licence.now) (R.reading reader.old.inner)
             (W.writing writer.old.inner) self.old }
         // A connection that ended stays so.
-        ensures over { (why : TheEnding) → self.old.ended ≡ Some why → (result ≡ next.Ended why) × (self.new ≡ self.old) × (reader.new ≡ reader.old) × (writer.new ≡ writer.old) }
+        ensures over { (why : TheEnding) → self.old.ended ≡ Some why → (result ≡ next.Ended why) × (self.new ≡ self.old)
+            × (reader.new ≡ reader.old) × (writer.new ≡ writer.old) }
         // What was read, its reader has given.
         ensures given { Knows R.given (R.reading reader.old.inner) (R.reading reader.new.inner) }
         ensures comes { self.old.ended ≡ None → Comes R.reading W.writing reader.old reader.new writer.old writer.new self.old self.new (Some result) }
@@ -226,7 +235,7 @@ impl Connection {
             &mut self.words,
             &mut self.has_grown,
         ) {
-            Asked::Call(given) => Some(Next::Call(given)),
+            Asked::Call(call) => Some(Next::Call(call)),
             Asked::Refused(reply) => {
                 self.answer(alloc, writer, licence, &reply);
                 self.standing()
@@ -283,7 +292,7 @@ impl Connection {
     }
 
     fn end(&mut self, ending: Ending)
-        ensures { self.new ≡ record { held = self.old.held; words = self.old.words; read = self.old.read; written = self.old.written; pending = self.old.pending; answered = self.old.answered; ended = Some ending } }
+        ensures { self.new ≡ record self.old { ended = Some ending } }
     {
         self.ended = Some(ending);
     }

@@ -4,10 +4,9 @@ ghost use Rattle.std.specs.Prelude.{◌≡◌, false};
 ghost use Rattle.line.specs.Asking.{Asks, Means};
 
 use crate::asked::Asked;
-use crate::next::Given;
 use crate::refusal::reply_to_fault;
 use crate::words::Words;
-use ck_calls::need;
+use ck_calls::{AppCall, need};
 use std::alloc::Global;
 use wire::{FrameReader, read_call};
 
@@ -20,7 +19,10 @@ fn asked_in(alloc: Global, payload: &[u8], words: &mut Words) -> Asked
 {
     match read_call(alloc, payload) {
         Ok(call) => match words.take(alloc, need(&call)) {
-            Ok(random) => Asked::Call(Given { call, random }),
+            Ok(random) => {
+                let app = words.app();
+                Asked::Call(AppCall { app, call, random })
+            }
             Err(_) => Asked::Memory,
         },
         Err(fault) => match reply_to_fault(fault) {

@@ -1,7 +1,7 @@
 //! Bytes that are read and noted.
 
 ghost use Rattle.std.specs.Prelude.{◌≡◌, ◌<◌, ◌++◌, length, false, IsTrue};
-ghost use Rattle.line.specs.Asking.{Gave, PieceBy, Takes};
+ghost use Rattle.line.specs.Asking.{Gave, PieceBy, PieceTakes};
 ghost use Rattle.line.specs.Permits.{Knows};
 
 use crate::asked::Piece;
@@ -46,7 +46,7 @@ pub(crate) fn take_piece<R: Source>(
     requires well { frames.old.failed ≡ false }
     ensures gave { Gave (R.reading reader.old.inner) (R.reading reader.new.inner) read.old.bytes read.new.bytes }
     ensures given { Knows R.given (R.reading reader.old.inner) (R.reading reader.new.inner) }
-    ensures takes { Takes read.old.bytes read.new.bytes frames.old.bytes frames.new.bytes (R.reading reader.new.inner) result }
+    ensures takes { PieceTakes read.old.bytes read.new.bytes frames.old.bytes frames.new.bytes (R.reading reader.new.inner) result }
     ensures by { PieceBy result reader.old reader.new }
     ensures well { frames.new.failed ≡ false }
 {

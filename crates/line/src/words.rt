@@ -42,9 +42,11 @@ impl Words {
 
     /// The next bytes: four of each word, the least significant first. What is left of the last word is
     /// dropped.
+    #[tactic(auto, using(crate::proofs::Taking::taken_stream))]
     pub fn take(&mut self, alloc: Global, count: usize) -> Result<Vec<u8>, AllocError>
         ensures ok { IfOk result (λ v. (v.items, self.new) ≡ taken count self.old) }
         ensures length { IfOk result (λ v. length v.items ≡ count) }
+        ensures app { self.new.stream ≡ self.old.stream }
         ensures err { OnErr result (self.new ≡ self.old) }
     {
         let mut bytes = vec![in alloc; 0u8; count]?;

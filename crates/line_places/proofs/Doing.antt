@@ -11,12 +11,12 @@ use native.Mathlib.Nat.{ℕ_set}
 use native.Mathlib.Bridge.{le_prop}
 use Rattle.ck_calls.specs.declared.reply.Reply.{Reply}
 use Rattle.hall_log.specs.Lists.{of}
-use Rattle.hall_log.specs.declared.event.AppCall.{AppCall}
-use Rattle.line_places.specs.declared.client.Came.TheVariants.{Call}
+use Rattle.ck_calls.specs.declared.app_call.AppCall.{AppCall}
+use Rattle.line.specs.declared.next.Next.TheVariants.{Call}
 use Rattle.line_places.specs.declared.client.Client.{Client}
 use Rattle.line_places.specs.declared.place.Place.{Place}
-use Rattle.line_places.specs.Coming.{Gave, SameApp, Takes}
-use Rattle.line_places.specs.Keeping.{asked_by, HasGone, IsAt, IsFree, IsOwed, Kept}
+use Rattle.line_places.specs.Coming.{ClientGave, SameApp, ClientTakes}
+use Rattle.line_places.specs.Keeping.{calls_of, HasGone, IsClientAt, IsFree, IsOwed, PlacesKeep}
 use Rattle.line_places.proofs.Keeping.{kept-did, asked-own, asked-other, told-own, told-other, get_same, not_gone, same_some}
 use Rattle.line_places.proofs.Changing.{own-app}
 
@@ -27,40 +27,53 @@ at-index xs j p within is = slice_get-get_or xs j p within ∙ ap Some (sym is)
 pub count-set : {A : Type 0} (xs : List A) (j : ℕ) (p : A) → length xs ≤ 64 → length (set xs j p) ≤ 64
 count-set xs j p le = omega (arith, length-set xs j p, le)
 
-module _ {R W : Type 0} (seed : List ℕ) (s : ℕ) (places : List (Place R W)) (past : List (Client R W)) (asked : List AppCall) (told : List (ℕ × Reply))
+module _ {R W : Type 0} (seed : List ℕ) (s : ℕ) (places : List (Place R W)) (past : List (Client R W)) (asked : List AppCall)
+    (told : List (ℕ × Reply))
     (j : ℕ) (p : Place R W) (c c' : Client R W) (at : slice_get places j ≡ Some p) (is : p.client ≡ Some c) (same : SameApp c c') where
   abbrev pub next : Place R W
   next = record { turn = p.turn; client = Some c' }
 
   -- it gave a call
-  pub did-call : (call : AppCall) (asked' : List AppCall) → Gave c c' (Call call) → asked' ≡ asked ++ call ∷ [] → Kept seed s places past asked told → Kept seed s (set places j next) past asked' told
+  pub did-call : (call : AppCall) (asked' : List AppCall) → ClientGave c c' (Call call) → asked' ≡ asked ++ call ∷ []
+      → PlacesKeep seed s places past asked told → PlacesKeep seed s (set places j next) past asked' told
   did-call call asked' gave more k =
       let parts = k.parts c (inr (j, record { place = p; at = at; client = is })) in
-      kept-did seed s places past asked told k j p c at is c' next refl refl same.0 same.1 asked' told
-      (ap (λ a. asked_by a asked') same.0 ∙ ap (asked_by c.app) more ∙ asked-own c.app asked call gave.0 ∙ ap (λ l. l ++ call ∷ []) parts.0 ∙ sym gave.3, ap (λ a. of a told) same.0 ∙ parts.1 ∙ sym gave.4)
-      (λ a not. (ap (asked_by a) more ∙ asked-other a asked call (λ e. not (sym e ∙ gave.0)), refl))
+      kept-did seed s places past asked told k j p c at is c' next refl refl same.0 same.1 asked' told (
+        ap (λ a. calls_of a asked') same.0 ∙ ap (calls_of c.app) more ∙ asked-own c.app asked call gave.0
+            ∙ ap (λ l. l ++ call ∷ []) parts.0 ∙ sym gave.3,
+        ap (λ a. of a told) same.0 ∙ parts.1 ∙ sym gave.4,
+      )
+      (λ a not. (ap (calls_of a) more ∙ asked-other a asked call (λ e. not (sym e ∙ gave.0)), refl))
 
   -- it gave none
-  pub did-nothing : c'.asked.items ≡ c.asked.items → c'.told.items ≡ c.told.items → Kept seed s places past asked told → Kept seed s (set places j next) past asked told
+  pub did-nothing : c'.asked.items ≡ c.asked.items → c'.told.items ≡ c.told.items → PlacesKeep seed s places past asked told
+      → PlacesKeep seed s (set places j next) past asked told
   did-nothing no_call no_reply k =
       let parts = k.parts c (inr (j, record { place = p; at = at; client = is })) in
       kept-did seed s places past asked told k j p c at is c' next refl refl same.0 same.1 asked told
-      (ap (λ a. asked_by a asked) same.0 ∙ parts.0 ∙ sym no_call, ap (λ a. of a told) same.0 ∙ parts.1 ∙ sym no_reply)
+      (ap (λ a. calls_of a asked) same.0 ∙ parts.0 ∙ sym no_call, ap (λ a. of a told) same.0 ∙ parts.1 ∙ sym no_reply)
       (λ a not. (refl, refl))
 
   -- it took a reply
-  pub did-reply : (app : ℕ) (reply : Reply) (told' : List (ℕ × Reply)) → c.app ≡ app → Takes c c' reply → told' ≡ told ++ (app, reply) ∷ [] → Kept seed s places past asked told → Kept seed s (set places j next) past asked told'
+  pub did-reply : (app : ℕ) (reply : Reply) (told' : List (ℕ × Reply)) → c.app ≡ app → ClientTakes c c' reply
+      → told' ≡ told ++ (app, reply) ∷ [] → PlacesKeep seed s places past asked told → PlacesKeep seed s (set places j next) past asked told'
   did-reply app reply told' named takes more k =
       let parts = k.parts c (inr (j, record { place = p; at = at; client = is })) in
       kept-did seed s places past asked told k j p c at is c' next refl refl same.0 same.1 asked told' (
-        ap (λ a. asked_by a asked) same.0 ∙ parts.0 ∙ sym takes.1,
-        ap (λ a. of a told') (same.0 ∙ named) ∙ ap (of app) more ∙ told-own app told reply ∙ ap (λ l. l ++ reply ∷ []) (ap (λ a. of a told) (sym named) ∙ parts.1) ∙ sym takes.2,
+        ap (λ a. calls_of a asked) same.0 ∙ parts.0 ∙ sym takes.1,
+        ap (λ a. of a told') (same.0 ∙ named) ∙ ap (of app) more ∙ told-own app told reply
+            ∙ ap (λ l. l ++ reply ∷ []) (ap (λ a. of a told) (sym named) ∙ parts.1) ∙ sym takes.2,
       )
       (λ a not. (refl, ap (of a) more ∙ told-other a app told reply (λ e. not (sym e ∙ sym named))))
 
   -- it owes a reply
   pub owed-there : c'.is_owed ≡ true → (app : ℕ) → c.app ≡ app → IsOwed (set places j next) j app
-  owed-there owed app named = record { client = c'; is = record { place = next; at = get_same places j next p at; client = refl }; owed = owed; app_is = same.0 ∙ named }
+  owed-there owed app named = record {
+    client = c';
+    is = record { place = next; at = get_same places j next p at; client = refl };
+    owed = owed;
+    app_is = same.0 ∙ named;
+  }
 
 -- ---- who is at a place
 
@@ -71,18 +84,28 @@ module _ {R W : Type 0} (places : List (Place R W)) (j : ℕ) (p q : Place R W) 
   pub client-at : (c : Client R W) → slice_get places j ≡ Some p → slice_get places j ≡ Some q → p.client ≡ Some c → q.client ≡ Some c
   client-at c a b is = ap (λ (x : Place R W). x.client) (sym (same_place_at places j p q a b)) ∙ is
 
-  pub one-client : (c d : Client R W) → slice_get places j ≡ Some p → slice_get places j ≡ Some q → p.client ≡ Some c → q.client ≡ Some d → c ≡ d
+  pub one-client : (c d : Client R W) → slice_get places j ≡ Some p → slice_get places j ≡ Some q → p.client ≡ Some c
+      → q.client ≡ Some d → c ≡ d
   one-client c d a b is is' = let e : Some c ≡ Some d = sym (client-at c a b is) ∙ is' in cc
 
 -- the application of a client that is there
-pub is-there : {R W : Type 0} (seed : List ℕ) (s : ℕ) (places : List (Place R W)) (past : List (Client R W)) (asked : List AppCall) (told : List (ℕ × Reply))
-    (j : ℕ) (p : Place R W) (c : Client R W) → slice_get places j ≡ Some p → p.client ≡ Some c → (app : ℕ) → app ≡ c.app → s < 4 → ∥ Kept seed s places past asked told ∥₁ → (app % 4 ≡ s) × (¬ HasGone past app)
+pub is-there : {R W : Type 0} (seed : List ℕ) (s : ℕ) (places : List (Place R W)) (past : List (Client R W)) (asked : List AppCall)
+    (told : List (ℕ × Reply))
+    (j : ℕ) (p : Place R W) (c : Client R W) → slice_get places j ≡ Some p → p.client ≡ Some c → (app : ℕ) → app ≡ c.app → s < 4
+    → ∥ PlacesKeep seed s places past asked told ∥₁ → (app % 4 ≡ s) × (¬ HasGone past app)
 is-there seed s places past asked told j p c at is app named lt kept =
-    ∥∥₁_elim kept (×_prop (ℕ_set _ _) ¬_prop) (λ k. (ap (λ a. a % 4) (named ∙ (k.now j p c at is).0) ∙ own-app s (length places) j p.turn lt, subst (λ a. ¬ HasGone past a) (sym named) (not_gone seed s places past asked told k j p c at is)))
+    ∥∥₁_elim kept (×_prop (ℕ_set _ _) ¬_prop)
+    (λ k. (
+      ap (λ a. a % 4) (named ∙ (k.now j p c at is).0)
+          ∙ own-app s (length places) j p.turn lt,
+      subst (λ a. ¬ HasGone past a) (sym named) (not_gone seed s places past asked told k j p c at is),
+    ))
 
 -- how often its place was taken
-pub bound-of : {R W : Type 0} (seed : List ℕ) (s : ℕ) (places : List (Place R W)) (past : List (Client R W)) (asked : List AppCall) (told : List (ℕ × Reply))
-    (j : ℕ) (p : Place R W) (c : Client R W) → slice_get places j ≡ Some p → p.client ≡ Some c → ∥ Kept seed s places past asked told ∥₁ → p.turn < 2 ^ 55
+pub bound-of : {R W : Type 0} (seed : List ℕ) (s : ℕ) (places : List (Place R W)) (past : List (Client R W)) (asked : List AppCall)
+    (told : List (ℕ × Reply))
+    (j : ℕ) (p : Place R W) (c : Client R W) → slice_get places j ≡ Some p → p.client ≡ Some c
+    → ∥ PlacesKeep seed s places past asked told ∥₁ → p.turn < 2 ^ 55
 bound-of seed s places past asked told j p c at is kept = ∥∥₁_elim kept le_prop (λ k. (k.now j p c at is).1)
 
 -- ---- places that are free
@@ -117,8 +140,11 @@ module _ {R W : Type 0} (places : List (Place R W)) (j : ℕ) (p : Place R W) (a
 pub free-within : {R W : Type 0} (places : List (Place R W)) (j : ℕ) → IsFree places j → j < length places
 free-within places j f = slice_get_within places j f.place f.at
 
-pub none-free : {R W : Type 0} (places : List (Place R W)) (j : ℕ) (p : Place R W) (c : Client R W) → slice_get places j ≡ Some p → p.client ≡ Some c → IsFree places j → ⊥
+pub none-free : {R W : Type 0} (places : List (Place R W)) (j : ℕ) (p : Place R W) (c : Client R W) → slice_get places j ≡ Some p
+    → p.client ≡ Some c → IsFree places j → ⊥
 none-free places j p c at is f = let e : Some c ≡ None = sym is ∙ free-client places j p at f in absurd cc
 
-pub none-at : {R W : Type 0} (places : List (Place R W)) (j : ℕ) (p : Place R W) (c : Client R W) → slice_get places j ≡ Some p → p.client ≡ None → IsAt places j c → ⊥
-none-at places j p c at none it = let e : Some c ≡ None = sym it.client ∙ ap (λ (q : Place _ _). q.client) (same_some it.place p (sym it.at ∙ at)) ∙ none in absurd cc
+pub none-at : {R W : Type 0} (places : List (Place R W)) (j : ℕ) (p : Place R W) (c : Client R W) → slice_get places j ≡ Some p
+    → p.client ≡ None → IsClientAt places j c → ⊥
+none-at places j p c at none it = let e : Some c ≡ None = sym it.client
+    ∙ ap (λ (q : Place _ _). q.client) (same_some it.place p (sym it.at ∙ at)) ∙ none in absurd cc

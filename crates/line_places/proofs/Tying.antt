@@ -6,22 +6,25 @@ use Rattle.door.specs.Ends.{HasGiven, Reading, Writing}
 use Rattle.line.specs.declared.ending.Ending.{Ending as EndingType}
 use Rattle.line.specs.Asking.{Gave, Took}
 use Rattle.line.specs.Permits.{Knows}
-use Rattle.line_places.specs.declared.client.Came.{Came}
+use Rattle.line.specs.declared.next.Next.{Next}
 use Rattle.line_places.specs.declared.client.Client.{Client}
 use Rattle.line_places.specs.declared.place.Place.{Place}
-use Rattle.line_places.specs.Coming.{IsStill, Sent, Went}
-use Rattle.line_places.specs.Keeping.{IsAmong, IsAt}
+use Rattle.line_places.specs.Coming.{ClientIsStill, Sent, Went}
+use Rattle.line_places.specs.Keeping.{IsAmong, IsClientAt}
 use Rattle.line_places.specs.Tying.{AllTied, AreEndsOf, Tied}
 use Rattle.line_places.proofs.Doing.{one-client}
 use Rattle.line_places.proofs.Keeping.{among-snoc, get_same, get_set, same_some}
 
 -- a reader has given all that it gave, as before, or what it gave by now
-has-more : (given : ℕ → List ℕ → Type 0) (a b : Reading) → b.app ≡ a.app → HasGiven given a.app a.gave → Knows given a b → HasGiven given b.app b.gave
-has-more given a b app has knows = ⊎_elim (λ (same : b.gave ≡ a.gave). subst (λ (z : ℕ × List ℕ). HasGiven given z.0 z.1) (λ i. (sym app i, sym same i)) has) (λ (new : given b.app b.gave). inr new) knows
+has-more : (given : ℕ → List ℕ → Type 0) (a b : Reading) → b.app ≡ a.app → HasGiven given a.app a.gave → Knows given a b
+    → HasGiven given b.app b.gave
+has-more given a b app has knows =
+    ⊎_elim (λ (same : b.gave ≡ a.gave). subst (λ (z : ℕ × List ℕ). HasGiven given z.0 z.1) (λ i. (sym app i, sym same i)) has)
+    (λ (new : given b.app b.gave). inr new) knows
 
 module _ {R W : Type 0} (given : ℕ → List ℕ → Type 0) (reading : R → Reading) (writing : W → Writing) where
   module _ (c c' : Client R W) (app : c'.app ≡ c.app) (was : Tied given reading writing c) where
-    still-tied : IsStill c c' → Tied given reading writing c'
+    still-tied : ClientIsStill c c' → Tied given reading writing c'
     still-tied still = record {
       has = subst (λ r. HasGiven given (reading r.inner).app (reading r.inner).gave) (sym still.reader) was.has;
       reader = ap (λ r. (reading r.inner).app) still.reader ∙ was.reader ∙ sym app;
@@ -30,7 +33,9 @@ module _ {R W : Type 0} (given : ℕ → List ℕ → Type 0) (reading : R → R
       written = ap (λ k. k.written) still.connection ∙ was.written ∙ ap (λ w. (writing w.inner).took) (sym still.writer);
     }
 
-    more-tied : Knows given (reading c.reader.inner) (reading c'.reader.inner) → Gave (reading c.reader.inner) (reading c'.reader.inner) c.connection.read c'.connection.read → Took (writing c.writer.inner) (writing c'.writer.inner) c.connection.written c'.connection.written → Tied given reading writing c'
+    more-tied : Knows given (reading c.reader.inner) (reading c'.reader.inner)
+        → Gave (reading c.reader.inner) (reading c'.reader.inner) c.connection.read c'.connection.read
+        → Took (writing c.writer.inner) (writing c'.writer.inner) c.connection.written c'.connection.written → Tied given reading writing c'
     more-tied knows gave took = record {
       has = has-more given (reading c.reader.inner) (reading c'.reader.inner) gave.given.app was.has knows;
       reader = gave.given.app ∙ was.reader ∙ sym app;
@@ -40,7 +45,8 @@ module _ {R W : Type 0} (given : ℕ → List ℕ → Type 0) (reading : R → R
     }
 
     -- its connection went on
-    pub went-tied : (came : Came) → Went reading writing c c' came → Knows given (reading c.reader.inner) (reading c'.reader.inner) → Tied given reading writing c'
+    pub went-tied : (next : Next) → Went reading writing c c' next → Knows given (reading c.reader.inner) (reading c'.reader.inner)
+        → Tied given reading writing c'
     went-tied came went knows = by c.is_owed c.connection.ended refl refl where
       by : (owed : Bool) (ended : Option EndingType) → c.is_owed ≡ owed → c.connection.ended ≡ ended → Tied given reading writing c'
       by true ended owes is = still-tied (went.owes owes).0
@@ -61,7 +67,8 @@ module _ {R W : Type 0} (given : ℕ → List ℕ → Type 0) (reading : R → R
       }
 
   -- with new ends nothing was read and nothing written
-  pub new-tied : (c : Client R W) (r : R) (w : W) (app : ℕ) → c.app ≡ app → (c.reader.inner ≡ r) × (c.writer.inner ≡ w) → (c.connection.read ≡ []) × (c.connection.written ≡ []) → AreEndsOf app (reading r) (writing w) → Tied given reading writing c
+  pub new-tied : (c : Client R W) (r : R) (w : W) (app : ℕ) → c.app ≡ app → (c.reader.inner ≡ r) × (c.writer.inner ≡ w)
+      → (c.connection.read ≡ []) × (c.connection.written ≡ []) → AreEndsOf app (reading r) (writing w) → Tied given reading writing c
   new-tied c r w app named ends fresh are = record {
     has = inl (ap (λ x. (reading x).gave) ends.0 ∙ are.gave);
     reader = ap (λ x. (reading x).app) ends.0 ∙ are.reader ∙ sym named;
@@ -75,26 +82,34 @@ module _ {R W : Type 0} (given : ℕ → List ℕ → Type 0) (reading : R → R
 
   -- ---- all clients
 
-  module _ (places : List (Place R W)) (past : List (Client R W)) (all : AllTied given reading writing places past) (j : ℕ) (p' : Place R W) where
+  module _ (places : List (Place R W)) (past : List (Client R W)) (all : AllTied given reading writing places past) (j : ℕ)
+      (p' : Place R W) where
     -- another client is at the place now, or nobody
-    pub tied-set : ((c : Client R W) → p'.client ≡ Some c → Tied given reading writing c) → AllTied given reading writing (set places j p') past
+    pub tied-set : ((c : Client R W) → p'.client ≡ Some c → Tied given reading writing c)
+        → AllTied given reading writing (set places j p') past
     tied-set here d life = ⊎_elim (λ (x : IsAmong d past). all d (inl x))
-        (λ (x : (i : ℕ) × IsAt (set places j p') i d). ⊎_elim
+        (λ (x : (i : ℕ) × IsClientAt (set places j p') i d). ⊎_elim
         (λ (y : (x.0 ≡ j) × (p' ≡ x.1.place)). here d (ap (λ (q : Place R W). q.client) y.1 ∙ x.1.client))
-        (λ (y : (x.0 ≢ j) × (slice_get places x.0 ≡ Some x.1.place)). all d (inr (x.0, record { place = x.1.place; at = y.1; client = x.1.client })))
+        (λ (y : (x.0 ≢ j) × (slice_get places x.0 ≡ Some x.1.place)). all d
+        (inr (x.0, record { place = x.1.place; at = y.1; client = x.1.client })))
         (get_set places j x.0 p' x.1.place x.1.at)) life
 
     -- and who was there is there no more
-    pub tied-close : (c : Client R W) → Tied given reading writing c → p'.client ≡ None → AllTied given reading writing (set places j p') (past ++ c ∷ [])
+    pub tied-close : (c : Client R W) → Tied given reading writing c → p'.client ≡ None
+        → AllTied given reading writing (set places j p') (past ++ c ∷ [])
     tied-close c mine none d life = ⊎_elim
-        (λ (x : IsAmong d (past ++ c ∷ [])). ⊎_elim (λ (y : IsAmong d past). all d (inl y)) (λ (y : d ≡ c). subst (Tied given reading writing) (sym y) mine) (among-snoc d c past x))
-        (λ (x : (i : ℕ) × IsAt (set places j p') i d). tied-set (λ e is. nobody e (sym is ∙ none)) d (inr x)) life where
+        (λ (x : IsAmong d (past ++ c ∷ [])). ⊎_elim (λ (y : IsAmong d past). all d (inl y))
+        (λ (y : d ≡ c). subst (Tied given reading writing) (sym y) mine) (among-snoc d c past x))
+        (λ (x : (i : ℕ) × IsClientAt (set places j p') i d). tied-set (λ e is. nobody e (sym is ∙ none)) d (inr x)) life where
           nobody : (e : Client R W) → Some e ≡ None → Tied given reading writing e
           nobody e is = absurd (let h : Some e ≡ None = is in cc)
 
 -- the client at a place that is set
-pub client-set : {R W : Type 0} (places : List (Place R W)) (j : ℕ) (p : Place R W) (c' d' : Client R W) (turn : ℕ) → slice_get places j ≡ Some p → IsAt (set places j (record { turn = turn; client = Some c' })) j d' → c' ≡ d'
-client-set places j p c' d' turn at it = same_some c' d' (ap (λ (q : Place _ _). q.client) (same_some _ it.place (sym (get_same places j (record { turn = turn; client = Some c' }) p at) ∙ it.at)) ∙ it.client)
+pub client-set : {R W : Type 0} (places : List (Place R W)) (j : ℕ) (p : Place R W) (c' d' : Client R W) (turn : ℕ)
+    → slice_get places j ≡ Some p → IsClientAt (set places j (record { turn = turn; client = Some c' })) j d' → c' ≡ d'
+client-set places j p c' d' turn at it =
+    same_some c' d' (ap (λ (q : Place _ _). q.client)
+    (same_some _ it.place (sym (get_same places j (record { turn = turn; client = Some c' }) p at) ∙ it.at)) ∙ it.client)
 
 pub get_set_other : {A : Type 0} (xs : List A) (j i : ℕ) (a : A) → (i ≡ j → ⊥) → slice_get (set xs j a) i ≡ slice_get xs i
 get_set_other [] j i a n = refl
@@ -105,19 +120,23 @@ get_set_other (x ∷ xs) (suc j) (suc i) a n = get_set_other xs j i a (λ e. n (
 
 -- ---- what the client at a place did
 
-module _ {R W : Type 0} (given : ℕ → List ℕ → Type 0) (reading : R → Reading) (writing : W → Writing) (places : List (Place R W)) (past : List (Client R W))
+module _ {R W : Type 0} (given : ℕ → List ℕ → Type 0) (reading : R → Reading) (writing : W → Writing) (places : List (Place R W))
+    (past : List (Client R W))
     (j : ℕ) (p : Place R W) (c c' : Client R W) (at : slice_get places j ≡ Some p) (is : p.client ≡ Some c) where
   abbrev next : Place R W
   next = record { turn = p.turn; client = Some c' }
 
   -- all that is said of it is said of who was there and who is there
-  at-both : (P : Client R W → Client R W → Type 0) → P c c' → (d d' : Client R W) → IsAt places j d → IsAt (set places j next) j d' → P d d'
-  at-both P it d d' a b = subst (λ (z : Client R W × Client R W). P z.0 z.1) (λ i. (one-client places j p a.place c d at a.at is a.client i, client-set places j p c' d' p.turn at b i)) it
+  at-both : (P : Client R W → Client R W → Type 0) → P c c' → (d d' : Client R W) → IsClientAt places j d → IsClientAt (set places j next) j d' → P d d'
+  at-both P it d d' a b = subst (λ (z : Client R W × Client R W). P z.0 z.1)
+      (λ i. (one-client places j p a.place c d at a.at is a.client i, client-set places j p c' d' p.turn at b i)) it
 
-  pub went-at : (came : Came) → Went reading writing c c' came → (d d' : Client R W) → IsAt places j d → IsAt (set places j next) j d' → Went reading writing d d' came
+  pub went-at : (came : Next) → Went reading writing c c' came → (d d' : Client R W) → IsClientAt places j d
+      → IsClientAt (set places j next) j d' → Went reading writing d d' came
   went-at came = at-both (λ d d'. Went reading writing d d' came)
 
-  pub sent-at : (reply : Reply) → Sent writing c c' reply → (d d' : Client R W) → IsAt places j d → IsAt (set places j next) j d' → Sent writing d d' reply
+  pub sent-at : (reply : Reply) → Sent writing c c' reply → (d d' : Client R W) → IsClientAt places j d → IsClientAt (set places j next) j d'
+      → Sent writing d d' reply
   sent-at reply = at-both (λ d d'. Sent writing d d' reply)
 
   module _ (app : c'.app ≡ c.app) (all : AllTied given reading writing places past) where
@@ -125,9 +144,11 @@ module _ {R W : Type 0} (given : ℕ → List ℕ → Type 0) (reading : R → R
     was = all c (inr (j, record { place = p; at = at; client = is }))
 
     tied-here : Tied given reading writing c' → AllTied given reading writing (set places j next) past
-    tied-here it = tied-set given reading writing places past all j next (λ d here. subst (Tied given reading writing) (same_some c' d here) it)
+    tied-here it = tied-set given reading writing places past all j next
+        (λ d here. subst (Tied given reading writing) (same_some c' d here) it)
 
-    pub tied-went : (came : Came) → Went reading writing c c' came → Knows given (reading c.reader.inner) (reading c'.reader.inner) → AllTied given reading writing (set places j next) past
+    pub tied-went : (came : Next) → Went reading writing c c' came → Knows given (reading c.reader.inner) (reading c'.reader.inner)
+        → AllTied given reading writing (set places j next) past
     tied-went came went knows = tied-here (went-tied given reading writing c c' app was came went knows)
 
     pub tied-sent : (reply : Reply) → Sent writing c c' reply → AllTied given reading writing (set places j next) past

@@ -23,8 +23,10 @@ pub record Due (first : ChaCha) (read : List ℕ) (asked : List Ask) (told : Lis
 
 -- so are the refusals of what is no call, after all that came out before
 abbrev pub RefuseLaw : Type 0
-RefuseLaw = (first : ChaCha) (c : Connected) (asked : List Ask) (told : List Reply) (payloads : List (List ℕ)) (more held : List ℕ) → Account first c asked told
-    → AllByRecursion IsNoCall payloads → c.held ++ more ≡ flat_map frame payloads ++ held → Due first (c.read ++ more) asked told (output c ++ flat_map refusal_frame payloads)
+RefuseLaw = (first : ChaCha) (c : Connected) (asked : List Ask) (told : List Reply) (payloads : List (List ℕ)) (more held : List ℕ)
+    → Account first c asked told
+    → AllByRecursion IsNoCall payloads → c.held ++ more ≡ flat_map frame payloads ++ held
+    → Due first (c.read ++ more) asked told (output c ++ flat_map refusal_frame payloads)
 
 -- and the reply to the call that is owed one
 abbrev pub AnswerLaw : Type 0

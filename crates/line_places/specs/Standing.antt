@@ -2,7 +2,7 @@
 use Rattle.std.specs.Prelude.{List, map, Bool, true, false, Option, Some, None}
 use Rattle.rand_chacha.specs.ChaCha.{ChaCha}
 use Rattle.ck_calls.specs.declared.reply.Reply.{Reply}
-use Rattle.hall_log.specs.declared.event.AppCall.{AppCall}
+use Rattle.ck_calls.specs.declared.app_call.AppCall.{AppCall}
 use Rattle.line.specs.declared.ending.Ending.{Ending}
 use Rattle.line.specs.State.{Connected}
 use Rattle.line.specs.Turns.{Ask}
@@ -10,7 +10,7 @@ use Rattle.line.specs.Whole.{Account, Lived, Owes}
 
 -- a call with its random bytes
 abbrev pub ask_in : AppCall → Ask
-ask_in c = (c.call, c.words.items)
+ask_in c = (c.call, c.random.items)
 
 abbrev pub asks_in : List AppCall → List Ask
 asks_in calls = map ask_in calls

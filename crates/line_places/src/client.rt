@@ -1,10 +1,10 @@
 //! A connection with its reader and its writer.
 
+ghost use Rattle.std.specs.Prelude.{◌≡◌};
 ghost use Rattle.line_places.specs.Standing.{Stands};
 
-use ck_calls::Reply;
-use hall_log::AppCall;
-use line::{Connection, Ending, Words};
+use ck_calls::{AppCall, Reply};
+use line::{Connection, Words};
 use lists::GhostList;
 use std::snapshot::Snapshot;
 use watched::Watched;
@@ -22,16 +22,6 @@ pub struct Client<R, W> {
     pub first: Snapshot<Words>,
     pub asked: GhostList<AppCall>,
     pub told: GhostList<Reply>,
+    pub ghost named: { connection.words.stream ≡ app },
     pub ghost stands: { ∥ Stands first.value connection is_owed asked.items told.items ∥₁ },
-}
-
-/// What comes next of a client.
-#[derive(Drop)]
-pub enum Came {
-    /// A call, which is owed a reply.
-    Call(AppCall),
-    /// A read would block, or a write, or its last call is owed a reply yet.
-    Nothing,
-    /// The connection ended, now or before.
-    Ended(Ending),
 }

@@ -2,14 +2,13 @@
 
 ghost use Rattle.std.specs.Prelude.{◌≡◌, ◌==◌, ◌<◌, [], length, not, true, false};
 ghost use Rattle.line.specs.Permits.{Knows};
-ghost use Rattle.line_places.specs.Coming.{Gave, IsShortCame, SameApp, Sent, Takes, Went};
+ghost use Rattle.line_places.specs.Coming.{ClientGave, IsShortNext, SameApp, Sent, ClientTakes, Went};
 ghost use Rattle.line_places.specs.Permitting.{MayGoOn, MayTake};
 
-use crate::client::{Came, Client};
+use crate::client::Client;
 use ck_calls::Reply;
 use door::{Licence, Sink, Source};
-use hall_log::AppCall;
-use line::{Connection, Given, Next, Words, accounts};
+use line::{Connection, Next, Words, accounts};
 use lists::GhostList;
 use std::alloc::Global;
 use std::snapshot::Snapshot;
@@ -53,39 +52,34 @@ impl<R, W> Client<R, W> {
 impl<R: Source, W> Client<R, W> {
     /// The next call, as `line::Connection::next_call` returns it. Where its last call is owed a reply yet, nothing is read and
     /// nothing comes.
-    pub fn next_call<L: Licence>(&mut self, alloc: Global, licence: &L, piece: &mut [u8]) -> Came
+    pub fn next_call<L: Licence>(&mut self, alloc: Global, licence: &L, piece: &mut [u8]) -> Next
     where
         W: Sink<L>,
         requires room { 0 < length piece.old }
         requires may { MayGoOn R.given (L.allows licence.now) R.reading W.writing self.old }
         ensures same { SameApp self.old self.new }
-        ensures gave { Gave self.old self.new result }
-        ensures short { IsShortCame result }
+        ensures gave { ClientGave self.old self.new result }
+        ensures short { IsShortNext result }
         // It was read by its own reader, and what was to be written was by its own writer.
         ensures went { Went R.reading W.writing self.old self.new result }
         // What was read, its reader has given.
         ensures given { Knows R.given (R.reading self.old.reader.inner) (R.reading self.new.reader.inner) }
     {
         if self.is_owed {
-            return Came::Nothing;
+            return Next::Nothing;
         }
         accounts();
         match self
             .connection
             .next_call(alloc, &mut self.reader, &mut self.writer, licence, piece)
         {
-            Next::Call(Given { call, random }) => {
-                let call = AppCall {
-                    app: self.app,
-                    call,
-                    words: random,
-                };
+            Next::Call(call) => {
                 self.is_owed = true;
                 self.asked.push(&call);
-                Came::Call(call)
+                Next::Call(call)
             }
-            Next::Nothing => Came::Nothing,
-            Next::Ended(ending) => Came::Ended(ending),
+            Next::Nothing => Next::Nothing,
+            Next::Ended(ending) => Next::Ended(ending),
         }
     }
 
@@ -96,7 +90,7 @@ impl<R: Source, W> Client<R, W> {
         requires owed { self.old.is_owed ≡ true }
         requires may { MayTake (L.allows licence.now) W.writing self.old reply.now }
         ensures same { SameApp self.old self.new }
-        ensures takes { Takes self.old self.new reply.now }
+        ensures takes { ClientTakes self.old self.new reply.now }
         // It was written by its own writer.
         ensures sent { Sent W.writing self.old self.new reply.now }
     {

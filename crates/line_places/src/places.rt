@@ -1,12 +1,11 @@
 //! The clients of one worker.
 
 ghost use Rattle.std.specs.Prelude.{◌<◌, ◌≤◌, length};
-ghost use Rattle.line_places.specs.Keeping.{Kept};
+ghost use Rattle.line_places.specs.Keeping.{PlacesKeep};
 
 use crate::client::Client;
 use crate::place::Place;
-use ck_calls::Reply;
-use hall_log::AppCall;
+use ck_calls::{AppCall, Reply};
 use lists::GhostList;
 
 /// The clients of one worker, at most one at each of its places, and for contracts alone all that it ever had, with what they
@@ -24,5 +23,5 @@ pub struct Places<R, W> {
     pub told: GhostList<(u64, Reply)>,
     pub ghost worker: { number < 4 },
     pub ghost count: { length places.items ≤ 64 },
-    pub ghost kept: { ∥ Kept seed number places.items past.items asked.items told.items ∥₁ },
+    pub ghost kept: { ∥ PlacesKeep seed number places.items past.items asked.items told.items ∥₁ },
 }

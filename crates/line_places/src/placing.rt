@@ -2,18 +2,18 @@
 
 ghost use Rattle.std.specs.Prelude.{◌≡◌, ◌<◌, ◌≤◌, ◌∷◌, [], ◌++◌, length, ℕ, IfOk, IfSome, IfNone, IsTrue, IsFalse};
 ghost use Rattle.line_places.specs.Arriving.{HasCome, IsNext, KeepsCome, OthersStay};
-ghost use Rattle.line_places.specs.Coming.{IsShortCame};
-ghost use Rattle.line_places.specs.Happening.{Closes, Comes, Gives, IsQuiet, SameWorker, SentAt, WentAt};
-ghost use Rattle.line_places.specs.Keeping.{IsAt, IsFree, IsOwed};
+ghost use Rattle.line_places.specs.Coming.{IsShortNext};
+ghost use Rattle.line_places.specs.Happening.{Closes, ClientComes, PlaceGives, PlacesAreQuiet, SameWorker, SentAt, WentAt};
+ghost use Rattle.line_places.specs.Keeping.{IsClientAt, IsFree, IsOwed};
 ghost use Rattle.line_places.specs.Permitting.{MayGoOnAt, MayTakeAt};
 ghost use Rattle.line_places.specs.Tying.{AreEndsOf, StaysTied};
 
-use crate::client::{Came, Client};
+use crate::client::Client;
 use crate::place::Place;
 use crate::places::Places;
 use ck_calls::Reply;
 use door::{Licence, Sink, Source, Taker};
-use line::Words;
+use line::{Next, Words};
 use lists::GhostList;
 use std::alloc::{AllocError, Global};
 
@@ -32,7 +32,7 @@ impl<R: Drop, W: Drop> Places<R, W> {
         requires count { count ≤ 64 }
         ensures worker { IfOk result (λ p. (p.seed ≡ seed) × (p.number ≡ number) × (length p.places.items ≡ count)) }
         ensures none { IfOk result (λ p. (p.past.items ≡ []) × (p.asked.items ≡ []) × (p.told.items ≡ [])) }
-        ensures empty { IfOk result (λ p. (j : ℕ) (c : Client R W) → ¬ IsAt p.places.items j c) }
+        ensures empty { IfOk result (λ p. (j : ℕ) (c : Client R W) → ¬ IsClientAt p.places.items j c) }
     {
         let mut places = Vec::with_capacity(alloc, count)?;
         'places: for place in 0..count {
@@ -89,8 +89,8 @@ impl<R: Drop, W: Drop> Places<R, W> {
 
     /// The client at a place, if there is one.
     pub fn client(&self, place: usize) -> Option<&Client<R, W>>
-        ensures there { IfSome result (λ c. IsAt self.now.places.items place c.now) }
-        ensures nobody { IfNone result ((c : Client R W) → ¬ IsAt self.now.places.items place c) }
+        ensures there { IfSome result (λ c. IsClientAt self.now.places.items place c.now) }
+        ensures nobody { IfNone result ((c : Client R W) → ¬ IsClientAt self.now.places.items place c) }
     {
         match self.places.get(place) {
             Some(it) => it.client.as_ref(),
@@ -103,7 +103,7 @@ impl<R: Source + Drop, W: Taker + Drop> Places<R, W> {
     /// Nobody comes to a place that is free, and its next application never does. Elsewhere nothing is done.
     pub fn pass(&mut self, place: usize)
         ensures same { SameWorker self.old self.new }
-        ensures quiet { IsQuiet self.old self.new }
+        ensures quiet { PlacesAreQuiet self.old self.new }
         ensures past { self.new.past.items ≡ self.old.past.items }
         ensures passes { (app : ℕ) → IsNext self.old.number self.old.places.items place app → HasCome self.new.number self.new.places.items app }
         ensures still { KeepsCome self.old self.new }
@@ -122,9 +122,9 @@ impl<R: Source + Drop, W: Taker + Drop> Places<R, W> {
     /// connection. Where the place is not free, they are dropped.
     pub fn open(&mut self, alloc: Global, place: usize, reader: R, writer: W)
         ensures same { SameWorker self.old self.new }
-        ensures quiet { IsQuiet self.old self.new }
+        ensures quiet { PlacesAreQuiet self.old self.new }
         ensures past { self.new.past.items ≡ self.old.past.items }
-        ensures comes { IsFree self.old.places.items place → Comes self.old self.new place }
+        ensures comes { IsFree self.old.places.items place → ClientComes self.old self.new place }
         ensures refused { ¬ IsFree self.old.places.items place → self.new ≡ self.old }
         ensures come { (app : ℕ) → IsNext self.old.number self.old.places.items place app → HasCome self.new.number self.new.places.items app }
         ensures still { KeepsCome self.old self.new }
@@ -147,9 +147,9 @@ impl<R: Source + Drop, W: Taker + Drop> Places<R, W> {
     /// The client at a place is there no more. Its application, if a client was there.
     pub fn close(&mut self, place: usize) -> Option<u64>
         ensures same { SameWorker self.old self.new }
-        ensures quiet { IsQuiet self.old self.new }
+        ensures quiet { PlacesAreQuiet self.old self.new }
         ensures closes { Closes self.old self.new place result }
-        ensures nobody { IfNone result ((c : Client R W) → ¬ IsAt self.old.places.items place c) }
+        ensures nobody { IfNone result ((c : Client R W) → ¬ IsClientAt self.old.places.items place c) }
         ensures still { KeepsCome self.old self.new }
         ensures others { OthersStay self.old self.new place }
         // As before, who is there or was has read and written by ends of its own.
@@ -176,15 +176,15 @@ impl<R: Source + Drop, W: Taker + Drop> Places<R, W> {
         place: usize,
         licence: &L,
         piece: &mut [u8],
-    ) -> Came
+    ) -> Next
     where
         W: Sink<L>,
         requires room { 0 < length piece.old }
         requires may { MayGoOnAt R.given (L.allows licence.now) R.reading W.writing self.old.places.items place }
         ensures same { SameWorker self.old self.new }
         ensures past { self.new.past.items ≡ self.old.past.items }
-        ensures gives { Gives self.old self.new place result }
-        ensures short { IsShortCame result }
+        ensures gives { PlaceGives self.old self.new place result }
+        ensures short { IsShortNext result }
         // The client at the place went on, and the others stay as they were.
         ensures went { WentAt R.reading W.writing self.old self.new place result }
         ensures still { KeepsCome self.old self.new }
@@ -193,18 +193,18 @@ impl<R: Source + Drop, W: Taker + Drop> Places<R, W> {
         ensures tied { StaysTied R.given R.reading W.writing self.old self.new }
     {
         if place >= self.places.len() {
-            return Came::Nothing;
+            return Next::Nothing;
         }
         let Some(client) = &mut self.places[place].client else {
-            return Came::Nothing;
+            return Next::Nothing;
         };
         match client.next_call(alloc, licence, piece) {
-            Came::Call(call) => {
+            Next::Call(call) => {
                 self.asked.push(&call);
-                Came::Call(call)
+                Next::Call(call)
             }
-            Came::Nothing => Came::Nothing,
-            Came::Ended(ending) => Came::Ended(ending),
+            Next::Nothing => Next::Nothing,
+            Next::Ended(ending) => Next::Ended(ending),
         }
     }
 

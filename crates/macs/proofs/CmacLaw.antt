@@ -32,14 +32,16 @@ written block bytes new n total fits sum is =
 
 -- ---- where bytes fit the last block
 
-module _ (taken bytes after : List ℕ) (room : length taken + length bytes ≤ 16 * count_before_last taken + 16) (is : after ≡ taken ++ bytes) where
+module _ (taken bytes after : List ℕ) (room : length taken + length bytes ≤ 16 * count_before_last taken + 16)
+    (is : after ≡ taken ++ bytes) where
   count_filled : count_before_last taken ≡ count_before_last after
   count_filled =
       let same : count_before_last taken ≡ count_before_last (taken ++ bytes) =
       omega (arith, length-append taken bytes, blocks_before taken, blocks_before (taken ++ bytes)) in
       same ∙ ap count_before_last (sym is)
 
-  pub chain_filled : (key chain : List ℕ) → chain ≡ chained key taken (count_before_last taken) → chain ≡ chained key after (count_before_last after)
+  pub chain_filled : (key chain : List ℕ) → chain ≡ chained key taken (count_before_last taken)
+      → chain ≡ chained key after (count_before_last after)
   chain_filled key chain e =
       e ∙ sym (chained-append key taken bytes (count_before_last taken) (whole taken)) ∙ (λ t. chained key (sym is t) (count_filled t))
 
@@ -49,12 +51,14 @@ module _ (taken bytes after : List ℕ) (room : length taken + length bytes ≤ 
       new ∙ ap (λ l. l ++ bytes) e ∙ sym (drop-append-le (16 * count_before_last taken) taken bytes (whole taken))
       ∙ (λ t. drop (16 * count_filled t) (sym is t))
 
-  pub size_filled : (n : ℕ) → 16 * count_before_last taken + n ≡ length taken → 16 * count_before_last after + (n + length bytes) ≡ length after
+  pub size_filled : (n : ℕ) → 16 * count_before_last taken + n ≡ length taken
+      → 16 * count_before_last after + (n + length bytes) ≡ length after
   size_filled n e = omega (arith, count_filled, ap length is ∙ length-append taken bytes, e)
 
 -- ---- where bytes follow a whole block
 
-module _ (taken bytes after : List ℕ) (some : 1 ≤ length bytes) (before : 1 ≤ length taken) (full : length taken % 16 ≡ 0) (is : after ≡ taken ++ bytes) where
+module _ (taken bytes after : List ℕ) (some : 1 ≤ length bytes) (before : 1 ≤ length taken) (full : length taken % 16 ≡ 0)
+    (is : after ≡ taken ++ bytes) where
   -- how many of the bytes' blocks stand before the last
   abbrev pub blocks : ℕ
   blocks = (length bytes - 1) / 16
@@ -74,9 +78,11 @@ module _ (taken bytes after : List ℕ) (some : 1 ≤ length bytes) (before : 1 
   behind : bytes ≡ drop (16 * (count_before_last taken + 1)) (taken ++ bytes)
   behind = sym (drop_at taken bytes (16 * (count_before_last taken + 1)) (sym size))
 
-  pub chain_further : (key chain last first next : List ℕ) → chain ≡ chained key taken (count_before_last taken) → last ≡ drop (16 * count_before_last taken) taken
+  pub chain_further : (key chain last first next : List ℕ) → chain ≡ chained key taken (count_before_last taken)
+      → last ≡ drop (16 * count_before_last taken) taken
       → ((message : List ℕ) (q : ℕ) → last ≡ drop (16 * q) message → chain ≡ chained key message q → first ≡ chained key message (q + 1))
-      → ((message : List ℕ) (q : ℕ) → bytes ≡ drop (16 * q) message → first ≡ chained key message q → next ≡ chained key message (q + blocks))
+      → ((message : List ℕ) (q : ℕ) → bytes ≡ drop (16 * q) message → first ≡ chained key message q
+      → next ≡ chained key message (q + blocks))
       → next ≡ chained key after (count_before_last after)
   chain_further key chain last first next c l one more =
       let q : ℕ = count_before_last taken + 1 in

@@ -8,8 +8,8 @@ pub record Authentication : Type 0 where
   pub key : List ℕ
   pub taken : List ℕ
 
-abbrev pub begun : Mechanism → List ℕ → Authentication
-begun mechanism key = record { mechanism = mechanism; key = key; taken = [] }
+abbrev pub mac_begun : Mechanism → List ℕ → Authentication
+mac_begun mechanism key = record { mechanism = mechanism; key = key; taken = [] }
 
 -- one more part
 abbrev pub longer : Authentication → List ℕ → Authentication

@@ -26,11 +26,11 @@ impl Model for CmacStream {
 
     ghost Value = { KeyedMessage };
 
-    ghost use Rattle.macs.specs.CmacFields.{message_of, Holds};
+    ghost use Rattle.macs.specs.CmacFields.{cmac_message, CmacHolds};
 
-    ghost view = { message_of };
+    ghost view = { cmac_message };
 
-    ghost invariant = { Holds };
+    ghost invariant = { CmacHolds };
 }
 
 impl CmacStream {

@@ -1,7 +1,7 @@
 //! The tag of a message in parts.
 
 ghost use Rattle.std.specs.Prelude.{◌≡◌, ◌↔◌, ◌==◌, not, length, IsSome, IfSome};
-ghost use Rattle.macs.specs.Authentication.{begun, longer};
+ghost use Rattle.macs.specs.Authentication.{mac_begun, longer};
 ghost use Rattle.macs.specs.Tags.{IsKeyLengthOf, tag_length, tag_of};
 
 use crate::state::State;
@@ -36,7 +36,7 @@ impl Mac {
     /// of `AesCmac` is 16, 24 or 32 bytes, and that of the others is any.
     pub fn new(mechanism: Mechanism, key: &[u8]) -> Option<Mac>
         ensures some { IsSome result ↔ IsKeyLengthOf mechanism (length key.now) }
-        ensures value { IfSome result (λ mac. mac ≡ begun mechanism key.now) }
+        ensures value { IfSome result (λ mac. mac ≡ mac_begun mechanism key.now) }
     {
         Some(Mac {
             state: State::new(mechanism, key)?,

@@ -1,7 +1,7 @@
 //! The states of messages under the mechanisms.
 
 ghost use Rattle.std.specs.Prelude.{◌≡◌, ◌↔◌, length, IsSome, IfSome};
-ghost use Rattle.macs.specs.Authentication.{begun, longer};
+ghost use Rattle.macs.specs.Authentication.{mac_begun, longer};
 ghost use Rattle.macs.specs.Tags.{IsKeyLengthOf, tag_length, tag_of};
 ghost use Rattle.macs.specs.States.{authentication};
 
@@ -26,7 +26,7 @@ impl State {
     /// The empty message, or none where the key is none of the mechanism's.
     pub(crate) fn new(mechanism: Mechanism, key: &[u8]) -> Option<State>
         ensures some { IsSome result ↔ IsKeyLengthOf mechanism (length key.now) }
-        ensures value { IfSome result (λ state. authentication state ≡ begun mechanism key.now) }
+        ensures value { IfSome result (λ state. authentication state ≡ mac_begun mechanism key.now) }
     {
         Some(match mechanism {
             Mechanism::AesCmac => State::Cmac(CmacStream::new(Key::new(key)?)),

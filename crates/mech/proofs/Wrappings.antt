@@ -22,11 +22,13 @@ module _ (key bytes : List ℕ) where
       let both = and_parts (is_value_length (length x)) (bytes_eq (wrapped key x) bytes) is in
       (both.0, (bytes_eq-Decides (wrapped key x) bytes).0 both.1)
 
-  pub some-value : (value : List ℕ) → length value + 8 ≡ length bytes → 24 ≤ length bytes → length bytes % 8 ≡ 0 → AreBytes value → wrapped key value ≡ bytes → ((x : List ℕ) → IsValue x → wrapped key x ≡ bytes → x ≡ value) → value_wrapped_in key bytes ≡ Some value
+  pub some-value : (value : List ℕ) → length value + 8 ≡ length bytes → 24 ≤ length bytes → length bytes % 8 ≡ 0 → AreBytes value
+      → wrapped key value ≡ bytes → ((x : List ℕ) → IsValue x → wrapped key x ≡ bytes → x ≡ value) → value_wrapped_in key bytes ≡ Some value
   some-value value size least whole all is only =
       first_text-only (length bytes) is_the_value value all (omega (arith, size))
       (and_from (is_value_length (length value)) (bytes_eq (wrapped key value) bytes)
-      (and_from (nat_le 16 (length value)) (length value % 8 == 0) (le-leb 16 (length value) (omega (arith, size, least))) (eq-eqb (length value % 8) 0 (omega (arith, size, whole))))
+      (and_from (nat_le 16 (length value)) (length value % 8 == 0) (le-leb 16 (length value) (omega (arith, size, least)))
+      (eq-eqb (length value % 8) 0 (omega (arith, size, whole))))
       ((bytes_eq-Decides (wrapped key value) bytes).1 is))
       (λ x hx e. let both = wrapped-is x e in only x (is-value x hx both.0) both.1)
 

@@ -17,7 +17,8 @@ is_runnable (Sign mac input) = true
 is_runnable (Verify mac input signature) = true
 is_runnable (Wrap key value) = is_value_length (length value)
 is_runnable (Unwrap key wrapped state template random) =
-    (nat_le 24 (length wrapped) && (length wrapped % 8 == 0)) && is_none (template_fault (call.Unwrap (length wrapped - 8)) state [] template)
+    (nat_le 24 (length wrapped) && (length wrapped % 8 == 0)) && is_none
+    (template_fault (call.Unwrap (length wrapped - 8)) state [] template)
 is_runnable (CheckPin who verifier pin) = true
 is_runnable (MakePin pin salt) = true
 is_runnable (ChangePin who verifier pin new_pin salt) = true

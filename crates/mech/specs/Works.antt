@@ -35,6 +35,7 @@ outcome_of (Wrap key value) = Wrapped (wrapped key value)
 outcome_of (Unwrap key bytes state template random) = key_of template random (value_wrapped_in key bytes)
 outcome_of (CheckPin who verifier pin) = if accepts verifier pin then RightPin who else WrongPin
 outcome_of (MakePin pin salt) = PinMade (verifier_for pin salt new_rounds)
-outcome_of (ChangePin who verifier pin new_pin salt) = if accepts verifier pin then PinChanged who (verifier_for new_pin salt new_rounds) else WrongPin
+outcome_of (ChangePin who verifier pin new_pin salt) =
+    if accepts verifier pin then PinChanged who (verifier_for new_pin salt new_rounds) else WrongPin
 outcome_of (InitToken label pin salt) = TokenMade label (verifier_for pin salt new_rounds)
 outcome_of (ResetToken label verifier pin) = if accepts verifier pin then TokenReset label else WrongPin

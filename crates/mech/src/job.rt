@@ -36,7 +36,8 @@ impl Job {
         work: Work,
     ) -> Result<Job, AllocError>
         requires { IsTrue (is_runnable work) }
-        ensures { IfOk result (λ job. (job.app ≡ app) × (job.question ≡ question) × (job.function ≡ function) × (job.session ≡ session) × (job.work.value ≡ work)) }
+        ensures { IfOk result (λ job. (job.app ≡ app) × (job.question ≡ question) × (job.function ≡ function) × (job.session ≡ session)
+            × (job.work.value ≡ work)) }
     {
         let snapshot = Snapshot::of(&work);
         match Box::new(alloc, JobCell::Work(work)) {

@@ -96,8 +96,11 @@ proper-answer_to (call.Logout session) random = proper-logout session
 proper-answer_to (call.CreateObject session template) random = proper-create_object session template random
 proper-answer_to (call.CopyObject session object template) random = proper-copy_object session object template random
 proper-answer_to (call.DestroyObject session object) random = proper-destroy_object session object
-proper-answer_to (call.GetObjectSize session object) random = proper-reads function.GetObjectSize session object (λ o. ObjectSize (object_size o)) (λ o. ap ObjectSize (object_size-mask o)) (λ o. refl)
-proper-answer_to (call.GetAttributeValue session object query) random = proper-reads function.GetAttributeValue session object (λ o. attributes_told o query) (λ o. attributes_told-mask o query) (λ o. refl)
+proper-answer_to (call.GetObjectSize session object) random =
+    proper-reads function.GetObjectSize session object (λ o. ObjectSize (object_size o)) (λ o. ap ObjectSize (object_size-mask o))
+    (λ o. refl)
+proper-answer_to (call.GetAttributeValue session object query) random =
+    proper-reads function.GetAttributeValue session object (λ o. attributes_told o query) (λ o. attributes_told-mask o query) (λ o. refl)
 proper-answer_to (call.SetAttributeValue session object template) random = proper-set_attribute_value session object template
 proper-answer_to (call.FindObjectsInit session template) random = proper-find_objects_init session template
 proper-answer_to (call.FindObjects session max_count) random = proper-find_objects session max_count
@@ -119,18 +122,21 @@ proper-answer_to (call.Verify session input signature) random = proper-verify se
 proper-answer_to (call.VerifyUpdate session input) random = proper-mac_update mac_place.Verify session input
 proper-answer_to (call.VerifyFinal session signature) random = proper-verify_final session signature
 proper-answer_to (call.GenerateKey session mechanism template) random = proper-generate_key session mechanism template random
-proper-answer_to (call.WrapKey session mechanism wrapping_key key buffer_len) random = proper-wrap_key session mechanism wrapping_key key buffer_len
-proper-answer_to (call.UnwrapKey session mechanism unwrapping_key wrapped template) random = proper-unwrap_key session mechanism unwrapping_key wrapped template random
+proper-answer_to (call.WrapKey session mechanism wrapping_key key buffer_len) random =
+    proper-wrap_key session mechanism wrapping_key key buffer_len
+proper-answer_to (call.UnwrapKey session mechanism unwrapping_key wrapped template) random =
+    proper-unwrap_key session mechanism unwrapping_key wrapped template random
 proper-answer_to (call.GenerateRandom session len) random = proper-generate_random session len random
 
 -- ---- calls
 
 closed-mask : (v : View) → is_closed (mask v) ≡ is_closed v
 unfolding is_closed
-closed-mask v = ap (λ b. b || (nat_le (2 ^ 63) v.sessions.next_number || (nat_le (2 ^ 63) v.next_handle || nat_le (2 ^ 63) v.next_question))) (out v.question) where
-  out : (q : Option Question) → is_some (option_map mask_question q) ≡ is_some q
-  out None = refl
-  out (Some q) = refl
+closed-mask v = ap (λ b. b ||
+    (nat_le (2 ^ 63) v.sessions.next_number || (nat_le (2 ^ 63) v.next_handle || nat_le (2 ^ 63) v.next_question))) (out v.question) where
+      out : (q : Option Question) → is_some (option_map mask_question q) ≡ is_some q
+      out None = refl
+      out (Some q) = refl
 
 -- the call that becomes pending is noted in the view alone
 pub shown-noted : (c : Call) (a : Answer) → shown (noted c a) ≡ noted c (shown a)
@@ -145,25 +151,31 @@ fair-noted {quiet} c v a p = at a.says where
   at (Replies reply) = p
   at (Asks q) = record { plain = p.plain; still = p.still; asks = p.asks; shows = p.shows; charges = p.charges; seats = p.seats }
 
-pub shown-answer : (v : View) (c : Call) (random : List ℕ) (r : Reveal) → shown (answer (mask v) c random (mask_reveal r)) ≡ shown (answer v c random r)
+pub shown-answer : (v : View) (c : Call) (random : List ℕ) (r : Reveal)
+    → shown (answer (mask v) c random (mask_reveal r)) ≡ shown (answer v c random r)
 unfolding answer
-shown-answer v c random r = blind-row v Busy _ (is_closed v) _ _ (closed-mask v) (shown-noted c _ ∙ ap (noted c) ((proper-answer_to c random).blind v r) ∙ sym (shown-noted c (answer_to v c random r)))
+shown-answer v c random r = blind-row v Busy _ (is_closed v) _ _ (closed-mask v)
+    (shown-noted c _ ∙ ap (noted c) ((proper-answer_to c random).blind v r) ∙ sym (shown-noted c (answer_to v c random r)))
 
 pub fair-answer : (v : View) (c : Call) (random : List ℕ) (r : Reveal) → IsFair (is_still_function (function_of c)) v (answer v c random r)
 unfolding answer
-fair-answer v c random r = fair-row v Busy (is_closed v) refl (fair-noted c v (answer_to v c random r) ((proper-answer_to c random).fair v r))
+fair-answer v c random r = fair-row v Busy (is_closed v) refl
+    (fair-noted c v (answer_to v c random r) ((proper-answer_to c random).fair v r))
 
 pub plain-answer : (v : View) (c : Call) (random : List ℕ) (r : Reveal) → resource_error_in (answer v c random r).says ≡ None
 plain-answer v c random r = (fair-answer v c random r).plain
 
-pub still-answer : (v : View) (c : Call) (random : List ℕ) (r : Reveal) → is_still_function (function_of c) ≡ true → (answer v c random r).change ≡ Stays
+pub still-answer : (v : View) (c : Call) (random : List ℕ) (r : Reveal) → is_still_function (function_of c) ≡ true
+    → (answer v c random r).change ≡ Stays
 still-answer v c random r quiet = (fair-answer v c random r).still quiet
 
-pub leaves-answer : (v : View) (c : Call) (random : List ℕ) (r : Reveal) → Leaves v.question (answer v c random r).says (answer v c random r).view.question
+pub leaves-answer : (v : View) (c : Call) (random : List ℕ) (r : Reveal)
+    → Leaves v.question (answer v c random r).says (answer v c random r).view.question
 leaves-answer v c random r = (fair-answer v c random r).asks
 
 -- a call becomes pending where none is
-pub none-asked : (v : View) (c : Call) (random : List ℕ) (r : Reveal) (q : Question) → (answer v c random r).says ≡ Asks q → v.question ≡ None
+pub none-asked : (v : View) (c : Call) (random : List ℕ) (r : Reveal) (q : Question) → (answer v c random r).says ≡ Asks q
+    → v.question ≡ None
 unfolding answer is_closed
 none-asked v c random r q is = none v.question refl where
   none : (o : Option Question) → v.question ≡ o → v.question ≡ None
@@ -178,7 +190,8 @@ busy-answer v c random r q is = rw is refl
 -- ---- results
 
 -- a result reveals what a key's value is only in the key
-unmasked : (f : TaskResult → Answer) → ((o : List Entry) → f (Unwrapped (mask_object o)) ≡ f (Unwrapped o)) → (x : TaskResult) → f (mask_outcome x) ≡ f x
+unmasked : (f : TaskResult → Answer) → ((o : List Entry) → f (Unwrapped (mask_object o)) ≡ f (Unwrapped o)) → (x : TaskResult)
+    → f (mask_outcome x) ≡ f x
 unmasked f same (Output bytes) = refl
 unmasked f same BadPadding = refl
 unmasked f same Taken = refl
@@ -189,28 +202,45 @@ unmasked f same Wrong = refl
 unmasked f same Made = refl
 
 -- it comes to a task that makes none
-unmasked-ciphered : (v : View) (s : ℕ) (p : Place) (part : Part) (o : Operation) (input : List ℕ) (x : TaskResult) → ciphered v s p part o input (mask_outcome x) ≡ ciphered v s p part o input x
+unmasked-ciphered : (v : View) (s : ℕ) (p : Place) (part : Part) (o : Operation) (input : List ℕ) (x : TaskResult)
+    → ciphered v s p part o input (mask_outcome x) ≡ ciphered v s p part o input x
 unmasked-ciphered v s p Update o input x = unmasked (λ y. ciphered v s p Update o input y) (λ k. refl) x
 unmasked-ciphered v s p Last o input x = unmasked (λ y. ciphered v s p Last o input y) (λ k. refl) x
 
-blind-outcome : (v : View) (q : Question) (t : Task) (x : TaskResult) (r : Reveal) → shown (answer_outcome (mask v) (mask_question q) (mask_task t) (mask_outcome x) (mask_reveal r)) ≡ shown (answer_outcome v q t x r)
+blind-outcome : (v : View) (q : Question) (t : Task) (x : TaskResult) (r : Reveal)
+    → shown (answer_outcome (mask v) (mask_question q) (mask_task t) (mask_outcome x) (mask_reveal r)) ≡ shown (answer_outcome v q t x r)
 blind-outcome v q (Ciphers part o input) x r =
-    ap shown (unmasked-ciphered (mask v) q.session (place_for o.direction) part (mask_operation o) input x) ∙ blind-ciphered v q.session (place_for o.direction) part o input x
-blind-outcome v q (Takes p o input) x r = ap shown (unmasked (λ y. taken (mask v) q.session p (mask_mac o) input y) (λ k. refl) x) ∙ blind-taken v q.session p o input x
+    ap shown (unmasked-ciphered (mask v) q.session (place_for o.direction) part (mask_operation o) input x)
+    ∙ blind-ciphered v q.session (place_for o.direction) part o input x
+blind-outcome v q (Takes p o input) x r = ap shown (unmasked (λ y. taken (mask v) q.session p (mask_mac o) input y) (λ k. refl) x)
+    ∙ blind-taken v q.session p o input x
 blind-outcome v q (Signs o input) x r = ap shown (unmasked (λ y. signed (mask v) q.session y) (λ k. refl) x) ∙ blind-signed v q.session x
-blind-outcome v q (Verifies o input signature) x r = ap shown (unmasked (λ y. verified (mask v) q.session y) (λ k. refl) x) ∙ blind-verified v q.session x
-blind-outcome v q (WrapsKey key value) x r = ap shown (unmasked (λ y. wrapped_result (answered (mask v)) y) (λ k. refl) x) ∙ blind-wrapped (answered v) x
+blind-outcome v q (Verifies o input signature) x r = ap shown (unmasked (λ y. verified (mask v) q.session y) (λ k. refl) x)
+    ∙ blind-verified v q.session x
+blind-outcome v q (WrapsKey key value) x r = ap shown (unmasked (λ y. wrapped_result (answered (mask v)) y) (λ k. refl) x)
+    ∙ blind-wrapped (answered v) x
 blind-outcome v q (UnwrapsKey key wrapped state template random) x r = blind-unwrapped v q.session x
-blind-outcome v q (ChecksPin who verifier pin) x r = ap shown (unmasked (λ y. login_result (answered (mask v)) who y (mask_reveal r)) (λ k. refl) x) ∙ blind-login (answered v) who x r
-blind-outcome v q (MakesPin pin salt) x r = ap shown (unmasked (λ y. init_pin_result (answered (mask v)) pin salt y (mask_reveal r)) (λ k. refl) x) ∙ blind-init_pin (answered v) pin salt x r
-blind-outcome v q (ChangesPin who verifier pin new_pin salt) x r = ap shown (unmasked (λ y. set_pin_result (answered (mask v)) who new_pin salt y (mask_reveal r)) (λ k. refl) x) ∙ blind-set_pin (answered v) who new_pin salt x r
-blind-outcome v q (InitsToken label pin salt) x r = ap shown (unmasked (λ y. init_token_result (answered (mask v)) label pin salt y (mask_reveal r)) (λ k. refl) x) ∙ blind-init_token (answered v) label pin salt x r
-blind-outcome v q (ResetsToken label verifier pin) x r = ap shown (unmasked (λ y. reset_token_result (answered (mask v)) label y (mask_reveal r)) (λ k. refl) x) ∙ blind-reset_token (answered v) label x r
+blind-outcome v q (ChecksPin who verifier pin) x r =
+    ap shown (unmasked (λ y. login_result (answered (mask v)) who y (mask_reveal r)) (λ k. refl) x) ∙ blind-login (answered v) who x r
+blind-outcome v q (MakesPin pin salt) x r =
+    ap shown (unmasked (λ y. init_pin_result (answered (mask v)) pin salt y (mask_reveal r)) (λ k. refl) x)
+    ∙ blind-init_pin (answered v) pin salt x r
+blind-outcome v q (ChangesPin who verifier pin new_pin salt) x r =
+    ap shown (unmasked (λ y. set_pin_result (answered (mask v)) who new_pin salt y (mask_reveal r)) (λ k. refl) x)
+    ∙ blind-set_pin (answered v) who new_pin salt x r
+blind-outcome v q (InitsToken label pin salt) x r =
+    ap shown (unmasked (λ y. init_token_result (answered (mask v)) label pin salt y (mask_reveal r)) (λ k. refl) x)
+    ∙ blind-init_token (answered v) label pin salt x r
+blind-outcome v q (ResetsToken label verifier pin) x r =
+    ap shown (unmasked (λ y. reset_token_result (answered (mask v)) label y (mask_reveal r)) (λ k. refl) x)
+    ∙ blind-reset_token (answered v) label x r
 
-pub shown-result : (v : View) (outcome : TaskResult) (r : Reveal) → shown (answer_result (mask v) (mask_outcome outcome) (mask_reveal r)) ≡ shown (answer_result v outcome r)
+pub shown-result : (v : View) (outcome : TaskResult) (r : Reveal)
+    → shown (answer_result (mask v) (mask_outcome outcome) (mask_reveal r)) ≡ shown (answer_result v outcome r)
 unfolding answer_result
 shown-result v outcome r = out v.question where
-  out : (q : Option Question) → shown (answer_question (mask v) (option_map mask_question q) (mask_outcome outcome) (mask_reveal r)) ≡ shown (answer_question v q outcome r)
+  out : (q : Option Question) → shown (answer_question (mask v) (option_map mask_question q) (mask_outcome outcome) (mask_reveal r))
+      ≡ shown (answer_question v q outcome r)
   out None = blind-refusal v FunctionFailed
   out (Some q) = blind-outcome v q q.task outcome r
 
@@ -235,7 +265,8 @@ over-answer v outcome r = out v.question refl where
   out (Some q) e = over-outcome v q q.task outcome r
 
 -- a result of no PIN changes no record
-pub record-outcome : (v : View) (q : Question) (t : Task) (outcome : TaskResult) (r : Reveal) (old : TokenRecord) → is_pin_task t ≡ false → recorded (answer_outcome v q t outcome r).change old ≡ old
+pub record-outcome : (v : View) (q : Question) (t : Task) (outcome : TaskResult) (r : Reveal) (old : TokenRecord)
+    → is_pin_task t ≡ false → recorded (answer_outcome v q t outcome r).change old ≡ old
 record-outcome v q (Ciphers part o input) outcome r old quiet = refl
 record-outcome v q (Takes p o input) outcome r old quiet = ap (λ c. recorded c old) (still-taken v q.session p o input outcome)
 record-outcome v q (Signs o input) outcome r old quiet = refl
@@ -245,7 +276,8 @@ record-outcome v q (UnwrapsKey key wrapped state template random) outcome r old 
 record-outcome v q _ outcome r old quiet = let k : true ≡ false = quiet in cc
 
 -- and where it makes no key nothing that others see
-still-outcome : (v : View) (q : Question) (t : Task) (outcome : TaskResult) (r : Reveal) → is_pin_task t ≡ false → is_key_task t ≡ false → (answer_outcome v q t outcome r).change ≡ Stays
+still-outcome : (v : View) (q : Question) (t : Task) (outcome : TaskResult) (r : Reveal) → is_pin_task t ≡ false
+    → is_key_task t ≡ false → (answer_outcome v q t outcome r).change ≡ Stays
 still-outcome v q (Ciphers part o input) outcome r quiet made = refl
 still-outcome v q (Takes p o input) outcome r quiet made = still-taken v q.session p o input outcome
 still-outcome v q (Signs o input) outcome r quiet made = refl
@@ -255,12 +287,15 @@ still-outcome v q (UnwrapsKey key wrapped state template random) outcome r quiet
 still-outcome v q _ outcome r quiet made = let k : true ≡ false = quiet in cc
 
 -- the answer to a result is that to the pending call's
-pub result-is : (v : View) (q : Question) (outcome : TaskResult) (r : Reveal) → v.question ≡ Some q → answer_result v outcome r ≡ answer_outcome v q q.task outcome r
+pub result-is : (v : View) (q : Question) (outcome : TaskResult) (r : Reveal) → v.question ≡ Some q
+    → answer_result v outcome r ≡ answer_outcome v q q.task outcome r
 unfolding answer_result
 result-is v q outcome r asked = ap (λ o. answer_question v o outcome r) asked
 
-pub still-result : (v : View) (q : Question) (outcome : TaskResult) (r : Reveal) → v.question ≡ Some q → is_pin_task q.task ≡ false → is_key_task q.task ≡ false → (answer_result v outcome r).change ≡ Stays
-still-result v q outcome r asked quiet made = ap (λ (a : Answer). a.change) (result-is v q outcome r asked) ∙ still-outcome v q q.task outcome r quiet made
+pub still-result : (v : View) (q : Question) (outcome : TaskResult) (r : Reveal) → v.question ≡ Some q → is_pin_task q.task ≡ false
+    → is_key_task q.task ≡ false → (answer_result v outcome r).change ≡ Stays
+still-result v q outcome r asked quiet made = ap (λ (a : Answer). a.change) (result-is v q outcome r asked)
+    ∙ still-outcome v q q.task outcome r quiet made
 
 pub over-result : (v : View) (outcome : TaskResult) (r : Reveal) → (answer_result v outcome r).view.question ≡ None
 over-result v outcome r = (over-answer v outcome r).over
@@ -271,5 +306,6 @@ plain-result v outcome r = (over-answer v outcome r).plain
 pub unasking-result : (v : View) (outcome : TaskResult) (r : Reveal) → pin_checked_in (answer_result v outcome r).says ≡ None
 unasking-result v outcome r = (over-answer v outcome r).unasking
 
-pub record-result : (v : View) (outcome : TaskResult) (r : Reveal) → (answer_result v outcome r).view.token_record ≡ recorded (answer_result v outcome r).change v.token_record
+pub record-result : (v : View) (outcome : TaskResult) (r : Reveal)
+    → (answer_result v outcome r).view.token_record ≡ recorded (answer_result v outcome r).change v.token_record
 record-result v outcome r = (over-answer v outcome r).shows

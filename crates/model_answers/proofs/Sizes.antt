@@ -46,7 +46,8 @@ object_size-mask o = at (is_masked o) refl where
   at true h =
       let key : is_secret_key (class_of o) ≡ true = (both-true _ _ h).0 in
       rw (
-        filter-less (λ (e : Entry). not (eqb e.attr_type (attr_type_number attr.Value))) (λ e. not (eqb e.attr_type (attr_type_number attr.Value))) o (λ e k. k),
+        filter-less (λ (e : Entry). not (eqb e.attr_type (attr_type_number attr.Value)))
+            (λ e. not (eqb e.attr_type (attr_type_number attr.Value))) o (λ e k. k),
         attribute-without attr.Value o (attr_type_number attr.Class) (λ e. absurd (omega (arith, e))),
         attribute-without attr.Value o (attr_type_number attr.ValueLen) (λ e. absurd (omega (arith, e))),
         key,
@@ -119,29 +120,37 @@ one-value SecretKey = refl
 
 sizes-length : (es : List Entry) → length (flat_map stored_entry.encode es) ≡ sum_by entry_size es
 sizes-length [] = refl
-sizes-length (e ∷ es) = ap length (flat_map-cons stored_entry.encode e es) ∙ length-append (stored_entry.encode e) (flat_map stored_entry.encode es) ∙ omega (arith, sizes-length es, sum_by-cons entry_size e es)
+sizes-length (e ∷ es) = ap length (flat_map-cons stored_entry.encode e es)
+    ∙ length-append (stored_entry.encode e) (flat_map stored_entry.encode es) ∙ omega (arith, sizes-length es, sum_by-cons entry_size e es)
 
 stored-length : (es : List Entry) → length (stored_form es) ≡ 3 + sum_by entry_size es
 stored-length es = omega (arith, sizes-length es)
 
-key-length : (t : Option KeyType) (value : List ℕ) (len : Option ℕ) → is_key_value t (Some value) len ≡ true → unwrap_or len 0 ≡ length value
-key-length (Some t) value (Some len) is = eqb-true len (length value) (both-true (is_key_len t (length value)) (eqb len (length value)) is).1
+key-length : (t : Option KeyType) (value : List ℕ) (len : Option ℕ) → is_key_value t (Some value) len ≡ true
+    → unwrap_or len 0 ≡ length value
+key-length (Some t) value (Some len) is =
+    eqb-true len (length value) (both-true (is_key_len t (length value)) (eqb len (length value)) is).1
 key-length (Some t) value None is = absurd cc
 key-length None value len is = absurd cc
 
 -- a value's length is that of the attribute
-pub value_len-is : (c : Option ObjectClass) (es : List Entry) (value : List ℕ) → class_of es ≡ c → is_of_class c es ≡ true → attribute_of es attr.Value ≡ Some value → value_len es ≡ length value
+pub value_len-is : (c : Option ObjectClass) (es : List Entry) (value : List ℕ) → class_of es ≡ c → is_of_class c es ≡ true
+    → attribute_of es attr.Value ≡ Some value → value_len es ≡ length value
 value_len-is None es value class is there = absurd cc
 value_len-is (Some Data) es value class is there = rw (class, there) refl
 value_len-is (Some SecretKey) es value class is there =
-    rw class (key-length (key_type_of es) value (number_of (attribute_of es attr.ValueLen)) (rw there at (both-true (fits_rows (rows_of SecretKey) es) (has_key_value es) is).1))
+    rw class (key-length (key_type_of es) value (number_of (attribute_of es attr.ValueLen))
+    (rw there at (both-true (fits_rows (rows_of SecretKey) es) (has_key_value es) is).1))
 
 rows-are : (c : Option ObjectClass) (es : List Entry) → is_of_class c es ≡ true → HasValue es
 rows-are None es is = absurd cc
 rows-are (Some Data) es is = parts (rows_of Data) es is (one-value Data)
-rows-are (Some SecretKey) es is = parts (rows_of SecretKey) es (both-true (fits_rows (rows_of SecretKey) es) (has_key_value es) is).0 (one-value SecretKey)
+rows-are (Some SecretKey) es is =
+    parts (rows_of SecretKey) es (both-true (fits_rows (rows_of SecretKey) es) (has_key_value es) is).0 (one-value SecretKey)
 
 pub stored-size : (o : List Entry) → IsObject o → length (stored_form o) ≡ object_size o
 stored-size o is =
     let p = rows-are (class_of o) o is in
-    stored-length o ∙ ap (λ n. 3 + n) (p.sizes ∙ ap (λ n. sum_by entry_size (without attr.Value o) + attribute_size n) (sym (value_len-is (class_of o) o p.value refl is p.is)))
+    stored-length o ∙ ap (λ n. 3 + n)
+    (p.sizes ∙ ap (λ n. sum_by entry_size (without attr.Value o) + attribute_size n)
+    (sym (value_len-is (class_of o) o p.value refl is p.is)))

@@ -45,13 +45,13 @@ use Rattle.model_views.specs.Refusals.{is_refused}
 use Rattle.model_views.proofs.Refused.{OnRefusal, refusal-leaves, no-refusal, refusal-if, refusal-rows, refusal-row, refusal-checked_by, refusal-checked, refusal-noted}
 use Rattle.model_session_answers.specs.Pins.{verifier_or, others, is_charged, stores, resets}
 use Rattle.model_session_answers.specs.OpenSession.{slot_row, open_row, opened, is_read_write}
-use Rattle.model_session_answers.specs.GetTokenInfo.{token_info}
+use Rattle.model_session_answers.specs.GetTokenInfo.{told_token_info}
 use Rattle.model_session_answers.specs.Mechanisms.{mechanism_info_row}
 use Rattle.model_session_answers.specs.InitToken.{is_in_use, init_token_row, inits, may_init, init_token_result, reset_token_result}
 use Rattle.model_session_answers.specs.InitPin.{init_pin_row, may_set_pin, init_pin_result}
 use Rattle.model_session_answers.specs.SetPin.{owner, set_pin_row, set_pin_result}
 use Rattle.model_session_answers.specs.CloseSession.{close_row, closed, all_closed}
-use Rattle.model_session_answers.specs.GetSessionInfo.{info_row, session_info}
+use Rattle.model_session_answers.specs.GetSessionInfo.{info_row, told_session_info}
 use Rattle.model_session_answers.specs.Login.{user_of, login_row, may_log_in, logged_in, login_result}
 use Rattle.model_session_answers.specs.Logout.{logout_row, logged_out}
 use Rattle.model_session_answers.specs.GenerateRandom.{random_row}
@@ -90,7 +90,8 @@ alone-stays v a alone is = elim (alone.leaves is).0 [
 ]
 
 -- a call whose conditions refuse by their codes, and which refuses nothing else
-alone-checked : {v ended : View} (f : Function) (h : Condition → Bool) (x : Answer) → is_refused x.says ≡ false → Alone v ended (checked f h v x)
+alone-checked : {v ended : View} (f : Function) (h : Condition → Bool) (x : Answer) → is_refused x.says ≡ false
+    → Alone v ended (checked f h v x)
 alone-checked {v} f h x told = refusal-checked f h v x (λ row. (inl refl, refl)) (no-refusal told)
 
 told-if : (b : Bool) (x y : Answer) → is_refused x.says ≡ false → is_refused y.says ≡ false → is_refused (cond b x y).says ≡ false
@@ -142,7 +143,8 @@ module _ (v ended : View) (s : ℕ) where
       let fault = template_fault making.Set (state_in v s) (unwrap_or original []) template in
       let o = made_by fault (object_made making.Set (unwrap_or original []) template [] []) in
       let index = index_of v.tokens handle in
-      refusal-checked_by function.SetAttributeValue (set_row v s original fault) (makes_says v fault) (puts v handle o index) (alone-makes fault)
+      refusal-checked_by function.SetAttributeValue (set_row v s original fault) (makes_says v fault) (puts v handle o index)
+      (alone-makes fault)
       (no-refusal (puts-told v handle o index))
 
   alone-generate : (m : Mechanism) (template : List Entry) (random : List ℕ) → Alone v ended (generate_key v s m template random)
@@ -157,7 +159,8 @@ module _ (v ended : View) (s : ℕ) where
   alone-unwraps fault TemplateRefused = refusal-leaves {a = unwrap_says v fault TemplateRefused} (inl refl, refl)
   alone-unwraps fault row = refusal-row v row (inl refl, refl)
 
-  pub alone-unwrap : (m : Mechanism) (key : Option (List Entry)) (wrapped : List ℕ) (template : List Entry) (random : List ℕ) (state : SessionState) (fault : Option Rv)
+  pub alone-unwrap : (m : Mechanism) (key : Option (List Entry)) (wrapped : List ℕ) (template : List Entry) (random : List ℕ)
+      (state : SessionState) (fault : Option Rv)
       → Alone v ended (unwraps v s m key wrapped template random state fault)
   alone-unwrap m key wrapped template random state fault =
       let task = UnwrapsKey (attribute_of (unwrap_or key []) attr.Value) wrapped state template random in
@@ -174,7 +177,8 @@ module _ (v ended : View) (s : ℕ) where
   alone-wrap m w k buffer_len =
       let task = WrapsKey (attribute_of (unwrap_or w []) attr.Value) (attribute_of (unwrap_or k []) attr.Value) in
       let n = wrapped_len k in
-      refusal-checked_by function.WrapKey (wrap_row v s m w k buffer_len) (wrap_says v n) (asks v function.WrapKey s task) (alone-wraps n) (no-refusal refl)
+      refusal-checked_by function.WrapKey (wrap_row v s m w k buffer_len) (wrap_says v n) (asks v function.WrapKey s task)
+      (alone-wraps n) (no-refusal refl)
 
   -- without a mechanism an operation ends, which is no refusal
   alone-cipher_inits : (d : Direction) (row : Condition) → Alone v ended (init_says d v s row)
@@ -193,7 +197,8 @@ module _ (v ended : View) (s : ℕ) where
   alone-mac_init : (p : MacPlace) (m : Option Mechanism) (key : ℕ) → Alone v ended (mac_init p v s m key)
   alone-mac_init p m key =
       let a = mac_begins p v s (unwrap_or (mac_mechanism_in m) AesCmac) (unwrap_or (object_at v key) []) in
-      refusal-checked_by (mac_init_function p) (mac_init_row p v s m (object_at v key)) (mac_init_says p v s) a (alone-mac_inits p) (no-refusal refl)
+      refusal-checked_by (mac_init_function p) (mac_init_row p v s m (object_at v key)) (mac_init_says p v s) a (alone-mac_inits p)
+      (no-refusal refl)
 
   -- a part of a message is taken, and no refusal ends its operation
   alone-mac_update : (p : MacPlace) (input : List ℕ) → Alone v ended (mac_update p v s input)
@@ -204,7 +209,8 @@ module _ (v ended : View) (s : ℕ) where
 -- ---- calls that may end the operation of their session
 
 module _ (v : View) (s : ℕ) where
-  alone-ciphers : (d : Direction) (n : ℕ) (row : Condition) → Alone v (with_operation v s (place_for d) None) (cipher_says v s (place_for d) n row)
+  alone-ciphers : (d : Direction) (n : ℕ) (row : Condition)
+      → Alone v (with_operation v s (place_for d) None) (cipher_says v s (place_for d) n row)
   alone-ciphers d n DataTaken = refusal-leaves {a = cipher_says v s (place_for d) n DataTaken} (inr refl, refl)
   alone-ciphers d n CounterEnd = refusal-leaves {a = cipher_says v s (place_for d) n CounterEnd} (inr refl, refl)
   alone-ciphers d n DataLength = refusal-leaves {a = cipher_says v s (place_for d) n DataLength} (inr refl, refl)
@@ -218,7 +224,8 @@ module _ (v : View) (s : ℕ) where
   alone-cipher f d part input buffer_len =
       let o = operation_in (session_of v s) (place_for d) in
       let n = wanted part (text_of (operation_or o)) (length input) in
-      refusal-checked_by f (cipher_row d v s o part input buffer_len) (cipher_says v s (place_for d) n) (asks v f s (Ciphers part (operation_or o) input))
+      refusal-checked_by f (cipher_row d v s o part input buffer_len) (cipher_says v s (place_for d) n)
+      (asks v f s (Ciphers part (operation_or o) input))
       (alone-ciphers d n) (no-refusal refl)
 
   alone-signs : (n : ℕ) (row : Condition) → Alone v (with_mac v s mac_place.Sign None) (sign_says v s n row)
@@ -232,7 +239,8 @@ module _ (v : View) (s : ℕ) where
   alone-sign f input buffer_len =
       let o = mac_in (session_of v s) mac_place.Sign in
       let n = signature_length o in
-      refusal-checked_by f (sign_row v s o buffer_len) (sign_says v s n) (asks v f s (Signs (mac_or o) input)) (alone-signs n) (no-refusal refl)
+      refusal-checked_by f (sign_row v s o buffer_len) (sign_says v s n) (asks v f s (Signs (mac_or o) input)) (alone-signs n)
+      (no-refusal refl)
 
   alone-verifies : (row : Condition) → Alone v (with_mac v s mac_place.Verify None) (verify_says v s row)
   alone-verifies DataTaken = refusal-leaves {a = verify_says v s DataTaken} (inr refl, refl)
@@ -243,13 +251,14 @@ module _ (v : View) (s : ℕ) where
       → Alone v (with_mac v s mac_place.Verify None) (verifies f v s (mac_in (session_of v s) mac_place.Verify) input signature)
   alone-verify f input signature =
       let o = mac_in (session_of v s) mac_place.Verify in
-      refusal-checked_by f (verify_row v s o signature) (verify_says v s) (asks v f s (Verifies (mac_or o) input signature)) alone-verifies (no-refusal refl)
+      refusal-checked_by f (verify_row v s o signature) (verify_says v s)
+      (asks v f s (Verifies (mac_or o) input signature)) alone-verifies (no-refusal refl)
 
 -- ---- all calls
 
 alone-answer_to : (v : View) (c : Call) (random : List ℕ) (r : Reveal) → Alone v (ended_by c v) (answer_to v c random r)
 unfolding answer_to
-alone-answer_to v (call.GetTokenInfo slot) random r = alone-checked function.GetTokenInfo (slot_row slot) (replies v (token_info v)) refl
+alone-answer_to v (call.GetTokenInfo slot) random r = alone-checked function.GetTokenInfo (slot_row slot) (replies v (told_token_info v)) refl
 alone-answer_to v (call.GetMechanismList slot) random r =
     alone-checked function.GetMechanismList (slot_row slot) (replies v (reply.MechanismList listed_numbers)) refl
 alone-answer_to v (call.GetMechanismInfo slot mechanism) random r =
@@ -263,25 +272,31 @@ alone-answer_to v (call.SetPin session pin new_pin) random r =
     let who = owner v.sessions.login in
     let task = ChangesPin who (verifier_or v.token_record who) pin new_pin random in
     alone-checked function.SetPin (set_pin_row v session who new_pin) (asks_checked v function.SetPin session task who) refl
-alone-answer_to v (call.OpenSession slot flags) random r = alone-checked function.OpenSession (open_row v slot flags) (opened v (is_read_write flags)) refl
+alone-answer_to v (call.OpenSession slot flags) random r =
+    alone-checked function.OpenSession (open_row v slot flags) (opened v (is_read_write flags)) refl
 alone-answer_to v (call.CloseSession session) random r =
     alone-checked function.CloseSession (close_row v session) (becomes (reply.Code Ok) (closed v session)) refl
-alone-answer_to v (call.CloseAllSessions slot) random r = alone-checked function.CloseAllSessions (slot_row slot) (becomes (reply.Code Ok) (all_closed v)) refl
-alone-answer_to v (call.GetSessionInfo session) random r = alone-checked function.GetSessionInfo (info_row v session) (session_info v session) refl
+alone-answer_to v (call.CloseAllSessions slot) random r =
+    alone-checked function.CloseAllSessions (slot_row slot) (becomes (reply.Code Ok) (all_closed v)) refl
+alone-answer_to v (call.GetSessionInfo session) random r =
+    alone-checked function.GetSessionInfo (info_row v session) (told_session_info v session) refl
 alone-answer_to v (call.Login session user pin) random r =
     let who = unwrap_or (user_of user) User in
     let task = ChecksPin who (verifier_or v.token_record who) pin in
     alone-checked function.Login (login_row v session (user_of user) who) (asks_checked v function.Login session task who) refl
-alone-answer_to v (call.Logout session) random r = alone-checked function.Logout (logout_row v session) (becomes (reply.Code Ok) (logged_out v)) refl
+alone-answer_to v (call.Logout session) random r =
+    alone-checked function.Logout (logout_row v session) (becomes (reply.Code Ok) (logged_out v)) refl
 alone-answer_to v (call.CreateObject session template) random r = alone-create v v session template random
 alone-answer_to v (call.CopyObject session object template) random r = alone-copy v v session object template random
 alone-answer_to v (call.DestroyObject session object) random r =
     let index = index_of v.tokens object in
     alone-checked function.DestroyObject (destroy_row v session object) (destroyed v object index) (destroyed-told v object index)
 alone-answer_to v (call.GetObjectSize session object) random r =
-    alone-checked function.GetObjectSize (object_row v session object) (replies v (reply.ObjectSize (object_size (unwrap_or (object_at v object) [])))) refl
+    alone-checked function.GetObjectSize (object_row v session object)
+    (replies v (reply.ObjectSize (object_size (unwrap_or (object_at v object) [])))) refl
 alone-answer_to v (call.GetAttributeValue session object query) random r =
-    alone-checked function.GetAttributeValue (object_row v session object) (replies v (attributes_told (unwrap_or (object_at v object) []) query)) refl
+    alone-checked function.GetAttributeValue (object_row v session object)
+    (replies v (attributes_told (unwrap_or (object_at v object) []) query)) refl
 alone-answer_to v (call.SetAttributeValue session object template) random r = alone-set v v session object template
 alone-answer_to v (call.FindObjectsInit session template) random r =
     alone-checked function.FindObjectsInit (find_init_row v session) (searches v session template) refl
@@ -289,15 +304,22 @@ alone-answer_to v (call.FindObjects session max_count) random r =
     let found = unwrap_or (search_in (session_of v session)) [] in
     alone-checked function.FindObjects (search_row v session) (gives_found v session (answered_at_once max_count) found) refl
 alone-answer_to v (call.FindObjectsFinal session) random r =
-    alone-checked function.FindObjectsFinal (search_row v session) (becomes (reply.Code Ok) (record v { sessions = with_search v.sessions session None })) refl
+    alone-checked function.FindObjectsFinal (search_row v session)
+    (becomes (reply.Code Ok) (record v { sessions = with_search v.sessions session None })) refl
 alone-answer_to v (call.EncryptInit session mechanism key) random r = alone-cipher_init v v session Encrypt mechanism key
-alone-answer_to v (call.Encrypt session input buffer_len) random r = alone-cipher v session (single_function Encrypt) Encrypt Last input buffer_len
-alone-answer_to v (call.EncryptUpdate session input buffer_len) random r = alone-cipher v session (update_function Encrypt) Encrypt Update input buffer_len
-alone-answer_to v (call.EncryptFinal session buffer_len) random r = alone-cipher v session (final_function Encrypt) Encrypt Last [] buffer_len
+alone-answer_to v (call.Encrypt session input buffer_len) random r =
+    alone-cipher v session (single_function Encrypt) Encrypt Last input buffer_len
+alone-answer_to v (call.EncryptUpdate session input buffer_len) random r =
+    alone-cipher v session (update_function Encrypt) Encrypt Update input buffer_len
+alone-answer_to v (call.EncryptFinal session buffer_len) random r =
+    alone-cipher v session (final_function Encrypt) Encrypt Last [] buffer_len
 alone-answer_to v (call.DecryptInit session mechanism key) random r = alone-cipher_init v v session Decrypt mechanism key
-alone-answer_to v (call.Decrypt session input buffer_len) random r = alone-cipher v session (single_function Decrypt) Decrypt Last input buffer_len
-alone-answer_to v (call.DecryptUpdate session input buffer_len) random r = alone-cipher v session (update_function Decrypt) Decrypt Update input buffer_len
-alone-answer_to v (call.DecryptFinal session buffer_len) random r = alone-cipher v session (final_function Decrypt) Decrypt Last [] buffer_len
+alone-answer_to v (call.Decrypt session input buffer_len) random r =
+    alone-cipher v session (single_function Decrypt) Decrypt Last input buffer_len
+alone-answer_to v (call.DecryptUpdate session input buffer_len) random r =
+    alone-cipher v session (update_function Decrypt) Decrypt Update input buffer_len
+alone-answer_to v (call.DecryptFinal session buffer_len) random r =
+    alone-cipher v session (final_function Decrypt) Decrypt Last [] buffer_len
 alone-answer_to v (call.SignInit session mechanism key) random r = alone-mac_init v v session mac_place.Sign mechanism key
 alone-answer_to v (call.Sign session input buffer_len) random r = alone-sign v session function.Sign input buffer_len
 alone-answer_to v (call.SignUpdate session input) random r = alone-mac_update v v session mac_place.Sign input
@@ -307,17 +329,20 @@ alone-answer_to v (call.Verify session input signature) random r = alone-verify 
 alone-answer_to v (call.VerifyUpdate session input) random r = alone-mac_update v v session mac_place.Verify input
 alone-answer_to v (call.VerifyFinal session signature) random r = alone-verify v session function.VerifyFinal [] signature
 alone-answer_to v (call.GenerateKey session mechanism template) random r = alone-generate v v session mechanism template random
-alone-answer_to v (call.WrapKey session mechanism wrapping_key key buffer_len) random r = alone-wrap v v session mechanism (object_at v wrapping_key) (object_at v key) buffer_len
+alone-answer_to v (call.WrapKey session mechanism wrapping_key key buffer_len) random r =
+    alone-wrap v v session mechanism (object_at v wrapping_key) (object_at v key) buffer_len
 alone-answer_to v (call.UnwrapKey session mechanism unwrapping_key wrapped template) random r =
     let state = state_in v session in
-    alone-unwrap v v session mechanism (object_at v unwrapping_key) wrapped template random state (template_fault (making.Unwrap (length wrapped - 8)) state [] template)
+    alone-unwrap v v session mechanism (object_at v unwrapping_key) wrapped template random state
+    (template_fault (making.Unwrap (length wrapped - 8)) state [] template)
 alone-answer_to v (call.GenerateRandom session len) random r =
     alone-checked function.GenerateRandom (random_row v session len) (replies v (reply.Random random)) refl
 
 pub refuses-alone : (v : View) (c : Call) (random : List ℕ) (r : Reveal) → RefusesAlone c v (answer v c random r)
 unfolding answer
 refuses-alone v c random r =
-    (refusal-if (is_closed v) {x = refuses_by v Busy} {y = noted c (answer_to v c random r)} (refusal-row v Busy (inl refl, refl)) (refusal-noted c _ (alone-answer_to v c random r))).leaves
+    (refusal-if (is_closed v) {x = refuses_by v Busy} {y = noted c (answer_to v c random r)} (refusal-row v Busy (inl refl, refl))
+    (refusal-noted c _ (alone-answer_to v c random r))).leaves
 
 -- ---- results
 
@@ -344,11 +369,13 @@ module _ (v : View) (old : Question) (r : Reveal) where
 
   -- the operation ended, and all else as it was
   left : (t : Task) (a : Answer) → a.view ≡ ended_with session t (answered v) → a.change ≡ Stays → Fails t a
-  left t a same still = refusal-leaves {a = a} (record { so = v.token_record.so.tries; user = v.token_record.user.tries; view = same; change = inl still })
+  left t a same still = refusal-leaves {a = a}
+      (record { so = v.token_record.so.tries; user = v.token_record.user.tries; view = same; change = inl still })
 
   fails-ciphered : (part : Part) (o : Operation) (input : List ℕ) (x : TaskResult)
       → Fails (Ciphers part o input) (ciphered v session (place_for o.direction) part o input x)
-  fails-ciphered Update o input (Output bytes) = no-refusal {a = ciphered v session (place_for o.direction) Update o input (Output bytes)} refl
+  fails-ciphered Update o input (Output bytes) =
+      no-refusal {a = ciphered v session (place_for o.direction) Update o input (Output bytes)} refl
   fails-ciphered Update o input x = left (Ciphers Update o input) (ciphered v session (place_for o.direction) Update o input x) refl refl
   fails-ciphered Last o input x = left (Ciphers Last o input) (ciphered v session (place_for o.direction) Last o input x) refl refl
 
@@ -367,7 +394,8 @@ module _ (v : View) (old : Question) (r : Reveal) where
 
     over-tried : (code : Rv) (who : UserType) → Fails t (stores (reply.Code code) (with_tries v.token_record who (others r)) (answered v))
     over-tried code who =
-        refusal-leaves {a = stores (reply.Code code) (with_tries v.token_record who (others r)) (answered v)} (tried v (with_task t) code same who (others r))
+        refusal-leaves {a = stores (reply.Code code) (with_tries v.token_record who (others r)) (answered v)}
+        (tried v (with_task t) code same who (others r))
 
     fails-unwrapped : (x : TaskResult) → Fails t (unwrapped_result (answered v) session x)
     fails-unwrapped (Unwrapped o) =
@@ -384,7 +412,8 @@ module _ (v : View) (old : Question) (r : Reveal) where
         let w = answered v in
         let new = with_tries v.token_record who (others r) in
         refusal-if (is_charged v.token_record who (others r))
-        (refusal-if (may_log_in w who) (no-refusal {a = stores (reply.Code Ok) new (logged_in w who r)} refl) (over-tried FunctionFailed who))
+        (refusal-if (may_log_in w who) (no-refusal {a = stores (reply.Code Ok) new (logged_in w who r)} refl)
+        (over-tried FunctionFailed who))
         (over FunctionFailed)
     fails-login who Wrong = over PinIncorrect
     fails-login who _ = over FunctionFailed
@@ -399,7 +428,8 @@ module _ (v : View) (old : Question) (r : Reveal) where
     fails-set_pin who pin salt Right =
         let new = with_pin v.token_record who (verifier_for pin salt new_rounds) (others r) in
         refusal-if (is_charged v.token_record who (others r))
-        (refusal-if (is_initialized v.token_record) (no-refusal {a = stores (reply.Code Ok) new (answered v)} refl) (over-tried FunctionFailed who))
+        (refusal-if (is_initialized v.token_record) (no-refusal {a = stores (reply.Code Ok) new (answered v)} refl)
+        (over-tried FunctionFailed who))
         (over FunctionFailed)
     fails-set_pin who pin salt Wrong = over PinIncorrect
     fails-set_pin who pin salt _ = over FunctionFailed
@@ -427,13 +457,17 @@ module _ (v : View) (old : Question) (r : Reveal) where
   fails-outcome (Signs o input) x = left (Signs o input) (signed v session x) refl refl
   fails-outcome (Verifies o input signature) x = left (Verifies o input signature) (verified v session x) refl refl
   fails-outcome (WrapsKey key value) x = fails-wrapped key value x
-  fails-outcome (UnwrapsKey key wrapped state template random) x = fails-unwrapped (UnwrapsKey key wrapped state template random) (λ w. refl) x
+  fails-outcome (UnwrapsKey key wrapped state template random) x =
+      fails-unwrapped (UnwrapsKey key wrapped state template random) (λ w. refl) x
   fails-outcome (ChecksPin who verifier pin) x = fails-login (ChecksPin who verifier pin) (λ w. refl) who x
   fails-outcome (MakesPin pin salt) x = fails-init_pin (MakesPin pin salt) (λ w. refl) pin salt x
-  fails-outcome (ChangesPin who verifier pin new_pin salt) x = fails-set_pin (ChangesPin who verifier pin new_pin salt) (λ w. refl) who new_pin salt x
+  fails-outcome (ChangesPin who verifier pin new_pin salt) x =
+      fails-set_pin (ChangesPin who verifier pin new_pin salt) (λ w. refl) who new_pin salt x
   fails-outcome (InitsToken label pin salt) x = fails-init_token (InitsToken label pin salt) (λ w. refl) label pin salt x
   fails-outcome (ResetsToken label verifier pin) x = fails-reset_token (ResetsToken label verifier pin) (λ w. refl) label x
 
-pub fails-alone : (v : View) (q : Question) (outcome : TaskResult) (r : Reveal) → v.question ≡ Some q → FailsAlone v q (answer_result v outcome r)
+pub fails-alone : (v : View) (q : Question) (outcome : TaskResult) (r : Reveal) → v.question ≡ Some q
+    → FailsAlone v q (answer_result v outcome r)
 unfolding answer_result
-fails-alone v q outcome r asked = subst (λ o. FailsAlone v q (answer_question v o outcome r)) (sym asked) (fails-outcome v q r q.task outcome).leaves
+fails-alone v q outcome r asked =
+    subst (λ o. FailsAlone v q (answer_question v o outcome r)) (sym asked) (fails-outcome v q r q.task outcome).leaves

@@ -14,11 +14,13 @@ use Rattle.templates.specs.Faults.{template_fault, is_unknown, is_ill_formed, co
 use Rattle.model_views.specs.Refusals.{resource_error}
 use Rattle.model_views.proofs.Blind.{IsPlainFault}
 
-plain-if : (b : Bool) (code : Rv) (rest : Option Rv) → resource_error (Code code) ≡ None → IsPlainFault rest → IsPlainFault (cond b (Some code) rest)
+plain-if : (b : Bool) (code : Rv) (rest : Option Rv) → resource_error (Code code) ≡ None → IsPlainFault rest
+    → IsPlainFault (cond b (Some code) rest)
 plain-if true code rest is p = record { plain = is }
 plain-if false code rest is p = p
 
-pub fault-plain : (c : Making) (state : SessionState) (original template : List Entry) → IsPlainFault (template_fault c state original template)
+pub fault-plain : (c : Making) (state : SessionState) (original template : List Entry)
+    → IsPlainFault (template_fault c state original template)
 unfolding template_fault
 fault-plain c state original template =
     plain-if (list_any (is_unknown (class_of original)) template) rv.AttributeTypeInvalid _ refl (

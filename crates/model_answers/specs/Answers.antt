@@ -83,8 +83,10 @@ answer_to v (call.Verify session input signature) random reveal = verify v sessi
 answer_to v (call.VerifyUpdate session input) random reveal = mac_update mac_place.Verify v session input
 answer_to v (call.VerifyFinal session signature) random reveal = verify_final v session signature
 answer_to v (call.GenerateKey session mechanism template) random reveal = generate_key v session mechanism template random
-answer_to v (call.WrapKey session mechanism wrapping_key key buffer_len) random reveal = wrap_key v session mechanism wrapping_key key buffer_len
-answer_to v (call.UnwrapKey session mechanism unwrapping_key wrapped template) random reveal = unwrap_key v session mechanism unwrapping_key wrapped template random
+answer_to v (call.WrapKey session mechanism wrapping_key key buffer_len) random reveal =
+    wrap_key v session mechanism wrapping_key key buffer_len
+answer_to v (call.UnwrapKey session mechanism unwrapping_key wrapped template) random reveal =
+    unwrap_key v session mechanism unwrapping_key wrapped template random
 answer_to v (call.GenerateRandom session len) random reveal = generate_random v session len random
 
 unfoldable pub answer : View → Call → List ℕ → Reveal → Answer

@@ -15,7 +15,7 @@ use Rattle.streams.specs.declared.part.Part.TheVariants.{Update, Last}
 use Rattle.streams.specs.Lengths.{wanted, refuses_length, ends_counters}
 use Rattle.precede.specs.declared.condition.Condition.TheVariants.{NoSession, NoOperation, DataTaken, DataLength, CounterEnd, EncryptedDataLength, NoBuffer, SmallBuffer}
 use Rattle.ops.specs.declared.place.Place.{Place}
-use Rattle.ops.specs.Operations.{started, further, text_of, operation_in}
+use Rattle.ops.specs.Operations.{started, operation_further, text_of, operation_in}
 use Rattle.model_views.specs.TaskResults.{TaskResult, Output, BadPadding}
 use Rattle.model_views.specs.Views.{Ciphers}
 use Rattle.model_views.specs.Calls.{Reply, Condition, Operation, View, Answer, replies, refuses_by, becomes, asks, answered, session_of, with_operation, checked_by}
@@ -57,10 +57,12 @@ cipher_row d v s o part input buffer_len NoSession = is_none (session_of v s)
 cipher_row d v s o part input buffer_len NoOperation = is_none o
 cipher_row d v s o part input buffer_len DataTaken = has_taken (operation_or o)
 cipher_row d v s o part input buffer_len CounterEnd = ends_counters (text_of (operation_or o)) input
-cipher_row d v s o part input buffer_len DataLength = ends_counters (text_of (operation_or o)) input || (not (is_decrypt d) && refused (operation_or o) part input)
+cipher_row d v s o part input buffer_len DataLength =
+    ends_counters (text_of (operation_or o)) input || (not (is_decrypt d) && refused (operation_or o) part input)
 cipher_row d v s o part input buffer_len EncryptedDataLength = is_decrypt d && refused (operation_or o) part input
 cipher_row d v s o part input buffer_len NoBuffer = is_none buffer_len
-cipher_row d v s o part input buffer_len SmallBuffer = nat_lt (unwrap_or buffer_len 0) (wanted part (text_of (operation_or o)) (length input))
+cipher_row d v s o part input buffer_len SmallBuffer =
+    nat_lt (unwrap_or buffer_len 0) (wanted part (text_of (operation_or o)) (length input))
 cipher_row d v s o part input buffer_len _ = false
 
 -- wrong data ends the operation; where the output buffer is too short, the length that is needed is returned
@@ -77,7 +79,9 @@ cipher_says v s place length row = refuses_by v row
 
 abbrev pub ciphers : Function → Direction → Part → View → ℕ → Option Operation → List ℕ → Option ℕ → Answer
 ciphers function d part v s o input buffer_len =
-    checked_by function (cipher_row d v s o part input buffer_len) (cipher_says v s (place_for d) (wanted part (text_of (operation_or o)) (length input))) (asks v function s (Ciphers part (operation_or o) input))
+    checked_by function (cipher_row d v s o part input buffer_len)
+    (cipher_says v s (place_for d) (wanted part (text_of (operation_or o)) (length input)))
+    (asks v function s (Ciphers part (operation_or o) input))
 
 abbrev pub cipher : Function → Direction → Part → View → ℕ → List ℕ → Option ℕ → Answer
 cipher function d part v s input buffer_len = ciphers function d part v s (operation_in (session_of v s) (place_for d)) input buffer_len
@@ -101,7 +105,7 @@ ciphered_reply _ = replied.Code FunctionFailed
 
 -- a part leaves the operation that has taken it, and the last data none
 abbrev pub further_by : Operation → List ℕ → TaskResult → Option Operation
-further_by o input (Output bytes) = Some (further o input bytes)
+further_by o input (Output bytes) = Some (operation_further o input bytes)
 further_by o input _ = None
 
 abbrev pub operation_after : Part → Operation → List ℕ → TaskResult → Option Operation
@@ -109,4 +113,5 @@ operation_after Update o input outcome = further_by o input outcome
 operation_after Last o input outcome = None
 
 abbrev pub ciphered : View → ℕ → Place → Part → Operation → List ℕ → TaskResult → Answer
-ciphered v s place part o input outcome = becomes (ciphered_reply outcome) (with_operation (answered v) s place (operation_after part o input outcome))
+ciphered v s place part o input outcome =
+    becomes (ciphered_reply outcome) (with_operation (answered v) s place (operation_after part o input outcome))

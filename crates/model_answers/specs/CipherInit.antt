@@ -57,7 +57,8 @@ abbrev pub with_parameter : MechType → List ℕ → Option CipherMechanism
 with_parameter mechanism.AesEcb parameter = if length parameter == 0 then Some Ecb else None
 with_parameter mechanism.AesCbc parameter = if length parameter == 16 then Some (Cbc parameter) else None
 with_parameter mechanism.AesCbcPad parameter = if length parameter == 16 then Some (CbcPad parameter) else None
-with_parameter mechanism.AesCtr parameter = if is_counter_parameter parameter then Some (Ctr (counter_bits parameter) (drop 8 parameter)) else None
+with_parameter mechanism.AesCtr parameter =
+    if is_counter_parameter parameter then Some (Ctr (counter_bits parameter) (drop 8 parameter)) else None
 -- MACs, wrapping and generation
 with_parameter mechanism.AesCmac parameter = None
 with_parameter mechanism.Sha224Hmac parameter = None
@@ -107,7 +108,8 @@ abbrev pub begins : Direction → View → ℕ → CipherMechanism → List Entr
 begins d v s mechanism key = becomes (Code Ok) (with_operation v s (place_for d) (Some (started mechanism d (attribute_of key attr.Value))))
 
 abbrev pub begins_under : Direction → View → ℕ → Option Mechanism → Option (List Entry) → Answer
-begins_under d v s m key = checked_by (init_function d) (init_row d v s m key) (init_says d v s) (begins d v s (unwrap_or (cipher_in m) Ecb) (unwrap_or key []))
+begins_under d v s m key = checked_by (init_function d) (init_row d v s m key) (init_says d v s)
+    (begins d v s (unwrap_or (cipher_in m) Ecb) (unwrap_or key []))
 
 abbrev pub cipher_init : Direction → View → ℕ → Option Mechanism → ℕ → Answer
 cipher_init d v s m key = begins_under d v s m (object_at v key)

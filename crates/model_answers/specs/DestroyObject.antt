@@ -16,7 +16,8 @@ destroy_row v s handle _ = false
 -- the session object under the handle is gone, or the token object at an index
 abbrev pub destroyed : View → ℕ → Option ℕ → Answer
 destroyed v handle None = becomes (Code Ok) (record v { own = filter (λ e. not (e.handle == handle)) v.own })
-destroyed v handle (Some index) = record { says = Replies (Code Ok); view = record v { tokens = remove v.tokens index }; change = Remove index }
+destroyed v handle (Some index) =
+    record { says = Replies (Code Ok); view = record v { tokens = remove v.tokens index }; change = Remove index }
 
 abbrev pub destroy_object : View → ℕ → ℕ → Answer
 destroy_object v s handle = checked DestroyObject (destroy_row v s handle) v (destroyed v handle (index_of v.tokens handle))

@@ -22,10 +22,13 @@ answered_at_once max_count = if nat_le max_count found_limit then max_count else
 
 -- the first handles that weren't returned yet; the search goes on with the others, also where none is left
 abbrev pub gives_found : View → ℕ → ℕ → List ℕ → Answer
-gives_found v s count handles = becomes (Objects (take count handles)) (record v { sessions = with_search v.sessions s (Some (drop count handles)) })
+gives_found v s count handles =
+    becomes (Objects (take count handles)) (record v { sessions = with_search v.sessions s (Some (drop count handles)) })
 
 abbrev pub find_objects : View → ℕ → ℕ → Answer
-find_objects v s max_count = checked FindObjects (search_row v s) v (gives_found v s (answered_at_once max_count) (unwrap_or (search_in (session_of v s)) []))
+find_objects v s max_count = checked FindObjects (search_row v s) v
+    (gives_found v s (answered_at_once max_count) (unwrap_or (search_in (session_of v s)) []))
 
 abbrev pub find_objects_final : View → ℕ → Answer
-find_objects_final v s = checked FindObjectsFinal (search_row v s) v (becomes (Code Ok) (record v { sessions = with_search v.sessions s None }))
+find_objects_final v s = checked FindObjectsFinal (search_row v s) v
+    (becomes (Code Ok) (record v { sessions = with_search v.sessions s None }))

@@ -40,7 +40,10 @@ found template v = tokens_found template v.tokens ++ own_found template v.own
 
 -- what is found has its handles, and the search of the session has them to return
 abbrev pub handled : List Entry → View → View
-handled template v = record v { tokens = with_handles template v.next_handle v.tokens; next_handle = next_after template v.next_handle v.tokens }
+handled template v = record v {
+  tokens = with_handles template v.next_handle v.tokens;
+  next_handle = next_after template v.next_handle v.tokens;
+}
 
 abbrev pub searches : View → ℕ → List Entry → Answer
 searches v s template =

@@ -19,7 +19,8 @@ unavailable code = (code, record { len = 2 ^ 64 - 1; value = None })
 -- a value: where no buffer was given, its length alone
 abbrev pub value_told : List ℕ → Option ℕ → Rv × AttributeValue
 value_told bytes None = (Ok, record { len = length bytes; value = None })
-value_told bytes (Some buffer_len) = if nat_lt buffer_len (length bytes) then unavailable BufferTooSmall else (Ok, record { len = length bytes; value = Some bytes })
+value_told bytes (Some buffer_len) =
+    if nat_lt buffer_len (length bytes) then unavailable BufferTooSmall else (Ok, record { len = length bytes; value = Some bytes })
 
 -- a value that the object may not have
 abbrev pub if_there : Option (List ℕ) → Option ℕ → Rv × AttributeValue
@@ -36,7 +37,8 @@ has_code code codes = list_any (λ c. rv_number c == rv_number code) codes
 abbrev pub code_of_all : List Rv → Rv
 code_of_all codes =
     if has_code AttributeSensitive codes then AttributeSensitive
-    else (if has_code AttributeTypeInvalid codes then AttributeTypeInvalid else (if has_code BufferTooSmall codes then BufferTooSmall else Ok))
+    else (if has_code AttributeTypeInvalid codes then AttributeTypeInvalid else
+    (if has_code BufferTooSmall codes then BufferTooSmall else Ok))
 
 abbrev pub attributes_told : List Entry → List AttributeQuery → Reply
 attributes_told o query = AttributeValues (code_of_all (map (λ q. (attribute_told o q).0) query)) (map (λ q. (attribute_told o q).1) query)

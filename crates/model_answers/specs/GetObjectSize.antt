@@ -11,7 +11,8 @@ use Rattle.model_views.specs.Calls.{Entry, attribute_of, class_of, number_of, Vi
 
 -- the length of an object's value: of a key's, by its CKA_VALUE_LEN
 abbrev pub value_len : List Entry → ℕ
-value_len o = if is_secret_key (class_of o) then unwrap_or (number_of (attribute_of o attr.ValueLen)) 0 else length (unwrap_or (attribute_of o attr.Value) [])
+value_len o = if is_secret_key (class_of o) then unwrap_or (number_of (attribute_of o attr.ValueLen)) 0 else length
+    (unwrap_or (attribute_of o attr.Value) [])
 
 -- an attribute with a value of so many bytes: its number and that length, four bytes each, and the value
 abbrev pub attribute_size : ℕ → ℕ

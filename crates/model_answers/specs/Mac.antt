@@ -67,10 +67,12 @@ verify_says v s row = refuses_by v row
 -- ---- the pending calls
 
 abbrev pub signs : Function → View → ℕ → Option MacOperation → List ℕ → Option ℕ → Answer
-signs function v s o input buffer_len = checked_by function (sign_row v s o buffer_len) (sign_says v s (signature_length o)) (asks v function s (Signs (mac_or o) input))
+signs function v s o input buffer_len =
+    checked_by function (sign_row v s o buffer_len) (sign_says v s (signature_length o)) (asks v function s (Signs (mac_or o) input))
 
 abbrev pub verifies : Function → View → ℕ → Option MacOperation → List ℕ → List ℕ → Answer
-verifies function v s o input signature = checked_by function (verify_row v s o signature) (verify_says v s) (asks v function s (Verifies (mac_or o) input signature))
+verifies function v s o input signature =
+    checked_by function (verify_row v s o signature) (verify_says v s) (asks v function s (Verifies (mac_or o) input signature))
 
 abbrev pub takes : MacPlace → View → ℕ → Option MacOperation → List ℕ → Answer
 takes p v s o input = checked (mac_update_function p) (mac_row v s o) v (asks v (mac_update_function p) s (Takes p (mac_or o) input))

@@ -6,7 +6,7 @@ use Rattle.ck_types.specs.declared.attr_type.AttrType.TheVariants as attr
 use Rattle.ck_types.specs.declared.mech_type.MechType.{MechType}
 use Rattle.ck_types.specs.declared.mech_type.MechType.TheVariants as mechanism
 use Rattle.ck_mechanisms.specs.declared.purpose.Purpose.TheVariants as purpose
-use Rattle.ck_mechanisms.specs.Table.{mechanism_for, key_type_of as key_type_for}
+use Rattle.ck_mechanisms.specs.Table.{mechanism_for, mech_key_type as key_type_for}
 use Rattle.macs.specs.declared.mechanism.Mechanism.{Mechanism as MacMechanism}
 use Rattle.macs.specs.declared.mechanism.Mechanism.TheVariants.{AesCmac, Sha224Hmac, Sha256Hmac, Sha384Hmac, Sha512Hmac}
 use Rattle.ck_calls.specs.declared.fields.Mechanism.{Mechanism}
@@ -89,7 +89,9 @@ abbrev pub mac_begins : MacPlace → View → ℕ → MacMechanism → List Entr
 mac_begins p v s mechanism key = becomes (Code Ok) (with_mac v s p (Some (mac_started mechanism (attribute_of key attr.Value))))
 
 abbrev pub mac_begins_under : MacPlace → View → ℕ → Option Mechanism → Option (List Entry) → Answer
-mac_begins_under p v s m key = checked_by (mac_init_function p) (mac_init_row p v s m key) (mac_init_says p v s) (mac_begins p v s (unwrap_or (mac_mechanism_in m) AesCmac) (unwrap_or key []))
+mac_begins_under p v s m key =
+    checked_by (mac_init_function p) (mac_init_row p v s m key) (mac_init_says p v s)
+    (mac_begins p v s (unwrap_or (mac_mechanism_in m) AesCmac) (unwrap_or key []))
 
 abbrev pub mac_init : MacPlace → View → ℕ → Option Mechanism → ℕ → Answer
 mac_init p v s m key = mac_begins_under p v s m (object_at v key)

@@ -20,7 +20,8 @@ rewritten_own es handle o = updated_where (λ e. e.handle == handle) (λ e. reco
 -- index. Its handle stays.
 abbrev pub puts : View → ℕ → List Entry → Option ℕ → Answer
 puts v handle o None = becomes (Code Ok) (record v { own = rewritten_own v.own handle o })
-puts v handle o (Some index) = record { says = Replies (Code Ok); view = record v { tokens = rewritten v.tokens index o }; change = Replace index o }
+puts v handle o (Some index) =
+    record { says = Replies (Code Ok); view = record v { tokens = rewritten v.tokens index o }; change = Replace index o }
 
 abbrev pub set_row : View → ℕ → Option (List Entry) → Option Rv → Condition → Bool
 set_row v s original fault NoSession = is_none (session_of v s)
@@ -31,7 +32,8 @@ set_row v s original fault TemplateRefused = is_some fault
 set_row v s original fault _ = false
 
 abbrev pub sets : View → ℕ → ℕ → Option (List Entry) → Option Rv → List Entry → Answer
-sets v s handle original fault o = checked_by SetAttributeValue (set_row v s original fault) (makes_says v fault) (puts v handle o (index_of v.tokens handle))
+sets v s handle original fault o =
+    checked_by SetAttributeValue (set_row v s original fault) (makes_says v fault) (puts v handle o (index_of v.tokens handle))
 
 abbrev pub sets_in : View → ℕ → ℕ → Option (List Entry) → List Entry → Answer
 sets_in v s handle original template =

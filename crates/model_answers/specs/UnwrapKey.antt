@@ -51,11 +51,14 @@ unwrap_says v fault row = refuses_by v row
 
 abbrev pub unwraps : View → ℕ → Mechanism → Option (List Entry) → List ℕ → List Entry → List ℕ → SessionState → Option Rv → Answer
 unwraps v s m key wrapped template random state fault =
-    checked_by functions.UnwrapKey (unwrap_row v s m key wrapped fault (key_ahead template random (length wrapped - 8))) (unwrap_says v fault) (asks v functions.UnwrapKey s (UnwrapsKey (attribute_of (unwrap_or key []) attr.Value) wrapped state template random))
+    checked_by functions.UnwrapKey (unwrap_row v s m key wrapped fault (key_ahead template random (length wrapped - 8)))
+    (unwrap_says v fault) (asks v functions.UnwrapKey s
+    (UnwrapsKey (attribute_of (unwrap_or key []) attr.Value) wrapped state template random))
 
 abbrev pub unwrap_key : View → ℕ → Mechanism → ℕ → List ℕ → List Entry → List ℕ → Answer
 unwrap_key v s m key wrapped template random =
-    unwraps v s m (object_at v key) wrapped template random (state_in v s) (template_fault (Unwrap (length wrapped - 8)) (state_in v s) [] template)
+    unwraps v s m (object_at v key) wrapped template random (state_in v s)
+    (template_fault (Unwrap (length wrapped - 8)) (state_in v s) [] template)
 
 -- the session is there, and a handle is left
 abbrev pub may_add : View → ℕ → Bool

@@ -57,7 +57,9 @@ wrap_says v length row = refuses_by v row
 
 abbrev pub wraps : View → ℕ → Mechanism → Option (List Entry) → Option (List Entry) → Option ℕ → Answer
 wraps v s m wrapping key buffer_len =
-    checked_by functions.WrapKey (wrap_row v s m wrapping key buffer_len) (wrap_says v (wrapped_len key)) (asks v functions.WrapKey s (WrapsKey (attribute_of (unwrap_or wrapping []) attr.Value) (attribute_of (unwrap_or key []) attr.Value)))
+    checked_by functions.WrapKey (wrap_row v s m wrapping key buffer_len) (wrap_says v (wrapped_len key))
+    (asks v functions.WrapKey s (WrapsKey (attribute_of (unwrap_or wrapping []) attr.Value)
+    (attribute_of (unwrap_or key []) attr.Value)))
 
 abbrev pub wrap_key : View → ℕ → Mechanism → ℕ → ℕ → Option ℕ → Answer
 wrap_key v s m wrapping key buffer_len = wraps v s m (object_at v wrapping) (object_at v key) buffer_len

@@ -12,8 +12,10 @@ ghost use Rattle.model_answers.specs.Standing.{FailsAlone, RefusesAlone};
 /// comes in from outside, alone. No masked value is in a reply, in the view after it or in what others see: none of a
 /// masked key, of a key in use or of a PIN's verifier.
 pub fn blind_answers()
-    ensures calls { (v : View) (call : Call) (random : List ℕ) (r : Reveal) → shown (answer (mask v) call random (mask_reveal r)) ≡ shown (answer v call random r) }
-    ensures results { (v : View) (outcome : TaskResult) (r : Reveal) → shown (answer_result (mask v) (mask_outcome outcome) (mask_reveal r)) ≡ shown (answer_result v outcome r) }
+    ensures calls { (v : View) (call : Call) (random : List ℕ) (r : Reveal)
+        → shown (answer (mask v) call random (mask_reveal r)) ≡ shown (answer v call random r) }
+    ensures results { (v : View) (outcome : TaskResult) (r : Reveal)
+        → shown (answer_result (mask v) (mask_outcome outcome) (mask_reveal r)) ≡ shown (answer_result v outcome r) }
 {}
 
 /// A refusal changes nothing that the application or others see, but for an operation that it ends (PKCS #11 v3.1, 5.2). That

@@ -13,7 +13,8 @@ pub blames-append : (xs ys : List Reply) → blames (xs ++ ys) ≡ blames xs + b
 blames-append [] ys = omega arith
 blames-append (x ∷ xs) ys = let k = blames-append xs ys in omega (arith, k)
 
-pub accounts-more : (before mid now : ℕ) (xs ys : List Reply) → AccountsFor before mid xs → AccountsFor mid now ys → mid ≤ now → AccountsFor before now (xs ++ ys)
+pub accounts-more : (before mid now : ℕ) (xs ys : List Reply) → AccountsFor before mid xs → AccountsFor mid now ys → mid ≤ now
+    → AccountsFor before now (xs ++ ys)
 accounts-more before mid now xs ys (inr most) more rises = inr (omega (arith, most, rises))
 accounts-more before mid now xs ys (inl few) (inr most) rises = inr most
 accounts-more before mid now xs ys (inl few) (inl more) rises = inl (let k = blames-append xs ys in omega (arith, k, few, more))
@@ -27,7 +28,8 @@ device-is (Code HostMemory) is = let k : Some Memory ≡ Some Device = is in cc
 device-is _ is = let k : None ≡ Some Device = is in cc
 
 -- one reply, which blames the device only where a failure was counted
-pub accounts-one : (before now : ℕ) (reply : Reply) → before ≤ now → (reply ≡ Code DeviceError → Rises before now) → AccountsFor before now (reply ∷ [])
+pub accounts-one : (before now : ℕ) (reply : Reply) → before ≤ now → (reply ≡ Code DeviceError → Rises before now)
+    → AccountsFor before now (reply ∷ [])
 accounts-one before now reply rises cause = by (resource_error reply) refl where
   by : (o : Option Fault) → resource_error reply ≡ o → AccountsFor before now (reply ∷ [])
   by None is = rw is (inl (omega (arith, rises)))

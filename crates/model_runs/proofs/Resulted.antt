@@ -22,11 +22,11 @@ use Rattle.model_views.specs.Answering.{Replies, Answer, Reveal, answered}
 use Rattle.model_answers.specs.Answers.{answer_result}
 use Rattle.model_views.specs.Refusals.{resource_error_in, refusal, resource_error}
 use Rattle.model_worlds.specs.Worlds.{World, checks_of, others_checking, others_in_session, value_of, reveal_by_outcome, reveal_to_task, result_at, list_change, without_checks, stepped, unchecked, finished, finish_tells, finish_refusal, goes, happens, told, reply_to}
-use Rattle.serve_base.specs.Shown.{objects_of, view_of, question_of, Changes}
+use Rattle.serve_base.specs.Shown.{objects_of, view_of, question_of, ChangesContents}
 use Rattle.model_runs.specs.Applications.{desk_at, are_others_in_session, reveal_by_job, told_result, moved, move_of, IsOpen, HasNumbers, HasJobs, opening, answer_by, answer_to_job, asked_by_job, by_job, taken_by, says_by, TokenState, Shows, ShowsAfter}
-use Rattle.serve_base.specs.Stores.{StoreState, Has, LacksId, Serves}
+use Rattle.serve_base.specs.Stores.{StoreState, StoreHas, LacksId, ServesAnswer}
 use Rattle.model_runs.specs.Runs.{Lasting, lasting_of, lasting_in, MayLeave, LeavesBy, LeftBy, IsTakenBy, change_of, result_change}
-use Rattle.model_worlds.specs.Tries.{IsSound}
+use Rattle.model_worlds.specs.Tries.{IsSoundWorld}
 use Rattle.model_answers.proofs.Proper.{plain-result, unasking-result}
 use Rattle.lists.proofs.IndexLemmas.{append_nil}
 use Rattle.model_runs.proofs.Seats.{seated-is}
@@ -36,7 +36,8 @@ use Rattle.model_runs.proofs.Steps.{fits-given, depicts-given, depicts-put, fits
 
 -- ---- a result with the numbers of the pending call, by its own value
 
-module _ {K : Type 0} (terms : Terms K) (old new : StoreState K) (ds ds' : List (ℕ × DeskState)) (cs : List Check) (app : ℕ) (job : Job) (w : World) (s : Shows terms (record { store = old; desks = ds; checks = cs }) w) where
+module _ {K : Type 0} (terms : Terms K) (old new : StoreState K) (ds ds' : List (ℕ × DeskState)) (cs : List Check) (app : ℕ)
+    (job : Job) (w : World) (s : Shows terms (record { store = old; desks = ds; checks = cs }) w) where
   abbrev outcome : TaskResult
   outcome = value_of (question_of job).task
 
@@ -47,7 +48,7 @@ module _ {K : Type 0} (terms : Terms K) (old new : StoreState K) (ds ds' : List 
   given = answer_to_job job (view_of s.contents (desk_at ds app)) reveal
 
   abbrev IsServed : Result Reply Fault → Type 0
-  IsServed r = Serves terms Replies given s.contents old new (desk_at ds app) (over (desk_at ds app)) r (desk_at ds' app)
+  IsServed r = ServesAnswer terms Replies given s.contents old new (desk_at ds app) (over (desk_at ds app)) r (desk_at ds' app)
 
   abbrev before : TokenState K
   before = record { store = old; desks = ds; checks = cs }
@@ -58,12 +59,15 @@ module _ {K : Type 0} (terms : Terms K) (old new : StoreState K) (ds ds' : List 
   -- what the result reveals of the world is what it reveals of the desks
   reveal-is : reveal_to_task w app (question_of job).task ≡ reveal
   reveal-is =
-      let r : List (List Entry) → List Check → Bool → Reveal = λ os xs b. reveal_by_outcome (question_of job).task outcome os (others_checking xs app) b in
-      ap (λ os. r os w.checks (others_in_session w app)) s.depicts.objects ∙ ap (λ xs. r (objects_of s.contents) xs (others_in_session w app)) s.depicts.checks
+      let r : List (List Entry) → List Check → Bool → Reveal =
+      λ os xs b. reveal_by_outcome (question_of job).task outcome os (others_checking xs app) b in
+      ap (λ os. r os w.checks (others_in_session w app)) s.depicts.objects
+      ∙ ap (λ xs. r (objects_of s.contents) xs (others_in_session w app)) s.depicts.checks
       ∙ ap (r (objects_of s.contents) cs) (seated-is ds w.in_session app s.depicts.in_session)
 
   given-is : answer_by w app job ≡ given
-  given-is = ap (λ v. answer_to_job job v (reveal_to_task w app (question_of job).task)) (s.depicts.views app) ∙ ap (answer_to_job job (view_of s.contents (desk_at ds app))) reveal-is
+  given-is = ap (λ v. answer_to_job job v (reveal_to_task w app (question_of job).task)) (s.depicts.views app)
+      ∙ ap (answer_to_job job (view_of s.contents (desk_at ds app))) reveal-is
 
   change-is : list_change w app (answer_by w app job) ≡ in_list (sees (desk_at ds app).sessions.login) (objects_of s.contents) given.change
   change-is = ap (list_change w app) given-is ∙ rw (s.depicts.views app, s.depicts.objects) refl
@@ -78,13 +82,23 @@ module _ {K : Type 0} (terms : Terms K) (old new : StoreState K) (ds ds' : List 
   fault-resource_error_in Memory = (Memory, refl, refl)
   fault-resource_error_in Device = (Device, refl, refl)
 
-  lasts : (d : Contents) → Changes (in_list (sees (desk_at ds app).sessions.login) (objects_of s.contents) given.change) s.contents d → lasting_in d ≡ lasting_of (taken_by w app job None)
+  lasts : (d : Contents) → ChangesContents
+      (in_list (sees (desk_at ds app).sessions.login) (objects_of s.contents) given.change) s.contents d
+      → lasting_in d ≡ lasting_of (taken_by w app job None)
   lasts d is =
       let change : Change = in_list (sees (desk_at ds app).sessions.login) (objects_of s.contents) given.change in
-      rw (change-is, s.depicts.token_record, s.depicts.objects, objects-changed change s.contents d is, record-changed change s.contents d is) refl
+      rw (
+        change-is,
+        s.depicts.token_record,
+        s.depicts.objects,
+        objects-changed change s.contents d is,
+        record-changed change s.contents d is,
+      ) refl
 
-  module _ (q : Question) (asked : (w.views app).question ≡ Some q) (others : (b : ℕ) → b ≢ app → SameDesk (desk_at ds b) (desk_at ds' b)) where
-    pub next-taken : (r : Result Reply Fault) → IsServed r → IsTakenBy (ShowsAfter terms s.contents 1 after) (MayLeave terms before) (MayLeave terms after) w app job (told_result r)
+  module _ (q : Question) (asked : (w.views app).question ≡ Some q)
+      (others : (b : ℕ) → b ≢ app → SameDesk (desk_at ds b) (desk_at ds' b)) where
+    pub next-taken : (r : Result Reply Fault) → IsServed r
+        → IsTakenBy (ShowsAfter terms s.contents 1 after) (MayLeave terms before) (MayLeave terms after) w app job (told_result r)
     next-taken (Ok reply) m =
         let d = depicts-given given s.contents m.contents ds ds' app s.fits others (Replies reply) m.gives cs w s.depicts in
         let e = went reply m.gives.says in
@@ -94,9 +108,18 @@ module _ {K : Type 0} (terms : Terms K) (old new : StoreState K) (ds ds' : List 
               contents = m.contents;
               has = m.has;
               fits = fits-given given s.contents m.contents ds ds' app s.fits others (Replies reply) m.gives;
-              depicts = record { token_record = d.token_record; objects = d.objects; checks = ap (without_checks app) (d.checks ∙ ap (λ o. cs ++ checks_of app o) (unasking-result (asked_by_job job (view_of s.contents (desk_at ds app))) outcome reveal) ∙ append_nil cs); in_session = d.in_session; views = d.views };
+              depicts = record {
+                token_record = d.token_record;
+                objects = d.objects;
+                checks = ap (without_checks app)
+                    (d.checks ∙ ap (λ o. cs ++ checks_of app o)
+                    (unasking-result (asked_by_job job (view_of s.contents (desk_at ds app))) outcome reveal) ∙ append_nil cs);
+                in_session = d.in_session;
+                views = d.views;
+              };
             },
-            last-changed (in_list (sees (desk_at ds app).sessions.login) (objects_of s.contents) given.change) s.contents m.contents m.gives.changes,
+            last-changed (in_list (sees (desk_at ds app).sessions.login)
+                (objects_of s.contents) given.change) s.contents m.contents m.gives.changes,
           );
           says = rw e (m.gives.says ∙ ap (λ (a : Answer). a.says) (sym given-is));
           leaves = λ l may. rw e (elim (m.leaves may.0 may.1) [
@@ -112,7 +135,8 @@ module _ {K : Type 0} (terms : Terms K) (old new : StoreState K) (ds ds' : List 
               contents = s.contents;
               has = m.has;
               fits = fits-put s.contents ds ds' app (rw m.same (s.fits app)) others s.fits;
-              depicts = depicts-put s.contents ds ds' cs app (over (desk_at ds app)) (answered (w.views app)) w m.same (rw (s.depicts.views app) refl) others s.depicts;
+              depicts = depicts-put s.contents ds ds' cs app (over (desk_at ds app)) (answered (w.views app)) w m.same
+                  (rw (s.depicts.views app) refl) others s.depicts;
             },
             omega arith,
           );
@@ -123,12 +147,14 @@ module _ {K : Type 0} (terms : Terms K) (old new : StoreState K) (ds ds' : List 
           ]);
         }
 
-    pub taken : (r : Result Reply Fault) → IsServed r → IsTakenBy (Shows terms after) (MayLeave terms before) (MayLeave terms after) w app job (told_result r)
+    pub taken : (r : Result Reply Fault) → IsServed r
+        → IsTakenBy (Shows terms after) (MayLeave terms before) (MayLeave terms after) w app job (told_result r)
     taken r m = let is = next-taken r m in record { shows = is.shows.0; says = is.says; leaves = is.leaves }
 
   -- an answer for which there is no id adds an object to what lasts
   pub lacks-taken : LacksId given.change s.contents → LacksId (list_change w app (answer_by w app job)) s.contents
-  lacks-taken lacks = rw change-is (lacks-in_list (sees (desk_at ds app).sessions.login) (objects_of s.contents) given.change s.contents lacks)
+  lacks-taken lacks = rw change-is
+      (lacks-in_list (sees (desk_at ds app).sessions.login) (objects_of s.contents) given.change s.contents lacks)
 
 -- ---- and where the job is the pending call's
 
@@ -156,11 +182,14 @@ module _ (w : World) (app : ℕ) (job : Job) (open_is : IsOpen w app job) where
   tells-taken None = ap (finish_tells w app) open_is.question ∙ ap (λ (a : Answer). told app a.says) (sym asked-open)
   tells-taken (Some fault) = ap (finish_refusal app fault) open_is.question
 
-  left-taken : (prior : Option Lasting → Type 0) (l : Option Lasting) (o : Option Fault) → LeavesBy prior (list_change w app (answer_by w app job)) (taken_by w app job None) o l → LeftBy prior w (moved (Finish app) o) l
-  left-taken prior l None by = rw (happens-taken None, ap (result_change w app) open_is.question ∙ ap (list_change w app) (sym asked-open)) by
+  left-taken : (prior : Option Lasting → Type 0) (l : Option Lasting) (o : Option Fault)
+      → LeavesBy prior (list_change w app (answer_by w app job)) (taken_by w app job None) o l → LeftBy prior w (moved (Finish app) o) l
+  left-taken prior l None by = rw
+      (happens-taken None, ap (result_change w app) open_is.question ∙ ap (list_change w app) (sym asked-open)) by
   left-taken prior l (Some fault) by = rw (happens-taken None) by
 
-  module _ (showing : World → Type 0) (prior left : Option Lasting → Type 0) (reply : Reply) (is : IsTakenBy showing prior left w app job reply) where
+  module _ (showing : World → Type 0) (prior left : Option Lasting → Type 0) (reply : Reply)
+      (is : IsTakenBy showing prior left w app job reply) where
     pub shows-open : showing (happens w (move_of (Finish app) (OutReply reply)))
     shows-open = rw (happens-taken (resource_error reply)) is.shows
 
@@ -172,12 +201,16 @@ module _ (w : World) (app : ℕ) (job : Job) (open_is : IsOpen w app job) where
 
 module _ {K : Type 0} (terms : Terms K) where
   -- -- the desk's pending call is the one that the world has
-  pub desk-question : (old : StoreState K) (ds : List (ℕ × DeskState)) (cs : List Check) (app : ℕ) (w : World) (s : Shows terms (record { store = old; desks = ds; checks = cs }) w) → (w.views app).question ≡ option_map question_of (desk_at ds app).question
+  pub desk-question : (old : StoreState K) (ds : List (ℕ × DeskState)) (cs : List Check) (app : ℕ) (w : World)
+      (s : Shows terms (record { store = old; desks = ds; checks = cs }) w)
+      → (w.views app).question ≡ option_map question_of (desk_at ds app).question
   desk-question old ds cs app w s = ap (λ v. v.question) (s.depicts.views app)
 
   -- -- a disconnect
-  pub next-gone : (old : StoreState K) (ds ds' : List (ℕ × DeskState)) (cs : List Check) (app : ℕ) (w : World) → desk_at ds' app ≡ empty_desk → ((b : ℕ) → b ≢ app → desk_at ds' b ≡ desk_at ds b)
-      → (s : Shows terms (record { store = old; desks = ds; checks = cs }) w) → ShowsAfter terms s.contents 0 (record { store = old; desks = ds'; checks = without_checks app cs }) (goes w (Gone app))
+  pub next-gone : (old : StoreState K) (ds ds' : List (ℕ × DeskState)) (cs : List Check) (app : ℕ) (w : World)
+      → desk_at ds' app ≡ empty_desk → ((b : ℕ) → b ≢ app → desk_at ds' b ≡ desk_at ds b)
+      → (s : Shows terms (record { store = old; desks = ds; checks = cs }) w)
+      → ShowsAfter terms s.contents 0 (record { store = old; desks = ds'; checks = without_checks app cs }) (goes w (Gone app))
   next-gone old ds ds' cs app w own others s = (
     record {
       contents = s.contents;
@@ -188,17 +221,23 @@ module _ {K : Type 0} (terms : Terms K) where
     omega arith,
   )
 
-  pub shows-gone : (old : StoreState K) (ds ds' : List (ℕ × DeskState)) (cs : List Check) (app : ℕ) (w : World) → desk_at ds' app ≡ empty_desk → ((b : ℕ) → b ≢ app → desk_at ds' b ≡ desk_at ds b)
-      → Shows terms (record { store = old; desks = ds; checks = cs }) w → Shows terms (record { store = old; desks = ds'; checks = without_checks app cs }) (goes w (Gone app))
+  pub shows-gone : (old : StoreState K) (ds ds' : List (ℕ × DeskState)) (cs : List Check) (app : ℕ) (w : World)
+      → desk_at ds' app ≡ empty_desk → ((b : ℕ) → b ≢ app → desk_at ds' b ≡ desk_at ds b)
+      → Shows terms (record { store = old; desks = ds; checks = cs }) w
+      → Shows terms (record { store = old; desks = ds'; checks = without_checks app cs }) (goes w (Gone app))
   shows-gone old ds ds' cs app w own others s = (next-gone old ds ds' cs app w own others s).0
 
   -- nobody has come yet
-  pub shows-opening : (store : StoreState K) (c : Contents) → Has terms store c → Shows terms (record { store = store; desks = []; checks = [] }) (opening c)
+  pub shows-opening : (store : StoreState K) (c : Contents) → StoreHas terms store c
+      → Shows terms (record { store = store; desks = []; checks = [] }) (opening c)
   shows-opening store c h = record { contents = c; has = h; fits = λ b. fits-empty c; depicts = depicts-opening c }
 
-  pub no-jobs : (store : StoreState K) (cs : List Check) (w : World) → Shows terms (record { store = store; desks = []; checks = cs }) w → HasJobs w []
+  pub no-jobs : (store : StoreState K) (cs : List Check) (w : World)
+      → Shows terms (record { store = store; desks = []; checks = cs }) w → HasJobs w []
   no-jobs store cs w s app = ap (λ v. map (λ q. (app, q)) (option_to_list v.question)) (sym (s.depicts.views app))
 
   -- the ten tries begin
-  pub sound-new : (store : StoreState K) (w : World) → Shows terms (record { store = store; desks = []; checks = [] }) w → ((who : UserType) → tries_of (w.token_record) who ≤ tries_limit) → IsSound (tries_of (w.token_record)) w
-  sound-new store w s few = sound-start w s.depicts.checks (λ app. ap (λ v. v.question) (s.depicts.views app)) (λ app. ap (λ v. v.token_record) (s.depicts.views app) ∙ sym s.depicts.token_record) few
+  pub sound-new : (store : StoreState K) (w : World) → Shows terms (record { store = store; desks = []; checks = [] }) w
+      → ((who : UserType) → tries_of (w.token_record) who ≤ tries_limit) → IsSoundWorld (tries_of (w.token_record)) w
+  sound-new store w s few = sound-start w s.depicts.checks (λ app. ap (λ v. v.question) (s.depicts.views app))
+      (λ app. ap (λ v. v.token_record) (s.depicts.views app) ∙ sym s.depicts.token_record) few

@@ -2,7 +2,7 @@
 use Rattle.std.proofs.Common.{◌≡◌, ℕ, Bool, true, false, cond, not, List, [], ◌∷◌, refl, sym, ◌∙◌, ap, inl, inr, arith}
 use Rattle.std.specs.Prelude.{◌==◌, ◌||◌, ◌&&◌, ◌+◌, length, filter, map}
 use Rattle.ck_types.specs.declared.user_type.UserType.{UserType}
-use Rattle.pin_record.specs.Charges.{is_same, without}
+use Rattle.pin_record.specs.Charges.{is_same_user, without}
 use Rattle.model_worlds.specs.declared.check.Check.{Check}
 use Rattle.model_worlds.specs.Worlds.{checking, others_checking}
 use Rattle.std.specs.List.{list_any, count_by, fold}
@@ -51,7 +51,8 @@ key-there (e ∷ es) n has = elim (cases_eq e.0 n) [
 ]
 
 -- in the world, whose sessions are those of the desks
-pub seated-is : (ds : List (ℕ × DeskState)) (xs : List ℕ) (app : ℕ) → ((b : ℕ) → list_any (λ n. n == b) xs ≡ has_session_at ds b) → list_any (λ n. not (n == app)) xs ≡ are_others_in_session ds app
+pub seated-is : (ds : List (ℕ × DeskState)) (xs : List ℕ) (app : ℕ) → ((b : ℕ) → list_any (λ n. n == b) xs ≡ has_session_at ds b)
+    → list_any (λ n. not (n == app)) xs ≡ are_others_in_session ds app
 seated-is ds xs app same = both (list_any (λ n. not (n == app)) xs) (are_others_in_session ds app) there back where
   there : list_any (λ n. not (n == app)) xs ≡ true → are_others_in_session ds app ≡ true
   there is =
@@ -67,12 +68,13 @@ seated-is ds xs app same = both (list_any (λ n. not (n == app)) xs) (are_others
 
 -- the checks of others, counted
 abbrev is_others : ℕ → UserType → Check → Bool
-is_others app who c = is_same who c.user && not (c.app == app)
+is_others app who c = is_same_user who c.user && not (c.app == app)
 
 counted-from : {A : Type 0} (p : A → Bool) (n : ℕ) (xs : List A) → fold (λ a x. a + cond (p x) 1 0) n xs ≡ n + length (filter p xs)
 counted-from p n [] = omega arith
 counted-from p n (x ∷ xs) = step (p x) (counted-from p (n + cond (p x) 1 0) xs) where
-  step : (b : Bool) → fold (λ a x. a + cond (p x) 1 0) (n + cond (p x) 1 0) xs ≡ (n + cond (p x) 1 0) + length (filter p xs) → fold (λ a x. a + cond (p x) 1 0) (n + cond (p x) 1 0) xs ≡ n + length (cond (p x) (x ∷ filter p xs) (filter p xs))
+  step : (b : Bool) → fold (λ a x. a + cond (p x) 1 0) (n + cond (p x) 1 0) xs ≡ (n + cond (p x) 1 0) + length (filter p xs)
+      → fold (λ a x. a + cond (p x) 1 0) (n + cond (p x) 1 0) xs ≡ n + length (cond (p x) (x ∷ filter p xs) (filter p xs))
   step b h = h ∙ last (p x) where
     last : (b : Bool) → (n + cond b 1 0) + length (filter p xs) ≡ n + length (cond b (x ∷ filter p xs) (filter p xs))
     last true = omega arith
@@ -80,11 +82,13 @@ counted-from p n (x ∷ xs) = step (p x) (counted-from p (n + cond (p x) 1 0) xs
 
 others-filtered : (cs : List Check) (app : ℕ) (who : UserType) → length (filter (is_others app who) cs) ≡ others_checking cs app who
 others-filtered [] app who = refl
-others-filtered (c ∷ cs) app who = step (is_same who c.user) (not (c.app == app)) refl (others-filtered cs app who) where
+others-filtered (c ∷ cs) app who = step (is_same_user who c.user) (not (c.app == app)) refl (others-filtered cs app who) where
   step : (s b : Bool) → not (c.app == app) ≡ b → length (filter (is_others app who) cs) ≡ others_checking cs app who
-      → length (cond (s && b) (c ∷ filter (is_others app who) cs) (filter (is_others app who) cs)) ≡ length (without (map (λ x. x.app) (cond s (c ∷ filter (λ x. is_same who x.user) cs) (filter (λ x. is_same who x.user) cs))) app)
+      → length (cond (s && b) (c ∷ filter (is_others app who) cs) (filter (is_others app who) cs))
+      ≡ length (without (map (λ x. x.app) (cond s (c ∷ filter (λ x. is_same_user who x.user) cs) (filter (λ x. is_same_user who x.user) cs))) app)
   step false b e h = h
-  step true true e h = (let k : length (c ∷ filter (is_others app who) cs) ≡ length (c.app ∷ without (checking who cs) app) = omega (arith, h) in k) ∙ ap (λ t. length (cond t (c.app ∷ without (checking who cs) app) (without (checking who cs) app))) (sym e)
+  step true true e h = (let k : length (c ∷ filter (is_others app who) cs) ≡ length (c.app ∷ without (checking who cs) app) =
+      omega (arith, h) in k) ∙ ap (λ t. length (cond t (c.app ∷ without (checking who cs) app) (without (checking who cs) app))) (sym e)
   step true false e h = h ∙ ap (λ t. length (cond t (c.app ∷ without (checking who cs) app) (without (checking who cs) app))) (sym e)
 
 pub others-counted : (cs : List Check) (app : ℕ) (who : UserType) → count_by (is_others app who) cs ≡ others_checking cs app who

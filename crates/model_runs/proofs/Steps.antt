@@ -15,9 +15,9 @@ use Rattle.model_views.specs.Views.{TokenObject, View, sees, without_handle, fre
 use Rattle.model_views.specs.Changes.{Change, seen, in_list, as_seen}
 use Rattle.model_views.specs.Answering.{Said, Answer, Reveal, has_session, pin_checked_in}
 use Rattle.model_answers.specs.Answers.{answer}
-use Rattle.serve_base.specs.Stores.{StoreState, Serves}
+use Rattle.serve_base.specs.Stores.{StoreState, ServesAnswer}
 use Rattle.model_worlds.specs.Worlds.{World, seated, list_change, change_for, checks_of, without_checks, stepped, unchecked, with_view, goes}
-use Rattle.serve_base.specs.Shown.{objects_of, sees_kept, token_object, view_of, IsNoted, Fits, Gives, said_of}
+use Rattle.serve_base.specs.Shown.{objects_of, sees_kept, token_object, view_of, IsNoted, Fits, GivesAnswer, said_of}
 use Rattle.model_runs.specs.Applications.{State, desk_at, Depicts, opening, AllFit}
 use Rattle.lists.proofs.ListLemmas.{map-map, filter-map, filter-less, any-none, any-less}
 use Rattle.serve_base.proofs.Seeing.{less-none}
@@ -46,7 +46,8 @@ in-other app b v apps differ = step (has_session v) where
   rest : list_any (λ n. n == b) (filter (λ n. not (n == app)) apps) ≡ list_any (λ n. n == b) apps
   rest = any-less (λ n. n == b) (λ n. not (n == app)) apps (λ n is. ap not (ne_eqb n app (λ e. differ (sym (eqb-true n b is) ∙ e))))
 
-  step : (t : Bool) → list_any (λ n. n == b) (cond t (app ∷ filter (λ n. not (n == app)) apps) (filter (λ n. not (n == app)) apps)) ≡ list_any (λ n. n == b) apps
+  step : (t : Bool) → list_any (λ n. n == b) (cond t (app ∷ filter (λ n. not (n == app)) apps) (filter (λ n. not (n == app)) apps))
+      ≡ list_any (λ n. n == b) apps
   step true = ap (λ t. t || list_any (λ n. n == b) (filter (λ n. not (n == app)) apps)) (ne_eqb app b (λ e. differ (sym e))) ∙ rest
   step false = rest
 
@@ -54,14 +55,19 @@ session-same : (c c' : Contents) (d d' : DeskState) → SameDesk d d' → has_se
 session-same c c' d d' same = rw same refl
 
 -- ---- an answer at one desk, after which the other desks are as before
-module _ (a : Answer) (c c' : Contents) (ds ds' : List (ℕ × DeskState)) (app : ℕ) (fits : AllFit c ds) (others : (b : ℕ) → b ≢ app → SameDesk (desk_at ds b) (desk_at ds' b)) (said : Said) (gives : Gives a (desk_at ds app).sessions.login c said c' (desk_at ds' app)) where
+module _ (a : Answer) (c c' : Contents) (ds ds' : List (ℕ × DeskState)) (app : ℕ) (fits : AllFit c ds)
+    (others : (b : ℕ) → b ≢ app → SameDesk (desk_at ds b) (desk_at ds' b)) (said : Said)
+    (gives : GivesAnswer a (desk_at ds app).sessions.login c said c' (desk_at ds' app)) where
   pub fits-given : AllFit c' ds'
   fits-given b = elim (cases_eq b app) [
     | inl is ↦ rw is gives.fits
-    | inr differ ↦ fits-same c' (desk_at ds b) (desk_at ds' b) (others b differ) (fits-changed (in_list (sees (desk_at ds app).sessions.login) (objects_of c) a.change) c c' (desk_at ds b).handles.entries gives.changes (fits b))
+    | inr differ ↦ fits-same c' (desk_at ds b) (desk_at ds' b) (others b differ)
+        (fits-changed (in_list (sees (desk_at ds app).sessions.login) (objects_of c) a.change) c c'
+        (desk_at ds b).handles.entries gives.changes (fits b))
   ]
 
-  pub depicts-given : (cs : List Check) (w : World) → Depicts (state c ds cs) w → Depicts (state c' ds' (cs ++ checks_of app (pin_checked_in a.says))) (stepped w app a)
+  pub depicts-given : (cs : List Check) (w : World) → Depicts (state c ds cs) w
+      → Depicts (state c' ds' (cs ++ checks_of app (pin_checked_in a.says))) (stepped w app a)
   depicts-given cs w s =
       let change : Change = in_list (sees (desk_at ds app).sessions.login) (objects_of c) a.change in
       let is : list_change w app a ≡ change = rw (s.views app, s.objects) refl in
@@ -71,22 +77,27 @@ module _ (a : Answer) (c c' : Contents) (ds ds' : List (ℕ × DeskState)) (app 
         checks = ap (λ xs. xs ++ checks_of app (pin_checked_in a.says)) s.checks;
         in_session = λ b. elim (cases_eq b app) [
           | inl same ↦ rw same (in-own app a.view w.in_session ∙ ap has_session (sym gives.view))
-          | inr differ ↦ in-other app b a.view w.in_session differ ∙ s.in_session b ∙ session-same c c' (desk_at ds b) (desk_at ds' b) (others b differ)
+          | inr differ ↦ in-other app b a.view w.in_session differ ∙ s.in_session b
+              ∙ session-same c c' (desk_at ds b) (desk_at ds' b) (others b differ)
         ];
         views = λ b. elim (cases_eq b app) [
           | inl same ↦ rw (eq-eqb b app same) (rw same (sym gives.view))
           | inr differ ↦ rw (ne_eqb b app differ) (
-              let to : change_for b w app a ≡ as_seen (sees (desk_at ds b).sessions.login) (objects_of c) change = rw (is, s.views b, s.objects) refl in
+              let to : change_for b w app a ≡ as_seen (sees (desk_at ds b).sessions.login) (objects_of c) change =
+              rw (is, s.views b, s.objects) refl in
               ap (λ x. seen x (w.views b)) to ∙ ap (seen (as_seen (sees (desk_at ds b).sessions.login) (objects_of c) change)) (s.views b)
-              ∙ sym (view_of-changed change c c' (desk_at ds b) gives.changes (fits b)) ∙ sym (view_of-same c' (desk_at ds b) (desk_at ds' b) (others b differ)))
+              ∙ sym (view_of-changed change c c' (desk_at ds b) gives.changes (fits b))
+              ∙ sym (view_of-same c' (desk_at ds b) (desk_at ds' b) (others b differ)))
         ];
       }
 
 -- ---- nothing changes but capacities
-pub fits-all : (c : Contents) (ds ds' : List (ℕ × DeskState)) → ((b : ℕ) → SameDesk (desk_at ds b) (desk_at ds' b)) → AllFit c ds → AllFit c ds'
+pub fits-all : (c : Contents) (ds ds' : List (ℕ × DeskState)) → ((b : ℕ) → SameDesk (desk_at ds b) (desk_at ds' b)) → AllFit c ds
+    → AllFit c ds'
 fits-all c ds ds' same fits b = fits-same c (desk_at ds b) (desk_at ds' b) (same b) (fits b)
 
-pub depicts-same : (c : Contents) (ds ds' : List (ℕ × DeskState)) (cs : List Check) (w : World) → ((b : ℕ) → SameDesk (desk_at ds b) (desk_at ds' b)) → Depicts (state c ds cs) w → Depicts (state c ds' cs) w
+pub depicts-same : (c : Contents) (ds ds' : List (ℕ × DeskState)) (cs : List Check) (w : World)
+    → ((b : ℕ) → SameDesk (desk_at ds b) (desk_at ds' b)) → Depicts (state c ds cs) w → Depicts (state c ds' cs) w
 depicts-same c ds ds' cs w same s = record {
   token_record = s.token_record;
   objects = s.objects;
@@ -96,7 +107,8 @@ depicts-same c ds ds' cs w same s = record {
 }
 
 -- ---- one desk is another, and its application's checks are over
-pub depicts-put : (c : Contents) (ds ds' : List (ℕ × DeskState)) (cs : List Check) (app : ℕ) (d : DeskState) (v : View) (w : World) → SameDesk d (desk_at ds' app) → view_of c d ≡ v → ((b : ℕ) → b ≢ app → SameDesk (desk_at ds b) (desk_at ds' b))
+pub depicts-put : (c : Contents) (ds ds' : List (ℕ × DeskState)) (cs : List Check) (app : ℕ) (d : DeskState) (v : View) (w : World)
+    → SameDesk d (desk_at ds' app) → view_of c d ≡ v → ((b : ℕ) → b ≢ app → SameDesk (desk_at ds b) (desk_at ds' b))
     → Depicts (state c ds cs) w → Depicts (state c ds' (without_checks app cs)) (unchecked (with_view w app v) app)
 depicts-put c ds ds' cs app d v w own is others s = record {
   token_record = s.token_record;
@@ -112,7 +124,8 @@ depicts-put c ds ds' cs app d v w own is others s = record {
   ];
 }
 
-pub fits-put : (c : Contents) (ds ds' : List (ℕ × DeskState)) (app : ℕ) → Fits c (desk_at ds' app).handles.entries → ((b : ℕ) → b ≢ app → SameDesk (desk_at ds b) (desk_at ds' b)) → AllFit c ds → AllFit c ds'
+pub fits-put : (c : Contents) (ds ds' : List (ℕ × DeskState)) (app : ℕ) → Fits c (desk_at ds' app).handles.entries
+    → ((b : ℕ) → b ≢ app → SameDesk (desk_at ds b) (desk_at ds' b)) → AllFit c ds → AllFit c ds'
 fits-put c ds ds' app own others fits b = elim (cases_eq b app) [
   | inl is ↦ rw is own
   | inr differ ↦ fits-same c (desk_at ds b) (desk_at ds' b) (others b differ) (fits b)
@@ -129,7 +142,8 @@ fits-empty c = record { given = tt; noted = noted c.objects } where
 pub view_of-empty : (c : Contents) → view_of c empty_desk ≡ fresh c.token_record (objects_of c)
 view_of-empty c =
     let f : List TokenObject → View = λ ts. record (view_of c empty_desk) { tokens = ts } in
-    ap f (sym (ap (map without_handle) (filter-map (sees None) (λ (e : Kept). e.1) c.objects) ∙ map-map (λ (e : Kept). e.1) without_handle (filter (sees_kept None) c.objects)))
+    ap f (sym (ap (map without_handle) (filter-map (sees None) (λ (e : Kept). e.1) c.objects)
+    ∙ map-map (λ (e : Kept). e.1) without_handle (filter (sees_kept None) c.objects)))
 
 -- what it saw before it disconnected is what it sees
 pub view_of-left : (c : Contents) (d : DeskState) → view_of c empty_desk ≡ left (view_of c d)
@@ -138,18 +152,31 @@ view_of-left c d =
     let seen : List Kept = filter (sees_kept d.sessions.login) c.objects in
     ap f (sym (
     ap (λ os. map without_handle (filter (sees None) os)) (map-map (token_object d) (λ t. t.object) seen)
-    ∙ ap (map without_handle) (filter-map (sees None) (λ (e : Kept). e.1) seen ∙ ap (map (λ (e : Kept). e.1)) (filter-less (sees_kept None) (sees_kept d.sessions.login) c.objects (less-none d.sessions.login)))
+    ∙ ap (map without_handle) (filter-map (sees None) (λ (e : Kept). e.1) seen
+    ∙ ap (map (λ (e : Kept). e.1)) (filter-less (sees_kept None) (sees_kept d.sessions.login) c.objects (less-none d.sessions.login)))
     ∙ map-map (λ (e : Kept). e.1) without_handle (filter (sees_kept None) c.objects)))
 
 pub depicts-opening : (c : Contents) → Depicts (state c [] []) (opening c)
-depicts-opening c = record { token_record = refl; objects = refl; checks = refl; in_session = λ app. refl; views = λ app. sym (view_of-empty c) }
+depicts-opening c = record {
+  token_record = refl;
+  objects = refl;
+  checks = refl;
+  in_session = λ app. refl;
+  views = λ app. sym (view_of-empty c);
+}
 
-pub depicts-gone : (c : Contents) (ds ds' : List (ℕ × DeskState)) (cs : List Check) (app : ℕ) (w : World) → desk_at ds' app ≡ empty_desk → ((b : ℕ) → b ≢ app → desk_at ds' b ≡ desk_at ds b) → Depicts (state c ds cs) w → Depicts (state c ds' (without_checks app cs)) (goes w (Gone app))
+pub depicts-gone : (c : Contents) (ds ds' : List (ℕ × DeskState)) (cs : List Check) (app : ℕ) (w : World)
+    → desk_at ds' app ≡ empty_desk → ((b : ℕ) → b ≢ app → desk_at ds' b ≡ desk_at ds b) → Depicts (state c ds cs) w
+    → Depicts (state c ds' (without_checks app cs)) (goes w (Gone app))
 depicts-gone c ds ds' cs app w own others s =
-    depicts-put c ds ds' cs app empty_desk (left (w.views app)) w (rw own refl) (view_of-left c (desk_at ds app) ∙ ap left (sym (s.views app))) (λ b differ. rw (others b differ) refl) s
+    depicts-put c ds ds' cs app empty_desk (left (w.views app)) w (rw own refl)
+    (view_of-left c (desk_at ds app) ∙ ap left (sym (s.views app))) (λ b differ. rw (others b differ) refl) s
 
 -- ---- a call at a desk that is the same but for capacities
-pub served-same : {K : Type 0} (terms : Terms K) (call : Call) (random : List ℕ) (reveal : Reveal) (c : Contents) (old new : StoreState K) (d mid : DeskState) (r : Result Out Fault) (desk : DeskState) → SameDesk d mid
-    → Serves terms said_of (answer (view_of c mid) call random reveal) c old new mid mid r desk → Serves terms said_of (answer (view_of c d) call random reveal) c old new d d r desk
+pub served-same : {K : Type 0} (terms : Terms K) (call : Call) (random : List ℕ) (reveal : Reveal) (c : Contents)
+    (old new : StoreState K) (d mid : DeskState) (r : Result Out Fault) (desk : DeskState) → SameDesk d mid
+    → ServesAnswer terms said_of (answer (view_of c mid) call random reveal) c old new mid mid r desk
+    → ServesAnswer terms said_of (answer (view_of c d) call random reveal) c old new d d r desk
 served-same terms call random reveal c old new d mid (Ok out) desk same s = rw same at s
-served-same terms call random reveal c old new d mid (Err fault) desk same s = record { has = s.has; same = rw same at s.same; leaves = rw same at s.leaves }
+served-same terms call random reveal c old new d mid (Err fault) desk same s =
+    record { has = s.has; same = rw same at s.same; leaves = rw same at s.leaves }

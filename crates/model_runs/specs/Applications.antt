@@ -28,7 +28,7 @@ use Rattle.model_worlds.specs.Worlds.{World, is_in_session, checks_of, Move, Goe
 use Rattle.serve_base.specs.Refusing.{GivesAnyway}
 use Rattle.serve_base.specs.Short.{IsShort, IsShortTask}
 use Rattle.serve_base.specs.Shown.{objects_of, task_of, view_of, Fits, ShowsSame, said_of, question_of}
-use Rattle.serve_base.specs.Stores.{StoreState, Has, FailsForIds, Serves}
+use Rattle.serve_base.specs.Stores.{StoreState, StoreHas, FailsForIds, ServesAnswer}
 
 -- ---- all desks
 
@@ -86,20 +86,24 @@ answer_to_job job v reveal = answer_result (asked_by_job job v) (value_of (quest
 
 -- what it reveals, by what is kept, by the checks in progress, and by whether another application has a session
 abbrev pub reveal_by_job : Job → (UserType → ℕ) → Bool → Contents → Reveal
-reveal_by_job job under_way others_have_sessions c = reveal_by_outcome (question_of job).task (value_of (question_of job).task) (objects_of c) under_way others_have_sessions
+reveal_by_job job under_way others_have_sessions c =
+    reveal_by_outcome (question_of job).task (value_of (question_of job).task) (objects_of c) under_way others_have_sessions
 
 -- The answer to the result of the job is given, or it is refused, and the desk has no pending call. At most one write is tried,
 -- and CKR_DEVICE_ERROR comes only where a failure of the keeper was counted. Over a steady keeper it comes only to an answer
 -- that adds an object, where the ids are used up. A refusal leaves what the desk shows without the pending call, or what the
 -- answer says, store faithful or not. What is returned of a short task is short.
-pub record Finishes {K : Type 0} (terms : Terms K) (job : Job) (reveal : Contents → Reveal) (old new : StoreState K) (before : DeskState) (result : Result Reply Fault) (desk : DeskState) : Type 0 where
-  pub serves : terms.doubt new.keep ≡ 0 → (c : Contents) → Has terms old c → Fits c before.handles.entries → Serves terms Replies (answer_to_job job (view_of c before) (reveal c)) c old new before (over before) result desk
+pub record Finishes {K : Type 0} (terms : Terms K) (job : Job) (reveal : Contents → Reveal) (old new : StoreState K)
+    (before : DeskState) (result : Result Reply Fault) (desk : DeskState) : Type 0 where
+  pub serves : terms.doubt new.keep ≡ 0 → (c : Contents) → StoreHas terms old c → Fits c before.handles.entries
+      → ServesAnswer terms Replies (answer_to_job job (view_of c before) (reveal c)) c old new before (over before) result desk
   pub counts : Counted terms old.keep new.keep 0 1
   pub cause : IsErrOf result Device → Rises (terms.failures old.keep) (terms.failures new.keep)
   pub steady : FailsForIds terms Device (λ c v. answer_to_job job v (reveal c)) old before result
   pub plain : IfOk result (λ reply. resource_error reply ≡ None)
   pub stays : IfErr result (λ fault. SameDesk (over before) desk)
-  pub refused : IfOk result (λ reply. is_refusal reply ≡ true → ShowsSame (over before) desk ⊎ GivesAnyway (λ c v. answer_to_job job v (reveal c)) before (Replies reply) desk)
+  pub refused : IfOk result (λ reply. is_refusal reply ≡ true → ShowsSame (over before) desk
+      ⊎ GivesAnyway (λ c v. answer_to_job job v (reveal c)) before (Replies reply) desk)
   pub short : IsShortTask (task_of job.work.value) → IfOk result (λ reply. IsShort reply)
 
 -- what an application sees of its desk after a refused call, whatever is kept
@@ -108,7 +112,8 @@ StandsAtDesk call old new = (c : Contents) → Fits c old.handles.entries → St
 
 -- a view, and what a refused result may leave of it
 abbrev pub StandsOver : Job → View → View → Type 0
-StandsOver job v new = (new ≡ answered v) ⊎ ((q : Question) × (v.question ≡ Some q) × (new ≡ ended_with q.session (question_of job).task (answered v)))
+StandsOver job v new = (new ≡ answered v)
+    ⊎ ((q : Question) × (v.question ≡ Some q) × (new ≡ ended_with q.session (question_of job).task (answered v)))
 
 -- and of a desk, whatever is kept
 abbrev pub StandsOverDesk : Job → DeskState → DeskState → Type 0
@@ -198,7 +203,7 @@ pub record TokenState (K : Type 0) : Type 0 where
 -- the token refines the world: its keeper holds contents that do, with the desks
 pub record Shows {K : Type 0} (terms : Terms K) (t : TokenState K) (w : World) : Type 0 where
   pub contents : Contents
-  pub has : Has terms t.store contents
+  pub has : StoreHas terms t.store contents
   pub fits : AllFit contents t.desks
   pub depicts : Depicts (record { kept = contents; desks = t.desks; checks = t.checks }) w
 

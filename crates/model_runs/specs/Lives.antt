@@ -46,4 +46,5 @@ AreLives r (life ∷ more) =
 -- how many checks have failed over them, since the PIN was last entered right or set
 abbrev pub failed_over : UserType → ℕ → List Life → ℕ
 failed_over who s [] = s
-failed_over who s (life ∷ more) = failed_over who (failed_in who s life.world life.moves + in_progress who (after life.world life.moves)) more
+failed_over who s (life ∷ more) =
+    failed_over who (failed_in who s life.world life.moves + in_progress who (after life.world life.moves)) more

@@ -20,7 +20,7 @@ use Rattle.model_views.specs.Answering.{Replies}
 use Rattle.model_views.specs.Refusals.{resource_error}
 use Rattle.model_worlds.specs.Worlds.{World, Move, Goes, Refuses, event_of, answer_at, result_at, list_change, goes, happens, reply_to, after, replies}
 use Rattle.model_worlds.specs.Traces.{IsTold}
-use Rattle.model_worlds.specs.Tries.{IsSound, spent_in}
+use Rattle.model_worlds.specs.Tries.{IsSoundWorld, spent_in}
 use Rattle.serve_base.specs.Shown.{objects_of}
 use Rattle.serve_base.specs.Stores.{LacksId}
 use Rattle.model_runs.specs.Applications.{HasJobs, Shows, TokenState, answer_by, taken_by, says_by}
@@ -77,10 +77,12 @@ LeftAfter prior w (m ∷ ms) l = LeftAfter (LeftBy prior w m) (happens w m) ms l
 
 -- What comes of a result by its job's own value. The token refines the world after it, this was returned, and a crash leaves no
 -- more than its change; or it was refused.
-pub record IsTakenBy (showing : World → Type 0) (prior left : Option Lasting → Type 0) (w : World) (app : ℕ) (job : Job) (reply : Reply) : Type 0 where
+pub record IsTakenBy (showing : World → Type 0) (prior left : Option Lasting → Type 0) (w : World) (app : ℕ) (job : Job)
+    (reply : Reply) : Type 0 where
   pub shows : showing (taken_by w app job (resource_error reply))
   pub says : Replies reply ≡ says_by w app job (resource_error reply)
-  pub leaves : (l : Option Lasting) → left l → LeavesBy prior (list_change w app (answer_by w app job)) (taken_by w app job None) (resource_error reply) l
+  pub leaves : (l : Option Lasting) → left l
+      → LeavesBy prior (list_change w app (answer_by w app job)) (taken_by w app job None) (resource_error reply) l
 
 -- ---- whom replies blame
 
@@ -115,7 +117,8 @@ pub record HasIds {K : Type 0} (terms : Terms K) (t : TokenState K) (out : List 
 
 -- The token refines the world after the event, at which this was returned; the pending jobs are the world's; and a crash may
 -- leave no more than that.
-pub record IsStep (showing : World → Type 0) (prior left : Option Lasting → Type 0) (w : World) (event : Event) (said : List (ℕ × Reply)) (out : List (ℕ × Job)) : Type 0 where
+pub record IsStep (showing : World → Type 0) (prior left : Option Lasting → Type 0) (w : World) (event : Event)
+    (said : List (ℕ × Reply)) (out : List (ℕ × Job)) : Type 0 where
   pub move : Move
   pub takes : event_of move ≡ event
   pub tells : reply_to w move ≡ said
@@ -124,7 +127,8 @@ pub record IsStep (showing : World → Type 0) (prior left : Option Lasting → 
   pub leaves : (l : Option Lasting) → left l → LeftBy prior w move l
 
 -- the first event is taken, and what it returned stands last
-pub record Advances (sure : Type 0) (showed shows : World → Type 0) (prior left : Option Lasting → Type 0) (events : List Event) (jobs : List (ℕ × Job)) (said : List (ℕ × Reply)) (rest : List Event) (out : List (ℕ × Job)) (all : List (ℕ × Reply)) : Type 0 where
+pub record RunAdvances (sure : Type 0) (showed shows : World → Type 0) (prior left : Option Lasting → Type 0) (events : List Event)
+    (jobs : List (ℕ × Job)) (said : List (ℕ × Reply)) (rest : List Event) (out : List (ℕ × Job)) (all : List (ℕ × Reply)) : Type 0 where
   pub event : Event
   pub first : events ≡ event ∷ rest
   pub more : List (ℕ × Reply)
@@ -132,7 +136,8 @@ pub record Advances (sure : Type 0) (showed shows : World → Type 0) (prior lef
   pub step : sure → (w : World) → showed w → HasJobs w jobs → IsStep shows prior left w event more out
 
 -- From w the events took place up to those left, with these replies, and the token refines the world after them.
-pub record IsRun (showing : World → Type 0) (prior left : Option Lasting → Type 0) (w : World) (events : List Event) (said : List (ℕ × Reply)) (rest : List Event) (out : List (ℕ × Job)) : Type 0 where
+pub record IsRun (showing : World → Type 0) (prior left : Option Lasting → Type 0) (w : World) (events : List Event)
+    (said : List (ℕ × Reply)) (rest : List Event) (out : List (ℕ × Job)) : Type 0 where
   pub moves : List Move
   pub took : map event_of moves ++ rest ≡ events
   pub replied : said ≡ replies w moves
@@ -143,4 +148,4 @@ pub record IsRun (showing : World → Type 0) (prior left : Option Lasting → T
   -- each application got what its trace determines, and sees that: for its whole life, after resource errors too
   pub private : (app : ℕ) → IsTold app w moves
   -- the tries of each PIN stay the checks of it that are spent and those in progress, ten at most
-  pub tries : (s : UserType → ℕ) → IsSound s w → IsSound (spent_in s w moves) (after w moves)
+  pub tries : (s : UserType → ℕ) → IsSoundWorld s w → IsSoundWorld (spent_in s w moves) (after w moves)

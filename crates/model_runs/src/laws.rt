@@ -5,7 +5,7 @@ ghost use Rattle.ck_types.specs.declared.user_type.UserType.{UserType as Who};
 ghost use Rattle.keep.specs.Contents.{Contents};
 ghost use Rattle.pin_record.specs.Records.{TokenRecord, tries_limit, tries_of};
 ghost use Rattle.model_worlds.specs.Worlds.{World, Move, after};
-ghost use Rattle.model_worlds.specs.Tries.{IsSound};
+ghost use Rattle.model_worlds.specs.Tries.{IsSoundWorld};
 ghost use Rattle.model_runs.specs.Applications.{opening};
 ghost use Rattle.model_runs.specs.Lives.{AreLives, BeginsWith, Leaves, Life, failed_in, failed_over, in_progress};
 ghost use Rattle.model_runs.specs.Runs.{Lasting};
@@ -13,9 +13,9 @@ ghost use Rattle.model_runs.specs.Runs.{Lasting};
 /// No crash gives a try back. In whatever a crash leaves after a run from a sound world, the tries of each PIN are at least two
 /// kinds of its checks: those in progress, and those that failed since it was last entered right or set. They are ten at most.
 pub fn tries_after_crash()
-    ensures kept { (who : Who) (s : Who → ℕ) (n : ℕ) (w : World) (ms : List Move) (left : Lasting) → IsSound s w → n ≤ s who → Leaves w ms left
+    ensures kept { (who : Who) (s : Who → ℕ) (n : ℕ) (w : World) (ms : List Move) (left : Lasting) → IsSoundWorld s w → n ≤ s who → Leaves w ms left
         → failed_in who n w ms + in_progress who (after w ms) ≤ tries_of left.token_record who }
-    ensures ten { (who : Who) (s : Who → ℕ) (w : World) (ms : List Move) (left : Lasting) → IsSound s w → Leaves w ms left
+    ensures ten { (who : Who) (s : Who → ℕ) (w : World) (ms : List Move) (left : Lasting) → IsSoundWorld s w → Leaves w ms left
         → tries_of left.token_record who ≤ tries_limit }
 {}
 

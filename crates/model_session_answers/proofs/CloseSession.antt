@@ -18,7 +18,8 @@ row-mask : (s : ℕ) (v : View) (row : Condition) → close_row (mask v) s row �
 row-mask s v NoSession = row-session v s
 row-mask s v _ = refl
 
-others-mask : (s : ℕ) (ss : List (Session Operations)) → filter (λ x. not (x.handle == s)) (map mask_session ss) ≡ map mask_session (filter (λ x. not (x.handle == s)) ss)
+others-mask : (s : ℕ) (ss : List (Session Operations))
+    → filter (λ x. not (x.handle == s)) (map mask_session ss) ≡ map mask_session (filter (λ x. not (x.handle == s)) ss)
 others-mask s ss = filter-map (λ (x : Session Operations). not (x.handle == s)) mask_session ss
 
 closed-mask : (v : View) (s : ℕ) → mask (closed (mask v) s) ≡ mask (closed v s)
@@ -39,12 +40,19 @@ closed-mask v s =
 pub proper-close_session : (s : ℕ) → IsProper (λ v r. close_session v s) true
 proper-close_session s =
     proper-checked CloseSession (λ v. close_row v s) (λ v. becomes (Code Ok) (closed v s)) (row-mask s)
-    (λ v. blind-becomes (Code Ok) (closed (mask v) s) (closed v s) (closed-mask v s)) (λ v. fair v {a = becomes (Code Ok) (closed v s)} refl refl refl refl refl)
+    (λ v. blind-becomes (Code Ok) (closed (mask v) s) (closed v s) (closed-mask v s))
+    (λ v. fair v {a = becomes (Code Ok) (closed v s)} refl refl refl refl refl)
 
 all_closed-mask : (v : View) → mask (all_closed (mask v)) ≡ mask (all_closed v)
-all_closed-mask v = rw (seen-tokens None v.tokens, tokens-twice (seen_by None v.tokens), question-twice v.question, record-twice v.token_record) refl
+all_closed-mask v = rw (
+  seen-tokens None v.tokens,
+  tokens-twice (seen_by None v.tokens),
+  question-twice v.question,
+  record-twice v.token_record,
+) refl
 
 pub proper-close_all_sessions : (slot : ℕ) → IsProper (λ v r. close_all_sessions v slot) true
 proper-close_all_sessions slot =
     proper-checked CloseAllSessions (λ v. slot_row slot) (λ v. becomes (Code Ok) (all_closed v)) (λ v row. refl)
-    (λ v. blind-becomes (Code Ok) (all_closed (mask v)) (all_closed v) (all_closed-mask v)) (λ v. fair v {a = becomes (Code Ok) (all_closed v)} refl refl refl refl refl)
+    (λ v. blind-becomes (Code Ok) (all_closed (mask v)) (all_closed v) (all_closed-mask v))
+    (λ v. fair v {a = becomes (Code Ok) (all_closed v)} refl refl refl refl refl)

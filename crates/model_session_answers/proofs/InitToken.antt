@@ -26,7 +26,8 @@ use-mask : (v : View) (r : Reveal) → is_in_use (mask v) (mask_reveal r) ≡ is
 use-mask v r = ap (λ n. nat_lt 0 n || unwrap_or r.others_have_sessions false) (length-map mask_session v.sessions.sessions)
 
 module _ (slot : ℕ) (pin label : List ℕ) where
-  row-mask : (v : View) (r : Reveal) (row : Condition) → init_token_row (mask v) (mask_reveal r) slot pin label row ≡ init_token_row v r slot pin label row
+  row-mask : (v : View) (r : Reveal) (row : Condition)
+      → init_token_row (mask v) (mask_reveal r) slot pin label row ≡ init_token_row v r slot pin label row
   row-mask v r SessionOpen = use-mask v r
   row-mask v r PinLength = ap (λ b. not b && not (is_pin_length pin)) (row-initialized v.token_record)
   row-mask v r PinLocked = ap (λ b. b && is_locked v.token_record So) (row-initialized v.token_record)
@@ -35,25 +36,32 @@ module _ (slot : ℕ) (pin label : List ℕ) where
   blind-inits : (random : List ℕ) (v : View) → shown (inits (mask v) pin label random) ≡ shown (inits v pin label random)
   blind-inits random v =
       blind-if (is_initialized (mask v).token_record) (is_initialized v.token_record) _ _ _ _ (row-initialized v.token_record)
-      (blind-asks_checked v InitToken 0 (ResetsToken label (verifier_or (mask v).token_record So) pin) (ResetsToken label (verifier_or v.token_record So) pin) So refl)
+      (blind-asks_checked v InitToken 0 (ResetsToken label (verifier_or (mask v).token_record So) pin)
+      (ResetsToken label (verifier_or v.token_record So) pin) So refl)
       (blind-asks v InitToken 0 (InitsToken label pin random) (InitsToken label pin random) refl)
 
-  fair-inits : (random : List ℕ) (v : View) (r : Reveal) → NoRow InitToken (init_token_row v r slot pin label) → IsFair false v (inits v pin label random)
+  fair-inits : (random : List ℕ) (v : View) (r : Reveal) → NoRow InitToken (init_token_row v r slot pin label)
+      → IsFair false v (inits v pin label random)
   fair-inits random v r none = step (is_initialized v.token_record) refl none.1.1.1.1.1.0 where
-    step : (b : Bool) → is_initialized v.token_record ≡ b → (b && is_locked v.token_record So) ≡ false → IsFair false v (cond b (asks_checked v InitToken 0 (ResetsToken label (verifier_or v.token_record So) pin) So) (asks v InitToken 0 (InitsToken label pin random)))
-    step true set unlocked = fair-asks_checked v InitToken 0 (ResetsToken label (verifier_or v.token_record So) pin) So refl set (not-false (nat_lt (tries_of v.token_record So) tries_limit) unlocked) refl (λ k. let z : So ≡ User = k in cc)
+    step : (b : Bool) → is_initialized v.token_record ≡ b → (b && is_locked v.token_record So) ≡ false
+        → IsFair false v (cond b (asks_checked v InitToken 0 (ResetsToken label (verifier_or v.token_record So) pin) So)
+        (asks v InitToken 0 (InitsToken label pin random)))
+    step true set unlocked = fair-asks_checked v InitToken 0 (ResetsToken label (verifier_or v.token_record So) pin) So refl set
+        (not-false (nat_lt (tries_of v.token_record So) tries_limit) unlocked) refl (λ k. let z : So ≡ User = k in cc)
     step false unset unlocked = fair v {a = asks v InitToken 0 (InitsToken label pin random)} refl refl refl refl refl
 
 pub proper-init_token : (slot : ℕ) (pin label random : List ℕ) → IsProper (λ v r. init_token v slot pin label random r) false
 proper-init_token slot pin label random =
-    proper-given InitToken (λ v r. init_token_row v r slot pin label) (λ v. inits v pin label random) (row-mask slot pin label) (blind-inits slot pin label random) (fair-inits slot pin label random)
+    proper-given InitToken (λ v r. init_token_row v r slot pin label) (λ v. inits v pin label random) (row-mask slot pin label)
+    (blind-inits slot pin label random) (fair-inits slot pin label random)
 
 -- ---- the results
 
 may-mask : (v : View) → may_init (mask v) ≡ may_init v
 may-mask v = ap (λ b. not b && (tries_of v.token_record So == 0)) (row-initialized v.token_record)
 
-pub blind-init_token : (v : View) (label pin salt : List ℕ) (outcome : TaskResult) (r : Reveal) → shown (init_token_result (mask v) label pin salt outcome (mask_reveal r)) ≡ shown (init_token_result v label pin salt outcome r)
+pub blind-init_token : (v : View) (label pin salt : List ℕ) (outcome : TaskResult) (r : Reveal)
+    → shown (init_token_result (mask v) label pin salt outcome (mask_reveal r)) ≡ shown (init_token_result v label pin salt outcome r)
 blind-init_token v label pin salt Made r =
     let new = initialized_record label (verifier_for pin salt new_rounds) 0 in
     blind-if (may_init (mask v)) (may_init v) _ _ _ _ (may-mask v)
@@ -62,7 +70,8 @@ blind-init_token v label pin salt Made r =
     (blind-refusal v FunctionFailed)
 blind-init_token v label pin salt _ r = blind-refusal v FunctionFailed
 
-pub blind-reset_token : (v : View) (label : List ℕ) (outcome : TaskResult) (r : Reveal) → shown (reset_token_result (mask v) label outcome (mask_reveal r)) ≡ shown (reset_token_result v label outcome r)
+pub blind-reset_token : (v : View) (label : List ℕ) (outcome : TaskResult) (r : Reveal)
+    → shown (reset_token_result (mask v) label outcome (mask_reveal r)) ≡ shown (reset_token_result v label outcome r)
 blind-reset_token v label Right r =
     let n = others r in
     let old = (mask v).token_record in
@@ -70,22 +79,28 @@ blind-reset_token v label Right r =
     blind-if (is_charged old So n) (is_charged new So n) _ _ _ _ (charged-mask new So n)
     (blind-if (is_in_use (mask v) (mask_reveal r)) (is_in_use v r) _ _ _ _ (use-mask v r)
     (blind-stores (Code SessionExists) (with_tries old So n) (with_tries new So n) (mask v) v (with_tries-masked new So n) (mask-twice v))
-    (blind-resets (initialized_record label (verifier_or old So) n) (initialized_record label (verifier_or new So) n) (mask v) v refl (mask-twice v)))
+    (blind-resets (initialized_record label (verifier_or old So) n) (initialized_record label (verifier_or new So) n)
+    (mask v) v refl (mask-twice v)))
     (blind-refusal v FunctionFailed)
 blind-reset_token v label Wrong r = blind-refusal v PinIncorrect
 blind-reset_token v label _ r = blind-refusal v FunctionFailed
 
-pub over-init_token : (v : View) (label pin salt : List ℕ) (outcome : TaskResult) (r : Reveal) → IsOver v (init_token_result (answered v) label pin salt outcome r)
+pub over-init_token : (v : View) (label pin salt : List ℕ) (outcome : TaskResult) (r : Reveal)
+    → IsOver v (init_token_result (answered v) label pin salt outcome r)
 over-init_token v label pin salt Made r =
     over-if v (may_init (answered v))
-    (over-if v (is_in_use (answered v) r) (over-refused v SessionExists refl) (over-resets v (initialized_record label (verifier_for pin salt new_rounds) 0)))
+    (over-if v (is_in_use (answered v) r) (over-refused v SessionExists refl)
+    (over-resets v (initialized_record label (verifier_for pin salt new_rounds) 0)))
     (over-refused v FunctionFailed refl)
 over-init_token v label pin salt _ r = over-refused v FunctionFailed refl
 
-pub over-reset_token : (v : View) (label : List ℕ) (outcome : TaskResult) (r : Reveal) → IsOver v (reset_token_result (answered v) label outcome r)
+pub over-reset_token : (v : View) (label : List ℕ) (outcome : TaskResult) (r : Reveal)
+    → IsOver v (reset_token_result (answered v) label outcome r)
 over-reset_token v label Right r =
     over-if v (is_charged v.token_record So (others r))
-    (over-if v (is_in_use (answered v) r) (over-stores v (answered v) (Code SessionExists) (with_tries v.token_record So (others r)) refl refl) (over-resets v (initialized_record label (verifier_or v.token_record So) (others r))))
+    (over-if v (is_in_use (answered v) r)
+    (over-stores v (answered v) (Code SessionExists) (with_tries v.token_record So (others r)) refl refl)
+    (over-resets v (initialized_record label (verifier_or v.token_record So) (others r))))
     (over-refused v FunctionFailed refl)
 over-reset_token v label Wrong r = over-refused v PinIncorrect refl
 over-reset_token v label _ r = over-refused v FunctionFailed refl

@@ -44,29 +44,45 @@ module _ (s : ℕ) (user : Option UserType) (who : UserType) where
 
   proper-logs_in : (pin : List ℕ) → IsProper (λ v r. logs_in v s user who pin) false
   proper-logs_in pin =
-      proper-given Login (λ v r. login_row v s user who) (λ v. asks_checked v Login s (ChecksPin who (verifier_or v.token_record who) pin) who) row-mask
-      (λ v. blind-asks_checked v Login s (ChecksPin who (verifier_or (mask v).token_record who) pin) (ChecksPin who (verifier_or v.token_record who) pin) who refl)
-      (λ v r none. fair-asks_checked v Login s (ChecksPin who (verifier_or v.token_record who) pin) who refl (not-false _ none.1.1.1.1.1.1.0) (not-false (nat_lt (tries_of v.token_record who) tries_limit) none.1.1.1.1.1.1.1.0) refl (λ k. has-session v s none.1.0))
+      proper-given Login (λ v r. login_row v s user who)
+      (λ v. asks_checked v Login s (ChecksPin who (verifier_or v.token_record who) pin) who) row-mask
+      (λ v. blind-asks_checked v Login s (ChecksPin who (verifier_or (mask v).token_record who) pin)
+      (ChecksPin who (verifier_or v.token_record who) pin) who refl)
+      (λ v r none. fair-asks_checked v Login s (ChecksPin who (verifier_or v.token_record who) pin) who refl
+      (not-false _ none.1.1.1.1.1.1.0) (not-false (nat_lt (tries_of v.token_record who) tries_limit) none.1.1.1.1.1.1.1.0) refl
+      (λ k. has-session v s none.1.0))
 
 pub proper-login : (s number : ℕ) (pin : List ℕ) → IsProper (λ v r. login v s number pin) false
 proper-login s number pin = proper-logs_in s (user_of number) (unwrap_or (user_of number) User) pin
 
 -- ---- and ends
 
-merged-mask : (os : List (List Entry)) (ts : List TokenObject) → map mask_token_object (merged (mask_objects os) (map mask_token_object ts)) ≡ map mask_token_object (merged os ts)
+merged-mask : (os : List (List Entry)) (ts : List TokenObject)
+    → map mask_token_object (merged (mask_objects os) (map mask_token_object ts)) ≡ map mask_token_object (merged os ts)
 merged-mask [] ts = refl
 merged-mask (o ∷ os) [] =
     let f : List Entry → TokenObject = λ x. record { object = x; handle = None } in
     ap (λ xs. f (mask_object (mask_object o)) ∷ xs) (merged-mask os []) ∙ ap (λ x. f x ∷ map mask_token_object (merged os [])) (mask-mask o)
 merged-mask (o ∷ os) (t ∷ ts) =
-    ap (λ b. map mask_token_object (cond b (mask_token_object t ∷ merged (mask_objects os) (map mask_token_object ts)) (without_handle (mask_object o) ∷ merged (mask_objects os) (map mask_token_object (t ∷ ts))))) (is_visible-mask (state_of None true) o)
+    ap (λ b. map mask_token_object
+    (cond b (mask_token_object t ∷ merged (mask_objects os) (map mask_token_object ts))
+    (without_handle (mask_object o) ∷ merged (mask_objects os) (map mask_token_object (t ∷ ts)))))
+    (is_visible-mask (state_of None true) o)
     ∙ step (sees None o) (merged-mask os ts) (merged-mask os (t ∷ ts)) where
-      step : (b : Bool) → map mask_token_object (merged (mask_objects os) (map mask_token_object ts)) ≡ map mask_token_object (merged os ts) → map mask_token_object (merged (mask_objects os) (map mask_token_object (t ∷ ts))) ≡ map mask_token_object (merged os (t ∷ ts))
-          → map mask_token_object (cond b (mask_token_object t ∷ merged (mask_objects os) (map mask_token_object ts)) (without_handle (mask_object o) ∷ merged (mask_objects os) (map mask_token_object (t ∷ ts)))) ≡ map mask_token_object (cond b (t ∷ merged os ts) (without_handle o ∷ merged os (t ∷ ts)))
-      step true h k = let f : List Entry → TokenObject = λ x. record { object = x; handle = t.handle } in ap (λ xs. f (mask_object (mask_object t.object)) ∷ xs) h ∙ ap (λ x. f x ∷ map mask_token_object (merged os ts)) (mask-mask t.object)
-      step false h k = let f : List Entry → TokenObject = λ x. record { object = x; handle = None } in ap (λ xs. f (mask_object (mask_object o)) ∷ xs) k ∙ ap (λ x. f x ∷ map mask_token_object (merged os (t ∷ ts))) (mask-mask o)
+      step : (b : Bool) → map mask_token_object (merged (mask_objects os) (map mask_token_object ts))
+          ≡ map mask_token_object (merged os ts)
+          → map mask_token_object (merged (mask_objects os) (map mask_token_object (t ∷ ts))) ≡ map mask_token_object (merged os (t ∷ ts))
+          → map mask_token_object (cond b (mask_token_object t ∷ merged (mask_objects os) (map mask_token_object ts))
+          (without_handle (mask_object o) ∷ merged (mask_objects os) (map mask_token_object (t ∷ ts))))
+          ≡ map mask_token_object (cond b (t ∷ merged os ts) (without_handle o ∷ merged os (t ∷ ts)))
+      step true h k = let f : List Entry → TokenObject = λ x. record { object = x; handle = t.handle } in
+          ap (λ xs. f (mask_object (mask_object t.object)) ∷ xs) h
+          ∙ ap (λ x. f x ∷ map mask_token_object (merged os ts)) (mask-mask t.object)
+      step false h k = let f : List Entry → TokenObject = λ x. record { object = x; handle = None } in
+          ap (λ xs. f (mask_object (mask_object o)) ∷ xs) k ∙ ap (λ x. f x ∷ map mask_token_object (merged os (t ∷ ts))) (mask-mask o)
 
-tokens-mask : (who : UserType) (os : List (List Entry)) (ts : List TokenObject) → map mask_token_object (tokens_for who (mask_objects os) (map mask_token_object ts)) ≡ map mask_token_object (tokens_for who os ts)
+tokens-mask : (who : UserType) (os : List (List Entry)) (ts : List TokenObject)
+    → map mask_token_object (tokens_for who (mask_objects os) (map mask_token_object ts)) ≡ map mask_token_object (tokens_for who os ts)
 tokens-mask So os ts = tokens-twice ts
 tokens-mask User os ts = merged-mask os ts
 
@@ -95,11 +111,13 @@ blind-right v who r =
     let new = with_tries v.token_record who n in
     blind-if (is_charged (mask v).token_record who n) (is_charged v.token_record who n) _ _ _ _ (charged-mask v.token_record who n)
     (blind-if (may_log_in (mask v) who) (may_log_in v who) _ _ _ _ (may-mask v who)
-    (blind-stores (Code Ok) old new (logged_in (mask v) who (mask_reveal r)) (logged_in v who r) (with_tries-masked v.token_record who n) (logged_in-mask v who r))
+    (blind-stores (Code Ok) old new (logged_in (mask v) who (mask_reveal r)) (logged_in v who r)
+    (with_tries-masked v.token_record who n) (logged_in-mask v who r))
     (blind-stores (Code FunctionFailed) old new (mask v) v (with_tries-masked v.token_record who n) (mask-twice v)))
     (blind-refusal v FunctionFailed)
 
-pub blind-login : (v : View) (who : UserType) (outcome : TaskResult) (r : Reveal) → shown (login_result (mask v) who outcome (mask_reveal r)) ≡ shown (login_result v who outcome r)
+pub blind-login : (v : View) (who : UserType) (outcome : TaskResult) (r : Reveal)
+    → shown (login_result (mask v) who outcome (mask_reveal r)) ≡ shown (login_result v who outcome r)
 blind-login v who Right r = blind-right v who r
 blind-login v who Wrong r = blind-refusal v PinIncorrect
 blind-login v who _ r = blind-refusal v FunctionFailed
@@ -109,7 +127,8 @@ over-login v who Right r =
     let n = others r in
     let new = with_tries v.token_record who n in
     over-if v (is_charged v.token_record who n)
-    (over-if v (may_log_in (answered v) who) (over-stores v (logged_in (answered v) who r) (Code Ok) new refl refl) (over-stores v (answered v) (Code FunctionFailed) new refl refl))
+    (over-if v (may_log_in (answered v) who) (over-stores v (logged_in (answered v) who r) (Code Ok) new refl refl)
+    (over-stores v (answered v) (Code FunctionFailed) new refl refl))
     (over-refused v FunctionFailed refl)
 over-login v who Wrong r = over-refused v PinIncorrect refl
 over-login v who _ r = over-refused v FunctionFailed refl

@@ -20,12 +20,17 @@ row-mask : (s : ℕ) (v : View) (row : Condition) → logout_row (mask v) s row 
 row-mask s v NoSession = row-session v s
 row-mask s v _ = refl
 
-public-own : (es : List SessionObject) → filter (λ e. not (flag e.object attr.Private)) (map mask_session_object es) ≡ map mask_session_object (filter (λ e. not (flag e.object attr.Private)) es)
+public-own : (es : List SessionObject)
+    → filter (λ e. not (flag e.object attr.Private)) (map mask_session_object es)
+    ≡ map mask_session_object (filter (λ e. not (flag e.object attr.Private)) es)
 public-own es =
     filter-map (λ (e : SessionObject). not (flag e.object attr.Private)) mask_session_object es
-    ∙ ap (map mask_session_object) (filter-equal (λ (e : SessionObject). not (flag (mask_object e.object) attr.Private)) (λ e. not (flag e.object attr.Private)) es (λ e. ap not (flag-mask e.object attr.Private (λ e. cc))))
+    ∙ ap (map mask_session_object)
+    (filter-equal (λ (e : SessionObject). not (flag (mask_object e.object) attr.Private)) (λ e. not (flag e.object attr.Private)) es
+    (λ e. ap not (flag-mask e.object attr.Private (λ e. cc))))
 
-idle-mask : (ss : List (Session Operations)) → map mask_session (map (busy_with no_operations) (map mask_session ss)) ≡ map mask_session (map (busy_with no_operations) ss)
+idle-mask : (ss : List (Session Operations))
+    → map mask_session (map (busy_with no_operations) (map mask_session ss)) ≡ map mask_session (map (busy_with no_operations) ss)
 idle-mask [] = refl
 idle-mask (s ∷ ss) = ap (λ xs. mask_session (busy_with no_operations s) ∷ xs) (idle-mask ss)
 
@@ -44,4 +49,5 @@ logged_out-mask v =
 pub proper-logout : (s : ℕ) → IsProper (λ v r. logout v s) true
 proper-logout s =
     proper-checked Logout (λ v. logout_row v s) (λ v. becomes (Code Ok) (logged_out v)) (row-mask s)
-    (λ v. blind-becomes (Code Ok) (logged_out (mask v)) (logged_out v) (logged_out-mask v)) (λ v. fair v {a = becomes (Code Ok) (logged_out v)} refl refl refl refl refl)
+    (λ v. blind-becomes (Code Ok) (logged_out (mask v)) (logged_out v) (logged_out-mask v))
+    (λ v. fair v {a = becomes (Code Ok) (logged_out v)} refl refl refl refl refl)

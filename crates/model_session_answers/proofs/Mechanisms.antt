@@ -12,7 +12,8 @@ use Rattle.model_views.proofs.Checks.{replies, IsProper, blind-reply, fair, prop
 pub proper-get_mechanism_list : (slot : ℕ) → IsProper (λ v r. get_mechanism_list v slot) true
 proper-get_mechanism_list slot =
     proper-checked GetMechanismList (λ v. slot_row slot) (λ v. replies v (MechanismList listed_numbers)) (λ v row. refl)
-    (λ v. blind-reply v (MechanismList listed_numbers)) (λ v. fair v {a = replies v (MechanismList listed_numbers)} refl refl refl refl refl)
+    (λ v. blind-reply v (MechanismList listed_numbers))
+    (λ v. fair v {a = replies v (MechanismList listed_numbers)} refl refl refl refl refl)
 
 pub proper-get_mechanism_info : (slot number : ℕ) → IsProper (λ v r. get_mechanism_info v slot number) true
 proper-get_mechanism_info slot number =

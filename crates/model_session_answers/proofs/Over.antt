@@ -25,7 +25,8 @@ over-if v false p q = q
 pub over-refused : (v : View) (code : Rv) → resource_error (Code code) ≡ None → IsOver v (refuses (answered v) code)
 over-refused v code is = record { plain = is; unasking = refl; over = refl; shows = refl }
 
-pub over-stores : (v u : View) (reply : Reply) (r : TokenRecord) → resource_error reply ≡ None → u.question ≡ None → IsOver v (stores reply r u)
+pub over-stores : (v u : View) (reply : Reply) (r : TokenRecord) → resource_error reply ≡ None → u.question ≡ None
+    → IsOver v (stores reply r u)
 over-stores v u reply r is none = record { plain = is; unasking = refl; over = none; shows = refl }
 
 pub over-resets : (v : View) (r : TokenRecord) → IsOver v (resets r (answered v))
@@ -33,12 +34,16 @@ over-resets v r = record { plain = refl; unasking = refl; over = refl; shows = r
 
 -- ---- what is revealed of a new record
 
-pub blind-stores : (reply : Reply) (r s : TokenRecord) (u v : View) → mask_record r ≡ mask_record s → mask u ≡ mask v → shown (stores reply r u) ≡ shown (stores reply s v)
+pub blind-stores : (reply : Reply) (r s : TokenRecord) (u v : View) → mask_record r ≡ mask_record s → mask u ≡ mask v
+    → shown (stores reply r u) ≡ shown (stores reply s v)
 blind-stores reply r s u v same views =
-    let f : TokenRecord → View → Answer = λ x w. record { says = Replies reply; view = record w { token_record = x }; change = Records x } in
+    let f : TokenRecord → View → Answer =
+    λ x w. record { says = Replies reply; view = record w { token_record = x }; change = Records x } in
     ap (λ x. f x (mask u)) same ∙ ap (f (mask_record s)) views
 
-pub blind-resets : (r s : TokenRecord) (u v : View) → mask_record r ≡ mask_record s → mask u ≡ mask v → shown (resets r u) ≡ shown (resets s v)
+pub blind-resets : (r s : TokenRecord) (u v : View) → mask_record r ≡ mask_record s → mask u ≡ mask v
+    → shown (resets r u) ≡ shown (resets s v)
 blind-resets r s u v same views =
-    let f : TokenRecord → View → Answer = λ x w. record { says = Replies (Code Ok); view = record w { token_record = x; tokens = [] }; change = Resets x } in
+    let f : TokenRecord → View → Answer =
+    λ x w. record { says = Replies (Code Ok); view = record w { token_record = x; tokens = [] }; change = Resets x } in
     ap (λ x. f x (mask u)) same ∙ ap (f (mask_record s)) views

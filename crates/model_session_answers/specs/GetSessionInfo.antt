@@ -9,8 +9,8 @@ abbrev pub info_row : View → ℕ → Condition → Bool
 info_row v s NoSession = is_none (session_of v s)
 info_row v s _ = false
 
-abbrev pub session_info : View → ℕ → Answer
-session_info v s = replies v (SessionInfo (record { slot = 0; state = state_in v s; read_write = writes (session_of v s) }))
+abbrev pub told_session_info : View → ℕ → Answer
+told_session_info v s = replies v (SessionInfo (record { slot = 0; state = state_in v s; read_write = writes (session_of v s) }))
 
 abbrev pub get_session_info : View → ℕ → Answer
-get_session_info v s = checked GetSessionInfo (info_row v s) v (session_info v s)
+get_session_info v s = checked GetSessionInfo (info_row v s) v (told_session_info v s)

@@ -10,8 +10,8 @@ use Rattle.model_views.specs.Calls.{View, Answer, replies, checked}
 use Rattle.model_session_answers.specs.OpenSession.{slot_row}
 
 -- of sessions the application's own alone are counted
-abbrev pub token_info : View → Reply
-token_info v =
+abbrev pub told_token_info : View → Reply
+told_token_info v =
     TokenInfo (record {
       label = v.token_record.label;
       flags = token_flags (record_view v.token_record);
@@ -20,4 +20,4 @@ token_info v =
     })
 
 abbrev pub get_token_info : View → ℕ → Answer
-get_token_info v slot = checked GetTokenInfo (slot_row slot) v (replies v (token_info v))
+get_token_info v slot = checked GetTokenInfo (slot_row slot) v (replies v (told_token_info v))

@@ -42,7 +42,8 @@ abbrev pub may_init : View → Bool
 may_init v = not (is_initialized v.token_record) && (tries_of v.token_record So == 0)
 
 abbrev pub inited : View → List ℕ → PinVerifier → Reveal → Answer
-inited v label made r = if may_init v then (if is_in_use v r then refuses v SessionExists else resets (initialized_record label made 0) v) else refuses v FunctionFailed
+inited v label made r = if may_init v then
+    (if is_in_use v r then refuses v SessionExists else resets (initialized_record label made 0) v) else refuses v FunctionFailed
 
 abbrev pub init_token_result : View → List ℕ → List ℕ → List ℕ → TaskResult → Reveal → Answer
 init_token_result v label pin salt Made r = inited v label (verifier_for pin salt new_rounds) r

@@ -6,7 +6,7 @@ use Rattle.ck_types.specs.declared.user_type.UserType.TheVariants.{So, User}
 use Rattle.ck_types.specs.Numbers.{user_type_number}
 use Rattle.ck_calls.specs.declared.function.Function.TheVariants.{Login}
 use Rattle.precede.specs.declared.condition.Condition.TheVariants.{NoSession, UnknownUserType, SameUserLoggedIn, OtherUserLoggedIn, ReadOnlySessionOpen, PinNotSet, PinLocked}
-use Rattle.pin_record.specs.Charges.{is_same}
+use Rattle.pin_record.specs.Charges.{is_same_user}
 use Rattle.pin_record.specs.Records.{is_locked, with_tries}
 use Rattle.sessions.specs.Sessions.{has_read_only}
 use Rattle.model_views.specs.TaskResults.{TaskResult, Right, Wrong}
@@ -24,7 +24,7 @@ user_of n = if n == user_type_number So then Some So else if n == user_type_numb
 -- this one is logged in
 abbrev pub is_in : UserType → Option UserType → Bool
 is_in who None = false
-is_in who (Some other) = is_same who other
+is_in who (Some other) = is_same_user who other
 
 -- the SO may not log in beside a read-only session
 abbrev pub keeps_out : UserType → Bool → Bool
@@ -42,7 +42,8 @@ login_row v s user who PinLocked = is_locked v.token_record who
 login_row v s user who _ = false
 
 abbrev pub logs_in : View → ℕ → Option UserType → UserType → List ℕ → Answer
-logs_in v s user who pin = checked Login (login_row v s user who) v (asks_checked v Login s (ChecksPin who (verifier_or v.token_record who) pin) who)
+logs_in v s user who pin = checked Login (login_row v s user who) v
+    (asks_checked v Login s (ChecksPin who (verifier_or v.token_record who) pin) who)
 
 abbrev pub login : View → ℕ → ℕ → List ℕ → Answer
 login v s number pin = logs_in v s (user_of number) (unwrap_or (user_of number) User) pin
@@ -61,15 +62,21 @@ tokens_for User objects ts = merged objects ts
 
 -- nobody is logged in, there is a session, and none that keeps the SO out
 abbrev pub may_log_in : View → UserType → Bool
-may_log_in v who = is_none v.sessions.login && (nat_lt 0 (length v.sessions.sessions) && not (keeps_out who (has_read_only v.sessions.sessions)))
+may_log_in v who = is_none v.sessions.login &&
+    (nat_lt 0 (length v.sessions.sessions) && not (keeps_out who (has_read_only v.sessions.sessions)))
 
 abbrev pub logged_in : View → UserType → Reveal → View
-logged_in v who r = record v { tokens = tokens_for who (unwrap_or r.objects []) v.tokens; sessions = record v.sessions { login = Some who } }
+logged_in v who r = record v {
+  tokens = tokens_for who (unwrap_or r.objects []) v.tokens;
+  sessions = record v.sessions { login = Some who };
+}
 
 abbrev pub right_pin : View → UserType → Reveal → Answer
 right_pin v who r =
     let new = with_tries v.token_record who (others r) in
-    if is_charged v.token_record who (others r) then (if may_log_in v who then stores (Code Ok) new (logged_in v who r) else stores (Code FunctionFailed) new v) else refuses v FunctionFailed
+    if is_charged v.token_record who (others r) then
+    (if may_log_in v who then stores (Code Ok) new (logged_in v who r) else stores
+    (Code FunctionFailed) new v) else refuses v FunctionFailed
 
 abbrev pub login_result : View → UserType → TaskResult → Reveal → Answer
 login_result v who Right r = right_pin v who r

@@ -18,4 +18,6 @@ mechanism_info_row slot number WrongMechanism = is_none (mechanism_at number)
 mechanism_info_row slot number _ = false
 
 abbrev pub get_mechanism_info : View → ℕ → ℕ → Answer
-get_mechanism_info v slot number = checked GetMechanismInfo (mechanism_info_row slot number) v (replies v (MechanismInfo (info_of (unwrap_or (mechanism_at number) AesEcb))))
+get_mechanism_info v slot number =
+    checked GetMechanismInfo (mechanism_info_row slot number) v
+    (replies v (MechanismInfo (info_of (unwrap_or (mechanism_at number) AesEcb))))

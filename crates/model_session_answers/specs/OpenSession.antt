@@ -37,7 +37,8 @@ open_row v slot flags _ = false
 
 -- the next number, and a session with nothing in progress
 abbrev pub opened : View → Bool → Answer
-opened v read_write = becomes (SessionReply v.sessions.next_number) (record v { sessions = with_session no_operations v.sessions read_write })
+opened v read_write = becomes (SessionReply v.sessions.next_number)
+    (record v { sessions = with_session no_operations v.sessions read_write })
 
 abbrev pub open_session : View → ℕ → ℕ → Answer
 open_session v slot flags = checked OpenSession (open_row v slot flags) v (opened v (is_read_write flags))

@@ -25,7 +25,9 @@ set_pin_row v s who new_pin PinLocked = is_locked v.token_record who
 set_pin_row v s who new_pin _ = false
 
 abbrev pub sets_pin : View → ℕ → UserType → List ℕ → List ℕ → List ℕ → Answer
-sets_pin v s who pin new_pin random = checked SetPin (set_pin_row v s who new_pin) v (asks_checked v SetPin s (ChangesPin who (verifier_or v.token_record who) pin new_pin random) who)
+sets_pin v s who pin new_pin random =
+    checked SetPin (set_pin_row v s who new_pin) v
+    (asks_checked v SetPin s (ChangesPin who (verifier_or v.token_record who) pin new_pin random) who)
 
 abbrev pub set_pin : View → ℕ → List ℕ → List ℕ → List ℕ → Answer
 set_pin v s pin new_pin random = sets_pin v s (owner v.sessions.login) pin new_pin random

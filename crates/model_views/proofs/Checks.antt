@@ -7,8 +7,32 @@ pub use Rattle.attrs.specs.Masking.{mask as mask_object}
 pub use Rattle.precede.specs.declared.condition.Condition.{Condition}
 pub use Rattle.model_views.specs.Views.{View, mask, mask_session, mask_token_object, mask_session_object}
 pub use Rattle.model_views.specs.Answering.{Answer, shown, replies, refuses, refuses_by, becomes, session_of, object_at, index_of}
-pub use Rattle.model_views.proofs.Masks.{tokens-twice, own-twice, sessions-twice, question-twice, record-twice, set-masked, tries-masked, verifier-masked, mask-twice, session-mask, object-mask, index-mask}
-pub use Rattle.model_views.proofs.Blind.{IsProper, IsFair, blind-reply, blind-becomes, blind-refusal, blind-if, blind-index, fair, fair-if, fair-refusal}
+pub use Rattle.model_views.proofs.Masks.{
+  tokens-twice,
+  own-twice,
+  sessions-twice,
+  question-twice,
+  record-twice,
+  set-masked,
+  tries-masked,
+  verifier-masked,
+  mask-twice,
+  session-mask,
+  object-mask,
+  index-mask,
+}
+pub use Rattle.model_views.proofs.Blind.{
+  IsProper,
+  IsFair,
+  blind-reply,
+  blind-becomes,
+  blind-refusal,
+  blind-if,
+  blind-index,
+  fair,
+  fair-if,
+  fair-refusal,
+}
 use Rattle.std.specs.Prelude.{is_none, nat_lt, length}
 use Rattle.std.specs.List.{AllByRecursion}
 use Rattle.model_views.specs.Answering.{Reveal, mask_reveal, has_session}
@@ -42,25 +66,35 @@ blind-row v row = blind-refusal v (code_of Ok row)
 pub fair-row : {quiet : Bool} (v : View) (row : Condition) → IsFair quiet v (refuses_by v row)
 fair-row v row = fair-refusal v (code_of Ok row) (plain-row row)
 
-pub blind-rows : (rows : List Condition) (h k : Condition → Bool) (f g : Condition → Answer) (x y : Answer) → ((row : Condition) → h row ≡ k row) → ((row : Condition) → shown (f row) ≡ shown (g row)) → shown x ≡ shown y → shown (by_rows rows h f x) ≡ shown (by_rows rows k g y)
+pub blind-rows : (rows : List Condition) (h k : Condition → Bool) (f g : Condition → Answer) (x y : Answer)
+    → ((row : Condition) → h row ≡ k row) → ((row : Condition) → shown (f row) ≡ shown (g row)) → shown x ≡ shown y
+    → shown (by_rows rows h f x) ≡ shown (by_rows rows k g y)
 blind-rows [] h k f g x y same says is = is
-blind-rows (row ∷ rows) h k f g x y same says is = blind-if (h row) (k row) (f row) (g row) _ _ (same row) (says row) (blind-rows rows h k f g x y same says is)
+blind-rows (row ∷ rows) h k f g x y same says is =
+    blind-if (h row) (k row) (f row) (g row) _ _ (same row) (says row) (blind-rows rows h k f g x y same says is)
 
-fair-rows : {quiet : Bool} (rows : List Condition) (v : View) (h : Condition → Bool) (f : Condition → Answer) (x : Answer) → ((row : Condition) → IsFair quiet v (f row)) → IsFair quiet v x → IsFair quiet v (by_rows rows h f x)
+fair-rows : {quiet : Bool} (rows : List Condition) (v : View) (h : Condition → Bool) (f : Condition → Answer) (x : Answer)
+    → ((row : Condition) → IsFair quiet v (f row)) → IsFair quiet v x → IsFair quiet v (by_rows rows h f x)
 fair-rows [] v h f x says is = is
 fair-rows (row ∷ rows) v h f x says is = fair-if v (h row) (says row) (fair-rows rows v h f x says is)
 
-pub blind-checked_by : (f : Function) (h k : Condition → Bool) (says says' : Condition → Answer) (x y : Answer) → ((row : Condition) → h row ≡ k row) → ((row : Condition) → shown (says row) ≡ shown (says' row)) → shown x ≡ shown y → shown (checked_by f h says x) ≡ shown (checked_by f k says' y)
+pub blind-checked_by : (f : Function) (h k : Condition → Bool) (says says' : Condition → Answer) (x y : Answer)
+    → ((row : Condition) → h row ≡ k row) → ((row : Condition) → shown (says row) ≡ shown (says' row)) → shown x ≡ shown y
+    → shown (checked_by f h says x) ≡ shown (checked_by f k says' y)
 blind-checked_by f h k says says' x y same told is = blind-rows (table_of (function_number f)) h k says says' x y same told is
 
-pub fair-checked_by : {quiet : Bool} (f : Function) (v : View) (h : Condition → Bool) (says : Condition → Answer) (x : Answer) → ((row : Condition) → IsFair quiet v (says row)) → IsFair quiet v x → IsFair quiet v (checked_by f h says x)
+pub fair-checked_by : {quiet : Bool} (f : Function) (v : View) (h : Condition → Bool) (says : Condition → Answer) (x : Answer)
+    → ((row : Condition) → IsFair quiet v (says row)) → IsFair quiet v x → IsFair quiet v (checked_by f h says x)
 fair-checked_by f v h says x told is = fair-rows (table_of (function_number f)) v h says x told is
 
 -- where no condition holds, and each is known not to
-fair-given : {quiet : Bool} (rows : List Condition) (v : View) (h : Condition → Bool) (f : Condition → Answer) (x : Answer) → ((row : Condition) → IsFair quiet v (f row)) → (AllByRecursion (λ row. h row ≡ false) rows → IsFair quiet v x) → IsFair quiet v (by_rows rows h f x)
+fair-given : {quiet : Bool} (rows : List Condition) (v : View) (h : Condition → Bool) (f : Condition → Answer) (x : Answer)
+    → ((row : Condition) → IsFair quiet v (f row)) → (AllByRecursion (λ row. h row ≡ false) rows → IsFair quiet v x)
+    → IsFair quiet v (by_rows rows h f x)
 fair-given [] v h f x says is = is tt
 fair-given {quiet = quiet} (row ∷ rows) v h f x says is = step (h row) refl (λ e. fair-given rows v h f x says (λ all. is (e, all))) where
-  step : (b : Bool) → h row ≡ b → ((h row ≡ false) → IsFair quiet v (by_rows rows h f x)) → IsFair quiet v (cond b (f row) (by_rows rows h f x))
+  step : (b : Bool) → h row ≡ b → ((h row ≡ false) → IsFair quiet v (by_rows rows h f x))
+      → IsFair quiet v (cond b (f row) (by_rows rows h f x))
   step true e rest = says row
   step false e rest = rest e
 
@@ -69,13 +103,19 @@ abbrev pub NoRow : Function → (Condition → Bool) → Type 0
 NoRow f h = AllByRecursion (λ row. h row ≡ false) (table_of (function_number f))
 
 -- where each condition refuses by its code, by what is revealed too
-pub proper-given : {quiet : Bool} (f : Function) (h : View → Reveal → Condition → Bool) (x : View → Answer) → ((v : View) (r : Reveal) (row : Condition) → h (mask v) (mask_reveal r) row ≡ h v r row) → ((v : View) → shown (x (mask v)) ≡ shown (x v)) → ((v : View) (r : Reveal) → NoRow f (h v r) → IsFair quiet v (x v)) → IsProper (λ v r. checked f (h v r) v (x v)) quiet
+pub proper-given : {quiet : Bool} (f : Function) (h : View → Reveal → Condition → Bool) (x : View → Answer)
+    → ((v : View) (r : Reveal) (row : Condition) → h (mask v) (mask_reveal r) row ≡ h v r row)
+    → ((v : View) → shown (x (mask v)) ≡ shown (x v)) → ((v : View) (r : Reveal) → NoRow f (h v r) → IsFair quiet v (x v))
+    → IsProper (λ v r. checked f (h v r) v (x v)) quiet
 proper-given f h x same is fairly = record {
-  blind = λ v r. blind-checked_by f (h (mask v) (mask_reveal r)) (h v r) (refuses_by (mask v)) (refuses_by v) (x (mask v)) (x v) (same v r) (blind-row v) (is v);
+  blind = λ v r. blind-checked_by f (h (mask v) (mask_reveal r)) (h v r) (refuses_by (mask v)) (refuses_by v) (x (mask v)) (x v)
+      (same v r) (blind-row v) (is v);
   fair = λ v r. fair-given (table_of (function_number f)) v (h v r) (refuses_by v) (x v) (fair-row v) (fairly v r);
 }
 
-pub proper-checked : {quiet : Bool} (f : Function) (h : View → Condition → Bool) (x : View → Answer) → ((v : View) (row : Condition) → h (mask v) row ≡ h v row) → ((v : View) → shown (x (mask v)) ≡ shown (x v)) → ((v : View) → IsFair quiet v (x v)) → IsProper (λ v r. checked f (h v) v (x v)) quiet
+pub proper-checked : {quiet : Bool} (f : Function) (h : View → Condition → Bool) (x : View → Answer)
+    → ((v : View) (row : Condition) → h (mask v) row ≡ h v row) → ((v : View) → shown (x (mask v)) ≡ shown (x v))
+    → ((v : View) → IsFair quiet v (x v)) → IsProper (λ v r. checked f (h v) v (x v)) quiet
 proper-checked f h x same is fairly = proper-given f (λ v r. h v) x (λ v r. same v) is (λ v r none. fairly v)
 
 -- ---- what conditions test
@@ -93,11 +133,13 @@ row-object v handle = ap is_none (object-mask v handle) ∙ none-map mask_object
 pub none-masked : (o : Option (List Entry)) → is_none (option_map mask_object o) ≡ is_none o
 none-masked o = none-map mask_object o
 
-pub flag-masked : (o : Option (List Entry)) (t : AttrType) → ((e : attr_type_number t ≡ attr_type_number attr.Value) → ⊥) → flag_at (option_map mask_object o) t ≡ flag_at o t
+pub flag-masked : (o : Option (List Entry)) (t : AttrType) → ((e : attr_type_number t ≡ attr_type_number attr.Value) → ⊥)
+    → flag_at (option_map mask_object o) t ≡ flag_at o t
 flag-masked None t other = refl
 flag-masked (Some o) t other = flag-mask o t other
 
-pub row-flag : (v : View) (handle : ℕ) (t : AttrType) → ((e : attr_type_number t ≡ attr_type_number attr.Value) → ⊥) → flag_at (object_at (mask v) handle) t ≡ flag_at (object_at v handle) t
+pub row-flag : (v : View) (handle : ℕ) (t : AttrType) → ((e : attr_type_number t ≡ attr_type_number attr.Value) → ⊥)
+    → flag_at (object_at (mask v) handle) t ≡ flag_at (object_at v handle) t
 row-flag v handle t other = ap (λ o. flag_at o t) (object-mask v handle) ∙ flag-masked (object_at v handle) t other
 
 pub row-writes : (v : View) (s : ℕ) → writes (session_of (mask v) s) ≡ writes (session_of v s)
@@ -116,16 +158,23 @@ object-mask-row s handle v NoSession = row-session v s
 object-mask-row s handle v NoObject = row-object v handle
 object-mask-row s handle v _ = refl
 
-blind-told : (handle : ℕ) (tells : List Entry → Reply) → ((o : List Entry) → tells (mask_object o) ≡ tells o) → (v : View) → shown (replies (mask v) (tells (unwrap_or (object_at (mask v) handle) []))) ≡ shown (replies v (tells (unwrap_or (object_at v handle) [])))
-blind-told handle tells same v = ap (λ o. shown (replies (mask v) (tells (unwrap_or o [])))) (object-mask v handle) ∙ of (object_at v handle) where
-  of : (o : Option (List Entry)) → shown (replies (mask v) (tells (unwrap_or (option_map mask_object o) []))) ≡ shown (replies v (tells (unwrap_or o [])))
-  of None = blind-reply v (tells [])
-  of (Some o) = ap (λ r. shown (replies (mask v) r)) (same o) ∙ blind-reply v (tells o)
+blind-told : (handle : ℕ) (tells : List Entry → Reply) → ((o : List Entry) → tells (mask_object o) ≡ tells o) → (v : View)
+    → shown (replies (mask v) (tells (unwrap_or (object_at (mask v) handle) [])))
+    ≡ shown (replies v (tells (unwrap_or (object_at v handle) [])))
+blind-told handle tells same v = ap (λ o. shown (replies (mask v) (tells (unwrap_or o [])))) (object-mask v handle)
+    ∙ of (object_at v handle) where
+      of : (o : Option (List Entry))
+          → shown (replies (mask v) (tells (unwrap_or (option_map mask_object o) []))) ≡ shown (replies v (tells (unwrap_or o [])))
+      of None = blind-reply v (tells [])
+      of (Some o) = ap (λ r. shown (replies (mask v) r)) (same o) ∙ blind-reply v (tells o)
 
-pub proper-reads : (f : Function) (s handle : ℕ) (tells : List Entry → Reply) → ((o : List Entry) → tells (mask_object o) ≡ tells o) → ((o : List Entry) → resource_error (tells o) ≡ None) → IsProper (λ v r. reads f v s handle tells) true
+pub proper-reads : (f : Function) (s handle : ℕ) (tells : List Entry → Reply) → ((o : List Entry) → tells (mask_object o) ≡ tells o)
+    → ((o : List Entry) → resource_error (tells o) ≡ None) → IsProper (λ v r. reads f v s handle tells) true
 proper-reads f s handle tells same plain =
     proper-checked f (λ v. object_row v s handle) (λ v. replies v (tells (unwrap_or (object_at v handle) []))) (object-mask-row s handle)
-    (blind-told handle tells same) (λ v. fair v {a = replies v (tells (unwrap_or (object_at v handle) []))} (plain (unwrap_or (object_at v handle) [])) refl refl refl refl)
+    (blind-told handle tells same)
+    (λ v. fair v {a = replies v (tells (unwrap_or (object_at v handle) []))}
+    (plain (unwrap_or (object_at v handle) [])) refl refl refl refl)
 
 -- ---- who has a session
 

@@ -63,7 +63,8 @@ task-twice (InitsToken label pin salt) = refl
 task-twice (ResetsToken label verifier pin) = refl
 
 question-masked : (q : Question) → mask_question (mask_question q) ≡ mask_question q
-question-masked q = let f : Task → Question = λ t. record { number = q.number; function = q.function; session = q.session; task = t } in ap f (task-twice q.task)
+question-masked q = let f : Task
+    → Question = λ t. record { number = q.number; function = q.function; session = q.session; task = t } in ap f (task-twice q.task)
 
 pub question-twice : (q : Option Question) → option_map mask_question (option_map mask_question q) ≡ option_map mask_question q
 question-twice None = refl
@@ -80,11 +81,13 @@ pub charged-masked : (r : TokenRecord) (who : UserType) → mask_record (charged
 charged-masked r So = rw (set-twice r.so.verifier, set-twice r.user.verifier) refl
 charged-masked r User = rw (set-twice r.so.verifier, set-twice r.user.verifier) refl
 
-pub with_tries-masked : (r : TokenRecord) (who : UserType) (n : ℕ) → mask_record (with_tries (mask_record r) who n) ≡ mask_record (with_tries r who n)
+pub with_tries-masked : (r : TokenRecord) (who : UserType) (n : ℕ)
+    → mask_record (with_tries (mask_record r) who n) ≡ mask_record (with_tries r who n)
 with_tries-masked r So n = rw (set-twice r.so.verifier, set-twice r.user.verifier) refl
 with_tries-masked r User n = rw (set-twice r.so.verifier, set-twice r.user.verifier) refl
 
-pub with_pin-masked : (r : TokenRecord) (who : UserType) (v : PinVerifier) (n : ℕ) → mask_record (with_pin (mask_record r) who v n) ≡ mask_record (with_pin r who v n)
+pub with_pin-masked : (r : TokenRecord) (who : UserType) (v : PinVerifier) (n : ℕ)
+    → mask_record (with_pin (mask_record r) who v n) ≡ mask_record (with_pin r who v n)
 with_pin-masked r So v n = rw (set-twice r.user.verifier) refl
 with_pin-masked r User v n = rw (set-twice r.so.verifier) refl
 
@@ -101,7 +104,14 @@ verifier-masked r So = refl
 verifier-masked r User = refl
 
 pub mask-twice : (v : View) → mask (mask v) ≡ mask v
-mask-twice v = rw (set-twice v.token_record.so.verifier, set-twice v.token_record.user.verifier, tokens-twice v.tokens, own-twice v.own, sessions-twice v.sessions.sessions, question-twice v.question) refl
+mask-twice v = rw (
+  set-twice v.token_record.so.verifier,
+  set-twice v.token_record.user.verifier,
+  tokens-twice v.tokens,
+  own-twice v.own,
+  sessions-twice v.sessions.sessions,
+  question-twice v.question,
+) refl
 
 -- ---- what is found in a masked view
 
@@ -110,10 +120,13 @@ session-mask v s = find-map (λ (x : Session Operations). x.handle == s) mask_se
 
 pub object-mask : (v : View) (handle : ℕ) → object_at (mask v) handle ≡ option_map mask_object (object_at v handle)
 object-mask v handle =
-    ap (λ o. first_object o (find (λ e. e.handle == handle) (map mask_session_object v.own))) (find-map (λ (t : TokenObject). is_handle t.handle handle) mask_token_object v.tokens)
-    ∙ ap (λ o. first_object (option_map mask_token_object (find (λ t. is_handle t.handle handle) v.tokens)) o) (find-map (λ (e : SessionObject). e.handle == handle) mask_session_object v.own)
+    ap (λ o. first_object o (find (λ e. e.handle == handle) (map mask_session_object v.own)))
+    (find-map (λ (t : TokenObject). is_handle t.handle handle) mask_token_object v.tokens)
+    ∙ ap (λ o. first_object (option_map mask_token_object (find (λ t. is_handle t.handle handle) v.tokens)) o)
+    (find-map (λ (e : SessionObject). e.handle == handle) mask_session_object v.own)
     ∙ both (find (λ t. is_handle t.handle handle) v.tokens) (find (λ e. e.handle == handle) v.own) where
-      both : (a : Option TokenObject) (b : Option SessionObject) → first_object (option_map mask_token_object a) (option_map mask_session_object b) ≡ option_map mask_object (first_object a b)
+      both : (a : Option TokenObject) (b : Option SessionObject)
+          → first_object (option_map mask_token_object a) (option_map mask_session_object b) ≡ option_map mask_object (first_object a b)
       both (Some t) b = refl
       both None (Some e) = refl
       both None None = refl
@@ -123,27 +136,40 @@ index-mask v handle = index-map (λ (t : TokenObject). is_handle t.handle handle
 
 -- ---- what stays where access changes
 
-pub seen-tokens : (login : Option UserType) (ts : List TokenObject) → seen_by login (map mask_token_object ts) ≡ map mask_token_object (seen_by login ts)
+pub seen-tokens : (login : Option UserType) (ts : List TokenObject)
+    → seen_by login (map mask_token_object ts) ≡ map mask_token_object (seen_by login ts)
 seen-tokens login ts =
     filter-map (λ (t : TokenObject). sees login t.object) mask_token_object ts
-    ∙ ap (map mask_token_object) (filter-equal (λ (t : TokenObject). sees login (mask_object t.object)) (λ t. sees login t.object) ts (λ t. is_visible-mask (state_of login true) t.object))
+    ∙ ap (map mask_token_object) (filter-equal (λ (t : TokenObject). sees login (mask_object t.object))
+    (λ t. sees login t.object) ts (λ t. is_visible-mask (state_of login true) t.object))
 
-pub login-among : (ss : List (Session Operations)) (login : Option UserType) → login_among (map mask_session ss) login ≡ login_among ss login
+pub login-among : (ss : List (Session Operations)) (login : Option UserType)
+    → login_among (map mask_session ss) login ≡ login_among ss login
 login-among [] login = refl
 login-among (s ∷ ss) login = refl
 
 -- ---- operations
 
-pub busy-mask : (number : ℕ) (ops others : Operations) → mask_operations ops ≡ mask_operations others → (ss : List (Session Operations)) → map mask_session (map (busy_at number ops) (map mask_session ss)) ≡ map mask_session (map (busy_at number others) ss)
+pub busy-mask : (number : ℕ) (ops others : Operations) → mask_operations ops ≡ mask_operations others
+    → (ss : List (Session Operations))
+    → map mask_session (map (busy_at number ops) (map mask_session ss)) ≡ map mask_session (map (busy_at number others) ss)
 busy-mask number ops others same [] = refl
 busy-mask number ops others same (s ∷ ss) = step (s.handle == number) (busy-mask number ops others same ss) where
-  step : (b : Bool) → map mask_session (map (busy_at number ops) (map mask_session ss)) ≡ map mask_session (map (busy_at number others) ss) → mask_session (cond b (record (mask_session s) { work = ops }) (mask_session s)) ∷ map mask_session (map (busy_at number ops) (map mask_session ss)) ≡ mask_session (cond b (record s { work = others }) s) ∷ map mask_session (map (busy_at number others) ss)
-  step true h = ap (λ w. record { handle = s.handle; read_write = s.read_write; work = w } ∷ map mask_session (map (busy_at number ops) (map mask_session ss))) same ∙ ap (λ xs. record { handle = s.handle; read_write = s.read_write; work = mask_operations others } ∷ xs) h
-  step false h = ap (λ x. x ∷ map mask_session (map (busy_at number ops) (map mask_session ss))) (session-twice s) ∙ ap (λ xs. mask_session s ∷ xs) h
+  step : (b : Bool) → map mask_session (map (busy_at number ops) (map mask_session ss))
+      ≡ map mask_session (map (busy_at number others) ss)
+      → mask_session (cond b (record (mask_session s) { work = ops }) (mask_session s))
+      ∷ map mask_session (map (busy_at number ops) (map mask_session ss)) ≡ mask_session (cond b (record s { work = others }) s)
+      ∷ map mask_session (map (busy_at number others) ss)
+  step true h = ap (λ w. record { handle = s.handle; read_write = s.read_write; work = w }
+      ∷ map mask_session (map (busy_at number ops) (map mask_session ss))) same
+      ∙ ap (λ xs. record { handle = s.handle; read_write = s.read_write; work = mask_operations others } ∷ xs) h
+  step false h = ap (λ x. x ∷ map mask_session (map (busy_at number ops) (map mask_session ss))) (session-twice s)
+      ∙ ap (λ xs. mask_session s ∷ xs) h
 
 -- ---- what others change, and a disconnect, are seen as they are
 
-rewritten-mask : (ts : List TokenObject) (index : ℕ) (o : List Entry) → rewritten (map mask_token_object ts) index (mask_object o) ≡ map mask_token_object (rewritten ts index o)
+rewritten-mask : (ts : List TokenObject) (index : ℕ) (o : List Entry)
+    → rewritten (map mask_token_object ts) index (mask_object o) ≡ map mask_token_object (rewritten ts index o)
 rewritten-mask [] index o = refl
 rewritten-mask (t ∷ ts) zero o = refl
 rewritten-mask (t ∷ ts) (suc index) o = ap (λ xs. mask_token_object t ∷ xs) (rewritten-mask ts index o)
@@ -151,20 +177,29 @@ rewritten-mask (t ∷ ts) (suc index) o = ap (λ xs. mask_token_object t ∷ xs)
 pub seen-mask : (v : View) (change : Change) → seen (mask_change change) (mask v) ≡ mask (seen change v)
 seen-mask v Stays = refl
 seen-mask v (Insert o) = rw (map-push mask_token_object v.tokens (without_handle o)) refl
-seen-mask v (Replace index o) = let f : List TokenObject → View = λ ts. record (mask v) { tokens = ts } in ap f (rewritten-mask v.tokens index o)
-seen-mask v (Remove index) = let f : List TokenObject → View = λ ts. record (mask v) { tokens = ts } in ap f (sym (map-remove mask_token_object v.tokens index))
+seen-mask v (Replace index o) = let f : List TokenObject → View = λ ts. record (mask v) { tokens = ts } in
+    ap f (rewritten-mask v.tokens index o)
+seen-mask v (Remove index) = let f : List TokenObject → View = λ ts. record (mask v) { tokens = ts } in
+    ap f (sym (map-remove mask_token_object v.tokens index))
 seen-mask v (Records r) = refl
 seen-mask v (Resets r) = refl
 
 abbrev public_objects : List TokenObject → List (List Entry)
 public_objects ts = filter (sees None) (map (λ t. t.object) ts)
 
-left-objects : (ts : List TokenObject) → map without_handle (public_objects (map mask_token_object ts)) ≡ map mask_token_object (map without_handle (public_objects ts))
+left-objects : (ts : List TokenObject)
+    → map without_handle (public_objects (map mask_token_object ts)) ≡ map mask_token_object (map without_handle (public_objects ts))
 left-objects [] = refl
-left-objects (t ∷ ts) = ap (λ b. map without_handle (cond b (mask_object t.object ∷ public_objects (map mask_token_object ts)) (public_objects (map mask_token_object ts)))) (is_visible-mask (state_of None true) t.object) ∙ step (sees None t.object) (left-objects ts) where
-  step : (b : Bool) → map without_handle (public_objects (map mask_token_object ts)) ≡ map mask_token_object (map without_handle (public_objects ts)) → map without_handle (cond b (mask_object t.object ∷ public_objects (map mask_token_object ts)) (public_objects (map mask_token_object ts))) ≡ map mask_token_object (map without_handle (cond b (t.object ∷ public_objects ts) (public_objects ts)))
-  step true h = ap (λ xs. without_handle (mask_object t.object) ∷ xs) h
-  step false h = h
+left-objects (t ∷ ts) = ap (λ b. map without_handle
+    (cond b (mask_object t.object ∷ public_objects (map mask_token_object ts)) (public_objects (map mask_token_object ts))))
+    (is_visible-mask (state_of None true) t.object) ∙ step (sees None t.object) (left-objects ts) where
+      step : (b : Bool) → map without_handle (public_objects (map mask_token_object ts))
+          ≡ map mask_token_object (map without_handle (public_objects ts))
+          → map without_handle (cond b (mask_object t.object ∷ public_objects (map mask_token_object ts))
+          (public_objects (map mask_token_object ts)))
+          ≡ map mask_token_object (map without_handle (cond b (t.object ∷ public_objects ts) (public_objects ts)))
+      step true h = ap (λ xs. without_handle (mask_object t.object) ∷ xs) h
+      step false h = h
 
 pub left-mask : (v : View) → left (mask v) ≡ mask (left v)
 left-mask v = rw (left-objects v.tokens) refl

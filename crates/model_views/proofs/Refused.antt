@@ -40,7 +40,8 @@ module _ {P : Answer → Type 0} where
   pub refusal-row : (v : View) (row : Condition) → P (refuses_by v row) → OnRefusal P (refuses_by v row)
   refusal-row v row same = record { leaves = λ is. same }
 
-  pub refusal-checked : (f : Function) (h : Condition → Bool) (v : View) (x : Answer) → ((row : Condition) → P (refuses_by v row)) → OnRefusal P x → OnRefusal P (checked f h v x)
+  pub refusal-checked : (f : Function) (h : Condition → Bool) (v : View) (x : Answer) → ((row : Condition) → P (refuses_by v row))
+      → OnRefusal P x → OnRefusal P (checked f h v x)
   refusal-checked f h v x same is = refusal-checked_by f h (refuses_by v) x (λ row. refusal-row v row (same row)) is
 
   -- and where the call that becomes pending is noted

@@ -18,7 +18,7 @@ use Rattle.sessions.specs.declared.Session.{Session}
 use Rattle.sessions.specs.Sessions.{session_at}
 use Rattle.ops.specs.declared.place.Place.{Place}
 use Rattle.ops.specs.declared.place.MacPlace.{MacPlace}
-use Rattle.ops.specs.Operations.{Operation, MacOperation, Operations, with_operation as in_sessions, with_mac as mac_in_sessions}
+use Rattle.ops.specs.Operations.{Operation, MacOperation, Operations, table_with_operation as in_sessions, table_with_mac as mac_in_sessions}
 use Rattle.lists.specs.Indexes.{first_index}
 use Rattle.model_views.specs.Views.{View, TokenObject, SessionObject, Task, Ciphers, Takes, Signs, Verifies, WrapsKey, UnwrapsKey, ChecksPin, MakesPin, ChangesPin, InitsToken, ResetsToken, Question, mask, mask_question}
 use Rattle.model_views.specs.Changes.{Change, Stays, Records, mask_change}
@@ -76,7 +76,11 @@ mask_objects [] = []
 mask_objects (o ∷ os) = mask_object o ∷ mask_objects os
 
 abbrev pub mask_reveal : Reveal → Reveal
-mask_reveal r = record { objects = option_map mask_objects r.objects; under_way = r.under_way; others_have_sessions = r.others_have_sessions }
+mask_reveal r = record {
+  objects = option_map mask_objects r.objects;
+  under_way = r.under_way;
+  others_have_sessions = r.others_have_sessions;
+}
 
 -- ---- replies
 
@@ -111,7 +115,11 @@ abbrev pub asks_checked : View → Function → ℕ → Task → UserType → An
 asks_checked v function session task who =
     let q : Question = record { number = v.next_question; function = function; session = session; task = task } in
     let r = charged v.token_record who in
-    record { says = Asks q; view = record v { token_record = r; question = Some q; next_question = v.next_question + 1 }; change = Records r }
+    record {
+      says = Asks q;
+      view = record v { token_record = r; question = Some q; next_question = v.next_question + 1 };
+      change = Records r;
+    }
 
 -- the call that becomes pending is seen
 abbrev pub noted_by : Call → Answer → Said → Answer
@@ -164,4 +172,5 @@ object_at v handle = first_object (find (λ t. is_handle t.handle handle) v.toke
 
 -- no call is taken: a call is pending, or a next number is used up
 unfoldable pub is_closed : View → Bool
-is_closed v = is_some v.question || (nat_le (2 ^ 63) v.sessions.next_number || (nat_le (2 ^ 63) v.next_handle || nat_le (2 ^ 63) v.next_question))
+is_closed v = is_some v.question ||
+    (nat_le (2 ^ 63) v.sessions.next_number || (nat_le (2 ^ 63) v.next_handle || nat_le (2 ^ 63) v.next_question))

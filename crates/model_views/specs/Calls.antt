@@ -13,5 +13,29 @@ pub use Rattle.sessions.specs.Sessions.{state_of}
 pub use Rattle.ops.specs.Operations.{Operation, Operations, no_operations}
 pub use Rattle.model_views.specs.Views.{View, TokenObject, SessionObject, seen_by}
 pub use Rattle.model_views.specs.Changes.{Stays, Insert, Replace, Remove, rewritten}
-pub use Rattle.model_views.specs.Answering.{Answer, Replies, replies, refuses, refuses_by, becomes, asks, answered, session_of, with_operation, index_of, object_at}
-pub use Rattle.model_views.specs.Checked.{checked, checked_by, reads, writes, state_in, flag_at, is_aes, is_of_type, made_by, refuses_template}
+pub use Rattle.model_views.specs.Answering.{
+  Answer,
+  Replies,
+  replies,
+  refuses,
+  refuses_by,
+  becomes,
+  asks,
+  answered,
+  session_of,
+  with_operation,
+  index_of,
+  object_at,
+}
+pub use Rattle.model_views.specs.Checked.{
+  checked,
+  checked_by,
+  reads,
+  writes,
+  state_in,
+  flag_at,
+  is_aes,
+  is_of_type,
+  made_by,
+  refuses_template,
+}

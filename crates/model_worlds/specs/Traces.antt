@@ -72,8 +72,10 @@ said (Asks question) = []
 -- the replies of a trace, from a view
 abbrev pub replies_told : View → List Moment → List Reply
 replies_told v [] = []
-replies_told v (Calls call random reveal ∷ ms) = said (answer v call random reveal).says ++ replies_told (mask (answer v call random reveal).view) ms
-replies_told v (Gets outcome reveal ∷ ms) = said (answer_result v outcome reveal).says ++ replies_told (mask (answer_result v outcome reveal).view) ms
+replies_told v (Calls call random reveal ∷ ms) =
+    said (answer v call random reveal).says ++ replies_told (mask (answer v call random reveal).view) ms
+replies_told v (Gets outcome reveal ∷ ms) =
+    said (answer_result v outcome reveal).says ++ replies_told (mask (answer_result v outcome reveal).view) ms
 replies_told v (CallFails fault ∷ ms) = refusal fault ∷ replies_told v ms
 replies_told v (ResultFails fault ∷ ms) = refusal fault ∷ replies_told (answered v) ms
 replies_told v (Leaves ∷ ms) = replies_told (left v) ms
@@ -174,7 +176,8 @@ is_private_result w app None = true
 is_private_result w app (Some q) = not (is_pin_task q.task) && is_private w.objects (list_change w app (result_at w app q))
 
 abbrev pub is_private_event : World → Event → Bool
-is_private_event w (Call app call random) = not (is_pin_function (function_of call)) && is_private w.objects (list_change w app (answer_at w app call random.items))
+is_private_event w (Call app call random) =
+    not (is_pin_function (function_of call)) && is_private w.objects (list_change w app (answer_at w app call random.items))
 is_private_event w (Finish app) = is_private_result w app (w.views app).question
 is_private_event w (Gone app) = true
 
@@ -203,7 +206,8 @@ IsQuietMove app w (Refuses event fault) = IsQuiet app w event ⊎ ((app_of event
 -- every event of a run is the application's own and belongs to no call of a PIN, or it is quiet
 abbrev pub AllQuiet : ℕ → World → List Move → Type 0
 AllQuiet app w [] = Unit {0}
-AllQuiet app w (m ∷ ms) = ((app_of (event_of m) ≡ app) × (is_pin_event w (event_of m) ≡ false) ⊎ IsQuietMove app w m) × AllQuiet app (happens w m) ms
+AllQuiet app w (m ∷ ms) = ((app_of (event_of m) ≡ app) × (is_pin_event w (event_of m) ≡ false) ⊎ IsQuietMove app w m)
+    × AllQuiet app (happens w m) ms
 
 -- the application's own events
 abbrev pub own_moves : ℕ → List Move → List Move

@@ -54,7 +54,8 @@ sets_changed who pin salt Right = SetsPin who (verifier_for pin salt new_rounds)
 sets_changed who pin salt _ = []
 
 abbrev pub inits : View → Reveal → List ℕ → List ℕ → List ℕ → TaskResult → List PinEvent
-inits v r label pin salt Made = if may_init v then (if is_in_use v r then [] else Initializes label (verifier_for pin salt new_rounds) ∷ []) else []
+inits v r label pin salt Made =
+    if may_init v then (if is_in_use v r then [] else Initializes label (verifier_for pin salt new_rounds) ∷ []) else []
 inits v r label pin salt _ = []
 
 abbrev pub resets : View → Reveal → List ℕ → TaskResult → List PinEvent
@@ -76,7 +77,8 @@ sets v r (ResetsToken label verifier pin) outcome = resets v r label outcome
 
 -- a check ends first, and then a PIN may be set
 abbrev pub events_of_outcome : World → ℕ → Task → TaskResult → List PinEvent
-events_of_outcome w app task outcome = ends app (pin_checked_by task) (is_right outcome) ++ sets (w.views app) (reveal_to_outcome w app task outcome) task outcome
+events_of_outcome w app task outcome =
+    ends app (pin_checked_by task) (is_right outcome) ++ sets (w.views app) (reveal_to_outcome w app task outcome) task outcome
 
 abbrev pub events_of_result : World → ℕ → Option Question → List PinEvent
 events_of_result w app None = []
@@ -104,11 +106,12 @@ abbrev pub checks_by : ℕ → List Check → List Check
 checks_by app cs = filter (λ c. c.app == app) cs
 
 -- What is so of every world of a run, where so many checks of each PIN are spent.
-pub record IsSound (s : UserType → ℕ) (w : World) : Type 0 where
+pub record IsSoundWorld (s : UserType → ℕ) (w : World) : Type 0 where
   -- an application has a check in progress just where its pending call checks a PIN: that one, once
   pub checks : (app : ℕ) → checks_by app w.checks ≡ checks_of app (pending_check (w.views app).question)
   -- one that checks the user's PIN has a session
-  pub seated : (app : ℕ) → pending_check (w.views app).question ≡ Some User → (has_session (w.views app) ≡ true) × (is_in_session w app ≡ true)
+  pub seated : (app : ℕ) → pending_check (w.views app).question ≡ Some User → (has_session (w.views app) ≡ true)
+      × (is_in_session w app ≡ true)
   -- each application sees the record
   pub records : (app : ℕ) → (w.views app).token_record ≡ w.token_record
   -- the tries of each PIN are the checks of it that are spent and those in progress, ten at most

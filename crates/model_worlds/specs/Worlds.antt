@@ -21,7 +21,7 @@ use Rattle.model_worlds.specs.declared.event.Event.{Event}
 use Rattle.model_worlds.specs.declared.event.Event.TheVariants.{Call, Finish, Gone}
 use Rattle.model_views.specs.declared.fault.Fault.{Fault}
 use Rattle.pin_record.specs.Records.{TokenRecord}
-use Rattle.pin_record.specs.Charges.{is_same, without}
+use Rattle.pin_record.specs.Charges.{is_same_user, without}
 use Rattle.model_views.specs.Views.{View, Task, Ciphers, Takes, Signs, Verifies, WrapsKey, UnwrapsKey, ChecksPin, MakesPin, ChangesPin, InitsToken, ResetsToken, Question, sees, left}
 use Rattle.model_views.specs.Changes.{Change, changed, recorded, seen, in_list, as_seen}
 use Rattle.model_views.specs.Answering.{Said, Replies, Asks, Answer, Reveal, reveals_nothing, answered, pin_checked_in, has_session}
@@ -53,7 +53,7 @@ others_in_session w app = list_any (λ n. not (n == app)) w.in_session
 
 -- the applications that check a PIN
 abbrev pub checking : UserType → List Check → List ℕ
-checking who cs = map (λ c. c.app) (filter (λ c. is_same who c.user) cs)
+checking who cs = map (λ c. c.app) (filter (λ c. is_same_user who c.user) cs)
 
 -- how many others do
 abbrev pub others_checking : List Check → ℕ → UserType → ℕ
@@ -130,14 +130,16 @@ abbrev pub reveals_sessions : Bool → Reveal
 reveals_sessions others_have_sessions = record { objects = None; under_way = None; others_have_sessions = Some others_have_sessions }
 
 abbrev pub reveals_reset : ℕ → Bool → Reveal
-reveals_reset under_way others_have_sessions = record { objects = None; under_way = Some under_way; others_have_sessions = Some others_have_sessions }
+reveals_reset under_way others_have_sessions =
+    record { objects = None; under_way = Some under_way; others_have_sessions = Some others_have_sessions }
 
 abbrev pub is_init_token : Function → Bool
 is_init_token functions.InitToken = true
 is_init_token _ = false
 
 abbrev pub reveal_by_call : CallType → Bool → Reveal
-reveal_by_call call others_have_sessions = if is_init_token (function_of call) then reveals_sessions others_have_sessions else reveals_nothing
+reveal_by_call call others_have_sessions =
+    if is_init_token (function_of call) then reveals_sessions others_have_sessions else reveals_nothing
 
 abbrev pub if_right : TaskResult → Reveal → Reveal
 if_right Right r = r
@@ -151,11 +153,14 @@ reveal_by_outcome (Signs operation input) outcome objects under_way others_have_
 reveal_by_outcome (Verifies operation input signature) outcome objects under_way others_have_sessions = reveals_nothing
 reveal_by_outcome (WrapsKey key value) outcome objects under_way others_have_sessions = reveals_nothing
 reveal_by_outcome (UnwrapsKey key wrapped state template random) outcome objects under_way others_have_sessions = reveals_nothing
-reveal_by_outcome (ChecksPin who verifier pin) outcome objects under_way others_have_sessions = if_right outcome (reveals_login objects who (under_way who))
+reveal_by_outcome (ChecksPin who verifier pin) outcome objects under_way others_have_sessions =
+    if_right outcome (reveals_login objects who (under_way who))
 reveal_by_outcome (MakesPin pin salt) outcome objects under_way others_have_sessions = reveals_checks (under_way User)
-reveal_by_outcome (ChangesPin who verifier pin new_pin salt) outcome objects under_way others_have_sessions = if_right outcome (reveals_checks (under_way who))
+reveal_by_outcome (ChangesPin who verifier pin new_pin salt) outcome objects under_way others_have_sessions =
+    if_right outcome (reveals_checks (under_way who))
 reveal_by_outcome (InitsToken label pin salt) outcome objects under_way others_have_sessions = reveals_sessions others_have_sessions
-reveal_by_outcome (ResetsToken label verifier pin) outcome objects under_way others_have_sessions = if_right outcome (reveals_reset (under_way So) others_have_sessions)
+reveal_by_outcome (ResetsToken label verifier pin) outcome objects under_way others_have_sessions =
+    if_right outcome (reveals_reset (under_way So) others_have_sessions)
 
 -- what a call, and a result, reveals of a world
 abbrev pub reveal_to_call : World → ℕ → CallType → Reveal

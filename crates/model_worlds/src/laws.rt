@@ -8,7 +8,7 @@ ghost use Rattle.model_views.specs.Views.{View, mask};
 ghost use Rattle.model_views.specs.Changes.{Change, seen};
 ghost use Rattle.model_worlds.specs.Worlds.{World, Move, event_of, happens, after, replies};
 ghost use Rattle.model_worlds.specs.Traces.{saw, trace, replies_to, NoResourceError, HasNoFailure, failures_in, faults_in, IsTold, IsQuiet, AllQuiet, own_moves};
-ghost use Rattle.model_worlds.specs.Tries.{charges_of, events_in, IsSound, spent_in};
+ghost use Rattle.model_worlds.specs.Tries.{charges_of, events_in, IsSoundWorld, spent_in};
 
 pub use model_answers::laws::blind_answers;
 
@@ -53,7 +53,8 @@ pub fn quiet_event()
 
 /// Where the others are quiet, an application gets the replies that it would get alone.
 pub fn quiet_run()
-    ensures replies { (app : ℕ) (w : World) (ms : List Move) → AllQuiet app w ms → replies_to app (replies w ms) ≡ replies_to app (replies w (own_moves app ms)) }
+    ensures replies { (app : ℕ) (w : World) (ms : List Move) → AllQuiet app w ms
+        → replies_to app (replies w ms) ≡ replies_to app (replies w (own_moves app ms)) }
     ensures views { (app : ℕ) (w : World) (ms : List Move) → AllQuiet app w ms → (after w ms).views app ≡ (after w (own_moves app ms)).views app }
 {}
 
@@ -63,8 +64,8 @@ pub fn quiet_run()
 /// which no call is pending and no check is in progress.
 pub fn ten_tries()
     ensures begins { (w : World) → w.checks ≡ [] → ((app : ℕ) → (w.views app).question ≡ None) → ((app : ℕ) → (w.views app).token_record ≡ w.token_record)
-        → ((who : Who) → tries_of (w.token_record) who ≤ tries_limit) → IsSound (tries_of (w.token_record)) w }
-    ensures goes { (s : Who → ℕ) (w : World) (ms : List Move) → IsSound s w → charges_of (after w ms) ≡ charged_after (charges_of w) (events_in w ms) }
-    ensures goes_on { (s : Who → ℕ) (w : World) (ms : List Move) → IsSound s w → IsSound (spent_in s w ms) (after w ms) }
-    ensures ten { (who : Who) (s : Who → ℕ) (w : World) (ms : List Move) → IsSound s w → spent_in s w ms who ≤ tries_limit }
+        → ((who : Who) → tries_of (w.token_record) who ≤ tries_limit) → IsSoundWorld (tries_of (w.token_record)) w }
+    ensures goes { (s : Who → ℕ) (w : World) (ms : List Move) → IsSoundWorld s w → charges_of (after w ms) ≡ charged_after (charges_of w) (events_in w ms) }
+    ensures goes_on { (s : Who → ℕ) (w : World) (ms : List Move) → IsSoundWorld s w → IsSoundWorld (spent_in s w ms) (after w ms) }
+    ensures ten { (who : Who) (s : Who → ℕ) (w : World) (ms : List Move) → IsSoundWorld s w → spent_in s w ms who ≤ tries_limit }
 {}

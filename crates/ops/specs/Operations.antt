@@ -28,8 +28,8 @@ abbrev pub started : Mechanism → Direction → Option (List ℕ) → Operation
 started mechanism direction key = record { mechanism = mechanism; direction = direction; taken = []; given = []; key = key }
 
 -- one more part, for which `out` was output
-abbrev pub further : Operation → List ℕ → List ℕ → Operation
-further o piece out = record o { taken = o.taken ++ piece; given = o.given ++ out }
+abbrev pub operation_further : Operation → List ℕ → List ℕ → Operation
+operation_further o piece out = record o { taken = o.taken ++ piece; given = o.given ++ out }
 
 -- the operation of a text in parts, and the text of an operation, where its key isn't left out
 abbrev pub operation_of : Streamed → Operation
@@ -98,19 +98,20 @@ abbrev pub placed_in : SessionTable Operations → ℕ → Option (Session Opera
 placed_in t session None place o = t
 placed_in t session (Some s) place o = with_work t session (placed s.work place o)
 
-abbrev pub with_operation : SessionTable Operations → ℕ → Place → Option Operation → SessionTable Operations
-with_operation t session place o = placed_in t session (session_at t.sessions session) place o
+abbrev pub table_with_operation : SessionTable Operations → ℕ → Place → Option Operation → SessionTable Operations
+table_with_operation t session place o = placed_in t session (session_at t.sessions session) place o
 
 abbrev pub mac_in : Option (Session Operations) → MacPlace → Option MacOperation
 mac_in None place = None
 mac_in (Some s) place = mac_at s.work place
 
-abbrev pub mac_placed_in : SessionTable Operations → ℕ → Option (Session Operations) → MacPlace → Option MacOperation → SessionTable Operations
+abbrev pub mac_placed_in : SessionTable Operations → ℕ → Option (Session Operations) → MacPlace → Option MacOperation
+    → SessionTable Operations
 mac_placed_in t session None place o = t
 mac_placed_in t session (Some s) place o = with_work t session (mac_placed s.work place o)
 
-abbrev pub with_mac : SessionTable Operations → ℕ → MacPlace → Option MacOperation → SessionTable Operations
-with_mac t session place o = mac_placed_in t session (session_at t.sessions session) place o
+abbrev pub table_with_mac : SessionTable Operations → ℕ → MacPlace → Option MacOperation → SessionTable Operations
+table_with_mac t session place o = mac_placed_in t session (session_at t.sessions session) place o
 
 -- ---- a search (PKCS #11 v3.1, 5.7.7 to 5.7.9)
 

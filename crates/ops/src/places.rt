@@ -29,7 +29,13 @@ impl Model for Places {
 
     ghost Value = { Operations };
 
-    ghost view = { λ p. record { encrypt = option_map operation_of p.encrypt; decrypt = option_map operation_of p.decrypt; sign = option_map mac_of p.sign; verify = option_map mac_of p.verify; find = p.find } };
+    ghost view = { λ p. record {
+      encrypt = option_map operation_of p.encrypt;
+      decrypt = option_map operation_of p.decrypt;
+      sign = option_map mac_of p.sign;
+      verify = option_map mac_of p.verify;
+      find = p.find;
+    } };
 }
 
 impl Places {

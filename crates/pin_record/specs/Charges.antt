@@ -13,12 +13,12 @@ pub record Charges : Type 0 where
   pub user_checks : List ℕ
 
 -- a record that was just read: no check is in progress
-abbrev pub opened : TokenRecord → Charges
-opened r = record { stored = r; so_checks = []; user_checks = [] }
+abbrev pub charges_opened : TokenRecord → Charges
+charges_opened r = record { stored = r; so_checks = []; user_checks = [] }
 
-abbrev pub checks_of : Charges → UserType → List ℕ
-checks_of c So = c.so_checks
-checks_of c User = c.user_checks
+abbrev pub charged_checks : Charges → UserType → List ℕ
+charged_checks c So = c.so_checks
+charged_checks c User = c.user_checks
 
 abbrev pub with_checks : Charges → UserType → List ℕ → Charges
 with_checks c So checks = record c { so_checks = checks }
@@ -50,7 +50,7 @@ pub data Event : Type 0 where
 -- a check begins only if its PIN is set and isn't locked
 abbrev pub may_begin : Charges → UserType → ℕ → Bool
 may_begin c who number =
-    is_some (verifier_of c.stored who) && (nat_lt (tries_of c.stored who) tries_limit && not (is_under_way (checks_of c who) number))
+    is_some (verifier_of c.stored who) && (nat_lt (tries_of c.stored who) tries_limit && not (is_under_way (charged_checks c who) number))
 
 -- No check of the user's PIN is in progress. A token is initialised only then: such a check has a
 -- session, and no application has one.
@@ -59,38 +59,38 @@ has_no_user_check c = length c.user_checks == 0
 
 abbrev pub happens : Charges → Event → Charges
 happens c (Begins who number) =
-    if may_begin c who number then with_stored (with_checks c who (checks_of c who ++ number ∷ [])) (charged c.stored who) else c
+    if may_begin c who number then with_stored (with_checks c who (charged_checks c who ++ number ∷ [])) (charged c.stored who) else c
 happens c (EndsRight who number) =
-    let others = without (checks_of c who) number in
-    if is_under_way (checks_of c who) number then with_stored (with_checks c who others) (checked c.stored who true (length others)) else c
+    let others = without (charged_checks c who) number in
+    if is_under_way (charged_checks c who) number then with_stored (with_checks c who others) (checked c.stored who true (length others)) else c
 happens c (EndsOtherwise who number) =
-    let others = without (checks_of c who) number in
+    let others = without (charged_checks c who) number in
     with_stored (with_checks c who others) (checked c.stored who false (length others))
 happens c (SetsPin who verifier) =
-    if is_initialized c.stored then with_stored c (with_pin c.stored who verifier (length (checks_of c who))) else c
+    if is_initialized c.stored then with_stored c (with_pin c.stored who verifier (length (charged_checks c who))) else c
 happens c (Initializes label so) =
     if has_no_user_check c then with_stored c (initialized_record label so (length c.so_checks)) else c
-happens c Restarts = opened c.stored
+happens c Restarts = charges_opened c.stored
 
 abbrev pub after : Charges → List Event → Charges
 after c [] = c
 after c (e ∷ es) = after (happens c e) es
 
-abbrev pub is_same : UserType → UserType → Bool
-is_same So So = true
-is_same So User = false
-is_same User So = false
-is_same User User = true
+abbrev pub is_same_user : UserType → UserType → Bool
+is_same_user So So = true
+is_same_user So User = false
+is_same_user User So = false
+is_same_user User User = true
 
 -- How many checks of a PIN have ended wrong or abandoned since it was last entered right or set, or
 -- the token initialised. An event of the other PIN, or of a check that isn't in progress, counts nothing.
 abbrev pub spent_after : UserType → ℕ → Charges → Event → ℕ
 spent_after who s c (Begins other number) = s
-spent_after who s c (EndsRight other number) = if is_same who other && is_under_way (checks_of c other) number then 0 else s
-spent_after who s c (EndsOtherwise other number) = if is_same who other && is_under_way (checks_of c other) number then s + 1 else s
-spent_after who s c (SetsPin other verifier) = if is_same who other && is_initialized c.stored then 0 else s
+spent_after who s c (EndsRight other number) = if is_same_user who other && is_under_way (charged_checks c other) number then 0 else s
+spent_after who s c (EndsOtherwise other number) = if is_same_user who other && is_under_way (charged_checks c other) number then s + 1 else s
+spent_after who s c (SetsPin other verifier) = if is_same_user who other && is_initialized c.stored then 0 else s
 spent_after who s c (Initializes label so) = if has_no_user_check c then 0 else s
-spent_after who s c Restarts = s + length (checks_of c who)
+spent_after who s c Restarts = s + length (charged_checks c who)
 
 abbrev pub spent : UserType → ℕ → Charges → List Event → ℕ
 spent who s c [] = s
@@ -108,4 +108,4 @@ pub record IsCounted (s tries : ℕ) (checks : List ℕ) : Type 0 where
   pub once : Once checks
 
 abbrev pub IsCharged : UserType → ℕ → Charges → Type 0
-IsCharged who s c = IsCounted s (tries_of c.stored who) (checks_of c who)
+IsCharged who s c = IsCounted s (tries_of c.stored who) (charged_checks c who)

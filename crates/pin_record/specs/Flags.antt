@@ -3,8 +3,8 @@ use Rattle.std.specs.Prelude.{ℕ, ◌-◌, ◌==◌, Bool, true, List, [], ◌�
 use Rattle.pin_record.specs.Records.{RecordView, tries_limit}
 
 -- each flag that can be set, and whether it is
-abbrev pub flags_of : RecordView → List (ℕ × Bool)
-flags_of v =
+abbrev pub record_flags : RecordView → List (ℕ × Bool)
+record_flags v =
     -- CKF_RNG, CKF_LOGIN_REQUIRED
     (0x1, true) ∷ (0x4, true) ∷
     -- CKF_USER_PIN_INITIALIZED, CKF_TOKEN_INITIALIZED
@@ -20,4 +20,4 @@ union [] = 0
 union (f ∷ fs) = bit_or (if f.1 then f.0 else 0) (union fs)
 
 abbrev pub token_flags : RecordView → ℕ
-token_flags v = union (flags_of v)
+token_flags v = union (record_flags v)

@@ -66,7 +66,8 @@ tries_form = restricted (λ n. nat_le n tries_limit) byte
 abbrev pub pin_form : Version → Format PinState
 pin_form version =
     restricted tries_fit
-    (mapped (pair (optional (verifier_form_in version)) tries_form) (λ p. record { verifier = p.0; tries = p.1 }) (λ p. (p.verifier, p.tries)))
+    (mapped (pair (optional (verifier_form_in version)) tries_form) (λ p. record { verifier = p.0; tries = p.1 })
+    (λ p. (p.verifier, p.tries)))
 
 abbrev pub flag_byte : Bool → ℕ
 flag_byte initialized = if initialized then 1 else 0
@@ -93,15 +94,15 @@ record_form version = headed (version_number version) (restricted is_coherent (n
 abbrev pub IsRecord : TokenRecord → Type 0
 IsRecord r = (record_form Two).Fits r
 
-abbrev pub stored_form : TokenRecord → List ℕ
-stored_form r = (record_form Two).encode r
+abbrev pub stored_record_form : TokenRecord → List ℕ
+stored_record_form r = (record_form Two).encode r
 
 -- and those that an older token stored
 abbrev pub IsOldRecord : TokenRecord → Type 0
 IsOldRecord r = (record_form One).Fits r
 
-abbrev pub old_form : TokenRecord → List ℕ
-old_form r = (record_form One).encode r
+abbrev pub old_record_form : TokenRecord → List ℕ
+old_record_form r = (record_form One).encode r
 
 -- the record with a stored form
 unfoldable pub record_stored_in : Version → List ℕ → Option TokenRecord
@@ -114,12 +115,12 @@ abbrev pub record_old_stored : List ℕ → Option TokenRecord
 record_old_stored = record_stored_in One
 
 -- What a decoder returns is the record. It takes no memory.
-abbrev pub Decodes : {X : Type 0} → Result X DecodeFault → Option X → Type 0
-Decodes (Ok x) decoded = decoded ≡ Some x
-Decodes (Err faults.Form) decoded = decoded ≡ None
-Decodes (Err faults.Memory) decoded = ⊥
+abbrev pub DecodesRecord : {X : Type 0} → Result X DecodeFault → Option X → Type 0
+DecodesRecord (Ok x) decoded = decoded ≡ Some x
+DecodesRecord (Err faults.Form) decoded = decoded ≡ None
+DecodesRecord (Err faults.Memory) decoded = ⊥
 
 -- a value at the front, and the bytes after it, are what a format decodes
-abbrev pub Reads : {X Y : Type 0} → (X → Y) → Option X → Option Y → Type 0
-Reads view (Some x) decoded = decoded ≡ Some (view x)
-Reads view None decoded = decoded ≡ None
+abbrev pub ReadsField : {X Y : Type 0} → (X → Y) → Option X → Option Y → Type 0
+ReadsField view (Some x) decoded = decoded ≡ Some (view x)
+ReadsField view None decoded = decoded ≡ None

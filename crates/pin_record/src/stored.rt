@@ -4,7 +4,7 @@ ghost use Rattle.std.specs.Prelude.{◌≡◌, ◌++◌, IfOk, OnOk, Some};
 ghost use Rattle.ck_types.specs.Format.{first_bytes, optional};
 ghost use Rattle.pin_record.specs.declared.record.Record.{Record as ARecord};
 ghost use Rattle.pin_record.specs.declared.version.Version.TheVariants.{Two};
-ghost use Rattle.pin_record.specs.Stored.{IsOldRecord, IsRecord, Decodes, Reads, byte, flag_byte, old_form, old_verifier_form, pin_form, record_form, record_old_stored, record_stored, record_stored_in, stored_form, verifier_form, verifier_form_in};
+ghost use Rattle.pin_record.specs.Stored.{IsOldRecord, IsRecord, DecodesRecord, ReadsField, byte, flag_byte, old_record_form, old_verifier_form, pin_form, record_form, record_old_stored, record_stored, record_stored_in, stored_record_form, verifier_form, verifier_form_in};
 
 use crate::fault::DecodeFault;
 use crate::pin::{Pin, TRIES_LIMIT};
@@ -15,7 +15,7 @@ use ck_types::{Label, UserType};
 use std::alloc::{AllocError, Global};
 
 fn decode_byte(bytes: &[u8]) -> Option<(u8, &[u8])>
-    ensures { Reads (λ x. (x.0, x.1.now)) result (byte.decode bytes.now) }
+    ensures { ReadsField (λ x. (x.0, x.1.now)) result (byte.decode bytes.now) }
 {
     match bytes {
         [] => None,
@@ -25,7 +25,7 @@ fn decode_byte(bytes: &[u8]) -> Option<(u8, &[u8])>
 
 /// The first `N` bytes, and those after them.
 fn split_array<const N: usize>(bytes: &[u8]) -> Option<([u8; N], &[u8])>
-    ensures { Reads (λ x. (x.0, x.1.now)) result (first_bytes N bytes.now) }
+    ensures { ReadsField (λ x. (x.0, x.1.now)) result (first_bytes N bytes.now) }
 {
     if bytes.len() < N {
         return None;
@@ -37,7 +37,7 @@ fn split_array<const N: usize>(bytes: &[u8]) -> Option<([u8; N], &[u8])>
 }
 
 fn decode_verifier(bytes: &[u8]) -> Option<(Verifier, &[u8])>
-    ensures { Reads (λ x. (x.0, x.1.now)) result (verifier_form.decode bytes.now) }
+    ensures { ReadsField (λ x. (x.0, x.1.now)) result (verifier_form.decode bytes.now) }
 {
     let (salt, rest) = split_array::<16>(bytes)?;
     let (rounds, rest) = split_array::<4>(rest)?;
@@ -47,7 +47,7 @@ fn decode_verifier(bytes: &[u8]) -> Option<(Verifier, &[u8])>
 }
 
 fn decode_old_verifier(bytes: &[u8]) -> Option<(Verifier, &[u8])>
-    ensures { Reads (λ x. (x.0, x.1.now)) result (old_verifier_form.decode bytes.now) }
+    ensures { ReadsField (λ x. (x.0, x.1.now)) result (old_verifier_form.decode bytes.now) }
 {
     let (salt, rest) = split_array::<16>(bytes)?;
     let (key, rest) = split_array::<32>(rest)?;
@@ -56,7 +56,7 @@ fn decode_old_verifier(bytes: &[u8]) -> Option<(Verifier, &[u8])>
 }
 
 fn decode_verifier_in(version: Version, bytes: &[u8]) -> Option<(Verifier, &[u8])>
-    ensures { Reads (λ x. (x.0, x.1.now)) result ((verifier_form_in version).decode bytes.now) }
+    ensures { ReadsField (λ x. (x.0, x.1.now)) result ((verifier_form_in version).decode bytes.now) }
 {
     match version {
         Version::One => decode_old_verifier(bytes),
@@ -65,7 +65,7 @@ fn decode_verifier_in(version: Version, bytes: &[u8]) -> Option<(Verifier, &[u8]
 }
 
 fn decode_optional(version: Version, bytes: &[u8]) -> Option<(Option<Verifier>, &[u8])>
-    ensures { Reads (λ x. (x.0, x.1.now)) result ((optional (verifier_form_in version)).decode bytes.now) }
+    ensures { ReadsField (λ x. (x.0, x.1.now)) result ((optional (verifier_form_in version)).decode bytes.now) }
 {
     match bytes {
         [0, rest @ ..] => Some((None, rest)),
@@ -81,7 +81,7 @@ fn decode_optional(version: Version, bytes: &[u8]) -> Option<(Option<Verifier>, 
 }
 
 fn decode_pin(version: Version, bytes: &[u8]) -> Option<(Pin, &[u8])>
-    ensures { Reads (λ x. (x.0, x.1.now)) result ((pin_form version).decode bytes.now) }
+    ensures { ReadsField (λ x. (x.0, x.1.now)) result ((pin_form version).decode bytes.now) }
 {
     let Some((verifier, rest)) = decode_optional(version, bytes) else {
         return None;
@@ -95,7 +95,7 @@ fn decode_pin(version: Version, bytes: &[u8]) -> Option<(Pin, &[u8])>
 }
 
 fn decode_record(version: Version, bytes: &[u8]) -> Option<(Record, &[u8])>
-    ensures { Reads (λ x. (x.0, x.1.now)) result ((record_form version).decode bytes.now) }
+    ensures { ReadsField (λ x. (x.0, x.1.now)) result ((record_form version).decode bytes.now) }
 {
     let (number, rest) = decode_byte(bytes)?;
     if number != version.number() {
@@ -125,7 +125,7 @@ fn flag_byte(initialized: bool) -> u8
 
 #[tactic(auto, unfolding(crate::specs::Stored::record_stored_in))]
 fn decoded(version: Version, bytes: &[u8]) -> Result<Record, DecodeFault>
-    ensures { Decodes result (record_stored_in version bytes.now) }
+    ensures { DecodesRecord result (record_stored_in version bytes.now) }
 {
     match decode_record(version, bytes) {
         Some((record, [])) => Ok(record),
@@ -136,9 +136,9 @@ fn decoded(version: Version, bytes: &[u8]) -> Result<Record, DecodeFault>
 /// The record with a stored form. `Form` where the bytes are no record's stored form. No memory is
 /// taken.
 pub fn decode(bytes: &[u8]) -> Result<Record, DecodeFault>
-    ensures found { IfOk result (λ r. IsRecord r × (bytes.now ≡ stored_form r)) }
-    ensures only { (r : ARecord) → IsRecord r → bytes.now ≡ stored_form r → Decodes result (Some r) }
-    ensures exact { Decodes result (record_stored bytes.now) }
+    ensures found { IfOk result (λ r. IsRecord r × (bytes.now ≡ stored_record_form r)) }
+    ensures only { (r : ARecord) → IsRecord r → bytes.now ≡ stored_record_form r → DecodesRecord result (Some r) }
+    ensures exact { DecodesRecord result (record_stored bytes.now) }
 {
     decoded(Version::Two, bytes)
 }
@@ -146,9 +146,9 @@ pub fn decode(bytes: &[u8]) -> Result<Record, DecodeFault>
 /// The record that an older token stored so, with a verifier's rounds `OLD_ROUNDS`. `Form` where the bytes are no record's
 /// stored form of format 1. No memory is taken.
 pub fn decode_old(bytes: &[u8]) -> Result<Record, DecodeFault>
-    ensures found { IfOk result (λ r. IsOldRecord r × (bytes.now ≡ old_form r)) }
-    ensures only { (r : ARecord) → IsOldRecord r → bytes.now ≡ old_form r → Decodes result (Some r) }
-    ensures exact { Decodes result (record_old_stored bytes.now) }
+    ensures found { IfOk result (λ r. IsOldRecord r × (bytes.now ≡ old_record_form r)) }
+    ensures only { (r : ARecord) → IsOldRecord r → bytes.now ≡ old_record_form r → DecodesRecord result (Some r) }
+    ensures exact { DecodesRecord result (record_old_stored bytes.now) }
 {
     decoded(Version::One, bytes)
 }
@@ -180,7 +180,7 @@ fn encode_pin(pin: &Pin, out: &mut Vec<u8>) -> Result<(), AllocError>
 
 /// The stored form of a record: 38 bytes for a new store, 142 where both PINs are set.
 pub fn encode(alloc: Global, record: &Record) -> Result<Vec<u8>, AllocError>
-    ensures bytes { IfOk result (λ bytes. bytes.items ≡ stored_form «record».now) }
+    ensures bytes { IfOk result (λ bytes. bytes.items ≡ stored_record_form «record».now) }
     ensures fits { OnOk result (IsRecord «record».now) }
 {
     let mut out = Vec::new(alloc);

@@ -1,4 +1,2 @@
 pub mod Modes
-pub mod Priorities
-pub mod Reported
 pub mod Statuses

@@ -6,10 +6,9 @@ ghost use Rattle.programs.specs.Statuses.{status_of, IsStatus};
 use crate::cause::Cause;
 use hall::HallFault;
 use keep::KeepFault;
-use keep_sql::OpenFault;
-use line::LineFault;
-use sqlite::{Error, ErrorCode};
 use std::io::Write;
+use stdio_line::LineFault;
+use store_files::StoreFault;
 use thiserror::Error as AsError;
 use wire::WireFault;
 
@@ -75,11 +74,6 @@ impl Fault {
         self.failure.status()
     }
 
-    /// What led to it, where the failure doesn't name that itself.
-    pub(crate) fn cause(&self) -> Option<Cause> {
-        self.cause
-    }
-
     /// The options that may name the file which it is about, the first that is given.
     pub(crate) fn options(&self) -> [&'static str; 2] {
         match self.failure {
@@ -136,40 +130,21 @@ impl From<LineFault> for Fault {
     }
 }
 
+/// Of the store's files, and of copies.
+impl From<StoreFault> for Fault {
+    fn from(fault: StoreFault) -> Fault {
+        match fault {
+            StoreFault::Store(cause) => Failure::Store.because(Cause::Store(cause)),
+            StoreFault::Copy(cause) => Failure::Copy.because(Cause::Store(cause)),
+            StoreFault::Memory => Failure::Memory.into(),
+        }
+    }
+}
+
 /// Of the store.
 impl From<KeepFault> for Fault {
     fn from(fault: KeepFault) -> Fault {
-        match fault {
-            KeepFault::Memory => Failure::Memory.into(),
-            _ => Failure::Store.because(Cause::Keeper(fault)),
-        }
-    }
-}
-
-/// Of the opening of a store.
-impl From<OpenFault> for Fault {
-    fn from(fault: OpenFault) -> Fault {
-        match fault {
-            OpenFault::Keeper(fault) => fault.into(),
-            OpenFault::Sqlite(error) => error.into(),
-            _ => Failure::Store.because(Cause::Opening(fault)),
-        }
-    }
-}
-
-/// Of sqlite, about the store.
-impl From<Error> for Fault {
-    fn from(error: Error) -> Fault {
-        match error {
-            Error::SqliteFailure(ErrorCode::OutOfMemory) => Failure::Memory.into(),
-            Error::SqliteFailure(ErrorCode::DatabaseBusy) => Failure::Store.because(
-                Cause::StoreBusy,
-            ),
-            Error::SqliteFailure(ErrorCode::DatabaseCorrupt) => Failure::Store.because(
-                Cause::Malformed,
-            ),
-            _ => Failure::Store.because(Cause::Sqlite(error)),
-        }
+        StoreFault::from(fault).into()
     }
 }
 

@@ -13,9 +13,7 @@
 //! A failure is a line on the output for errors, and its cause the next one. `refuse_args` returns the status where the process's
 //! own arguments can't be read.
 //!
-//! The daemon is four seats (`hall_sockets::SocketSeat`) before one token. `Journal` is a log on standard error, as a journal reads
-//! it. `Reported` is a keeper that logs what becomes of its store. `Marked` is one that lifts a mark before a value is destroyed. `Ballast`
-//! is room on the store's disk that is given up for PINs and removals.
+//! The daemon is four seats (`hall_sockets::SocketSeat`) before one token. `Reported` is a keeper that logs what becomes of its store.
 //!
 //! This crate is safe and tested. What it states is that it holds the seats as `hall_sockets::hold_sockets` asks, with the seed
 //! of the command line or of the file, and which exit status a failure has.
@@ -23,47 +21,30 @@
 //! Proved, by the names of contracts: the seats are four new ones, with the seed of the settings and 64 places at most (`ready_seats`,
 //! `settings_of`). `seed_of` is the next 32 bytes of its reader (`Consumes`), `trial_seed` what its digits spell, or zeros. Of the seed
 //! file itself no clause speaks. The exit status is one of the README's (`IsStatus`), and that of the failure (`status_of`). No clause
-//! speaks of what `Reported` and `Marked` log, nor of the copies of the log that `Marked` keeps.
+//! speaks of what `Reported` logs.
 #![tactic(auto)]
 
 mod args;
-mod ballast;
 mod cause;
 mod command;
-mod copying;
 mod cores;
 mod environment;
-mod examining;
 mod failure;
 mod health;
-mod journal;
 mod listening;
-mod mark;
-mod marked;
 mod monitor;
 mod notify;
 mod options;
 mod p11call;
-mod renewal;
 mod reported;
-mod restoring;
 mod run;
 mod seed;
 mod serve;
-mod snapshot;
-mod spare_logs;
 mod status;
-mod store;
-mod unlocking;
 mod upkeep;
-mod writing;
 
 pub use args::refuse_args;
-pub use ballast::Ballast;
 pub use health::Health;
-pub use journal::Journal;
-pub use mark::Mark;
-pub use marked::Marked;
 pub use p11call::ask;
 pub use reported::Reported;
 pub use run::tokend_with;

@@ -3,10 +3,10 @@
 use crate::cause::Cause;
 use crate::failure::{Failure, Fault};
 use crate::health::Health;
-use crate::journal::Journal;
 use crate::notify::Manager;
 use crossbeam_channel::{Receiver, RecvTimeoutError, Sender, bounded};
 use hall_sockets::Loads;
+use journal::Journal;
 use log::{error, warn};
 use std::alloc::Global;
 use std::io::Stderr;

@@ -119,9 +119,9 @@ impl<K: Explains, L: Log + Drop> Reported<K, L> {
 }
 
 impl<K: Explains, L: Log + Drop> Keep for Reported<K, L> {
-    ghost use Rattle.programs.specs.Reported.{reported_terms};
+    ghost use Rattle.store_files.specs.Behind.{terms_behind};
 
-    ghost terms = { reported_terms (λ k. k.keep) K.Keep.terms };
+    ghost terms = { terms_behind (λ k. k.keep) K.Keep.terms };
 
     ghost survives = { λ k sure. K.Keep.survives k.keep sure };
 

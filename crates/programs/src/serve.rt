@@ -8,20 +8,19 @@ use crate::command::{MAX_CONNECTIONS, VERSION};
 use crate::cores::leave_cores_empty;
 use crate::failure::{Failure, Fault};
 use crate::health::Health;
-use crate::journal::{Journal, note};
 use crate::listening::{daemon_sockets, socket_names};
 use crate::monitor::{Monitor, Watching};
 use crate::notify::Manager;
 use crate::options::{level_in, mode_in};
 use crate::reported::Reported;
 use crate::seed::daemon_seed;
-use crate::store::{FileKeep, is_in_open_folder, keep_private, open_store, room_beside, see_owner};
 use cache::Cached;
 use clap::ArgMatches;
 use hall::Gate;
 use hall_sockets::{
     Loads, MAX_CLIENTS, Seats, Settings, Shared, SocketSeat, Sockets, hold_sockets,
 };
+use journal::{Journal, note};
 use keep::{Keep, ListKeep};
 use log::{Level, LevelFilter, Log};
 use pin_record::Record;
@@ -35,6 +34,9 @@ use std::sync::atomic::{AtomicBool, Ordering};
 use std::sync::{Arc, Wait};
 use std::thread::Threads;
 use std::time::{Clock, Duration};
+use store_files::{
+    FileKeep, close_store, is_in_open_folder, keep_private, open_store, room_beside, see_owner,
+};
 use token::Token;
 
 /// How many seats there are.
@@ -96,7 +98,7 @@ pub(crate) fn serve<R: Threads + Wait + Clock + Copy + Send + Drop + 'static, O:
         serve_memory(rt, threads, &served, output, errors)
     } else {
         let keep = open_private(rt, &served, errors)?;
-        close_store(serve_file(rt, threads, keep, &served, output, errors)?)
+        Ok(close_store(serve_file(rt, threads, keep, &served, output, errors)?)?)
     }
 }
 
@@ -166,14 +168,6 @@ fn with_modes<K: Drop, E: Write>(
         note(errors, served.level, Level::Warn, &text);
     }
     Ok(keep)
-}
-
-/// Closes a store at a clean end: its log is copied into its file.
-pub(crate) fn close_store(keep: FileKeep) -> Result<(), Fault> {
-    match keep.close().close() {
-        Ok(()) => Ok(()),
-        Err(error) => Err(error.into()),
-    }
 }
 
 /// The keeper, which logs what becomes of its store, and has the seats end where that is shut.

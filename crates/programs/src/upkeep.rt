@@ -1,14 +1,12 @@
-//! `tokend check`, `tokend backup` and `tokend compact`: a store is looked through, copied from its rows, or written anew from them.
-//! A daemon may serve it meanwhile, but where it is written anew.
+//! `tokend check`, `backup`, `compact`, `restore` and `unlock`: what is done to a store from outside. A daemon may serve it meanwhile only
+//! where it is looked through or copied.
 
 use crate::cause::Cause;
-use crate::examining::{Findings, examine};
 use crate::failure::{Failure, Fault};
-use crate::snapshot::read_store;
-use crate::store::renew_store;
-use crate::writing::write_new;
+use ck_types::UserType;
 use clap::ArgMatches;
 use std::io::{self, Write};
+use store_files::{Findings, back_up, look_through, renew_store};
 
 /// Looks through a store, prints what it has, and changes nothing.
 pub(crate) fn check<O: Write>(
@@ -17,9 +15,9 @@ pub(crate) fn check<O: Write>(
     output: &mut O,
 ) -> Result<(), Fault> {
     let store = matches.get_str("store").ok_or(Failure::Store)?;
-    let found = examine(rt.alloc(), &read_store(rt, store)?)?;
+    let found = look_through(rt, store)?;
     match print(&found, output) {
-        Ok(()) => found.verdict(),
+        Ok(()) => Ok(found.verdict()?),
         Err(error) => Err(Failure::Line.because(Cause::Output(error))),
     }
 }
@@ -39,16 +37,34 @@ fn print<O: Write>(found: &Findings, output: &mut O) -> io::Result<()> {
 pub(crate) fn backup(rt: &HostRuntime, matches: &ArgMatches<'_>) -> Result<(), Fault> {
     let store = matches.get_str("store").ok_or(Failure::Store)?;
     let to = matches.get_str("to").ok_or(Failure::Copy)?;
-    let copy = read_store(rt, store)?;
-    examine(rt.alloc(), &copy)?.verdict()?;
-    match write_new(rt, to, &copy.anew(rt.alloc())?) {
-        Ok(()) => Ok(()),
-        Err(error) => Err(Failure::Copy.because(Cause::CopyFile(error))),
-    }
+    Ok(back_up(rt, store, to)?)
 }
 
 /// Writes the file of a store anew.
 pub(crate) fn compact(rt: &HostRuntime, matches: &ArgMatches<'_>) -> Result<(), Fault> {
     let store = matches.get_str("store").ok_or(Failure::Store)?;
-    renew_store(rt, store)
+    Ok(renew_store(rt, store)?)
+}
+
+/// Puts the rows of a copy in a store's place.
+pub(crate) fn restore(rt: &HostRuntime, matches: &ArgMatches<'_>) -> Result<(), Fault> {
+    let from = matches.get_str("from").ok_or(Failure::Store)?;
+    let to = matches.get_str("to").ok_or(Failure::Copy)?;
+    Ok(store_files::restore(rt, from, to)?)
+}
+
+/// Whose PIN is meant.
+fn who_in(text: &str) -> UserType {
+    if text == "so" {
+        UserType::So
+    } else {
+        UserType::User
+    }
+}
+
+/// Sets the tries of a PIN to 0.
+pub(crate) fn unlock(rt: &HostRuntime, matches: &ArgMatches<'_>) -> Result<(), Fault> {
+    let store = matches.get_str("store").ok_or(Failure::Store)?;
+    let who = who_in(matches.get_str("user").unwrap_or("user"));
+    Ok(store_files::unlock(rt, store, who)?)
 }

@@ -107,11 +107,13 @@ impl<K: Keep> Keep for Quota<K> {
         ensures beyond { self.old.most ≤ self.old.count → IsErrOf result Device × (self.new.keep ≡ self.old.keep) }
         ensures below { self.old.count < self.old.most → K.terms.tried self.new.keep ≡ K.terms.tried self.old.keep + 1 }
         // As each keeper does.
-        ensures id { (quota_terms K.terms).doubt self.new ≡ 0 → (c : Contents) → (quota_terms K.terms).holds self.old c → IfOk result (λ id. id ≡ c.last_id + 1) }
+        ensures id { (quota_terms K.terms).doubt self.new ≡ 0 → (c : Contents) → (quota_terms K.terms).holds self.old c
+            → IfOk result (λ id. id ≡ c.last_id + 1) }
         ensures limit { IfOk result (λ id. id ≤ greatest_id) }
         ensures ok { OnOk result (Changes (quota_terms K.terms) self.old self.new (with_object object.now)) }
         ensures err { OnErr result (Fails (quota_terms K.terms) self.old self.new (with_object object.now)) }
-        ensures steady { (quota_terms K.terms).is_steady self.old → IsErrOf result Device → (c : Contents) → (quota_terms K.terms).holds self.old c → greatest_id ≤ c.last_id }
+        ensures steady { (quota_terms K.terms).is_steady self.old → IsErrOf result Device → (c : Contents)
+            → (quota_terms K.terms).holds self.old c → greatest_id ≤ c.last_id }
         ensures counts { Counted (quota_terms K.terms) self.old self.new 1 1 }
         ensures cause { HasCause ((quota_terms K.terms).failures self.old) ((quota_terms K.terms).failures self.new) result }
     {

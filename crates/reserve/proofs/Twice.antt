@@ -10,7 +10,8 @@ module _ {K R : Type 0} (terms : Terms K) (old new : ReservedState K R) (was : K
     by : Changes terms old.keep new.keep step → Changes (reserved_terms terms) old new step
     by it = record { held = it.held; crash = it.crash }
 
-  pub twice : (mid again : K) → again ≡ mid → Fails terms was mid step → Changes terms again new.keep step → Changes (reserved_terms terms) old new step
+  pub twice : (mid again : K) → again ≡ mid → Fails terms was mid step → Changes terms again new.keep step
+      → Changes (reserved_terms terms) old new step
   twice mid again is one two = by (subst (λ (k : K). Changes terms k new.keep step) is two) where
     by : Changes terms mid new.keep step → Changes (reserved_terms terms) old new step
     by two = once (record {

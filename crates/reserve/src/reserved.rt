@@ -168,12 +168,14 @@ impl<K: Keep, R: SpareRoom> Keep for Reserved<K, R> {
         ensures room { OnOk result (IsTrue (R.is_whole self.new.room)) }
         ensures asked { IsTrue (R.is_whole self.new.room) → K.terms.tried self.new.keep ≡ K.terms.tried self.old.keep + 1 }
         ensures refused { R.is_whole self.new.room ≡ false → IsErrOf result Device × (self.new.keep ≡ self.old.keep) }
-        ensures id { (reserved_terms K.terms).doubt self.new ≡ 0 → (c : Contents) → (reserved_terms K.terms).holds self.old c → IfOk result (λ id. id ≡ c.last_id + 1) }
+        ensures id { (reserved_terms K.terms).doubt self.new ≡ 0 → (c : Contents) → (reserved_terms K.terms).holds self.old c
+            → IfOk result (λ id. id ≡ c.last_id + 1) }
         ensures limit { IfOk result (λ id. id ≤ greatest_id) }
         // As each keeper does.
         ensures ok { OnOk result (Changes (reserved_terms K.terms) self.old self.new (with_object object.now)) }
         ensures err { OnErr result (Fails (reserved_terms K.terms) self.old self.new (with_object object.now)) }
-        ensures steady { (reserved_terms K.terms).is_steady self.old → IsErrOf result Device → (c : Contents) → (reserved_terms K.terms).holds self.old c → greatest_id ≤ c.last_id }
+        ensures steady { (reserved_terms K.terms).is_steady self.old → IsErrOf result Device → (c : Contents)
+            → (reserved_terms K.terms).holds self.old c → greatest_id ≤ c.last_id }
         ensures counts { Counted (reserved_terms K.terms) self.old self.new 1 1 }
         ensures cause { HasCause ((reserved_terms K.terms).failures self.old) ((reserved_terms K.terms).failures self.new) result }
     {
@@ -190,11 +192,13 @@ impl<K: Keep, R: SpareRoom> Keep for Reserved<K, R> {
         ensures room { OnOk result (IsTrue (R.is_whole self.new.room)) }
         ensures asked { IsTrue (R.is_whole self.new.room) → K.terms.tried self.new.keep ≡ K.terms.tried self.old.keep + 1 }
         ensures refused { R.is_whole self.new.room ≡ false → IsErrOf result Device × (self.new.keep ≡ self.old.keep) }
-        ensures there { (reserved_terms K.terms).doubt self.new ≡ 0 → (c : Contents) → (reserved_terms K.terms).holds self.old c → OnOk result (IsSome (object_at c id)) }
+        ensures there { (reserved_terms K.terms).doubt self.new ≡ 0 → (c : Contents) → (reserved_terms K.terms).holds self.old c
+            → OnOk result (IsSome (object_at c id)) }
         // As each keeper does.
         ensures ok { OnOk result (Changes (reserved_terms K.terms) self.old self.new (with_replacement id object.now)) }
         ensures err { OnErr result (Fails (reserved_terms K.terms) self.old self.new (with_replacement id object.now)) }
-        ensures steady { (reserved_terms K.terms).is_steady self.old → IsErrOf result Device → (c : Contents) → (reserved_terms K.terms).holds self.old c → object_at c id ≡ None }
+        ensures steady { (reserved_terms K.terms).is_steady self.old → IsErrOf result Device → (c : Contents)
+            → (reserved_terms K.terms).holds self.old c → object_at c id ≡ None }
         ensures counts { Counted (reserved_terms K.terms) self.old self.new 1 1 }
         ensures cause { HasCause ((reserved_terms K.terms).failures self.old) ((reserved_terms K.terms).failures self.new) result }
     {
@@ -210,11 +214,13 @@ impl<K: Keep, R: SpareRoom> Keep for Reserved<K, R> {
         ensures again { IsErrOf result Device → R.is_whole self.new.room ≡ false }
         ensures asked { K.terms.tried self.old.keep + 1 ≤ K.terms.tried self.new.keep }
         ensures spared { K.terms.tried self.new.keep ≡ K.terms.tried self.old.keep + 1 → R.is_whole self.new.room ≡ R.is_whole self.old.room }
-        ensures there { (reserved_terms K.terms).doubt self.new ≡ 0 → (c : Contents) → (reserved_terms K.terms).holds self.old c → OnOk result (IsSome (object_at c id)) }
+        ensures there { (reserved_terms K.terms).doubt self.new ≡ 0 → (c : Contents) → (reserved_terms K.terms).holds self.old c
+            → OnOk result (IsSome (object_at c id)) }
         // As each keeper does.
         ensures ok { OnOk result (Changes (reserved_terms K.terms) self.old self.new (without_object id)) }
         ensures err { OnErr result (Fails (reserved_terms K.terms) self.old self.new (without_object id)) }
-        ensures steady { (reserved_terms K.terms).is_steady self.old → IsErrOf result Device → (c : Contents) → (reserved_terms K.terms).holds self.old c → object_at c id ≡ None }
+        ensures steady { (reserved_terms K.terms).is_steady self.old → IsErrOf result Device → (c : Contents)
+            → (reserved_terms K.terms).holds self.old c → object_at c id ≡ None }
         ensures counts { Counted (reserved_terms K.terms) self.old self.new 1 1 }
         ensures cause { HasCause ((reserved_terms K.terms).failures self.old) ((reserved_terms K.terms).failures self.new) result }
     {

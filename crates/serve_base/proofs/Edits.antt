@@ -23,19 +23,23 @@ module _ {E : Type 0} (key : E → ℕ) where
   -- no greater key is this one
   all-left : (f : E → E) (k : ℕ) (hs : List E) → AllByRecursion (λ x. k < key x) hs → map (λ h. if key h == k then f h else h) hs ≡ hs
   all-left f k [] all = refl
-  all-left f k (h ∷ hs) all = let lt : k < key h = all.0 in rw (ne_eqb (key h) k (λ is. omega (arith, is))) (ap (λ xs. h ∷ xs) (all-left f k hs all.1))
+  all-left f k (h ∷ hs) all = let lt : k < key h = all.0 in
+      rw (ne_eqb (key h) k (λ is. omega (arith, is))) (ap (λ xs. h ∷ xs) (all-left f k hs all.1))
 
   -- what stands at the index becomes another
-  pub written-at : (f : E → E) (k : ℕ) (hs : List E) (at : ℕ) (x : E) → KeysRise key hs → at < length hs → ((d : E) → key (get_or hs at d) ≡ k) → x ≡ get_or hs at x → set hs at (f x) ≡ map (λ h. if key h == k then f h else h) hs
+  pub written-at : (f : E → E) (k : ℕ) (hs : List E) (at : ℕ) (x : E) → KeysRise key hs → at < length hs
+      → ((d : E) → key (get_or hs at d) ≡ k) → x ≡ get_or hs at x → set hs at (f x) ≡ map (λ h. if key h == k then f h else h) hs
   written-at f k [] at x rise lt is read = absurd (omega (arith, lt))
   written-at f k (h ∷ hs) zero x rise lt is read =
       let here : key h ≡ k = is h in
       let this : x ≡ h = read in
-      rw (eq-eqb (key h) k here, this) (ap (λ xs. f h ∷ xs) (sym (all-left f k hs (subst (λ n. AllByRecursion (λ y. n < key y) hs) here rise.0))))
+      rw (eq-eqb (key h) k here, this)
+      (ap (λ xs. f h ∷ xs) (sym (all-left f k hs (subst (λ n. AllByRecursion (λ y. n < key y) hs) here rise.0))))
   written-at f k (h ∷ hs) (suc at) x rise lt is read =
       let within : at < length hs = omega (arith, lt) in
       let there : key (get_or hs at h) ≡ k = is h in
-      rw (ne_eqb (key h) k (λ same. omega (arith, same, there, above h hs at h rise within))) (ap (λ xs. h ∷ xs) (written-at f k hs at x rise.1 within is read))
+      rw (ne_eqb (key h) k (λ same. omega (arith, same, there, above h hs at h rise within)))
+      (ap (λ xs. h ∷ xs) (written-at f k hs at x rise.1 within is read))
 
   -- no key is this one
   pub absent-left : (f : E → E) (k : ℕ) (hs : List E) → find (λ h. key h == k) hs ≡ None → hs ≡ map (λ h. if key h == k then f h else h) hs

@@ -13,7 +13,7 @@ use Rattle.handles.proofs.LiveLemmas.{live-push, live-taken}
 use Rattle.keep.specs.Contents.{Contents, Kept, IdsRise, IsSound, ids_of, object_at, with_object, with_replacement, without_object}
 use Rattle.keep.specs.ObjectLaws.{object_at-with_object, object_at-with_object_other, object_at-with_replacement, object_at-with_replacement_none, object_at-with_replacement_other, object_at-without_object, object_at-without_object_other}
 use Rattle.serve_base.specs.declared.listed.Listed.{Listed}
-use Rattle.serve_base.specs.Listing.{AreListed, AreMarks, IsMarkOf, IsTaken, all_ids, id_in, ids_in, marked_at, removed_at, unread}
+use Rattle.serve_base.specs.Listing.{AreListed, AreMarks, IsMarkOf, AreRemovedTaken, all_ids, id_in, listed_ids, marked_at, listed_removed_at, unread}
 
 -- ---- ids
 
@@ -25,7 +25,7 @@ pub ids-rise-in : (xs : List Listed) → KeysRise (λ i. i) (all_ids xs) → Key
 ids-rise-in [] rise = tt
 ids-rise-in (x ∷ xs) rise = (by-ids (λ i. x.id < i) xs rise.0, ids-rise-in xs rise.1)
 
-pub ids-unread : (ids : List ℕ) → ids_in (map unread ids) ≡ ids
+pub ids-unread : (ids : List ℕ) → listed_ids (map unread ids) ≡ ids
 ids-unread [] = refl
 ids-unread (id ∷ ids) = ap (λ (xs : List ℕ). id ∷ xs) (ids-unread ids)
 
@@ -33,14 +33,14 @@ all-unread : (ids : List ℕ) → all_ids (map unread ids) ≡ ids
 all-unread [] = refl
 all-unread (id ∷ ids) = ap (λ (xs : List ℕ). id ∷ xs) (all-unread ids)
 
-pub ids-push : (xs : List Listed) (e : Listed) → e.removed ≡ false → ids_in (xs ++ e ∷ []) ≡ ids_in xs ++ e.id ∷ []
+pub ids-push : (xs : List Listed) (e : Listed) → e.removed ≡ false → listed_ids (xs ++ e ∷ []) ≡ listed_ids xs ++ e.id ∷ []
 ids-push xs e there = live-push (λ x. x.removed) id_in e xs there
 
-pub ids-marked : (id : ℕ) (mark : ObjectMark) (xs : List Listed) → ids_in (map (marked_at id mark) xs) ≡ ids_in xs
+pub ids-marked : (id : ℕ) (mark : ObjectMark) (xs : List Listed) → listed_ids (map (marked_at id mark) xs) ≡ listed_ids xs
 ids-marked id mark [] = refl
 ids-marked id mark (x ∷ xs) = step (eqb x.id id) (ids-marked id mark xs) where
-  step : (b : Bool) → ids_in (map (marked_at id mark) xs) ≡ ids_in xs
-      → ids_in (cond b (record { id = x.id; mark = Some mark; removed = x.removed }) x ∷ map (marked_at id mark) xs) ≡ ids_in (x ∷ xs)
+  step : (b : Bool) → listed_ids (map (marked_at id mark) xs) ≡ listed_ids xs
+      → listed_ids (cond b (record { id = x.id; mark = Some mark; removed = x.removed }) x ∷ map (marked_at id mark) xs) ≡ listed_ids (x ∷ xs)
   step true rest = ap (λ (ids : List ℕ). cond x.removed ids (x.id ∷ ids)) rest
   step false rest = ap (λ (ids : List ℕ). cond x.removed ids (x.id ∷ ids)) rest
 
@@ -48,31 +48,33 @@ all-marked : (id : ℕ) (mark : ObjectMark) (xs : List Listed) → all_ids (map 
 all-marked id mark [] = refl
 all-marked id mark (x ∷ xs) = step (eqb x.id id) (all-marked id mark xs) where
   step : (b : Bool) → all_ids (map (marked_at id mark) xs) ≡ all_ids xs
-      → (cond b (record { id = x.id; mark = Some mark; removed = x.removed }) x).id ∷ all_ids (map (marked_at id mark) xs) ≡ x.id ∷ all_ids xs
+      → (cond b (record { id = x.id; mark = Some mark; removed = x.removed }) x).id ∷ all_ids (map (marked_at id mark) xs) ≡ x.id
+      ∷ all_ids xs
   step true rest = ap (λ (ids : List ℕ). x.id ∷ ids) rest
   step false rest = ap (λ (ids : List ℕ). x.id ∷ ids) rest
 
-pub ids-removed : (id : ℕ) (xs : List Listed) → ids_in (map (removed_at id) xs) ≡ filter (λ i. not (i == id)) (ids_in xs)
+pub ids-removed : (id : ℕ) (xs : List Listed) → listed_ids (map (listed_removed_at id) xs) ≡ filter (λ i. not (i == id)) (listed_ids xs)
 ids-removed id [] = refl
 ids-removed id (x ∷ xs) = step (eqb x.id id) x.removed refl (ids-removed id xs) where
-  step : (b r : Bool) → eqb x.id id ≡ b → ids_in (map (removed_at id) xs) ≡ filter (λ i. not (i == id)) (ids_in xs)
-      → ids_in (cond b (record { id = x.id; mark = x.mark; removed = true }) (record { id = x.id; mark = x.mark; removed = r }) ∷ map (removed_at id) xs) ≡ filter (λ i. not (i == id)) (cond r (ids_in xs) (x.id ∷ ids_in xs))
+  step : (b r : Bool) → eqb x.id id ≡ b → listed_ids (map (listed_removed_at id) xs) ≡ filter (λ i. not (i == id)) (listed_ids xs)
+      → listed_ids (cond b (record { id = x.id; mark = x.mark; removed = true }) (record { id = x.id; mark = x.mark; removed = r })
+      ∷ map (listed_removed_at id) xs) ≡ filter (λ i. not (i == id)) (cond r (listed_ids xs) (x.id ∷ listed_ids xs))
   step true true is rest = rest
   step true false is rest = rw is rest
   step false true is rest = rest
   step false false is rest = rw is (ap (λ (ids : List ℕ). x.id ∷ ids) rest)
 
-all-removed : (id : ℕ) (xs : List Listed) → all_ids (map (removed_at id) xs) ≡ all_ids xs
+all-removed : (id : ℕ) (xs : List Listed) → all_ids (map (listed_removed_at id) xs) ≡ all_ids xs
 all-removed id [] = refl
 all-removed id (x ∷ xs) = step (eqb x.id id) (all-removed id xs) where
-  step : (b : Bool) → all_ids (map (removed_at id) xs) ≡ all_ids xs
-      → (cond b (record { id = x.id; mark = x.mark; removed = true }) x).id ∷ all_ids (map (removed_at id) xs) ≡ x.id ∷ all_ids xs
+  step : (b : Bool) → all_ids (map (listed_removed_at id) xs) ≡ all_ids xs
+      → (cond b (record { id = x.id; mark = x.mark; removed = true }) x).id ∷ all_ids (map (listed_removed_at id) xs) ≡ x.id ∷ all_ids xs
   step true rest = ap (λ (ids : List ℕ). x.id ∷ ids) rest
   step false rest = ap (λ (ids : List ℕ). x.id ∷ ids) rest
 
-pub ids-taken : (old new : List Listed) → IsTaken old new → ids_in new ≡ ids_in old
-ids-taken old new (inl is) = ap ids_in is
-ids-taken old new (inr is) = ap ids_in is ∙ live-taken (λ e. e.removed) id_in old
+pub ids-taken : (old new : List Listed) → AreRemovedTaken old new → listed_ids new ≡ listed_ids old
+ids-taken old new (inl is) = ap listed_ids is
+ids-taken old new (inr is) = ap listed_ids is ∙ live-taken (λ e. e.removed) id_in old
 
 -- ---- their order
 
@@ -86,10 +88,11 @@ order-same last old new same order = record {
 pub order-marked : (last id : ℕ) (mark : ObjectMark) (xs : List Listed) → AreListed last xs → AreListed last (map (marked_at id mark) xs)
 order-marked last id mark xs order = order-same last xs (map (marked_at id mark) xs) (all-marked id mark xs) order
 
-pub order-removed : (last id : ℕ) (xs : List Listed) → AreListed last xs → AreListed last (map (removed_at id) xs)
-order-removed last id xs order = order-same last xs (map (removed_at id) xs) (all-removed id xs) order
+pub order-removed : (last id : ℕ) (xs : List Listed) → AreListed last xs → AreListed last (map (listed_removed_at id) xs)
+order-removed last id xs order = order-same last xs (map (listed_removed_at id) xs) (all-removed id xs) order
 
-all-left : (P : ℕ → Type 0) (t : Listed → Bool) (xs : List Listed) → AllByRecursion P (all_ids xs) → AllByRecursion P (all_ids (filter t xs))
+all-left : (P : ℕ → Type 0) (t : Listed → Bool) (xs : List Listed) → AllByRecursion P (all_ids xs)
+    → AllByRecursion P (all_ids (filter t xs))
 all-left P t [] all = tt
 all-left P t (x ∷ xs) all = let rest = all-left P t xs all.1 in elim (cases_Bool (t x)) [
   | inl passes ↦ rw passes (all.0, rest)
@@ -103,7 +106,7 @@ rise-left t (x ∷ xs) rise = let rest = rise-left t xs rise.1 in elim (cases_Bo
   | inr fails ↦ rw fails rest
 ]
 
-pub order-taken : (last : ℕ) (old new : List Listed) → IsTaken old new → AreListed last old → AreListed last new
+pub order-taken : (last : ℕ) (old new : List Listed) → AreRemovedTaken old new → AreListed last old → AreListed last new
 order-taken last old new (inl is) order = subst (AreListed last) (sym is) order
 order-taken last old new (inr is) order = subst (AreListed last) (sym is) (record {
   rise = rise-left (λ e. not e.removed) old order.rise;
@@ -111,7 +114,8 @@ order-taken last old new (inr is) order = subst (AreListed last) (sym is) (recor
 })
 
 -- the next id comes last
-rise-push : (last : ℕ) (ids : List ℕ) → KeysRise (λ i. i) ids → AllByRecursion (λ i. i ≤ last) ids → KeysRise (λ i. i) (ids ++ (last + 1) ∷ [])
+rise-push : (last : ℕ) (ids : List ℕ) → KeysRise (λ i. i) ids → AllByRecursion (λ i. i ≤ last) ids
+    → KeysRise (λ i. i) (ids ++ (last + 1) ∷ [])
 rise-push last [] rise within = (tt, tt)
 rise-push last (i ∷ ids) rise within =
     let le : i ≤ last = within.0 in
@@ -123,7 +127,8 @@ within-push last (i ∷ ids) within = (let le : i ≤ last = within.0 in omega (
 
 pub order-push : (last id : ℕ) (xs : List Listed) (e : Listed) → e.id ≡ last + 1 → AreListed last xs → AreListed (last + 1) (xs ++ e ∷ [])
 order-push last id xs e is order =
-    let ids : all_ids (xs ++ e ∷ []) ≡ all_ids xs ++ (last + 1) ∷ [] = map-append id_in xs (e ∷ []) ∙ ap (λ (i : ℕ). all_ids xs ++ i ∷ []) is in
+    let ids : all_ids (xs ++ e ∷ []) ≡ all_ids xs ++ (last + 1) ∷ [] =
+    map-append id_in xs (e ∷ []) ∙ ap (λ (i : ℕ). all_ids xs ++ i ∷ []) is in
     record {
       rise = subst (KeysRise (λ i. i)) (sym ids) (rise-push last (all_ids xs) order.rise order.within);
       within = subst (AllByRecursion (λ i. i ≤ last + 1)) (sym ids) (within-push last (all_ids xs) order.within);
@@ -136,7 +141,8 @@ ids-within low last (e ∷ es) ids = (ids.1, ids-within e.0 last es ids.2)
 
 below-all : (b low last : ℕ) (es : List Kept) → b ≤ low → IdsRise low es last → AllByRecursion (λ x. b < x) (map (λ e. e.0) es)
 below-all b low last [] le ids = tt
-below-all b low last (e ∷ es) le ids = (let l : low < e.0 = ids.0 in omega arith, below-all b e.0 last es (let l : low < e.0 = ids.0 in omega arith) ids.2)
+below-all b low last (e ∷ es) le ids =
+    (let l : low < e.0 = ids.0 in omega arith, below-all b e.0 last es (let l : low < e.0 = ids.0 in omega arith) ids.2)
 
 ids-rise : (low last : ℕ) (es : List Kept) → IdsRise low es last → KeysRise (λ i. i) (map (λ e. e.0) es)
 ids-rise low last [] ids = tt
@@ -161,7 +167,8 @@ unmarked (Some o) = tt
 pub mark-read : (found : Option (List Entry)) (o : List Entry) → found ≡ Some o → IsMarkOf found (Some (mark_of o))
 mark-read found o is = subst (λ x. IsMarkOf x (Some (mark_of o))) (sym is) refl
 
-same-object : (c d : Contents) (e : Listed) → object_at d e.id ≡ object_at c e.id → IsMarkOf (object_at c e.id) e.mark → IsMarkOf (object_at d e.id) e.mark
+same-object : (c d : Contents) (e : Listed) → object_at d e.id ≡ object_at c e.id → IsMarkOf (object_at c e.id) e.mark
+    → IsMarkOf (object_at d e.id) e.mark
 same-object c d e same was = subst (λ x. IsMarkOf x e.mark) (sym same) was
 
 pub marks-unread : (c : Contents) (ids : List ℕ) → AreMarks c (map unread ids)
@@ -171,42 +178,55 @@ marks-unread c ids = All-from_recursion (λ e. IsMarkOf (object_at c e.id) e.mar
   each (id ∷ ids) = (unmarked (object_at c id), each ids)
 
 module _ (c : Contents) (xs : List Listed) (marks : AreMarks c xs) where
-  pub marks-inserted : (o : List Entry) (id : ℕ) → IsSound c → AreListed c.last_id xs → id ≡ c.last_id + 1 → AreMarks (with_object o c) (xs ++ record { id = id; mark = Some (mark_of o); removed = false } ∷ [])
-  marks-inserted o id sound order is = All-push (λ e. IsMarkOf (object_at (with_object o c) e.id) e.mark) xs (record { id = id; mark = Some (mark_of o); removed = false }) others new where
-    within : All (λ e. e.id ≤ c.last_id) xs
-    within = All-from_recursion (λ e. e.id ≤ c.last_id) xs (by-ids (λ i. i ≤ c.last_id) xs order.within)
+  pub marks-inserted : (o : List Entry) (id : ℕ) → IsSound c → AreListed c.last_id xs → id ≡ c.last_id + 1
+      → AreMarks (with_object o c) (xs ++ record { id = id; mark = Some (mark_of o); removed = false } ∷ [])
+  marks-inserted o id sound order is =
+      All-push (λ e. IsMarkOf (object_at (with_object o c) e.id) e.mark) xs
+      (record { id = id; mark = Some (mark_of o); removed = false }) others new where
+        within : All (λ e. e.id ≤ c.last_id) xs
+        within = All-from_recursion (λ e. e.id ≤ c.last_id) xs (by-ids (λ i. i ≤ c.last_id) xs order.within)
 
-    stays : (e : Listed) → e.id ≤ c.last_id → IsMarkOf (object_at c e.id) e.mark → IsMarkOf (object_at (with_object o c) e.id) e.mark
-    stays e le was = same-object c (with_object o c) e (object_at-with_object_other o c e.id (λ k. omega (arith, k, le))) was
+        stays : (e : Listed) → e.id ≤ c.last_id → IsMarkOf (object_at c e.id) e.mark → IsMarkOf (object_at (with_object o c) e.id) e.mark
+        stays e le was = same-object c (with_object o c) e (object_at-with_object_other o c e.id (λ k. omega (arith, k, le))) was
 
-    others : AreMarks (with_object o c) xs
-    others k d lt = stays (get_or xs k d) (within k d lt) (marks k d lt)
+        others : AreMarks (with_object o c) xs
+        others k d lt = stays (get_or xs k d) (within k d lt) (marks k d lt)
 
-    new : IsMarkOf (object_at (with_object o c) id) (Some (mark_of o))
-    new = mark-read (object_at (with_object o c) id) o (ap (object_at (with_object o c)) is ∙ object_at-with_object o c sound)
+        new : IsMarkOf (object_at (with_object o c) id) (Some (mark_of o))
+        new = mark-read (object_at (with_object o c) id) o (ap (object_at (with_object o c)) is ∙ object_at-with_object o c sound)
 
   pub marks-replaced : (id : ℕ) (o : List Entry) → AreMarks (with_replacement id o c) (map (marked_at id (mark_of o)) xs)
   marks-replaced id o = All-map (λ e. IsMarkOf (object_at (with_replacement id o c) e.id) e.mark) (marked_at id (mark_of o)) xs
-      (All-weaker (λ e. IsMarkOf (object_at c e.id) e.mark) (λ e. IsMarkOf (object_at (with_replacement id o c) (marked_at id (mark_of o) e).id) (marked_at id (mark_of o) e).mark) each xs marks) where
+      (All-weaker (λ e. IsMarkOf (object_at c e.id) e.mark)
+      (λ e. IsMarkOf (object_at (with_replacement id o c) (marked_at id (mark_of o) e).id)
+      (marked_at id (mark_of o) e).mark) each xs marks) where
         there : (was : Option (List Entry)) → object_at c id ≡ was → IsMarkOf (object_at (with_replacement id o c) id) (Some (mark_of o))
         there None none = subst (λ x. IsMarkOf x (Some (mark_of o))) (sym (object_at-with_replacement_none id id o c none)) tt
         there (Some old) some = mark-read (object_at (with_replacement id o c) id) o (object_at-with_replacement id o c (ap is_some some))
 
-        each : (e : Listed) → IsMarkOf (object_at c e.id) e.mark → IsMarkOf (object_at (with_replacement id o c) (marked_at id (mark_of o) e).id) (marked_at id (mark_of o) e).mark
+        each : (e : Listed) → IsMarkOf (object_at c e.id) e.mark
+            → IsMarkOf (object_at (with_replacement id o c) (marked_at id (mark_of o) e).id) (marked_at id (mark_of o) e).mark
         each e was = elim (cases_eq e.id id) [
-          | inl is ↦ rw (eq-eqb e.id id is) (subst (λ i. IsMarkOf (object_at (with_replacement id o c) i) (Some (mark_of o))) (sym is) (there (object_at c id) refl))
-          | inr differ ↦ rw (ne_eqb e.id id differ) (same-object c (with_replacement id o c) e (object_at-with_replacement_other id e.id o c differ) was)
+          | inl is ↦ rw (eq-eqb e.id id is)
+              (subst (λ i. IsMarkOf (object_at (with_replacement id o c) i) (Some (mark_of o))) (sym is) (there (object_at c id) refl))
+          | inr differ ↦ rw (ne_eqb e.id id differ)
+              (same-object c (with_replacement id o c) e (object_at-with_replacement_other id e.id o c differ) was)
         ]
 
-  pub marks-removed : (id : ℕ) → AreMarks (without_object id c) (map (removed_at id) xs)
-  marks-removed id = All-map (λ e. IsMarkOf (object_at (without_object id c) e.id) e.mark) (removed_at id) xs
-      (All-weaker (λ e. IsMarkOf (object_at c e.id) e.mark) (λ e. IsMarkOf (object_at (without_object id c) (removed_at id e).id) (removed_at id e).mark) each xs marks) where
-        each : (e : Listed) → IsMarkOf (object_at c e.id) e.mark → IsMarkOf (object_at (without_object id c) (removed_at id e).id) (removed_at id e).mark
+  pub marks-removed : (id : ℕ) → AreMarks (without_object id c) (map (listed_removed_at id) xs)
+  marks-removed id = All-map (λ e. IsMarkOf (object_at (without_object id c) e.id) e.mark) (listed_removed_at id) xs
+      (All-weaker (λ e. IsMarkOf (object_at c e.id) e.mark)
+      (λ e. IsMarkOf (object_at (without_object id c) (listed_removed_at id e).id) (listed_removed_at id e).mark) each xs marks) where
+        each : (e : Listed) → IsMarkOf (object_at c e.id) e.mark
+            → IsMarkOf (object_at (without_object id c) (listed_removed_at id e).id) (listed_removed_at id e).mark
         each e was = elim (cases_eq e.id id) [
-          | inl is ↦ rw (eq-eqb e.id id is) (subst (λ x. IsMarkOf x e.mark) (sym (ap (object_at (without_object id c)) is ∙ object_at-without_object id c)) tt)
-          | inr differ ↦ rw (ne_eqb e.id id differ) (same-object c (without_object id c) e (object_at-without_object_other id e.id c differ) was)
+          | inl is ↦ rw (eq-eqb e.id id is)
+              (subst (λ x. IsMarkOf x e.mark) (sym (ap (object_at (without_object id c)) is ∙ object_at-without_object id c)) tt)
+          | inr differ ↦ rw (ne_eqb e.id id differ)
+              (same-object c (without_object id c) e (object_at-without_object_other id e.id c differ) was)
         ]
 
-pub marks-taken : (c : Contents) (old new : List Listed) → IsTaken old new → AreMarks c old → AreMarks c new
+pub marks-taken : (c : Contents) (old new : List Listed) → AreRemovedTaken old new → AreMarks c old → AreMarks c new
 marks-taken c old new (inl is) marks = subst (AreMarks c) (sym is) marks
-marks-taken c old new (inr is) marks = subst (AreMarks c) (sym is) (All-filter (λ e. not e.removed) (λ e. IsMarkOf (object_at c e.id) e.mark) old marks)
+marks-taken c old new (inr is) marks =
+    subst (AreMarks c) (sym is) (All-filter (λ e. not e.removed) (λ e. IsMarkOf (object_at c e.id) e.mark) old marks)

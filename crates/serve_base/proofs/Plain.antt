@@ -41,7 +41,8 @@ pub plain-fault : (r : Result Reply Refusal) → IsFault r → IsPlain r
 plain-fault r is = plain_as-fault Replies r is
 
 -- what a template makes, or why it makes nothing
-plain-make : (e : MakeFault) (fault : Option Rv) (made : List Entry) → IsAnswered (Err e) fault made → IsPlainFault fault → IsPlain (Err (of_make_fault e))
+plain-make : (e : MakeFault) (fault : Option Rv) (made : List Entry) → IsAnswered (Err e) fault made → IsPlainFault fault
+    → IsPlain (Err (of_make_fault e))
 plain-make make_faults.Memory fault made is plain = tt
 plain-make (make_faults.Refused code) None made is plain = let k : make_faults.Refused code ≡ make_faults.Memory = is in cc
 plain-make (make_faults.Refused code) (Some known) made is plain =
@@ -49,11 +50,13 @@ plain-make (make_faults.Refused code) (Some known) made is plain =
     let same : code ≡ known = cc in
     ap (λ c. resource_error (Code c)) same ∙ plain.plain
 
-pub plain-made : (r : Result Reply Refusal) (e : MakeFault) (fault : Option Rv) (made : List Entry) → IsErrAnd r (λ x. x ≡ of_make_fault e) → IsAnswered (Err e) fault made → IsPlainFault fault → IsPlain r
+pub plain-made : (r : Result Reply Refusal) (e : MakeFault) (fault : Option Rv) (made : List Entry)
+    → IsErrAnd r (λ x. x ≡ of_make_fault e) → IsAnswered (Err e) fault made → IsPlainFault fault → IsPlain r
 plain-made (Ok reply) e fault made is answered plain = absurd is
 plain-made (Err x) e fault made is answered plain = subst (λ y. IsPlain (Err y)) (sym is) (plain-make e fault made answered plain)
 
-pub plain-done_as : {T : Type 0} (tell : T → Said) (as_out : T → Out) (r : Result T Refusal) → ((t : T) → said_of (as_out t) ≡ tell t) → IsPlainAs tell r → IfOk (settled as_out r) (λ out. resource_error_in (said_of out) ≡ None)
+pub plain-done_as : {T : Type 0} (tell : T → Said) (as_out : T → Out) (r : Result T Refusal)
+    → ((t : T) → said_of (as_out t) ≡ tell t) → IsPlainAs tell r → IfOk (settled as_out r) (λ out. resource_error_in (said_of out) ≡ None)
 plain-done_as tell as_out (Ok t) same plain = ap resource_error_in (same t) ∙ plain
 plain-done_as tell as_out (Err (refusals.Condition row)) same plain = plain-row row
 plain-done_as tell as_out (Err (refusals.Code code)) same plain = plain
@@ -63,7 +66,8 @@ plain-done_as tell as_out (Err refusals.Device) same plain = tt
 pub plain-done : (r : Result Reply Refusal) → IsPlain r → IfOk (settled OutReply r) (λ out. resource_error_in (said_of out) ≡ None)
 plain-done r plain = plain-done_as Replies OutReply r (λ t. refl) plain
 
-pub stays-settled : {T : Type 0} (as_out : T → Out) (before desk : DeskState) (r : Result T Refusal) → IfErr r (λ refusal. SameDesk before desk) → IfErr (settled as_out r) (λ fault. SameDesk before desk)
+pub stays-settled : {T : Type 0} (as_out : T → Out) (before desk : DeskState) (r : Result T Refusal)
+    → IfErr r (λ refusal. SameDesk before desk) → IfErr (settled as_out r) (λ fault. SameDesk before desk)
 stays-settled as_out before desk (Ok t) stays = tt
 stays-settled as_out before desk (Err (refusals.Condition row)) stays = tt
 stays-settled as_out before desk (Err (refusals.Code code)) stays = tt
@@ -98,22 +102,27 @@ module _ {T : Type 0} (tell : T → Said) (as_out : T → Out) (f : View → Ans
   abbrev at : Contents
   at = fitting before.handles.entries
 
-  plain-does : (r : Result T Refusal) → ((t : T) → said_of (as_out t) ≡ tell t) → ((v : View) → resource_error_in (f v).says ≡ None) → DoesAtDesk tell (f (view_of at before)) at before r desk → IfOk (settled as_out r) (λ out. resource_error_in (said_of out) ≡ None)
+  plain-does : (r : Result T Refusal) → ((t : T) → said_of (as_out t) ≡ tell t) → ((v : View) → resource_error_in (f v).says ≡ None)
+      → DoesAtDesk tell (f (view_of at before)) at before r desk → IfOk (settled as_out r) (λ out. resource_error_in (said_of out) ≡ None)
   plain-does (Ok t) same plain does = ap resource_error_in (same t ∙ does.says) ∙ plain (view_of at before)
   plain-does (Err (refusals.Condition row)) same plain does = plain-row row
   plain-does (Err (refusals.Code code)) same plain does = sym (ap (λ a. resource_error_in a.says) does.0) ∙ plain (view_of at before)
   plain-does (Err refusals.Memory) same plain does = tt
   plain-does (Err refusals.Device) same plain does = tt
 
-  pub plain-at-desk : {given : Type 0} (r : Result T Refusal) → ((t : T) → said_of (as_out t) ≡ tell t) → ((v : View) → resource_error_in (f v).says ≡ None) → AtDeskIf given tell f before r desk → IfOk (settled as_out r) (λ out. resource_error_in (said_of out) ≡ None)
+  pub plain-at-desk : {given : Type 0} (r : Result T Refusal) → ((t : T) → said_of (as_out t) ≡ tell t)
+      → ((v : View) → resource_error_in (f v).says ≡ None) → AtDeskIf given tell f before r desk
+      → IfOk (settled as_out r) (λ out. resource_error_in (said_of out) ≡ None)
   plain-at-desk r same plain does = plain-does r same plain (does.serves at (fits-fitting before.handles.entries))
 
-  stays-does : (r : Result T Refusal) → DoesAtDesk tell (f (view_of at before)) at before r desk → IfErr (settled as_out r) (λ fault. SameDesk before desk)
+  stays-does : (r : Result T Refusal) → DoesAtDesk tell (f (view_of at before)) at before r desk
+      → IfErr (settled as_out r) (λ fault. SameDesk before desk)
   stays-does (Ok t) does = tt
   stays-does (Err (refusals.Condition row)) does = tt
   stays-does (Err (refusals.Code code)) does = tt
   stays-does (Err refusals.Memory) does = does
   stays-does (Err refusals.Device) does = absurd does
 
-  pub stays-at-desk : {given : Type 0} (r : Result T Refusal) → AtDeskIf given tell f before r desk → IfErr (settled as_out r) (λ fault. SameDesk before desk)
+  pub stays-at-desk : {given : Type 0} (r : Result T Refusal) → AtDeskIf given tell f before r desk
+      → IfErr (settled as_out r) (λ fault. SameDesk before desk)
   stays-at-desk r does = stays-does r (does.serves at (fits-fitting before.handles.entries))

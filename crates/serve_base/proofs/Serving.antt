@@ -26,7 +26,9 @@ blamed as_out (Err refusals.Memory) is = let k : refused_as refusals.Memory ≡ 
 blamed as_out (Err refusals.Device) is = refl
 
 -- what is short is returned as short, and so is a refusal
-pub short-settled : {T : Type 0} (tell : T → Said) (as_out : T → Out) (r : Result T Refusal) → ((t : T) → said_of (as_out t) ≡ tell t) → IfOk r (λ t. IsShortSaid (tell t)) → IfOk (settled as_out r) (λ out. IsShortSaid (said_of out))
+pub short-settled : {T : Type 0} (tell : T → Said) (as_out : T → Out) (r : Result T Refusal)
+    → ((t : T) → said_of (as_out t) ≡ tell t) → IfOk r (λ t. IsShortSaid (tell t))
+    → IfOk (settled as_out r) (λ out. IsShortSaid (said_of out))
 short-settled tell as_out (Ok t) same short = subst IsShortSaid (sym (same t)) short
 short-settled tell as_out (Err (refusals.Condition row)) same short = tt
 short-settled tell as_out (Err (refusals.Code code)) same short = tt
@@ -38,8 +40,11 @@ pub same-shows : (old new : DeskState) → SameDesk old new → ShowsSame old ne
 same-shows old new is c fits = rw is refl
 
 -- a refusal leaves what the desk shows
-pub refused-settled : {T : Type 0} (tell : T → Said) (as_out : T → Out) (f : View → Answer) (before desk : DeskState) (r : Result T Refusal) → ((t : T) → said_of (as_out t) ≡ tell t) → IfErr r (λ refusal. SameDesk before desk) → IfOk r (λ t. is_refused (tell t) ≡ true → ShowsSame before desk ⊎ EndsNone (tell t))
-    → IfOk (settled as_out r) (λ out. is_refused (said_of out) ≡ true → ShowsSame before desk ⊎ GivesAnyway (λ c. f) before (said_of out) desk)
+pub refused-settled : {T : Type 0} (tell : T → Said) (as_out : T → Out) (f : View → Answer) (before desk : DeskState)
+    (r : Result T Refusal) → ((t : T) → said_of (as_out t) ≡ tell t) → IfErr r (λ refusal. SameDesk before desk)
+    → IfOk r (λ t. is_refused (tell t) ≡ true → ShowsSame before desk ⊎ EndsNone (tell t))
+    → IfOk (settled as_out r) (λ out. is_refused (said_of out) ≡ true → ShowsSame before desk
+    ⊎ GivesAnyway (λ c. f) before (said_of out) desk)
 refused-settled tell as_out f before desk (Ok t) same stays shows = λ is. elim (shows (ap is_refused (sym (same t)) ∙ is)) [
   | inl k ↦ inl k
   | inr none ↦ absurd none
@@ -50,14 +55,26 @@ refused-settled tell as_out f before desk (Err refusals.Memory) same stays shows
 refused-settled tell as_out f before desk (Err refusals.Device) same stays shows = tt
 
 -- a call that replies or returns a job, and tries one write at most
-pub served-as : {given : Type 0} {K T : Type 0} (terms : Terms K) (tell : T → Said) (as_out : T → Out) (kind : Out → Type 0) (writes : ℕ) (f : View → Answer) (old new : StoreState K) (before desk : DeskState) (r : Result T Refusal) → ((t : T) → said_of (as_out t) ≡ tell t) → writes ≤ 1 → IfOk (settled as_out r) kind → ((k : K) → terms.is_steady k → terms.doubt k ≡ 0)
-    → IsDoneIf given EndsNone terms tell writes (λ c. f) old new before r desk → IsServedIf given terms kind f old new before (settled as_out r) desk
+pub served-as : {given : Type 0} {K T : Type 0} (terms : Terms K) (tell : T → Said) (as_out : T → Out) (kind : Out → Type 0)
+    (writes : ℕ) (f : View → Answer) (old new : StoreState K) (before desk : DeskState) (r : Result T Refusal)
+    → ((t : T) → said_of (as_out t) ≡ tell t) → writes ≤ 1 → IfOk (settled as_out r) kind
+    → ((k : K) → terms.is_steady k → terms.doubt k ≡ 0)
+    → IsDoneIf given EndsNone terms tell writes (λ c. f) old new before r desk
+    → IsServedIf given terms kind f old new before (settled as_out r) desk
 served-as terms tell as_out kind writes f old new before desk r same few says sure_of done = record {
-  serves = λ sure c h fits. serves-done_as terms tell as_out (f (view_of c before)) c old new before desk r same fits (done.serves sure c h fits);
+  serves = λ sure c h fits. serves-done_as terms tell as_out (f (view_of c before)) c old new before desk r same fits
+      (done.serves sure c h fits);
   says = says;
-  counts = record { steady = done.counts.steady; doubt = done.counts.doubt; failures = done.counts.failures; tried = done.counts.tried; bounded = (let k = done.counts.bounded in omega (arith, few, k)) };
+  counts = record {
+    steady = done.counts.steady;
+    doubt = done.counts.doubt;
+    failures = done.counts.failures;
+    tried = done.counts.tried;
+    bounded = (let k = done.counts.bounded in omega (arith, few, k));
+  };
   cause = λ device. done.cause (blamed as_out r device);
-  steady = λ was device c h fits. lacks-does_as terms tell (f (view_of c before)) c old new before desk r (done.serves (sure_of new.keep (done.counts.steady was)) c h fits) was (blamed as_out r device);
+  steady = λ was device c h fits. lacks-does_as terms tell (f (view_of c before)) c old new before desk r
+      (done.serves (sure_of new.keep (done.counts.steady was)) c h fits) was (blamed as_out r device);
   plain = plain-done_as tell as_out r same done.plain;
   stays = stays-settled as_out before desk r done.stays;
   refused = refused-settled tell as_out f before desk r same done.stays done.refused;

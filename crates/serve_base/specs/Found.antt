@@ -10,14 +10,14 @@ use Rattle.model_views.specs.Answering.{object_at, index_of}
 use Rattle.serve_base.specs.Shown.{view_of}
 
 -- it is a token object of an id, or a session object
-abbrev pub IsAt : Contents → DeskState → ℕ → List Entry → Option ℕ → Type 0
-IsAt c d handle o (Some id) = (object_of d.handles.entries handle ≡ Some id) × (kept_at c id ≡ Some o) × (sees d.sessions.login o ≡ true)
-IsAt c d handle o None = index_of (view_of c d).tokens handle ≡ None
+abbrev pub IsObjectAt : Contents → DeskState → ℕ → List Entry → Option ℕ → Type 0
+IsObjectAt c d handle o (Some id) = (object_of d.handles.entries handle ≡ Some id) × (kept_at c id ≡ Some o) × (sees d.sessions.login o ≡ true)
+IsObjectAt c d handle o None = index_of (view_of c d).tokens handle ≡ None
 
 -- the object that the application sees under the handle
 abbrev pub IsFound : Contents → DeskState → ℕ → Option Found → Type 0
 IsFound c d handle None = object_at (view_of c d) handle ≡ None
-IsFound c d handle (Some found) = (object_at (view_of c d) handle ≡ Some found.object) × IsAt c d handle found.object found.id
+IsFound c d handle (Some found) = (object_at (view_of c d) handle ≡ Some found.object) × IsObjectAt c d handle found.object found.id
 
 -- the session object, if there is one
 abbrev pub IsOwn : Option (List Entry) → Option Found → Type 0

@@ -12,8 +12,8 @@ abbrev pub id_in : Listed → ℕ
 id_in e = e.id
 
 -- the ids of the objects, without those that were removed
-abbrev pub ids_in : List Listed → List ℕ
-ids_in listed = live (λ e. e.removed) id_in listed
+abbrev pub listed_ids : List Listed → List ℕ
+listed_ids listed = live (λ e. e.removed) id_in listed
 
 -- the ids of all entries
 abbrev pub all_ids : List Listed → List ℕ
@@ -33,15 +33,15 @@ abbrev pub marked_at : ℕ → ObjectMark → Listed → Listed
 marked_at id mark e = if e.id == id then record { id = e.id; mark = Some mark; removed = e.removed } else e
 
 -- the object is removed, if it is this one
-abbrev pub removed_at : ℕ → Listed → Listed
-removed_at id e = if e.id == id then record { id = e.id; mark = e.mark; removed = true } else e
+abbrev pub listed_removed_at : ℕ → Listed → Listed
+listed_removed_at id e = if e.id == id then record { id = e.id; mark = e.mark; removed = true } else e
 
 abbrev pub without_removed : List Listed → List Listed
 without_removed listed = filter (λ e. not e.removed) listed
 
 -- the entries stay, or those of removed objects are taken out
-abbrev pub IsTaken : List Listed → List Listed → Type 0
-IsTaken old new = (new ≡ old) ⊎ (new ≡ without_removed old)
+abbrev pub AreRemovedTaken : List Listed → List Listed → Type 0
+AreRemovedTaken old new = (new ≡ old) ⊎ (new ≡ without_removed old)
 
 -- a mark that is known is that of the object
 abbrev pub IsMarkOf : Option (List Entry) → Option ObjectMark → Type 0

@@ -21,8 +21,8 @@ use Rattle.serve_base.specs.declared.out.Out.TheVariants.{Reply as OutReply}
 use Rattle.serve_base.specs.declared.refusal.Refusal.{Refusal}
 use Rattle.serve_base.specs.declared.refusal.Refusal.TheVariants as refusals
 use Rattle.serve_base.specs.Short.{IsShortSaid}
-use Rattle.serve_base.specs.Shown.{view_of, said_of, Fits, Gives, ShowsSame}
-use Rattle.serve_base.specs.Stores.{StoreState, Has, LeavesAsBefore, FailsForIds, LacksId, Gave, Refused, Served}
+use Rattle.serve_base.specs.Shown.{view_of, said_of, Fits, GivesAnswer, ShowsSame}
+use Rattle.serve_base.specs.Stores.{StoreState, StoreHas, LeavesAsBefore, FailsForIds, LacksId, GaveAnswer, Refused, Served}
 
 -- the refusal that a keeper's fault is
 abbrev pub of_fault : KeepFault → Refusal
@@ -38,21 +38,23 @@ of_make_fault make_faults.Memory = refusals.Memory
 
 -- the answer is given to what the desk shows, whatever is kept
 abbrev pub GivesAnyway : (Contents → View → Answer) → DeskState → Said → DeskState → Type 0
-GivesAnyway f before said desk = (c : Contents) → Fits c before.handles.entries → Gives (f c (view_of c before)) before.sessions.login c said c desk
+GivesAnyway f before said desk = (c : Contents) → Fits c before.handles.entries
+    → GivesAnswer (f c (view_of c before)) before.sessions.login c said c desk
 
 -- ---- at the desk alone
 
 -- The answer is given to what the application sees, whatever is kept; or it is the refusal, and nothing has changed; or an
 -- allocation failed, and nothing has changed but capacities.
 abbrev pub DoesAtDesk : {T : Type 0} → (T → Said) → Answer → Contents → DeskState → Result T Refusal → DeskState → Type 0
-DoesAtDesk tell a c old (Ok out) new = Gives a old.sessions.login c (tell out) c new
+DoesAtDesk tell a c old (Ok out) new = GivesAnswer a old.sessions.login c (tell out) c new
 DoesAtDesk tell a c old (Err (refusals.Condition row)) new = (a ≡ refuses_by (view_of c old) row) × (new ≡ old)
 DoesAtDesk tell a c old (Err (refusals.Code code)) new = (a ≡ refuses (view_of c old) code) × (new ≡ old)
 DoesAtDesk tell a c old (Err refusals.Memory) new = SameDesk old new
 DoesAtDesk tell a c old (Err refusals.Device) new = ⊥
 
 -- What a call does that uses no store, in one clause: no keeper is to blame, and what it returns is short where this is given.
-pub record AtDeskIf (given : Type 0) {T : Type 0} (tell : T → Said) (f : View → Answer) (old : DeskState) (result : Result T Refusal) (new : DeskState) : Type 0 where
+pub record AtDeskIf (given : Type 0) {T : Type 0} (tell : T → Said) (f : View → Answer) (old : DeskState)
+    (result : Result T Refusal) (new : DeskState) : Type 0 where
   pub serves : (c : Contents) → Fits c old.handles.entries → DoesAtDesk tell (f (view_of c old)) c old result new
   pub cause : IsErrOf result refusals.Device → ⊥
   pub short : given → IfOk result (λ out. IsShortSaid (tell out))
@@ -63,24 +65,30 @@ AtDesk tell f old result new = AtDeskIf (Unit {0}) tell f old result new
 -- ---- at the desk and the store
 
 -- nothing has changed
-pub record Stands {K : Type 0} (terms : Terms K) (c : Contents) (old new : StoreState K) (before now : DeskState) : Type 0 where
-  pub has : Has terms new c
+pub record NothingChanged {K : Type 0} (terms : Terms K) (c : Contents) (old new : StoreState K) (before now : DeskState) : Type 0 where
+  pub has : StoreHas terms new c
   pub leaves : LeavesAsBefore terms old new
   pub desk : now ≡ before
 
 -- What becomes of an answer, by what is returned for its result. A steady keeper fails only where the answer adds an object and
 -- the ids are used up.
-abbrev pub DoesAs : {K T : Type 0} → Terms K → (T → Said) → Answer → Contents → StoreState K → StoreState K → DeskState → Result T Refusal → DeskState → Type 0
-DoesAs terms tell a c old new before (Ok out) desk = Gave terms a before.sessions.login c old new (tell out) desk
-DoesAs terms tell a c old new before (Err (refusals.Condition row)) desk = (a ≡ refuses_by (view_of c before) row) × Stands terms c old new before desk
-DoesAs terms tell a c old new before (Err (refusals.Code code)) desk = (a ≡ refuses (view_of c before) code) × Stands terms c old new before desk
+abbrev pub DoesAs : {K T : Type 0} → Terms K → (T → Said) → Answer → Contents → StoreState K → StoreState K → DeskState
+    → Result T Refusal → DeskState → Type 0
+DoesAs terms tell a c old new before (Ok out) desk = GaveAnswer terms a before.sessions.login c old new (tell out) desk
+DoesAs terms tell a c old new before (Err (refusals.Condition row)) desk = (a ≡ refuses_by (view_of c before) row)
+    × NothingChanged terms c old new before desk
+DoesAs terms tell a c old new before (Err (refusals.Code code)) desk = (a ≡ refuses (view_of c before) code)
+    × NothingChanged terms c old new before desk
 DoesAs terms tell a c old new before (Err refusals.Memory) desk = Refused terms a before.sessions.login c old new before desk
-DoesAs terms tell a c old new before (Err refusals.Device) desk = Refused terms a before.sessions.login c old new before desk × (terms.is_steady old.keep → LacksId a.change c)
+DoesAs terms tell a c old new before (Err refusals.Device) desk = Refused terms a before.sessions.login c old new before desk
+    × (terms.is_steady old.keep → LacksId a.change c)
 
 -- The answer is to the view, and what an answer takes from outside is determined by what is kept.
-abbrev pub DoneAs : {K T : Type 0} → Terms K → (T → Said) → (Contents → View → Answer) → StoreState K → StoreState K → DeskState → Result T Refusal → DeskState → Type 0
+abbrev pub DoneAs : {K T : Type 0} → Terms K → (T → Said) → (Contents → View → Answer) → StoreState K → StoreState K → DeskState
+    → Result T Refusal → DeskState → Type 0
 DoneAs terms tell f old new before result desk =
-    terms.doubt new.keep ≡ 0 → (c : Contents) → Has terms old c → Fits c before.handles.entries → DoesAs terms tell (f c (view_of c before)) c old new before result desk
+    terms.doubt new.keep ≡ 0 → (c : Contents) → StoreHas terms old c → Fits c before.handles.entries
+    → DoesAs terms tell (f c (view_of c before)) c old new before result desk
 
 -- no operation ends by a refusal
 abbrev pub EndsNone : Said → Type 0
@@ -98,7 +106,9 @@ IsPlainAs tell (Err refusals.Device) = Unit {0}
 -- tries no more than so many writes, and CKR_DEVICE_ERROR comes only where a failure of the keeper was counted. Whether or
 -- not the store is faithful, a refusal leaves what the desk shows, unless it ends an operation. What is returned is short where
 -- this is given.
-pub record IsDoneIf (given : Type 0) (ends : Said → Type 0) {K T : Type 0} (terms : Terms K) (tell : T → Said) (writes : ℕ) (f : Contents → View → Answer) (old new : StoreState K) (before : DeskState) (result : Result T Refusal) (desk : DeskState) : Type 0 where
+pub record IsDoneIf (given : Type 0) (ends : Said → Type 0) {K T : Type 0} (terms : Terms K) (tell : T → Said) (writes : ℕ)
+    (f : Contents → View → Answer) (old new : StoreState K) (before : DeskState) (result : Result T Refusal)
+    (desk : DeskState) : Type 0 where
   pub serves : DoneAs terms tell f old new before result desk
   pub counts : Counted terms old.keep new.keep 0 writes
   pub cause : IsErrOf result refusals.Device → Rises (terms.failures old.keep) (terms.failures new.keep)
@@ -107,18 +117,21 @@ pub record IsDoneIf (given : Type 0) (ends : Said → Type 0) {K T : Type 0} (te
   pub refused : IfOk result (λ out. is_refused (tell out) ≡ true → ShowsSame before desk ⊎ ends (tell out))
   pub short : given → IfOk result (λ out. IsShortSaid (tell out))
 
-abbrev pub IsDoneAs : {K T : Type 0} → Terms K → (T → Said) → ℕ → (Contents → View → Answer) → StoreState K → StoreState K → DeskState → Result T Refusal → DeskState → Type 0
+abbrev pub IsDoneAs : {K T : Type 0} → Terms K → (T → Said) → ℕ → (Contents → View → Answer) → StoreState K → StoreState K
+    → DeskState → Result T Refusal → DeskState → Type 0
 IsDoneAs terms tell writes f old new before result desk = IsDoneIf (Unit {0}) EndsNone terms tell writes f old new before result desk
 
 -- ---- and where it replies, to the view alone
 
-abbrev pub Does : {K : Type 0} → Terms K → Answer → Contents → StoreState K → StoreState K → DeskState → Result Reply Refusal → DeskState → Type 0
-Does terms a c old new before result desk = DoesAs terms Replies a c old new before result desk
+abbrev pub CallDoes : {K : Type 0} → Terms K → Answer → Contents → StoreState K → StoreState K → DeskState → Result Reply Refusal
+    → DeskState → Type 0
+CallDoes terms a c old new before result desk = DoesAs terms Replies a c old new before result desk
 
 abbrev pub IsPlain : Result Reply Refusal → Type 0
 IsPlain result = IsPlainAs Replies result
 
-abbrev pub IsDone : {K : Type 0} → Terms K → ℕ → (View → Answer) → StoreState K → StoreState K → DeskState → Result Reply Refusal → DeskState → Type 0
+abbrev pub IsDone : {K : Type 0} → Terms K → ℕ → (View → Answer) → StoreState K → StoreState K → DeskState → Result Reply Refusal
+    → DeskState → Type 0
 IsDone terms writes f old new before result desk = IsDoneAs terms Replies writes (λ c. f) old new before result desk
 
 -- ---- as it is returned
@@ -136,7 +149,8 @@ settled as_out (Err refusal) = refused_as refusal
 -- And in one clause, in which what is returned is short where this is given. Over a steady keeper CKR_DEVICE_ERROR comes only
 -- to an answer that adds an object, where the ids are used up. A refusal leaves what the desk shows, or what the answer
 -- says, store faithful or not.
-pub record IsServedIf (given : Type 0) {K : Type 0} (terms : Terms K) (kind : Out → Type 0) (f : View → Answer) (old new : StoreState K) (before : DeskState) (result : Result Out Fault) (desk : DeskState) : Type 0 where
+pub record IsServedIf (given : Type 0) {K : Type 0} (terms : Terms K) (kind : Out → Type 0) (f : View → Answer)
+    (old new : StoreState K) (before : DeskState) (result : Result Out Fault) (desk : DeskState) : Type 0 where
   pub serves : Served terms said_of f old new before before result desk
   pub says : IfOk result kind
   pub counts : Counted terms old.keep new.keep 0 1
@@ -144,5 +158,6 @@ pub record IsServedIf (given : Type 0) {K : Type 0} (terms : Terms K) (kind : Ou
   pub steady : FailsForIds terms faults.Device (λ c. f) old before result
   pub plain : IfOk result (λ out. resource_error_in (said_of out) ≡ None)
   pub stays : IfErr result (λ fault. SameDesk before desk)
-  pub refused : IfOk result (λ out. is_refused (said_of out) ≡ true → ShowsSame before desk ⊎ GivesAnyway (λ c. f) before (said_of out) desk)
+  pub refused : IfOk result (λ out. is_refused (said_of out) ≡ true → ShowsSame before desk
+      ⊎ GivesAnyway (λ c. f) before (said_of out) desk)
   pub short : given → IfOk result (λ out. IsShortSaid (said_of out))

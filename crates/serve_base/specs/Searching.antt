@@ -22,8 +22,8 @@ module _ (login : Option UserType) (template : List Entry) where
   token_match id o = TokenObject id (flag o attr.Private)
 
   -- what is found of the token objects, in the order of their creation
-  abbrev pub tokens_found : List Kept → List Match
-  tokens_found es = map (λ e. token_match e.0 e.1) (filter (λ e. finds e.1) es)
+  abbrev pub kept_found : List Kept → List Match
+  kept_found es = map (λ e. token_match e.0 e.1) (filter (λ e. finds e.1) es)
 
   -- ---- by their ids
 

@@ -8,7 +8,7 @@ use Rattle.ck_types.specs.declared.user_type.UserType.{UserType}
 use Rattle.guard.specs.Access.{is_public}
 use Rattle.lists.specs.Indexes.{updated}
 use Rattle.handles.specs.declared.Handle.{Handle}
-use Rattle.handles.specs.Handles.{number_of}
+use Rattle.handles.specs.Handles.{handle_number}
 use Rattle.keep.specs.Contents.{Contents, Kept, with_object, with_record, after_reset}
 use Rattle.desk.specs.Jobs.{Job, Work, Cipher, Take, Sign, Verify, Wrap, Unwrap, CheckPin, MakePin, ChangePin, InitToken, ResetToken}
 use Rattle.desk.specs.declared.own_object.OwnObject.{OwnObject}
@@ -29,7 +29,7 @@ abbrev pub sees_kept : Option UserType → Kept → Bool
 sees_kept login e = sees login e.1
 
 abbrev pub token_object : DeskState → Kept → TokenObject
-token_object d e = record { object = e.1; handle = number_of d.handles.entries e.0 }
+token_object d e = record { object = e.1; handle = handle_number d.handles.entries e.0 }
 
 abbrev pub session_object : OwnObject → SessionObject
 session_object e = record { object = e.object; handle = e.handle; session = e.session }
@@ -88,13 +88,13 @@ IsAsPublic [] index o = Unit {0}
 IsAsPublic (e ∷ es) zero o = is_public o ≡ is_public e.1
 IsAsPublic (e ∷ es) (suc index) o = IsAsPublic es index o
 
-abbrev pub Changes : Change → Contents → Contents → Type 0
-Changes Stays old new = new ≡ old
-Changes (Insert o) old new = new ≡ with_object o old
-Changes (Replace index o) old new = IsAsPublic old.objects index o × (new ≡ record old { objects = rekept old.objects index o })
-Changes (Remove index) old new = new ≡ record old { objects = remove old.objects index }
-Changes (Records r) old new = new ≡ with_record r old
-Changes (Resets r) old new = new ≡ after_reset r old
+abbrev pub ChangesContents : Change → Contents → Contents → Type 0
+ChangesContents Stays old new = new ≡ old
+ChangesContents (Insert o) old new = new ≡ with_object o old
+ChangesContents (Replace index o) old new = IsAsPublic old.objects index o × (new ≡ record old { objects = rekept old.objects index o })
+ChangesContents (Remove index) old new = new ≡ record old { objects = remove old.objects index }
+ChangesContents (Records r) old new = new ≡ with_record r old
+ChangesContents (Resets r) old new = new ≡ after_reset r old
 
 -- ---- what is returned
 
@@ -118,8 +118,8 @@ IsFor app (OutReply reply) = Unit {0}
 IsFor app (Ask job) = job.app ≡ app
 
 -- What is returned to one who is logged in so, what is kept and what the desk holds after it are the answer.
-pub record Gives (a : Answer) (login : Option UserType) (old : Contents) (said : Said) (new : Contents) (desk : DeskState) : Type 0 where
+pub record GivesAnswer (a : Answer) (login : Option UserType) (old : Contents) (said : Said) (new : Contents) (desk : DeskState) : Type 0 where
   pub says : said ≡ a.says
   pub view : view_of new desk ≡ a.view
-  pub changes : Changes (in_list (sees login) (objects_of old) a.change) old new
+  pub changes : ChangesContents (in_list (sees login) (objects_of old) a.change) old new
   pub fits : Fits new desk.handles.entries

@@ -8,30 +8,30 @@ use Rattle.model_views.specs.Views.{View, sees}
 use Rattle.model_views.specs.Changes.{Change, Stays, Insert, in_list}
 use Rattle.model_views.specs.Answering.{Said, Answer}
 use Rattle.serve_base.specs.declared.listed.Listed.{Listed}
-use Rattle.serve_base.specs.Listing.{AreListed, AreMarks, ids_in}
-use Rattle.serve_base.specs.Shown.{view_of, objects_of, Changes, Gives, Fits}
+use Rattle.serve_base.specs.Listing.{AreListed, AreMarks, listed_ids}
+use Rattle.serve_base.specs.Shown.{view_of, objects_of, ChangesContents, GivesAnswer, Fits}
 
 pub record StoreState (K : Type 0) : Type 0 where
   pub keep : K
   pub listed : List Listed
 
--- The list is in order, and the marks that are known are right, as long as the disk is faithful. It is one member of `Has` and
+-- The list is in order, and the marks that are known are right, as long as the disk is faithful. It is one member of `StoreHas` and
 -- of `SameIds`, since the search for proofs goes through each of their members.
 pub record KnowsMarks {K : Type 0} (terms : Terms K) (s : StoreState K) (c : Contents) : Type 0 where
   pub order : AreListed c.last_id s.listed
   pub right : terms.doubt s.keep ≡ 0 → AreMarks c s.listed
 
 -- the keeper holds the contents, the ids are theirs, and so are the marks that are known
-pub record Has {K : Type 0} (terms : Terms K) (s : StoreState K) (c : Contents) : Type 0 where
+pub record StoreHas {K : Type 0} (terms : Terms K) (s : StoreState K) (c : Contents) : Type 0 where
   pub held : terms.holds s.keep c
-  pub ids : ids_in s.listed ≡ ids_of c
+  pub ids : listed_ids s.listed ≡ ids_of c
   pub marks : KnowsMarks terms s c
   pub sound : IsSound c
 
 -- What a call that reads leaves of the list: the ids stay, in order where they were. Marks that it learned are right where the
 -- others were.
 pub record SameIds {K : Type 0} (terms : Terms K) (old new : StoreState K) : Type 0 where
-  pub ids : ids_in new.listed ≡ ids_in old.listed
+  pub ids : listed_ids new.listed ≡ listed_ids old.listed
   pub marks : (c : Contents) → terms.holds old.keep c → KnowsMarks terms old c → KnowsMarks terms new c
 
 -- ---- what a crash may leave
@@ -50,11 +50,13 @@ module _ {K : Type 0} (terms : Terms K) where
 
   -- after an answer: its change alone, and what it could leave before where nothing changes
   abbrev pub LeavesChange : Change → StoreState K → StoreState K → Contents → Type 0
-  LeavesChange change old new c = (left : Option Contents) → terms.may_leave new.keep left → (terms.may_leave old.keep left × (change ≡ Stays)) ⊎ (left ≡ Some c)
+  LeavesChange change old new c = (left : Option Contents) → terms.may_leave new.keep left
+      → (terms.may_leave old.keep left × (change ≡ Stays)) ⊎ (left ≡ Some c)
 
   -- after a refusal: what it could leave before, or the change of the answer
   abbrev pub LeavesTried : Change → StoreState K → StoreState K → Contents → Type 0
-  LeavesTried change old new c = (left : Option Contents) → terms.may_leave new.keep left → terms.may_leave old.keep left ⊎ ((d : Contents) × (left ≡ Some d) × Changes change c d)
+  LeavesTried change old new c = (left : Option Contents) → terms.may_leave new.keep left → terms.may_leave old.keep left
+      ⊎ ((d : Contents) × (left ≡ Some d) × ChangesContents change c d)
 
 -- ---- ids that are used up
 
@@ -70,29 +72,34 @@ LacksId change c = AddsObject change × (greatest_id ≤ c.last_id)
 -- Over a steady keeper the event fails only at an answer that adds an object, where there is no id for it.
 abbrev pub FailsForIds : {K T E : Type 0} → Terms K → E → (Contents → View → Answer) → StoreState K → DeskState → Result T E → Type 0
 FailsForIds terms device f old before result =
-    terms.is_steady old.keep → IsErrOf result device → (c : Contents) → Has terms old c → Fits c before.handles.entries → LacksId (f c (view_of c before)).change c
+    terms.is_steady old.keep → IsErrOf result device → (c : Contents) → StoreHas terms old c → Fits c before.handles.entries
+    → LacksId (f c (view_of c before)).change c
 
 -- ---- an event at one desk
 module _ {K : Type 0} (terms : Terms K) where
   -- the answer is given to one who was logged in so
-  pub record Gave (a : Answer) (login : Option UserType) (c : Contents) (old new : StoreState K) (said : Said) (desk : DeskState) : Type 0 where
+  pub record GaveAnswer (a : Answer) (login : Option UserType) (c : Contents) (old new : StoreState K) (said : Said)
+      (desk : DeskState) : Type 0 where
     pub contents : Contents
-    pub has : Has terms new contents
-    pub gives : Gives a login c said contents desk
+    pub has : StoreHas terms new contents
+    pub gives : GivesAnswer a login c said contents desk
     pub leaves : LeavesChange terms (in_list (sees login) (objects_of c) a.change) old new contents
 
   -- it is refused, and leaves the desk as it is then
   pub record Refused (a : Answer) (login : Option UserType) (c : Contents) (old new : StoreState K) (over desk : DeskState) : Type 0 where
-    pub has : Has terms new c
+    pub has : StoreHas terms new c
     pub same : SameDesk over desk
     pub leaves : LeavesTried terms (in_list (sees login) (objects_of c) a.change) old new c
 
   -- `over` is what a refusal leaves of the desk: at a call the desk itself, at a result the desk without its pending call
-  abbrev pub Serves : {T E : Type 0} → (T → Said) → Answer → Contents → StoreState K → StoreState K → DeskState → DeskState → Result T E → DeskState → Type 0
-  Serves tell a c old new before over (Ok out) desk = Gave a before.sessions.login c old new (tell out) desk
-  Serves tell a c old new before over (Err fault) desk = Refused a before.sessions.login c old new over desk
+  abbrev pub ServesAnswer : {T E : Type 0} → (T → Said) → Answer → Contents → StoreState K → StoreState K → DeskState → DeskState
+      → Result T E → DeskState → Type 0
+  ServesAnswer tell a c old new before over (Ok out) desk = GaveAnswer a before.sessions.login c old new (tell out) desk
+  ServesAnswer tell a c old new before over (Err fault) desk = Refused a before.sessions.login c old new over desk
 
 -- An event is served by the answer to the view, while the store is faithful.
-abbrev pub Served : {K : Type 0} → Terms K → {T E : Type 0} → (T → Said) → (View → Answer) → StoreState K → StoreState K → DeskState → DeskState → Result T E → DeskState → Type 0
+abbrev pub Served : {K : Type 0} → Terms K → {T E : Type 0} → (T → Said) → (View → Answer) → StoreState K → StoreState K → DeskState
+    → DeskState → Result T E → DeskState → Type 0
 Served terms tell f old new before over result desk =
-    terms.doubt new.keep ≡ 0 → (c : Contents) → Has terms old c → Fits c before.handles.entries → Serves terms tell (f (view_of c before)) c old new before over result desk
+    terms.doubt new.keep ≡ 0 → (c : Contents) → StoreHas terms old c → Fits c before.handles.entries
+    → ServesAnswer terms tell (f (view_of c before)) c old new before over result desk

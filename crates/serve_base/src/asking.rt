@@ -9,7 +9,7 @@ ghost use Rattle.ck_calls.specs.declared.reply.Reply.TheVariants.{Output as Outp
 ghost use Rattle.serve_base.specs.declared.out.Out.TheVariants.{Ask, Reply as OutReply};
 ghost use Rattle.serve_base.specs.Asking.{asks_within};
 ghost use Rattle.serve_base.specs.Short.{IsShortSaid, IsShortTask};
-ghost use Rattle.serve_base.specs.Shown.{Fits, Gives, IsFor, question_of, said_of, task_of, view_of};
+ghost use Rattle.serve_base.specs.Shown.{Fits, GivesAnswer, IsFor, question_of, said_of, task_of, view_of};
 
 use crate::out::Out;
 use ck_calls::{Function, Output, Reply};
@@ -28,7 +28,12 @@ pub fn new_job(
 ) -> Result<Job, AllocError>
     requires { IsTrue (is_runnable work) }
     ensures asker { IfOk result (λ job. job.app ≡ app) }
-    ensures question { IfOk result (λ job. question_of job ≡ record { number = desk.now.next_question; function = function; session = session; task = task_of work }) }
+    ensures question { IfOk result (λ job. question_of job ≡ record {
+      number = desk.now.next_question;
+      function = function;
+      session = session;
+      task = task_of work;
+    }) }
     ensures short { IsShortTask (task_of work) → IfOk result (λ job. IsShortSaid (said_of (Ask job))) }
 {
     Job::new(alloc, app, desk.next_question(), function, session, work)
@@ -46,7 +51,12 @@ pub fn ask(
     requires below { desk.old.next_question < 2 ^ 63 }
     requires runnable { IsTrue (is_runnable work) }
     ensures asker { IfOk result (λ job. job.app ≡ app) }
-    ensures question { IfOk result (λ job. question_of job ≡ record { number = desk.old.next_question; function = function; session = session; task = task_of work }) }
+    ensures question { IfOk result (λ job. question_of job ≡ record {
+      number = desk.old.next_question;
+      function = function;
+      session = session;
+      task = task_of work;
+    }) }
     ensures asked { IfOk result (λ job. desk.new ≡ with_question desk.old job) }
     ensures refused { IfErr result (λ error. desk.new ≡ desk.old) }
     ensures short { IsShortTask (task_of work) → IfOk result (λ job. IsShortSaid (said_of (Ask job))) }
@@ -70,7 +80,10 @@ pub fn ask_within(
 ) -> Result<Out, AllocError>
     requires below { desk.old.next_question < 2 ^ 63 }
     requires runnable { IsTrue (is_runnable work) }
-    ensures gives { (c : Contents) → Fits c desk.old.handles.entries → IfOk result (λ out. Gives (asks_within function session (task_of work) wanted buffer_len (view_of c desk.old)) desk.old.sessions.login c (said_of out) c desk.new) }
+    ensures gives { (c : Contents) → Fits c desk.old.handles.entries
+        → IfOk result
+        (λ out. GivesAnswer (asks_within function session (task_of work) wanted buffer_len (view_of c desk.old)) desk.old.sessions.login c
+        (said_of out) c desk.new) }
     ensures asker { IfOk result (IsFor app) }
     ensures refused { IfErr result (λ error. desk.new ≡ desk.old) }
     ensures length { buffer_len ≡ None → result ≡ Ok (OutReply (OutputReply (Length wanted))) }

@@ -1,14 +1,14 @@
 //! Objects under handles.
 
 ghost use Rattle.std.specs.Prelude.{◌≡◌, IfOk, IfSome, IsErrOf};
-ghost use Rattle.handles.specs.Handles.{IsTable};
+ghost use Rattle.handles.specs.Handles.{IsHandleTable};
 ghost use Rattle.keep.specs.Contents.{Contents, IsTokenObject};
 ghost use Rattle.keep.specs.Keeping.{Counted, HasCause, Stays};
 ghost use Rattle.keep.specs.declared.keep.KeepFault.TheVariants.{Device};
 ghost use Rattle.desk.specs.Desks.{own_at};
 ghost use Rattle.model_views.specs.Views.{sees};
 ghost use Rattle.serve_base.specs.Shown.{Fits};
-ghost use Rattle.serve_base.specs.Stores.{Has, SameIds};
+ghost use Rattle.serve_base.specs.Stores.{StoreHas, SameIds};
 ghost use Rattle.serve_base.specs.Found.{IsFound, IsOwn};
 
 use crate::store::Store;
@@ -57,12 +57,13 @@ pub fn find<K: Keep>(
     store: &mut Store<K>,
     handle: u64,
 ) -> Result<Option<Found>, KeepFault>
-    ensures found { K.terms.doubt store.new.keep ≡ 0 → (c : Contents) → Has K.terms store.old c → Fits c desk.now.handles.entries → IfOk result (IsFound c desk.now handle) }
-    ensures table { IsTable desk.now.handles.next_number desk.now.handles.entries }
+    ensures found { K.terms.doubt store.new.keep ≡ 0 → (c : Contents) → StoreHas K.terms store.old c → Fits c desk.now.handles.entries
+        → IfOk result (IsFound c desk.now handle) }
+    ensures table { IsHandleTable desk.now.handles.next_number desk.now.handles.entries }
     ensures token { IfOk result (λ found. IfSome found (λ f. IfSome f.id (λ id. IsTokenObject f.object))) }
     ensures same { Stays K.terms store.old.keep store.new.keep }
     ensures ids { SameIds K.terms store.old store.new }
-    ensures steady { K.terms.is_steady store.old.keep → IsErrOf result Device → (c : Contents) → Has K.terms store.old c → ⊥ }
+    ensures steady { K.terms.is_steady store.old.keep → IsErrOf result Device → (c : Contents) → StoreHas K.terms store.old c → ⊥ }
     ensures counts { Counted K.terms store.old.keep store.new.keep 0 0 }
     ensures cause { HasCause (K.terms.failures store.old.keep) (K.terms.failures store.new.keep) result }
 {

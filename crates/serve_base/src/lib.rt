@@ -15,9 +15,9 @@
 //! call returns a job and writes, or where its answer depends on what the store has. A refusal leaves what the desk shows, store
 //! faithful or not.
 //!
-//! Proved, by the names of contracts: a `Store` allocates before it writes, and changes as the keeper does (`Has`). It asks for no id
+//! Proved, by the names of contracts: a `Store` allocates before it writes, and changes as the keeper does (`StoreHas`). It asks for no id
 //! that isn't listed, so over a steady keeper no read returns `Device` (`steady`). While the disk is faithful `find` returns what the
-//! application sees under a handle (`IsFound`), and `Store::search` what a template finds (`tokens_found`). Private objects are found for
+//! application sees under a handle (`IsFound`), and `Store::search` what a template finds (`kept_found`). Private objects are found for
 //! the user alone, faithful or not (`MayFind`). No clause says which objects are read. `ask_within` returns a length where no buffer is
 //! given, and never fails there (`length`). `add_object` makes at most one write.
 //!

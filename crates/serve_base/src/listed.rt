@@ -7,7 +7,7 @@ ghost use Rattle.std.specs.Prelude.{◌≡◌, ◌==◌, map, length, IfOk};
 ghost use Rattle.std.specs.List.{list_any};
 ghost use Rattle.std.specs.List.Sorted.{IsSearchInRange};
 ghost use Rattle.lists.specs.Bisection.{IsIndexOf, KeysRise};
-ghost use Rattle.serve_base.specs.Listing.{id_in, ids_in, marked_at, removed_at, unread, without_removed, IsTaken};
+ghost use Rattle.serve_base.specs.Listing.{id_in, listed_ids, marked_at, listed_removed_at, unread, without_removed, AreRemovedTaken};
 
 use find::Mark;
 use std::alloc::{AllocError, Global};
@@ -35,7 +35,7 @@ pub(crate) fn list_unread(alloc: Global, ids: &[u64]) -> Result<Vec<Listed>, All
 
 /// Whether the list has the id, where the ids rise.
 pub(crate) fn has_id(listed: &[Listed], id: u64) -> bool
-    ensures { KeysRise id_in listed.now → result ≡ list_any (λ i. i == id) (ids_in listed.now) }
+    ensures { KeysRise id_in listed.now → result ≡ list_any (λ i. i == id) (listed_ids listed.now) }
 {
     match index_of_id(listed, id) {
         Ok(at) => !listed[at].removed,
@@ -54,7 +54,7 @@ pub(crate) fn set_mark(listed: &mut [Listed], id: u64, mark: Mark)
 
 /// Notes that the object under an id was removed, where the list has the id.
 pub(crate) fn remove_id(listed: &mut Vec<Listed>, id: u64)
-    ensures { KeysRise id_in listed.old.items → listed.new.items ≡ map (removed_at id) listed.old.items }
+    ensures { KeysRise id_in listed.old.items → listed.new.items ≡ map (listed_removed_at id) listed.old.items }
 {
     if let Ok(at) = index_of_id(listed, id) {
         listed[at].removed = true;
@@ -63,7 +63,7 @@ pub(crate) fn remove_id(listed: &mut Vec<Listed>, id: u64)
 
 /// Takes out the entries of removed objects, where they are more than half. `removed` is how many there are.
 pub(crate) fn take_out_many(listed: &mut Vec<Listed>, removed: &mut usize)
-    ensures { IsTaken listed.old.items listed.new.items }
+    ensures { AreRemovedTaken listed.old.items listed.new.items }
 {
     if *removed > listed.len() / 2 {
         take_out(listed);

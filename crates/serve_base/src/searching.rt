@@ -7,7 +7,7 @@ ghost use Rattle.keep.specs.Keeping.{Counted, HasCause, Stays};
 ghost use Rattle.keep.specs.declared.keep.KeepFault.TheVariants.{Device};
 ghost use Rattle.find.specs.Marks.{wanted_of};
 ghost use Rattle.guard.specs.Access.{is_user_in};
-ghost use Rattle.serve_base.specs.Listing.{AreMarks, IsMarkOf, all_ids, ids_in};
+ghost use Rattle.serve_base.specs.Listing.{AreMarks, IsMarkOf, all_ids, listed_ids};
 ghost use Rattle.serve_base.specs.Searching.{found_at, found_in, found_of, passes_over, MayFind};
 
 use crate::finding::sees;
@@ -38,14 +38,14 @@ pub(crate) fn search_kept<K: Keep>(
     found: &mut Vec<Match>,
 ) -> Result<(), KeepFault>
     ensures found { K.terms.doubt keep.new ≡ 0 → (c : Contents) → K.terms.holds keep.old c → AreMarks c listed.old
-        → OnOk result (found.new.items ≡ found.old.items ++ found_at login template.now (object_at c) (ids_in listed.old)) }
+        → OnOk result (found.new.items ≡ found.old.items ++ found_at login template.now (object_at c) (listed_ids listed.old)) }
     ensures may { AllByRecursion (MayFind login) found.old.items → OnOk result (AllByRecursion (MayFind login) found.new.items) }
-    ensures ids { ids_in listed.new ≡ ids_in listed.old }
+    ensures ids { listed_ids listed.new ≡ listed_ids listed.old }
     ensures all { all_ids listed.new ≡ all_ids listed.old }
     ensures marks { K.terms.doubt keep.new ≡ 0 → (c : Contents) → K.terms.holds keep.old c → AreMarks c listed.old → AreMarks c listed.new }
     ensures same { Stays K.terms keep.old keep.new }
     ensures steady { K.terms.is_steady keep.old → IsErrOf result Device → (c : Contents) → K.terms.holds keep.old c
-        → AllByRecursion (λ id. IsSome (object_at c id)) (ids_in listed.old) → ⊥ }
+        → AllByRecursion (λ id. IsSome (object_at c id)) (listed_ids listed.old) → ⊥ }
     ensures counts { Counted K.terms keep.old keep.new 0 0 }
     ensures cause { HasCause (K.terms.failures keep.old) (K.terms.failures keep.new) result }
 {

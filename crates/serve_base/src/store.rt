@@ -5,8 +5,8 @@ ghost use Rattle.std.specs.List.{AllByRecursion};
 ghost use Rattle.keep.specs.Contents.{Contents, IsTokenObject, after_reset, greatest_id, object_at, with_object, with_record, with_replacement, without_object};
 ghost use Rattle.keep.specs.Keeping.{Stays, HasCause, Counted};
 ghost use Rattle.keep.specs.declared.keep.KeepFault.TheVariants.{Device};
-ghost use Rattle.serve_base.specs.Searching.{tokens_found, MayFind};
-ghost use Rattle.serve_base.specs.Stores.{Has, LeavesAlone, LeavesOr, SameIds};
+ghost use Rattle.serve_base.specs.Searching.{kept_found, MayFind};
+ghost use Rattle.serve_base.specs.Stores.{StoreHas, LeavesAlone, LeavesOr, SameIds};
 
 use crate::listed::{Listed, has_id, list_unread, remove_id, set_mark, take_out_many};
 use crate::searching::{Match, search_kept};
@@ -39,8 +39,9 @@ impl<K: Keep> Model for Store<K> {
 impl<K: Keep> Store<K> {
     /// Reads the ids of a keeper, and none of its objects. A keeper that fails comes back beside its fault.
     pub fn adopt(alloc: Global, mut keep: K) -> Result<Store<K>, (KeepFault, K)>
-        ensures has { (c : Contents) → K.terms.holds keep c → IfOk result (λ s. K.terms.doubt s.keep ≡ 0 → Has K.terms s c) }
-        ensures leaves { (c : Contents) → K.terms.holds keep c → IfOk result (λ s. (left : Option Contents) → K.terms.may_leave s.keep left → K.terms.may_leave keep left) }
+        ensures has { (c : Contents) → K.terms.holds keep c → IfOk result (λ s. K.terms.doubt s.keep ≡ 0 → StoreHas K.terms s c) }
+        ensures leaves { (c : Contents) → K.terms.holds keep c
+            → IfOk result (λ s. (left : Option Contents) → K.terms.may_leave s.keep left → K.terms.may_leave keep left) }
         ensures back { IfErr result (λ e. Stays K.terms keep e.1) }
         ensures steady { K.terms.is_steady keep → IfOk result (λ s. K.terms.is_steady s.keep) }
         ensures device { K.terms.is_steady keep → IfErr result (λ e. e.0 ≢ Device) }
@@ -73,17 +74,17 @@ impl<K: Keep> Store<K> {
 
     /// The record. It is held in memory, so nothing is read or allocated.
     pub fn get_record(&self) -> Record
-        ensures { (c : Contents) → Has K.terms self.now c → result ≡ c.token_record }
+        ensures { (c : Contents) → StoreHas K.terms self.now c → result ≡ c.token_record }
     {
         self.keep.get_record()
     }
 
     /// Replaces the record. The objects stay.
     pub fn set_record(&mut self, token_record: Record) -> Result<(), KeepFault>
-        ensures has { (c : Contents) → Has K.terms self.old c → OnOk result (Has K.terms self.new (with_record token_record c)) }
-        ensures leaves { (c : Contents) → Has K.terms self.old c → OnOk result (LeavesAlone K.terms self.new (with_record token_record c)) }
-        ensures same { (c : Contents) → Has K.terms self.old c → OnErr result (Has K.terms self.new c) }
-        ensures leaves_or { (c : Contents) → Has K.terms self.old c → OnErr result (LeavesOr K.terms self.old self.new (with_record token_record c)) }
+        ensures has { (c : Contents) → StoreHas K.terms self.old c → OnOk result (StoreHas K.terms self.new (with_record token_record c)) }
+        ensures leaves { (c : Contents) → StoreHas K.terms self.old c → OnOk result (LeavesAlone K.terms self.new (with_record token_record c)) }
+        ensures same { (c : Contents) → StoreHas K.terms self.old c → OnErr result (StoreHas K.terms self.new c) }
+        ensures leaves_or { (c : Contents) → StoreHas K.terms self.old c → OnErr result (LeavesOr K.terms self.old self.new (with_record token_record c)) }
         ensures steady { K.terms.is_steady self.old.keep → IsErrOf result Device → ⊥ }
         ensures counts { Counted K.terms self.old.keep self.new.keep 0 1 }
         ensures cause { HasCause (K.terms.failures self.old.keep) (K.terms.failures self.new.keep) result }
@@ -94,10 +95,10 @@ impl<K: Keep> Store<K> {
 
     /// Removes all objects and replaces the record, as one change. Ids are counted on.
     pub fn reset(&mut self, token_record: Record) -> Result<(), KeepFault>
-        ensures has { (c : Contents) → Has K.terms self.old c → OnOk result (Has K.terms self.new (after_reset token_record c)) }
-        ensures leaves { (c : Contents) → Has K.terms self.old c → OnOk result (LeavesAlone K.terms self.new (after_reset token_record c)) }
-        ensures same { (c : Contents) → Has K.terms self.old c → OnErr result (Has K.terms self.new c) }
-        ensures leaves_or { (c : Contents) → Has K.terms self.old c → OnErr result (LeavesOr K.terms self.old self.new (after_reset token_record c)) }
+        ensures has { (c : Contents) → StoreHas K.terms self.old c → OnOk result (StoreHas K.terms self.new (after_reset token_record c)) }
+        ensures leaves { (c : Contents) → StoreHas K.terms self.old c → OnOk result (LeavesAlone K.terms self.new (after_reset token_record c)) }
+        ensures same { (c : Contents) → StoreHas K.terms self.old c → OnErr result (StoreHas K.terms self.new c) }
+        ensures leaves_or { (c : Contents) → StoreHas K.terms self.old c → OnErr result (LeavesOr K.terms self.old self.new (after_reset token_record c)) }
         ensures steady { K.terms.is_steady self.old.keep → IsErrOf result Device → ⊥ }
         ensures counts { Counted K.terms self.old.keep self.new.keep 0 1 }
         ensures cause { HasCause (K.terms.failures self.old.keep) (K.terms.failures self.new.keep) result }
@@ -111,11 +112,11 @@ impl<K: Keep> Store<K> {
     /// A copy of the object under an id.
     #[tactic(auto, using(crate::proofs::Storing::absent_at, crate::proofs::Storing::present_at))]
     pub fn object(&mut self, alloc: Global, id: u64) -> Result<Option<Object>, KeepFault>
-        ensures object { K.terms.doubt self.new.keep ≡ 0 → (c : Contents) → Has K.terms self.old c → IfOk result (λ found. found ≡ object_at c id) }
+        ensures object { K.terms.doubt self.new.keep ≡ 0 → (c : Contents) → StoreHas K.terms self.old c → IfOk result (λ found. found ≡ object_at c id) }
         ensures token { IfOk result (λ found. IfSome found IsTokenObject) }
         ensures same { Stays K.terms self.old.keep self.new.keep }
         ensures ids { SameIds K.terms self.old self.new }
-        ensures steady { K.terms.is_steady self.old.keep → IsErrOf result Device → (c : Contents) → Has K.terms self.old c → ⊥ }
+        ensures steady { K.terms.is_steady self.old.keep → IsErrOf result Device → (c : Contents) → StoreHas K.terms self.old c → ⊥ }
         ensures counts { Counted K.terms self.old.keep self.new.keep 0 0 }
         ensures cause { HasCause (K.terms.failures self.old.keep) (K.terms.failures self.new.keep) result }
     {
@@ -134,11 +135,12 @@ impl<K: Keep> Store<K> {
         template: &Template,
         found: &mut Vec<Match>,
     ) -> Result<(), KeepFault>
-        ensures found { K.terms.doubt self.new.keep ≡ 0 → (c : Contents) → Has K.terms self.old c → OnOk result (found.new.items ≡ found.old.items ++ tokens_found login template.now c.objects) }
+        ensures found { K.terms.doubt self.new.keep ≡ 0 → (c : Contents) → StoreHas K.terms self.old c
+            → OnOk result (found.new.items ≡ found.old.items ++ kept_found login template.now c.objects) }
         ensures may { AllByRecursion (MayFind login) found.old.items → OnOk result (AllByRecursion (MayFind login) found.new.items) }
         ensures same { Stays K.terms self.old.keep self.new.keep }
         ensures ids { SameIds K.terms self.old self.new }
-        ensures steady { K.terms.is_steady self.old.keep → IsErrOf result Device → (c : Contents) → Has K.terms self.old c → ⊥ }
+        ensures steady { K.terms.is_steady self.old.keep → IsErrOf result Device → (c : Contents) → StoreHas K.terms self.old c → ⊥ }
         ensures counts { Counted K.terms self.old.keep self.new.keep 0 0 }
         ensures cause { HasCause (K.terms.failures self.old.keep) (K.terms.failures self.new.keep) result }
     {
@@ -156,12 +158,13 @@ impl<K: Keep> Store<K> {
     /// Adds a token object at the end. Memory for its id and its mark is allocated before it is written.
     pub fn insert(&mut self, object: &Object) -> Result<u64, KeepFault>
         requires { IsTokenObject object.now }
-        ensures id { K.terms.doubt self.new.keep ≡ 0 → (c : Contents) → Has K.terms self.old c → IfOk result (λ id. id ≡ c.last_id + 1) }
-        ensures has { K.terms.doubt self.new.keep ≡ 0 → (c : Contents) → Has K.terms self.old c → OnOk result (Has K.terms self.new (with_object object.now c)) }
-        ensures leaves { (c : Contents) → Has K.terms self.old c → OnOk result (LeavesAlone K.terms self.new (with_object object.now c)) }
-        ensures same { (c : Contents) → Has K.terms self.old c → OnErr result (Has K.terms self.new c) }
-        ensures leaves_or { (c : Contents) → Has K.terms self.old c → OnErr result (LeavesOr K.terms self.old self.new (with_object object.now c)) }
-        ensures steady { K.terms.is_steady self.old.keep → IsErrOf result Device → (c : Contents) → Has K.terms self.old c → greatest_id ≤ c.last_id }
+        ensures id { K.terms.doubt self.new.keep ≡ 0 → (c : Contents) → StoreHas K.terms self.old c → IfOk result (λ id. id ≡ c.last_id + 1) }
+        ensures has { K.terms.doubt self.new.keep ≡ 0 → (c : Contents) → StoreHas K.terms self.old c
+            → OnOk result (StoreHas K.terms self.new (with_object object.now c)) }
+        ensures leaves { (c : Contents) → StoreHas K.terms self.old c → OnOk result (LeavesAlone K.terms self.new (with_object object.now c)) }
+        ensures same { (c : Contents) → StoreHas K.terms self.old c → OnErr result (StoreHas K.terms self.new c) }
+        ensures leaves_or { (c : Contents) → StoreHas K.terms self.old c → OnErr result (LeavesOr K.terms self.old self.new (with_object object.now c)) }
+        ensures steady { K.terms.is_steady self.old.keep → IsErrOf result Device → (c : Contents) → StoreHas K.terms self.old c → greatest_id ≤ c.last_id }
         ensures counts { Counted K.terms self.old.keep self.new.keep 0 1 }
         ensures cause { HasCause (K.terms.failures self.old.keep) (K.terms.failures self.new.keep) result }
     {
@@ -179,11 +182,12 @@ impl<K: Keep> Store<K> {
     /// Replaces the token object under an id.
     pub fn replace(&mut self, id: u64, object: &Object) -> Result<(), KeepFault>
         requires { IsTokenObject object.now }
-        ensures has { (c : Contents) → Has K.terms self.old c → OnOk result (Has K.terms self.new (with_replacement id object.now c)) }
-        ensures leaves { (c : Contents) → Has K.terms self.old c → OnOk result (LeavesAlone K.terms self.new (with_replacement id object.now c)) }
-        ensures same { (c : Contents) → Has K.terms self.old c → OnErr result (Has K.terms self.new c) }
-        ensures leaves_or { (c : Contents) → Has K.terms self.old c → OnErr result (LeavesOr K.terms self.old self.new (with_replacement id object.now c)) }
-        ensures steady { K.terms.is_steady self.old.keep → IsErrOf result Device → (c : Contents) → Has K.terms self.old c → object_at c id ≡ None }
+        ensures has { (c : Contents) → StoreHas K.terms self.old c → OnOk result (StoreHas K.terms self.new (with_replacement id object.now c)) }
+        ensures leaves { (c : Contents) → StoreHas K.terms self.old c → OnOk result (LeavesAlone K.terms self.new (with_replacement id object.now c)) }
+        ensures same { (c : Contents) → StoreHas K.terms self.old c → OnErr result (StoreHas K.terms self.new c) }
+        ensures leaves_or { (c : Contents) → StoreHas K.terms self.old c
+            → OnErr result (LeavesOr K.terms self.old self.new (with_replacement id object.now c)) }
+        ensures steady { K.terms.is_steady self.old.keep → IsErrOf result Device → (c : Contents) → StoreHas K.terms self.old c → object_at c id ≡ None }
         ensures counts { Counted K.terms self.old.keep self.new.keep 0 1 }
         ensures cause { HasCause (K.terms.failures self.old.keep) (K.terms.failures self.new.keep) result }
     {
@@ -194,11 +198,11 @@ impl<K: Keep> Store<K> {
 
     /// Removes the object under an id.
     pub fn remove(&mut self, id: u64) -> Result<(), KeepFault>
-        ensures has { (c : Contents) → Has K.terms self.old c → OnOk result (Has K.terms self.new (without_object id c)) }
-        ensures leaves { (c : Contents) → Has K.terms self.old c → OnOk result (LeavesAlone K.terms self.new (without_object id c)) }
-        ensures same { (c : Contents) → Has K.terms self.old c → OnErr result (Has K.terms self.new c) }
-        ensures leaves_or { (c : Contents) → Has K.terms self.old c → OnErr result (LeavesOr K.terms self.old self.new (without_object id c)) }
-        ensures steady { K.terms.is_steady self.old.keep → IsErrOf result Device → (c : Contents) → Has K.terms self.old c → object_at c id ≡ None }
+        ensures has { (c : Contents) → StoreHas K.terms self.old c → OnOk result (StoreHas K.terms self.new (without_object id c)) }
+        ensures leaves { (c : Contents) → StoreHas K.terms self.old c → OnOk result (LeavesAlone K.terms self.new (without_object id c)) }
+        ensures same { (c : Contents) → StoreHas K.terms self.old c → OnErr result (StoreHas K.terms self.new c) }
+        ensures leaves_or { (c : Contents) → StoreHas K.terms self.old c → OnErr result (LeavesOr K.terms self.old self.new (without_object id c)) }
+        ensures steady { K.terms.is_steady self.old.keep → IsErrOf result Device → (c : Contents) → StoreHas K.terms self.old c → object_at c id ≡ None }
         ensures counts { Counted K.terms self.old.keep self.new.keep 0 1 }
         ensures cause { HasCause (K.terms.failures self.old.keep) (K.terms.failures self.new.keep) result }
     {

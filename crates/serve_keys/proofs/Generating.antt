@@ -27,15 +27,19 @@ use Rattle.model_answers.specs.CreateObject.{adds_where}
 found-attribute : (n : ℕ) (es : List Entry) → option_map (λ e. e.value) (find (λ e. e.attr_type == n) es) ≡ attribute es n
 found-attribute n [] = refl
 found-attribute n (e ∷ es) = step (e.attr_type == n) (found-attribute n es) where
-  step : (b : Bool) → option_map (λ x. x.value) (find (λ x. x.attr_type == n) es) ≡ attribute es n → option_map (λ x. x.value) (cond b (Some e) (find (λ x. x.attr_type == n) es)) ≡ cond b (Some e.value) (attribute es n)
+  step : (b : Bool) → option_map (λ x. x.value) (find (λ x. x.attr_type == n) es) ≡ attribute es n
+      → option_map (λ x. x.value) (cond b (Some e) (find (λ x. x.attr_type == n) es)) ≡ cond b (Some e.value) (attribute es n)
   step true rest = refl
   step false rest = rest
 
-asked-bytes : (value : List ℕ) (b : Bool) → cond b (cond (nat_le (from_be_bytes w64 value) 512) (from_be_bytes w64 value) 0) 0 ≡ asked_len (cond b (Some (from_be_bytes w64 value)) None)
+asked-bytes : (value : List ℕ) (b : Bool)
+    → cond b (cond (nat_le (from_be_bytes w64 value) 512) (from_be_bytes w64 value) 0) 0
+    ≡ asked_len (cond b (Some (from_be_bytes w64 value)) None)
 asked-bytes value true = refl
 asked-bytes value false = refl
 
-asked-entry : (e : Option Entry) → unwrap_or (option_map (λ x. value_len_of x.value) e) 0 ≡ asked_len (number_of (option_map (λ x. x.value) e))
+asked-entry : (e : Option Entry)
+    → unwrap_or (option_map (λ x. value_len_of x.value) e) 0 ≡ asked_len (number_of (option_map (λ x. x.value) e))
 asked-entry None = refl
 asked-entry (Some e) = asked-bytes e.value (length e.value == 8)
 
@@ -46,9 +50,13 @@ asked-len template =
 
 -- ---- the answer
 
-module _ (v : View) (session : ℕ) (m : Mechanism) (template : List Entry) (s : Session Operations) (there : session_of v session ≡ Some s) (kind : MechType) (is : generation_at m.mech_type ≡ Some kind) (empty : not (length m.parameter == 0) ≡ false) where
+module _ (v : View) (session : ℕ) (m : Mechanism) (template : List Entry) (s : Session Operations)
+    (there : session_of v session ≡ Some s) (kind : MechType) (is : generation_at m.mech_type ≡ Some kind)
+    (empty : not (length m.parameter == 0) ≡ false) where
   abbrev pub state : SessionState
   state = state_of v.sessions.login s.read_write
 
-  pub generate-is : (random : List ℕ) (o : List Entry) → template_fault (Generate kind) state [] template ≡ None → object_made (Generate kind) [] template random (generated_value template random) ≡ o → generate_key v session m template random ≡ adds_where v session state o
+  pub generate-is : (random : List ℕ) (o : List Entry) → template_fault (Generate kind) state [] template ≡ None
+      → object_made (Generate kind) [] template random (generated_value template random) ≡ o
+      → generate_key v session m template random ≡ adds_where v session state o
   generate-is random o fault made = rw (there, is, empty, fault, made) refl

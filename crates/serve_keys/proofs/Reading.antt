@@ -14,19 +14,22 @@ use Rattle.model_answers.specs.CreateObject.{adds_where}
 use Rattle.model_answers.specs.UnwrapKey.{unwrapped_result}
 use Rattle.serve_base.specs.declared.finding.Found.{Found}
 use Rattle.serve_base.specs.Found.{IsFound}
-use Rattle.serve_base.specs.Shown.{view_of, Gives}
+use Rattle.serve_base.specs.Shown.{view_of, GivesAnswer}
 use Rattle.serve_keys.specs.Objects.{object_in}
 
 -- what is found is what the application sees
-pub found-is : (c : Contents) (d : DeskState) (handle : ℕ) (found : Option Found) → IsFound c d handle found → object_at (view_of c d) handle ≡ object_in found
+pub found-is : (c : Contents) (d : DeskState) (handle : ℕ) (found : Option Found) → IsFound c d handle found
+    → object_at (view_of c d) handle ≡ object_in found
 found-is c d handle None is = is
 found-is c d handle (Some found) is = is.0
 
 -- an answer at the desk, written otherwise
-pub gives-is : (a b : Answer) (c : Contents) (d d' : DeskState) (said : Said) → a ≡ b → Gives b d.sessions.login c said c d' → Gives a d.sessions.login c said c d'
-gives-is a b c d d' said is gives = subst (λ x. Gives x d.sessions.login c said c d') (sym is) gives
+pub gives-is : (a b : Answer) (c : Contents) (d d' : DeskState) (said : Said) → a ≡ b → GivesAnswer b d.sessions.login c said c d'
+    → GivesAnswer a d.sessions.login c said c d'
+gives-is a b c d d' said is gives = subst (λ x. GivesAnswer x d.sessions.login c said c d') (sym is) gives
 
 -- ---- a key that is added
 
-pub unwrapped-is : (v : View) (session : ℕ) (s : Session Operations) → session_of v session ≡ Some s → (o : List Entry) → v.next_handle < 2 ^ 63 → unwrapped_result v session (Unwrapped o) ≡ adds_where v session (state_of v.sessions.login s.read_write) o
+pub unwrapped-is : (v : View) (session : ℕ) (s : Session Operations) → session_of v session ≡ Some s → (o : List Entry)
+    → v.next_handle < 2 ^ 63 → unwrapped_result v session (Unwrapped o) ≡ adds_where v session (state_of v.sessions.login s.read_write) o
 unwrapped-is v session s there o below = rw (there, lt-ltb v.next_handle (2 ^ 63) below) refl

@@ -25,6 +25,25 @@ pub record MayWrap (w k : List Entry) : Type 0 where
   pub extractable : flag k attr.Extractable ≡ true
   pub trusted : (flag k attr.WrapWithTrusted && not (flag w attr.Trusted)) ≡ false
 
-pub wraps-asks : (v : View) (s : ℕ) (m : Mechanism) (buffer_len : Option ℕ) → is_none (session_of v s) ≡ false → (kind : MechType) → wrapping_at m.mech_type ≡ Some kind → (length m.parameter == 0) ≡ true → (w k : List Entry) → MayWrap w k → (key value : List ℕ) → attribute_of w attr.Value ≡ Some key → attribute_of k attr.Value ≡ Some value → value_len k ≡ length value → is_value_length (length value) ≡ true
-    → wraps v s m (Some w) (Some k) buffer_len ≡ asks_within functions.WrapKey s (WrapsKey (Some key) (Some value)) (length value + 8) buffer_len v
-wraps-asks v s m buffer_len there kind is empty w k may key value under of len size = rw (there, is, empty, may.wrapping, may.key, may.aes, may.permitted, may.extractable, may.trusted, rw may.key at len, size, under, of) refl
+pub wraps-asks : (v : View) (s : ℕ) (m : Mechanism) (buffer_len : Option ℕ) → is_none (session_of v s) ≡ false → (kind : MechType)
+    → wrapping_at m.mech_type ≡ Some kind → (length m.parameter == 0) ≡ true → (w k : List Entry) → MayWrap w k
+    → (key value : List ℕ) → attribute_of w attr.Value ≡ Some key → attribute_of k attr.Value ≡ Some value
+    → value_len k ≡ length value → is_value_length (length value) ≡ true
+    → wraps v s m (Some w) (Some k) buffer_len
+    ≡ asks_within functions.WrapKey s (WrapsKey (Some key) (Some value)) (length value + 8) buffer_len v
+wraps-asks v s m buffer_len there kind is empty w k may key value under of len size =
+    rw (
+      there,
+      is,
+      empty,
+      may.wrapping,
+      may.key,
+      may.aes,
+      may.permitted,
+      may.extractable,
+      may.trusted,
+      rw may.key at len,
+      size,
+      under,
+      of,
+    ) refl

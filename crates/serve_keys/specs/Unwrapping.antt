@@ -15,7 +15,10 @@ use Rattle.model_answers.specs.UnwrapKey.{key_ahead, unwrap_says, template_row}
 
 abbrev pub asks_by : View → ℕ → SessionState → List ℕ → List ℕ → List Entry → List ℕ → Option Rv → Answer
 asks_by v s state key wrapped template random fault =
-    by_rows (TemplateRefused ∷ WrappedLengthOfType ∷ write) (template_row v state fault (key_ahead template random (length wrapped - 8))) (unwrap_says v fault) (asks v UnwrapKey s (UnwrapsKey (Some key) wrapped state template random))
+    by_rows (TemplateRefused ∷ WrappedLengthOfType ∷ write)
+    (template_row v state fault (key_ahead template random (length wrapped - 8))) (unwrap_says v fault)
+    (asks v UnwrapKey s (UnwrapsKey (Some key) wrapped state template random))
 
 abbrev pub asks_for_key : View → ℕ → SessionState → List ℕ → List ℕ → List Entry → List ℕ → Answer
-asks_for_key v s state key wrapped template random = asks_by v s state key wrapped template random (template_fault (Unwrap (length wrapped - 8)) state [] template)
+asks_for_key v s state key wrapped template random =
+    asks_by v s state key wrapped template random (template_fault (Unwrap (length wrapped - 8)) state [] template)

@@ -46,7 +46,8 @@ pub fn serve<K: Keep>(
 ) -> Result<Out, Refusal>
     requires below { desk.old.next_question < 2 ^ 63 }
     requires random { length random.now ≡ 16 }
-    ensures done { IsDoneAs K.terms said_of 0 (λ c v. unwrap_key v session mechanism unwrapping_key wrapped_key template random.now) store.old store.new desk.old result desk.new }
+    ensures done { IsDoneAs K.terms said_of 0
+        (λ c v. unwrap_key v session mechanism unwrapping_key wrapped_key template random.now) store.old store.new desk.old result desk.new }
     ensures asker { IfOk result (IsFor app) }
 {
     let key = find(alloc, desk, store, unwrapping_key)?;
@@ -77,7 +78,9 @@ fn ask_unwrapped(
 ) -> Result<Out, Refusal>
     requires below { desk.old.next_question < 2 ^ 63 }
     requires random { length random.now ≡ 16 }
-    ensures serves { AtDesk said_of (λ v. unwraps v session mechanism.now (object_in key.now) wrapped_key template random.now (state_in v session) (template_fault (templates_call.Unwrap (length wrapped_key - 8)) (state_in v session) [] template)) desk.old result desk.new }
+    ensures serves { AtDesk said_of
+        (λ v. unwraps v session mechanism.now (object_in key.now) wrapped_key template random.now (state_in v session)
+        (template_fault (templates_call.Unwrap (length wrapped_key - 8)) (state_in v session) [] template)) desk.old result desk.new }
     ensures asker { IfOk result (IsFor app) }
 {
     let state = desk.state(session).ok_or(Condition::NoSession)?;

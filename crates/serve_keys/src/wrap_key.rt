@@ -13,7 +13,7 @@ ghost use Rattle.model_answers.specs.WrapKey.{wrap_key, wraps};
 ghost use Rattle.serve_base.specs.Found.{IsFound};
 ghost use Rattle.serve_base.specs.Refusing.{AtDesk, IsDoneAs};
 ghost use Rattle.serve_base.specs.Shown.{Fits, IsFor, said_of};
-ghost use Rattle.serve_base.specs.Stores.{Has, SameIds};
+ghost use Rattle.serve_base.specs.Stores.{StoreHas, SameIds};
 ghost use Rattle.serve_keys.specs.Objects.{object_in};
 
 use crate::found_key::{is_no_key, key_in};
@@ -70,10 +70,11 @@ fn find_both<K: Keep>(
     first: u64,
     second: u64,
 ) -> Result<(Option<Found>, Option<Found>), KeepFault>
-    ensures found { K.terms.doubt store.new.keep ≡ 0 → (c : Contents) → Has K.terms store.old c → Fits c desk.now.handles.entries → IfOk result (λ both. IsFound c desk.now first both.0 × IsFound c desk.now second both.1) }
+    ensures found { K.terms.doubt store.new.keep ≡ 0 → (c : Contents) → StoreHas K.terms store.old c → Fits c desk.now.handles.entries
+        → IfOk result (λ both. IsFound c desk.now first both.0 × IsFound c desk.now second both.1) }
     ensures same { Stays K.terms store.old.keep store.new.keep }
     ensures ids { SameIds K.terms store.old store.new }
-    ensures steady { K.terms.is_steady store.old.keep → IsErrOf result Device → (c : Contents) → Has K.terms store.old c → ⊥ }
+    ensures steady { K.terms.is_steady store.old.keep → IsErrOf result Device → (c : Contents) → StoreHas K.terms store.old c → ⊥ }
     ensures counts { Counted K.terms store.old.keep store.new.keep 0 0 }
     ensures cause { HasCause (K.terms.failures store.old.keep) (K.terms.failures store.new.keep) result }
 {

@@ -27,14 +27,18 @@ module _ (v : View) (session : ℕ) (template : List Entry) (s : Session Operati
   state = state_of v.sessions.login s.read_write
 
   module _ (random : List ℕ) where
-    pub create-is : (o : List Entry) → template_fault Create state [] template ≡ None → object_made Create [] template random (given_value template) ≡ o → create_object v session template random ≡ adds_where v session state o
+    pub create-is : (o : List Entry) → template_fault Create state [] template ≡ None
+        → object_made Create [] template random (given_value template) ≡ o
+        → create_object v session template random ≡ adds_where v session state o
     create-is o fault is = rw (there, fault, is) refl
 
   module _ (handle : ℕ) (o : List Entry) (found : object_at v handle ≡ Some o) where
     module _ (random : List ℕ) (free : not (flag o attr.Copyable) ≡ false) where
-      pub copy-is : (made : List Entry) → template_fault Copy state o template ≡ None → object_made Copy o template random [] ≡ made → copy_object v session handle template random ≡ adds_where v session state made
+      pub copy-is : (made : List Entry) → template_fault Copy state o template ≡ None → object_made Copy o template random [] ≡ made
+          → copy_object v session handle template random ≡ adds_where v session state made
       copy-is made fault is = rw (there, found, free, fault, is) refl
 
     module _ (writable : (flag o attr.Token && not (is_rw state)) ≡ false) (modifiable : not (flag o attr.Modifiable) ≡ false) where
-      pub set-is : (made : List Entry) → template_fault Set state o template ≡ None → object_made Set o template [] [] ≡ made → set_attribute_value v session handle template ≡ puts v handle made (index_of v.tokens handle)
+      pub set-is : (made : List Entry) → template_fault Set state o template ≡ None → object_made Set o template [] [] ≡ made
+          → set_attribute_value v session handle template ≡ puts v handle made (index_of v.tokens handle)
       set-is made fault is = rw (there, found, writable, modifiable, fault, is) refl

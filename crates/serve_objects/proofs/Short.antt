@@ -25,16 +25,21 @@ unavailable-short code = record { told = omega arith; value = tt }
 value-short : (bytes : List ℕ) (buffer_len : Option ℕ) → length bytes ≤ 1024 → Told (value_told bytes buffer_len)
 value-short bytes None few = record { told = omega (arith, few); value = tt }
 value-short bytes (Some buffer_len) few =
-    cond_both (nat_lt buffer_len (length bytes)) (unavailable BufferTooSmall) (Ok, record { len = length bytes; value = Some bytes }) Told (λ _. unavailable-short BufferTooSmall) (λ _. record { told = omega (arith, few); value = (refl, few) })
+    cond_both (nat_lt buffer_len (length bytes)) (unavailable BufferTooSmall)
+    (Ok, record { len = length bytes; value = Some bytes }) Told (λ _. unavailable-short BufferTooSmall)
+    (λ _. record { told = omega (arith, few); value = (refl, few) })
 
 there-short : (o : Option (List ℕ)) (buffer_len : Option ℕ) → IfSome o (λ bytes. length bytes ≤ 1024) → Told (if_there o buffer_len)
 there-short None buffer_len few = unavailable-short AttributeTypeInvalid
 there-short (Some bytes) buffer_len few = value-short bytes buffer_len few
 
 one-short : (o : List Entry) → IsObject o → (q : AttributeQuery) → Told (attribute_told o q)
-one-short o is q = cond_both (reveals o q.attr_type) (if_there (attribute o q.attr_type) q.buffer_len) (unavailable AttributeSensitive) Told (λ _. there-short (attribute o q.attr_type) q.buffer_len (values-short o is q.attr_type)) (λ _. unavailable-short AttributeSensitive)
+one-short o is q = cond_both (reveals o q.attr_type) (if_there (attribute o q.attr_type) q.buffer_len)
+    (unavailable AttributeSensitive) Told (λ _. there-short (attribute o q.attr_type) q.buffer_len (values-short o is q.attr_type))
+    (λ _. unavailable-short AttributeSensitive)
 
-each-short : (o : List Entry) → IsObject o → (query : List AttributeQuery) → AllByRecursion IsShortValue (map (λ q. (attribute_told o q).1) query)
+each-short : (o : List Entry) → IsObject o → (query : List AttributeQuery)
+    → AllByRecursion IsShortValue (map (λ q. (attribute_told o q).1) query)
 each-short o is [] = tt
 each-short o is (q ∷ query) = (one-short o is q, each-short o is query)
 
@@ -44,7 +49,8 @@ code-short codes =
     (λ _. cond_both (has_code AttributeTypeInvalid codes) AttributeTypeInvalid _ IsCodeOfValues (λ _. tt)
     (λ _. cond_both (has_code BufferTooSmall codes) BufferTooSmall Ok IsCodeOfValues (λ _. tt) (λ _. tt)))
 
-pub told-short : (o : List Entry) → IsObject o → (query : List AttributeQuery) → length query ≤ MAX_ENTRIES → IsShort (attributes_told o query)
+pub told-short : (o : List Entry) → IsObject o → (query : List AttributeQuery) → length query ≤ MAX_ENTRIES
+    → IsShort (attributes_told o query)
 told-short o is query few = record {
   code_is = code-short (map (λ q. (attribute_told o q).0) query);
   count = rw (length-map (λ q. (attribute_told o q).1) query) few;

@@ -3,7 +3,7 @@ use Rattle.std.specs.Prelude.{ℕ, List, [], ◌∷◌, map, filter}
 use Rattle.std.specs.Option.{unwrap_or}
 use Rattle.ck_types.specs.declared.entry.Entry.{Entry}
 use Rattle.find.specs.Matching.{template_matches}
-use Rattle.handles.specs.Handles.{HandleTable, number_of, with_handle}
+use Rattle.handles.specs.Handles.{HandleTable, handle_number, with_handle}
 use Rattle.desk.specs.declared.own_object.OwnObject.{OwnObject}
 use Rattle.serve_base.specs.declared.searching.Match.{Match}
 use Rattle.serve_base.specs.declared.searching.Match.TheVariants.{TokenObject, SessionObject}
@@ -18,7 +18,7 @@ with_one t (TokenObject id private) = with_handle t id private
 with_one t (SessionObject handle) = t
 
 abbrev pub number_of_one : HandleTable → Match → ℕ
-number_of_one t (TokenObject id private) = unwrap_or (number_of (with_handle t id private).entries id) 0
+number_of_one t (TokenObject id private) = unwrap_or (handle_number (with_handle t id private).entries id) 0
 number_of_one t (SessionObject handle) = handle
 
 abbrev pub given : HandleTable → List Match → HandleTable

@@ -3,18 +3,18 @@
 ghost use Rattle.std.specs.Prelude.{◌≡◌, ◌⊎◌, true, List, IfErr, IfOk, IsErrOf};
 ghost use Rattle.ck_types.specs.declared.entry.Entry.{Entry};
 ghost use Rattle.desk.specs.Desks.{SameDesk};
-ghost use Rattle.handles.specs.Handles.{IsTable};
+ghost use Rattle.handles.specs.Handles.{IsHandleTable};
 ghost use Rattle.keep.specs.Contents.{Contents};
 ghost use Rattle.keep.specs.Keeping.{Counted, Rises};
 ghost use Rattle.model_views.specs.Answering.{Replies, index_of};
 ghost use Rattle.model_views.specs.Refusals.{is_refusal};
 ghost use Rattle.model_answers.specs.DestroyObject.{destroy_object, destroyed};
 ghost use Rattle.serve_base.specs.declared.refusal.Refusal.TheVariants.{Device};
-ghost use Rattle.serve_base.specs.Found.{IsAt};
-ghost use Rattle.serve_base.specs.Refusing.{Does, EndsNone, IsDone, IsPlain};
+ghost use Rattle.serve_base.specs.Found.{IsObjectAt};
+ghost use Rattle.serve_base.specs.Refusing.{CallDoes, EndsNone, IsDone, IsPlain};
 ghost use Rattle.serve_base.specs.Short.{IsShort};
 ghost use Rattle.serve_base.specs.Shown.{Fits, ShowsSame, view_of};
-ghost use Rattle.serve_base.specs.Stores.{Has};
+ghost use Rattle.serve_base.specs.Stores.{StoreHas};
 
 use ck_calls::Reply;
 use ck_types::{AttrType, Rv};
@@ -54,8 +54,11 @@ fn destroy<K: Keep>(
     handle: u64,
     id: Option<u64>,
 ) -> Result<Reply, Refusal>
-    requires { IsTable desk.old.handles.next_number desk.old.handles.entries }
-    ensures serves { (object : List Entry) → K.terms.doubt store.new.keep ≡ 0 → (c : Contents) → Has K.terms store.old c → Fits c desk.old.handles.entries → IsAt c desk.old handle object id → Does K.terms (destroyed (view_of c desk.old) handle (index_of (view_of c desk.old).tokens handle)) c store.old store.new desk.old result desk.new }
+    requires { IsHandleTable desk.old.handles.next_number desk.old.handles.entries }
+    ensures serves { (object : List Entry) → K.terms.doubt store.new.keep ≡ 0 → (c : Contents) → StoreHas K.terms store.old c
+        → Fits c desk.old.handles.entries → IsObjectAt c desk.old handle object id
+        → CallDoes K.terms (destroyed (view_of c desk.old) handle (index_of (view_of c desk.old).tokens handle)) c
+        store.old store.new desk.old result desk.new }
     ensures counts { Counted K.terms store.old.keep store.new.keep 0 1 }
     ensures cause { IsErrOf result Device → Rises (K.terms.failures store.old.keep) (K.terms.failures store.new.keep) }
     ensures plain { IsPlain result }

@@ -7,8 +7,8 @@ ghost use Rattle.keep.specs.Keeping.{Counted, HasCause, Stays};
 ghost use Rattle.keep.specs.declared.keep.KeepFault.TheVariants.{Device};
 ghost use Rattle.model_answers.specs.FindObjectsInit.{find_objects_init};
 ghost use Rattle.serve_base.specs.Refusing.{IsDone};
-ghost use Rattle.serve_base.specs.Searching.{tokens_found, MayFind};
-ghost use Rattle.serve_base.specs.Stores.{Has, SameIds};
+ghost use Rattle.serve_base.specs.Searching.{kept_found, MayFind};
+ghost use Rattle.serve_base.specs.Stores.{StoreHas, SameIds};
 ghost use Rattle.serve_objects.specs.Giving.{own_matches};
 
 use crate::giving::give_handles;
@@ -54,11 +54,12 @@ fn find_all<K: Keep>(
     store: &mut Store<K>,
     template: &Template,
 ) -> Result<Vec<Match>, KeepFault>
-    ensures found { K.terms.doubt store.new.keep ≡ 0 → (c : Contents) → Has K.terms store.old c → IfOk result (λ found. found.items ≡ tokens_found desk.now.sessions.login template.now c.objects ++ own_matches template.now desk.now.own) }
+    ensures found { K.terms.doubt store.new.keep ≡ 0 → (c : Contents) → StoreHas K.terms store.old c
+        → IfOk result (λ found. found.items ≡ kept_found desk.now.sessions.login template.now c.objects ++ own_matches template.now desk.now.own) }
     ensures may { IfOk result (λ found. AllByRecursion (MayFind desk.now.sessions.login) found.items) }
     ensures same { Stays K.terms store.old.keep store.new.keep }
     ensures ids { SameIds K.terms store.old store.new }
-    ensures steady { K.terms.is_steady store.old.keep → IsErrOf result Device → (c : Contents) → Has K.terms store.old c → ⊥ }
+    ensures steady { K.terms.is_steady store.old.keep → IsErrOf result Device → (c : Contents) → StoreHas K.terms store.old c → ⊥ }
     ensures counts { Counted K.terms store.old.keep store.new.keep 0 0 }
     ensures cause { HasCause (K.terms.failures store.old.keep) (K.terms.failures store.new.keep) result }
 {

@@ -27,7 +27,8 @@ pub fn serve<K: Keep>(
     handle: u64,
     query: &Query,
 ) -> Result<Reply, Refusal>
-    ensures { IsDoneIf (length query.now ≤ MAX_ENTRIES) EndsNone K.terms Replies 0 (λ c v. get_attribute_value v session handle query.now) store.old store.new desk.now result desk.now }
+    ensures { IsDoneIf (length query.now ≤ MAX_ENTRIES) EndsNone K.terms Replies 0
+        (λ c v. get_attribute_value v session handle query.now) store.old store.new desk.now result desk.now }
 {
     let _ = desk.state(session).ok_or(Condition::NoSession)?;
     let found = find(alloc, desk, store, handle)?.ok_or(Condition::NoObject)?;

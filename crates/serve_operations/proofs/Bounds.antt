@@ -8,7 +8,8 @@ use Rattle.streams.specs.declared.part.Part.TheVariants.{Update, Last}
 use Rattle.mech.specs.Rooms.{most_added}
 use Rattle.serve_base.specs.Short.{IsShortData, most_data}
 
-pub buffer_len-short : (input : List ℕ) (buffer_len : Option ℕ) → IsShortData input buffer_len → (n : ℕ) → buffer_len ≡ Some n → length input ≤ 1048553
+pub buffer_len-short : (input : List ℕ) (buffer_len : Option ℕ) → IsShortData input buffer_len → (n : ℕ) → buffer_len ≡ Some n
+    → length input ≤ 1048553
 buffer_len-short input None short n is = absurd cc
 buffer_len-short input (Some buffer_len) short n is = short
 

@@ -29,29 +29,41 @@ begins_by d v session (Ok cipher) None = refuses_by v NoKey
 begins_by d v session (Ok cipher) (Some o) = by_key d v session cipher o
 
 module _ (v : View) (session : ℕ) (m : Mechanism) (key : ℕ) (there : is_none (session_of v session) ≡ false) where
-  at-object : (d : Direction) (kind : MechType) (cipher : Cipher) (o : Option (List Entry)) → is_some (operation_in (session_of v session) (place_for d)) ≡ false → cipher_at m.mech_type ≡ Some kind → with_parameter kind m.parameter ≡ Some cipher → object_at v key ≡ o → cipher_init d v session (Some m) key ≡ begins_by d v session (Ok cipher) o
+  at-object : (d : Direction) (kind : MechType) (cipher : Cipher) (o : Option (List Entry))
+      → is_some (operation_in (session_of v session) (place_for d)) ≡ false → cipher_at m.mech_type ≡ Some kind
+      → with_parameter kind m.parameter ≡ Some cipher → object_at v key ≡ o
+      → cipher_init d v session (Some m) key ≡ begins_by d v session (Ok cipher) o
   at-object Encrypt kind cipher None idle built fits found = rw (there, idle, built, fits, found) refl
   at-object Decrypt kind cipher None idle built fits found = rw (there, idle, built, fits, found) refl
   at-object Encrypt kind cipher (Some o) idle built fits found = rw (there, idle, built, fits, found) refl
   at-object Decrypt kind cipher (Some o) idle built fits found = rw (there, idle, built, fits, found) refl
 
-  at-cipher : (d : Direction) (kind : MechType) (cipher : Option Cipher) → is_some (operation_in (session_of v session) (place_for d)) ≡ false → cipher_at m.mech_type ≡ Some kind → with_parameter kind m.parameter ≡ cipher → cipher_init d v session (Some m) key ≡ begins_by d v session (cipher_by cipher) (object_at v key)
+  at-cipher : (d : Direction) (kind : MechType) (cipher : Option Cipher)
+      → is_some (operation_in (session_of v session) (place_for d)) ≡ false → cipher_at m.mech_type ≡ Some kind
+      → with_parameter kind m.parameter ≡ cipher
+      → cipher_init d v session (Some m) key ≡ begins_by d v session (cipher_by cipher) (object_at v key)
   at-cipher Encrypt kind None idle built fits = rw (there, idle, built, fits) refl
   at-cipher Decrypt kind None idle built fits = rw (there, idle, built, fits) refl
   at-cipher d kind (Some cipher) idle built fits = at-object d kind cipher (object_at v key) idle built fits refl
 
-  at-kind : (d : Direction) (kind : Option MechType) → is_some (operation_in (session_of v session) (place_for d)) ≡ false → cipher_at m.mech_type ≡ kind → cipher_init d v session (Some m) key ≡ begins_by d v session (cipher_of kind m.parameter) (object_at v key)
+  at-kind : (d : Direction) (kind : Option MechType) → is_some (operation_in (session_of v session) (place_for d)) ≡ false
+      → cipher_at m.mech_type ≡ kind
+      → cipher_init d v session (Some m) key ≡ begins_by d v session (cipher_of kind m.parameter) (object_at v key)
   at-kind Encrypt None idle built = rw (there, idle, built) refl
   at-kind Decrypt None idle built = rw (there, idle, built) refl
   at-kind d (Some kind) idle built = at-cipher d kind (with_parameter kind m.parameter) idle built refl
 
-  at-place : (d : Direction) (busy : Bool) → is_some (operation_in (session_of v session) (place_for d)) ≡ busy → cipher_init d v session (Some m) key ≡ begins_by d v session (if busy then Err OperationActive else cipher_of (cipher_at m.mech_type) m.parameter) (object_at v key)
+  at-place : (d : Direction) (busy : Bool) → is_some (operation_in (session_of v session) (place_for d)) ≡ busy
+      → cipher_init d v session (Some m) key
+      ≡ begins_by d v session (if busy then Err OperationActive else cipher_of (cipher_at m.mech_type) m.parameter) (object_at v key)
   at-place Encrypt true busy = rw (there, busy) refl
   at-place Decrypt true busy = rw (there, busy) refl
   at-place d false idle = at-kind d (cipher_at m.mech_type) idle refl
 
-  pub init-is : (d : Direction) (cipher : Result Cipher Condition) → cipher_for d (session_of v session) m ≡ cipher → cipher_init d v session (Some m) key ≡ begins_by d v session cipher (object_at v key)
-  init-is d cipher is = at-place d (is_some (operation_in (session_of v session) (place_for d))) refl ∙ ap (λ r. begins_by d v session r (object_at v key)) is
+  pub init-is : (d : Direction) (cipher : Result Cipher Condition) → cipher_for d (session_of v session) m ≡ cipher
+      → cipher_init d v session (Some m) key ≡ begins_by d v session cipher (object_at v key)
+  init-is d cipher is = at-place d (is_some (operation_in (session_of v session) (place_for d))) refl
+      ∙ ap (λ r. begins_by d v session r (object_at v key)) is
 
 -- ---- what it reveals of a key changes nothing that others see, and is no resource error
 
@@ -63,10 +75,13 @@ quiet-if true x y first other = first
 quiet-if false x y first other = other
 
 pub quiet-key : (d : Direction) (session : ℕ) (cipher : Cipher) (o : List Entry) (v : View) → IsQuiet (by_key d v session cipher o)
-quiet-key d session cipher o v = quiet-if (not (is_secret_key (class_of o))) _ _ (refl, refl) (quiet-if (not (is_aes (key_type_of o))) _ _ (refl, refl) (quiet-if (not (flag o (permission d))) _ _ (refl, refl) (refl, refl)))
+quiet-key d session cipher o v =
+    quiet-if (not (is_secret_key (class_of o))) _ _ (refl, refl)
+    (quiet-if (not (is_aes (key_type_of o))) _ _ (refl, refl) (quiet-if (not (flag o (permission d))) _ _ (refl, refl) (refl, refl)))
 
 -- a key that is refused leaves the view
-pub alone-key : (d : Direction) (session : ℕ) (cipher : Cipher) (o : List Entry) (v : View) → OnRefusal (λ (a : Answer). a.view ≡ v) (by_key d v session cipher o)
+pub alone-key : (d : Direction) (session : ℕ) (cipher : Cipher) (o : List Entry) (v : View)
+    → OnRefusal (λ (a : Answer). a.view ≡ v) (by_key d v session cipher o)
 alone-key d session cipher o v =
     refusal-if (not (is_secret_key (class_of o))) (refusal-row v NoKey refl) (
     refusal-if (not (is_aes (key_type_of o))) (refusal-row v WrongKeyType refl) (

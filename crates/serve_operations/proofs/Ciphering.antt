@@ -21,14 +21,14 @@ use Rattle.sessions.specs.declared.Session.{Session}
 use Rattle.sessions.specs.Sessions.{session_at}
 use Rattle.desk.specs.Desks.{DeskState}
 use Rattle.ops.specs.declared.place.Place.{Place}
-use Rattle.ops.specs.Operations.{Operation, Operations, operation_in, operation_of, placed_in, with_operation as in_sessions}
+use Rattle.ops.specs.Operations.{Operation, Operations, operation_in, operation_of, placed_in, table_with_operation as in_sessions}
 use Rattle.model_views.specs.Views.{View, Ciphers}
 use Rattle.model_views.specs.Answering.{Said, Replies, Answer, becomes, session_of, with_operation}
 use Rattle.model_answers.specs.CipherInit.{place_for, ends}
 use Rattle.model_answers.specs.Cipher.{single_function, update_function, final_function, has_taken, cipher_single, cipher_update, cipher_final}
 use Rattle.serve_base.specs.declared.out.Out.TheVariants.{Reply as OutReply}
 use Rattle.serve_base.specs.Refusing.{AtDeskIf}
-use Rattle.serve_base.specs.Shown.{said_of, view_of, Fits, Gives}
+use Rattle.serve_base.specs.Shown.{said_of, view_of, Fits, GivesAnswer}
 use Rattle.serve_base.specs.Asking.{asks_within}
 use Rattle.serve_operations.specs.Steps.{refused_row}
 
@@ -40,7 +40,9 @@ module _ (c : Contents) (d : DeskState) (session : ℕ) (place : Place) (operati
     at None = refl
     at (Some s) = refl
 
-  pub gives-with : Fits c d.handles.entries → Gives (becomes reply (with_operation (view_of c d) session place operation)) d.sessions.login c (Replies reply) c (record d { sessions = in_sessions d.sessions session place operation })
+  pub gives-with : Fits c d.handles.entries
+      → GivesAnswer (becomes reply (with_operation (view_of c d) session place operation)) d.sessions.login c (Replies reply) c
+      (record d { sessions = in_sessions d.sessions session place operation })
   gives-with fits = record { says = refl; view = rw login-stays refl; changes = refl; fits = fits }
 
 -- a place of an operation is in a session
@@ -48,7 +50,8 @@ in_session-at : (o : Option (Session Operations)) (place : Place) (x : Operation
 in_session-at None place x is = let k : None ≡ Some x = is in cc
 in_session-at (Some s) place x is = refl
 
-pub under-way : (r : Option (Bor Streamed)) (o : Option Operation) (s : Bor Streamed) → option_map operation_of (option_copied r) ≡ o → r ≡ Some s → o ≡ Some (operation_of s.now)
+pub under-way : (r : Option (Bor Streamed)) (o : Option Operation) (s : Bor Streamed)
+    → option_map operation_of (option_copied r) ≡ o → r ≡ Some s → o ≡ Some (operation_of s.now)
 under-way r o s is some = sym is ∙ ap (λ r. option_map operation_of (option_copied r)) some
 
 -- ---- the checks of the calls that take data
@@ -62,80 +65,117 @@ not-true b never = at b never where
 -- what is returned by the checks of lengths and counters
 abbrev pub IsTested : Option ModeFault → Streamed → Part → List ℕ → Type 0
 IsTested None s part input = (ends_counters s input ≡ false) × (refuses_length part s (length input) ≡ false)
-IsTested (Some fault) s part input = ((fault ≡ LenRange) × (ends_counters s input ≡ false) × (refuses_length part s (length input) ≡ true)) ⊎ ((fault ≡ CountersEnd) × (ends_counters s input ≡ true))
+IsTested (Some fault) s part input =
+    ((fault ≡ LenRange) × (ends_counters s input ≡ false) × (refuses_length part s (length input) ≡ true))
+    ⊎ ((fault ≡ CountersEnd) × (ends_counters s input ≡ true))
 
 abbrev pub fault_in : Result ℕ ModeFault → Option ModeFault
 fault_in (Ok buffer_len) = None
 fault_in (Err fault) = Some fault
 
 module _ (s : Streamed) (part : Part) (input : List ℕ) where
-  pub tested : (r : Result ℕ ModeFault) → (IsErrOf r LenRange ↔ (refuses_length part s (length input) ≡ true)) → (IsErrOf r CountersEnd ↔ (ends_counters s input ≡ true)) → IfErr r (λ fault. (fault ≡ LenRange) ⊎ (fault ≡ CountersEnd)) → IsTested (fault_in r) s part input
-  tested (Ok buffer_len) odd over faults = (not-true (ends_counters s input) (λ e. (let k : Ok buffer_len ≡ Err CountersEnd = over.1 e in cc)), not-true (refuses_length part s (length input)) (λ e. (let k : Ok buffer_len ≡ Err LenRange = odd.1 e in cc)))
+  pub tested : (r : Result ℕ ModeFault) → (IsErrOf r LenRange ↔ (refuses_length part s (length input) ≡ true))
+      → (IsErrOf r CountersEnd ↔ (ends_counters s input ≡ true)) → IfErr r (λ fault. (fault ≡ LenRange) ⊎ (fault ≡ CountersEnd))
+      → IsTested (fault_in r) s part input
+  tested (Ok buffer_len) odd over faults = (
+    not-true (ends_counters s input) (λ e. (let k : Ok buffer_len ≡ Err CountersEnd = over.1 e in cc)),
+    not-true (refuses_length part s (length input)) (λ e. (let k : Ok buffer_len ≡ Err LenRange = odd.1 e in cc)),
+  )
   tested (Err fault) odd over faults = elim faults [
-    | inl is ↦ inl (is, not-true (ends_counters s input) (λ e. (let k : Err LenRange ≡ Err CountersEnd = ap Err (sym is) ∙ over.1 e in cc)), odd.0 (ap Err is))
+    | inl is ↦ inl (
+      is,
+      not-true (ends_counters s input)
+          (λ e. (let k : Err LenRange ≡ Err CountersEnd = ap Err (sym is) ∙ over.1 e in cc)),
+      odd.0 (ap Err is),
+    )
     | inr is ↦ inr (is, over.0 (ap Err is))
   ]
 
-module _ (v : View) (session : ℕ) (d : Direction) (s : Streamed) (under_way : operation_in (session_of v session) (place_for d) ≡ Some (operation_of s)) where
+module _ (v : View) (session : ℕ) (d : Direction) (s : Streamed)
+    (under_way : operation_in (session_of v session) (place_for d) ≡ Some (operation_of s)) where
   there : is_none (session_of v session) ≡ false
   there = in_session-at (session_of v session) (place_for d) (operation_of s) under_way
 
   module _ (input : List ℕ) (buffer_len : Option ℕ) (fresh : has_taken (operation_of s) ≡ false) where
-    pub single-refused : (fault : ModeFault) → IsTested (Some fault) s Last input → cipher_single d v session input buffer_len ≡ ends v session (place_for d) (refused_row d fault)
+    pub single-refused : (fault : ModeFault) → IsTested (Some fault) s Last input
+        → cipher_single d v session input buffer_len ≡ ends v session (place_for d) (refused_row d fault)
     single-refused fault told = elim told [
       | inl odd ↦ rw odd.0 (at-length d under_way odd.1 odd.2)
       | inr over ↦ rw over.0 (at-counters d under_way over.1)
     ] where
-      at-length : (d : Direction) → operation_in (session_of v session) (place_for d) ≡ Some (operation_of s) → ends_counters s input ≡ false → refuses_length Last s (length input) ≡ true → cipher_single d v session input buffer_len ≡ ends v session (place_for d) (refused_row d LenRange)
+      at-length : (d : Direction) → operation_in (session_of v session) (place_for d) ≡ Some (operation_of s)
+          → ends_counters s input ≡ false → refuses_length Last s (length input) ≡ true
+          → cipher_single d v session input buffer_len ≡ ends v session (place_for d) (refused_row d LenRange)
       at-length Encrypt is counted odd = rw (there, is, fresh, counted, odd) refl
       at-length Decrypt is counted odd = rw (there, is, fresh, counted, odd) refl
 
-      at-counters : (d : Direction) → operation_in (session_of v session) (place_for d) ≡ Some (operation_of s) → ends_counters s input ≡ true → cipher_single d v session input buffer_len ≡ ends v session (place_for d) DataLength
+      at-counters : (d : Direction) → operation_in (session_of v session) (place_for d) ≡ Some (operation_of s)
+          → ends_counters s input ≡ true → cipher_single d v session input buffer_len ≡ ends v session (place_for d) DataLength
       at-counters Encrypt is over = rw (there, is, fresh, over) refl
       at-counters Decrypt is over = rw (there, is, fresh, over) refl
 
-    pub single-asks : IsTested None s Last input → cipher_single d v session input buffer_len ≡ asks_within (single_function d) session (Ciphers Last (operation_of s) input) (wanted Last s (length input)) buffer_len v
+    pub single-asks : IsTested None s Last input
+        → cipher_single d v session input buffer_len
+        ≡ asks_within (single_function d) session (Ciphers Last (operation_of s) input) (wanted Last s (length input)) buffer_len v
     single-asks told = at d under_way where
-      at : (d : Direction) → operation_in (session_of v session) (place_for d) ≡ Some (operation_of s) → cipher_single d v session input buffer_len ≡ asks_within (single_function d) session (Ciphers Last (operation_of s) input) (wanted Last s (length input)) buffer_len v
+      at : (d : Direction) → operation_in (session_of v session) (place_for d) ≡ Some (operation_of s)
+          → cipher_single d v session input buffer_len
+          ≡ asks_within (single_function d) session (Ciphers Last (operation_of s) input) (wanted Last s (length input)) buffer_len v
       at Encrypt is = rw (there, is, fresh, told.0, told.1) refl
       at Decrypt is = rw (there, is, fresh, told.0, told.1) refl
 
   module _ (input : List ℕ) (buffer_len : Option ℕ) where
-    pub update-asks : IsTested None s Update input → cipher_update d v session input buffer_len ≡ asks_within (update_function d) session (Ciphers Update (operation_of s) input) (wanted Update s (length input)) buffer_len v
+    pub update-asks : IsTested None s Update input
+        → cipher_update d v session input buffer_len
+        ≡ asks_within (update_function d) session (Ciphers Update (operation_of s) input) (wanted Update s (length input)) buffer_len v
     update-asks told = at d under_way where
-      at : (d : Direction) → operation_in (session_of v session) (place_for d) ≡ Some (operation_of s) → cipher_update d v session input buffer_len ≡ asks_within (update_function d) session (Ciphers Update (operation_of s) input) (wanted Update s (length input)) buffer_len v
+      at : (d : Direction) → operation_in (session_of v session) (place_for d) ≡ Some (operation_of s)
+          → cipher_update d v session input buffer_len
+          ≡ asks_within (update_function d) session (Ciphers Update (operation_of s) input) (wanted Update s (length input)) buffer_len v
       at Encrypt is = rw (there, is, told.0) refl
       at Decrypt is = rw (there, is, told.0) refl
 
   module _ (buffer_len : Option ℕ) where
-    pub final-refused : (fault : ModeFault) → IsTested (Some fault) s Last [] → cipher_final d v session buffer_len ≡ ends v session (place_for d) (refused_row d fault)
+    pub final-refused : (fault : ModeFault) → IsTested (Some fault) s Last []
+        → cipher_final d v session buffer_len ≡ ends v session (place_for d) (refused_row d fault)
     final-refused fault told = elim told [
       | inl odd ↦ rw odd.0 (at-length d under_way odd.1 odd.2)
       | inr over ↦ rw over.0 (at-counters d under_way over.1)
     ] where
-      at-length : (d : Direction) → operation_in (session_of v session) (place_for d) ≡ Some (operation_of s) → ends_counters s [] ≡ false → refuses_length Last s 0 ≡ true → cipher_final d v session buffer_len ≡ ends v session (place_for d) (refused_row d LenRange)
+      at-length : (d : Direction) → operation_in (session_of v session) (place_for d) ≡ Some (operation_of s)
+          → ends_counters s [] ≡ false → refuses_length Last s 0 ≡ true
+          → cipher_final d v session buffer_len ≡ ends v session (place_for d) (refused_row d LenRange)
       at-length Encrypt is counted odd = rw (there, is, counted, odd) refl
       at-length Decrypt is counted odd = rw (there, is, counted, odd) refl
 
-      at-counters : (d : Direction) → operation_in (session_of v session) (place_for d) ≡ Some (operation_of s) → ends_counters s [] ≡ true → cipher_final d v session buffer_len ≡ ends v session (place_for d) DataLength
+      at-counters : (d : Direction) → operation_in (session_of v session) (place_for d) ≡ Some (operation_of s)
+          → ends_counters s [] ≡ true → cipher_final d v session buffer_len ≡ ends v session (place_for d) DataLength
       at-counters Encrypt is over = rw (there, is, over) refl
       at-counters Decrypt is over = rw (there, is, over) refl
 
-    pub final-asks : IsTested None s Last [] → cipher_final d v session buffer_len ≡ asks_within (final_function d) session (Ciphers Last (operation_of s) []) (wanted Last s 0) buffer_len v
+    pub final-asks : IsTested None s Last []
+        → cipher_final d v session buffer_len
+        ≡ asks_within (final_function d) session (Ciphers Last (operation_of s) []) (wanted Last s 0) buffer_len v
     final-asks told = at d under_way where
-      at : (d : Direction) → operation_in (session_of v session) (place_for d) ≡ Some (operation_of s) → cipher_final d v session buffer_len ≡ asks_within (final_function d) session (Ciphers Last (operation_of s) []) (wanted Last s 0) buffer_len v
+      at : (d : Direction) → operation_in (session_of v session) (place_for d) ≡ Some (operation_of s)
+          → cipher_final d v session buffer_len
+          ≡ asks_within (final_function d) session (Ciphers Last (operation_of s) []) (wanted Last s 0) buffer_len v
       at Encrypt is = rw (there, is, told.0, told.1) refl
       at Decrypt is = rw (there, is, told.0, told.1) refl
 
 -- an answer at the desk, written otherwise
-pub gives-is : (a b : Answer) (c : Contents) (d d' : DeskState) (said : Said) → a ≡ b → Gives b d.sessions.login c said c d' → Gives a d.sessions.login c said c d'
-gives-is a b c d d' said is gives = subst (λ x. Gives x d.sessions.login c said c d') (sym is) gives
+pub gives-is : (a b : Answer) (c : Contents) (d d' : DeskState) (said : Said) → a ≡ b → GivesAnswer b d.sessions.login c said c d'
+    → GivesAnswer a d.sessions.login c said c d'
+gives-is a b c d d' said is gives = subst (λ x. GivesAnswer x d.sessions.login c said c d') (sym is) gives
 
 -- a call that ends its operation for a check of its table that fails
-pub ended-for : (given : Type 0) (f : View → Answer) (d : DeskState) (session : ℕ) (place : Place) (row : Condition) → ((c : Contents) → f (view_of c d) ≡ ends (view_of c d) session place row)
-    → AtDeskIf given said_of f d (Ok (OutReply (Code (code_of rv.Ok row)))) (record d { sessions = in_sessions d.sessions session place None })
+pub ended-for : (given : Type 0) (f : View → Answer) (d : DeskState) (session : ℕ) (place : Place) (row : Condition)
+    → ((c : Contents) → f (view_of c d) ≡ ends (view_of c d) session place row)
+    → AtDeskIf given said_of f d (Ok (OutReply (Code (code_of rv.Ok row))))
+    (record d { sessions = in_sessions d.sessions session place None })
 ended-for given f d session place row is = record {
-  serves = λ c fits. gives-is _ (ends (view_of c d) session place row) c d _ _ (is c) (gives-with c d session place None (Code (code_of rv.Ok row)) fits);
+  serves = λ c fits. gives-is _ (ends (view_of c d) session place row) c d _ _ (is c)
+      (gives-with c d session place None (Code (code_of rv.Ok row)) fits);
   cause = search rules;
   short = search rules;
 }

@@ -33,4 +33,5 @@ cipher_for d s m = if is_some (operation_in s (place_for d)) then Err OperationA
 
 abbrev pub by_key : Direction → View → ℕ → Cipher → List Entry → Answer
 by_key d v session mechanism o =
-    unless v ((NoKey, not (is_secret_key (class_of o))) ∷ (WrongKeyType, not (is_aes (key_type_of o))) ∷ (KeyNotPermitted, not (flag o (permission d))) ∷ []) (begins d v session mechanism o)
+    unless v ((NoKey, not (is_secret_key (class_of o))) ∷ (WrongKeyType, not (is_aes (key_type_of o)))
+    ∷ (KeyNotPermitted, not (flag o (permission d))) ∷ []) (begins d v session mechanism o)

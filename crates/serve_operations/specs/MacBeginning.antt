@@ -4,7 +4,7 @@ use Rattle.ck_types.specs.declared.entry.Entry.{Entry}
 use Rattle.ck_types.specs.declared.mech_type.MechType.{MechType}
 use Rattle.ck_types.specs.declared.mech_type.MechType.TheVariants as mechanism
 use Rattle.ck_calls.specs.declared.fields.Mechanism.{Mechanism}
-use Rattle.ck_mechanisms.specs.Table.{key_type_of as key_type_for}
+use Rattle.ck_mechanisms.specs.Table.{mech_key_type as key_type_for}
 use Rattle.macs.specs.declared.mechanism.Mechanism.{Mechanism as MacMechanism}
 use Rattle.macs.specs.declared.mechanism.Mechanism.TheVariants.{AesCmac}
 use Rattle.attrs.specs.Masking.{is_secret_key}
@@ -43,4 +43,5 @@ IsOfKind kind mac_mechanism = mac_mechanism ≡ AesCmac → kind ≡ mechanism.A
 
 abbrev pub by_key : MacPlace → View → ℕ → MechType → MacMechanism → List Entry → Answer
 by_key p v session kind mechanism o =
-    unless v ((NoKey, not (is_secret_key (class_of o))) ∷ (WrongKeyType, not (is_of_type (key_type_for kind) (key_type_of o))) ∷ (KeyNotPermitted, not (flag o (mac_permission p))) ∷ []) (mac_begins p v session mechanism o)
+    unless v ((NoKey, not (is_secret_key (class_of o))) ∷ (WrongKeyType, not (is_of_type (key_type_for kind) (key_type_of o)))
+    ∷ (KeyNotPermitted, not (flag o (mac_permission p))) ∷ []) (mac_begins p v session mechanism o)

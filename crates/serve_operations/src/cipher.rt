@@ -4,7 +4,7 @@
 ghost use Rattle.std.specs.Prelude.{◌≡◌, ◌<◌, ◌^◌, IfOk, None, Some};
 ghost use Rattle.ck_calls.specs.declared.reply.Output.TheVariants.{Data};
 ghost use Rattle.ck_calls.specs.declared.reply.Reply.TheVariants.{Code, Output as OutputReply};
-ghost use Rattle.ops.specs.Operations.{operation_of, with_operation};
+ghost use Rattle.ops.specs.Operations.{operation_of, table_with_operation};
 ghost use Rattle.precede.specs.Condition.{code_of};
 ghost use Rattle.ck_types.specs.declared.rv.Rv.TheVariants as rv;
 ghost use Rattle.serve_base.specs.declared.out.Out.TheVariants.{Reply as OutReply};
@@ -164,7 +164,7 @@ pub fn last(
 /// The operation at a place ends, with the code of a condition.
 fn end(desk: &mut Desk, session: u64, place: Place, row: Condition) -> Out
     ensures out { result ≡ OutReply (Code (code_of rv.Ok row)) }
-    ensures ended { desk.new ≡ record desk.old { sessions = with_operation desk.old.sessions session place None } }
+    ensures ended { desk.new ≡ record desk.old { sessions = table_with_operation desk.old.sessions session place None } }
 {
     desk.set_operation(session, place, None);
     Out::Reply(Reply::Code(row.code(Rv::Ok)))
@@ -173,7 +173,10 @@ fn end(desk: &mut Desk, session: u64, place: Place, row: Condition) -> Out
 /// What a part adds to the output. The operation that has taken it continues.
 pub fn piece(desk: &mut Desk, session: u64, output: Bytes, stream: Stream) -> Reply
     ensures reply { result ≡ OutputReply (Data output) }
-    ensures left { desk.new ≡ record desk.old { sessions = with_operation desk.old.sessions session (place_for stream.direction) (Some (operation_of stream)) } }
+    ensures left { desk.new ≡ record desk.old {
+      sessions = table_with_operation desk.old.sessions session (place_for stream.direction)
+          (Some (operation_of stream));
+    } }
 {
     let place = place_for(stream.direction());
     desk.set_operation(session, place, Some(stream));
@@ -183,7 +186,7 @@ pub fn piece(desk: &mut Desk, session: u64, output: Bytes, stream: Stream) -> Re
 /// The final part of the output. The operation ends.
 pub fn rest(desk: &mut Desk, session: u64, direction: Direction, output: Bytes) -> Reply
     ensures reply { result ≡ OutputReply (Data output) }
-    ensures left { desk.new ≡ record desk.old { sessions = with_operation desk.old.sessions session (place_for direction) None } }
+    ensures left { desk.new ≡ record desk.old { sessions = table_with_operation desk.old.sessions session (place_for direction) None } }
 {
     desk.set_operation(session, place_for(direction), None);
     Reply::Output(Output::Data(output))
@@ -192,7 +195,7 @@ pub fn rest(desk: &mut Desk, session: u64, direction: Direction, output: Bytes) 
 /// The padding is wrong: `CKR_ENCRYPTED_DATA_INVALID`. The operation ends.
 pub fn bad_padding(desk: &mut Desk, session: u64, direction: Direction) -> Reply
     ensures reply { result ≡ Code rv.EncryptedDataInvalid }
-    ensures left { desk.new ≡ record desk.old { sessions = with_operation desk.old.sessions session (place_for direction) None } }
+    ensures left { desk.new ≡ record desk.old { sessions = table_with_operation desk.old.sessions session (place_for direction) None } }
 {
     desk.set_operation(session, place_for(direction), None);
     Reply::Code(Rv::EncryptedDataInvalid)

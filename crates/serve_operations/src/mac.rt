@@ -6,7 +6,7 @@ ghost use Rattle.ck_calls.specs.declared.reply.Output.TheVariants.{Data};
 ghost use Rattle.ck_calls.specs.declared.reply.Reply.TheVariants.{Code, Output as OutputReply};
 ghost use Rattle.macs.specs.Tags.{tag_length};
 ghost use Rattle.ops.specs.declared.place.MacPlace.TheVariants as places;
-ghost use Rattle.ops.specs.Operations.{mac_of, with_mac};
+ghost use Rattle.ops.specs.Operations.{mac_of, table_with_mac};
 ghost use Rattle.precede.specs.Condition.{code_of};
 ghost use Rattle.model_answers.specs.Mac.{mac_update, sign, sign_final, verify, verify_final};
 ghost use Rattle.serve_base.specs.declared.out.Out.TheVariants.{Reply as OutReply};
@@ -195,7 +195,7 @@ fn has_its_length(mac: &Mac, signature: &[u8]) -> bool
 /// The operation at a place ends, with the code of a condition.
 fn end(desk: &mut Desk, session: u64, place: MacPlace, row: Condition) -> Out
     ensures out { result ≡ OutReply (Code (code_of rv.Ok row)) }
-    ensures ended { desk.new ≡ record desk.old { sessions = with_mac desk.old.sessions session place None } }
+    ensures ended { desk.new ≡ record desk.old { sessions = table_with_mac desk.old.sessions session place None } }
 {
     desk.set_mac(session, place, None);
     Out::Reply(Reply::Code(row.code(Rv::Ok)))
@@ -204,7 +204,7 @@ fn end(desk: &mut Desk, session: u64, place: MacPlace, row: Condition) -> Out
 /// A part was taken. The operation that has taken it continues.
 pub fn taken(desk: &mut Desk, session: u64, place: MacPlace, mac: Mac) -> Reply
     ensures reply { result ≡ Code rv.Ok }
-    ensures left { desk.new ≡ record desk.old { sessions = with_mac desk.old.sessions session place (Some (mac_of mac)) } }
+    ensures left { desk.new ≡ record desk.old { sessions = table_with_mac desk.old.sessions session place (Some (mac_of mac)) } }
 {
     desk.set_mac(session, place, Some(mac));
     Reply::Code(Rv::Ok)
@@ -213,7 +213,7 @@ pub fn taken(desk: &mut Desk, session: u64, place: MacPlace, mac: Mac) -> Reply
 /// The signature of all data. The operation ends.
 pub fn signed(desk: &mut Desk, session: u64, signature: Bytes) -> Reply
     ensures reply { result ≡ OutputReply (Data signature) }
-    ensures left { desk.new ≡ record desk.old { sessions = with_mac desk.old.sessions session places.Sign None } }
+    ensures left { desk.new ≡ record desk.old { sessions = table_with_mac desk.old.sessions session places.Sign None } }
 {
     desk.set_mac(session, MacPlace::Sign, None);
     Reply::Output(Output::Data(signature))
@@ -222,7 +222,7 @@ pub fn signed(desk: &mut Desk, session: u64, signature: Bytes) -> Reply
 /// Whether the signature is that of all data; if not, `CKR_SIGNATURE_INVALID`. The operation ends.
 pub fn verified(desk: &mut Desk, session: u64, right: bool) -> Reply
     ensures reply { result ≡ Code (if right then rv.Ok else rv.SignatureInvalid) }
-    ensures left { desk.new ≡ record desk.old { sessions = with_mac desk.old.sessions session places.Verify None } }
+    ensures left { desk.new ≡ record desk.old { sessions = table_with_mac desk.old.sessions session places.Verify None } }
 {
     desk.set_mac(session, MacPlace::Verify, None);
     Reply::Code(if right { Rv::Ok } else { Rv::SignatureInvalid })

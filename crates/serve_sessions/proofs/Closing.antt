@@ -11,7 +11,7 @@ use Rattle.ck_calls.specs.declared.reply.Reply.TheVariants.{Code}
 use Rattle.guard.specs.Access.{is_public}
 use Rattle.lists.proofs.InOrderLemmas.{All-filter}
 use Rattle.handles.specs.declared.Handle.{Handle}
-use Rattle.handles.specs.Handles.{HandleTable, number_of, public_handles}
+use Rattle.handles.specs.Handles.{HandleTable, handle_number, public_handles}
 use Rattle.keep.specs.Contents.{Contents, Kept}
 use Rattle.sessions.specs.declared.Session.{Session}
 use Rattle.sessions.specs.Sessions.{login_among}
@@ -25,13 +25,14 @@ use Rattle.model_views.specs.Answering.{Replies, session_of}
 use Rattle.model_session_answers.specs.CloseSession.{close_session, close_all_sessions}
 use Rattle.model_session_answers.specs.Logout.{logout}
 use Rattle.model_session_answers.specs.OpenSession.{is_slot}
-use Rattle.serve_base.specs.Shown.{sees_kept, token_object, session_object, view_of, IsNoted, Fits, Gives}
+use Rattle.serve_base.specs.Shown.{sees_kept, token_object, session_object, view_of, IsNoted, Fits, GivesAnswer}
 use Rattle.serve_base.proofs.Seeing.{IsLess, less-none}
 use Rattle.lists.proofs.ListLemmas.{filter-map, filter-less}
 
 -- ---- handles of private objects are retired
 
-find-public : (id : ℕ) (o : List Entry) (hs : List Handle) → is_public o ≡ true → IsNoted hs (id, o) → find (λ h. h.id == id) (public_handles hs) ≡ find (λ h. h.id == id) hs
+find-public : (id : ℕ) (o : List Entry) (hs : List Handle) → is_public o ≡ true → IsNoted hs (id, o)
+    → find (λ h. h.id == id) (public_handles hs) ≡ find (λ h. h.id == id) hs
 find-public id o [] shown noted = refl
 find-public id o (h ∷ hs) shown noted = elim (cases_eq h.id id) [
   | inl is ↦ let kept : h.private ≡ false = noted.0 is ∙ ap not shown in rw (kept, eq-eqb h.id id is) refl
@@ -42,12 +43,18 @@ find-public id o (h ∷ hs) shown noted = elim (cases_eq h.id id) [
 ]
 
 -- those of public objects stay
-tokens-public : (d d' : DeskState) (es : List Kept) → d'.handles.entries ≡ public_handles d.handles.entries → AllByRecursion (IsNoted d.handles.entries) es → map (token_object d') (filter (sees_kept None) es) ≡ map (token_object d) (filter (sees_kept None) es)
+tokens-public : (d d' : DeskState) (es : List Kept) → d'.handles.entries ≡ public_handles d.handles.entries
+    → AllByRecursion (IsNoted d.handles.entries) es
+    → map (token_object d') (filter (sees_kept None) es) ≡ map (token_object d) (filter (sees_kept None) es)
 tokens-public d d' [] same noted = refl
 tokens-public d d' (e ∷ es) same noted = step (is_public e.1) refl (tokens-public d d' es same noted.1) where
-  step : (b : Bool) → is_public e.1 ≡ b → map (token_object d') (filter (sees_kept None) es) ≡ map (token_object d) (filter (sees_kept None) es) → map (token_object d') (cond (b || false) (e ∷ filter (sees_kept None) es) (filter (sees_kept None) es)) ≡ map (token_object d) (cond (b || false) (e ∷ filter (sees_kept None) es) (filter (sees_kept None) es))
+  step : (b : Bool) → is_public e.1 ≡ b
+      → map (token_object d') (filter (sees_kept None) es) ≡ map (token_object d) (filter (sees_kept None) es)
+      → map (token_object d') (cond (b || false) (e ∷ filter (sees_kept None) es) (filter (sees_kept None) es))
+      ≡ map (token_object d) (cond (b || false) (e ∷ filter (sees_kept None) es) (filter (sees_kept None) es))
   step true shown rest =
-      let n : number_of d'.handles.entries e.0 ≡ number_of d.handles.entries e.0 = ap (λ hs. number_of hs e.0) same ∙ ap (option_map (λ h. h.handle)) (find-public e.0 e.1 d.handles.entries shown noted.0) in
+      let n : handle_number d'.handles.entries e.0 ≡ handle_number d.handles.entries e.0 =
+      ap (λ hs. handle_number hs e.0) same ∙ ap (option_map (λ h. h.handle)) (find-public e.0 e.1 d.handles.entries shown noted.0) in
       let f : Option ℕ → TokenObject = λ x. record { object = e.1; handle = x } in
       ap (λ x. f x ∷ map (token_object d') (filter (sees_kept None) es)) n ∙ ap (λ xs. token_object d e ∷ xs) rest
   step false shown rest = rest
@@ -59,12 +66,17 @@ less-among [] login e k = less-none login e k
 less-among (s ∷ ss) login e k = k
 
 -- the tokens that are seen then, under the handles that stay
-tokens-closed : (c : Contents) (d d' : DeskState) (login : Option UserType) → d'.handles ≡ handles_for (is_some login) d.handles → AllByRecursion (IsNoted d.handles.entries) c.objects → IsLess login d.sessions.login
-    → map (token_object d') (filter (sees_kept login) c.objects) ≡ seen_by login (map (token_object d) (filter (sees_kept d.sessions.login) c.objects))
-tokens-closed c d d' login same noted less = ends login same less ∙ sym (filter-map (λ (t : TokenObject). sees login t.object) (token_object d) (filter (sees_kept d.sessions.login) c.objects) ∙ ap (map (token_object d)) (filter-less (sees_kept login) (sees_kept d.sessions.login) c.objects less)) where
-  ends : (l : Option UserType) → d'.handles ≡ handles_for (is_some l) d.handles → IsLess l d.sessions.login → map (token_object d') (filter (sees_kept l) c.objects) ≡ map (token_object d) (filter (sees_kept l) c.objects)
-  ends None s k = tokens-public d d' c.objects (ap (λ t. t.entries) s) noted
-  ends (Some who) s k = rw s refl
+tokens-closed : (c : Contents) (d d' : DeskState) (login : Option UserType) → d'.handles ≡ handles_for (is_some login) d.handles
+    → AllByRecursion (IsNoted d.handles.entries) c.objects → IsLess login d.sessions.login
+    → map (token_object d') (filter (sees_kept login) c.objects)
+    ≡ seen_by login (map (token_object d) (filter (sees_kept d.sessions.login) c.objects))
+tokens-closed c d d' login same noted less = ends login same less
+    ∙ sym (filter-map (λ (t : TokenObject). sees login t.object) (token_object d) (filter (sees_kept d.sessions.login) c.objects)
+    ∙ ap (map (token_object d)) (filter-less (sees_kept login) (sees_kept d.sessions.login) c.objects less)) where
+      ends : (l : Option UserType) → d'.handles ≡ handles_for (is_some l) d.handles → IsLess l d.sessions.login
+          → map (token_object d') (filter (sees_kept l) c.objects) ≡ map (token_object d) (filter (sees_kept l) c.objects)
+      ends None s k = tokens-public d d' c.objects (ap (λ t. t.entries) s) noted
+      ends (Some who) s k = rw s refl
 
 -- ---- handles fit still
 
@@ -76,7 +88,10 @@ all-noted-public hs [] noted = tt
 all-noted-public hs (e ∷ es) noted = (noted-public hs e noted.0, all-noted-public hs es noted.1)
 
 pub fits-public : (c : Contents) (hs : List Handle) → Fits c hs → Fits c (public_handles hs)
-fits-public c hs fits = record { given = All-filter (λ (h : Handle). h.id ≤ c.last_id) (λ h. not h.private) hs fits.given; noted = all-noted-public hs c.objects fits.noted }
+fits-public c hs fits = record {
+  given = All-filter (λ (h : Handle). h.id ≤ c.last_id) (λ h. not h.private) hs fits.given;
+  noted = all-noted-public hs c.objects fits.noted;
+}
 
 fits-for : (b : Bool) (c : Contents) (d : DeskState) → Fits c d.handles.entries → Fits c (handles_for b d.handles).entries
 fits-for true c d fits = fits
@@ -88,18 +103,24 @@ next-for : (b : Bool) (t : HandleTable) → (handles_for b t).next_number ≡ t.
 next-for true t = refl
 next-for false t = refl
 
-pub gives-closed : (c : Contents) (d : DeskState) (s : ℕ) → is_none (session_of (view_of c d) s) ≡ false → Fits c d.handles.entries → Gives (close_session (view_of c d) s) d.sessions.login c (Replies (Code Ok)) c (desk_closed d s)
+pub gives-closed : (c : Contents) (d : DeskState) (s : ℕ) → is_none (session_of (view_of c d) s) ≡ false → Fits c d.handles.entries
+    → GivesAnswer (close_session (view_of c d) s) d.sessions.login c (Replies (Code Ok)) c (desk_closed d s)
 gives-closed c d s there fits =
     let others = filter (λ x. not (x.handle == s)) d.sessions.sessions in
     let login = login_among others d.sessions.login in
     rw there (record {
       says = refl;
-      view = rw (tokens-closed c d (desk_closed d s) login refl fits.noted (less-among others d.sessions.login), filter-map (λ (e : SessionObject). not (e.session == s)) session_object d.own, next-for (is_some login) d.handles) refl;
+      view = rw (
+        tokens-closed c d (desk_closed d s) login refl fits.noted (less-among others d.sessions.login),
+        filter-map (λ (e : SessionObject). not (e.session == s)) session_object d.own,
+        next-for (is_some login) d.handles,
+      ) refl;
       changes = refl;
       fits = fits-for (is_some login) c d fits;
     })
 
-pub gives-all-closed : (c : Contents) (d : DeskState) (slot : ℕ) → is_slot slot ≡ true → Fits c d.handles.entries → Gives (close_all_sessions (view_of c d) slot) d.sessions.login c (Replies (Code Ok)) c (desk_all_closed d)
+pub gives-all-closed : (c : Contents) (d : DeskState) (slot : ℕ) → is_slot slot ≡ true → Fits c d.handles.entries
+    → GivesAnswer (close_all_sessions (view_of c d) slot) d.sessions.login c (Replies (Code Ok)) c (desk_all_closed d)
 gives-all-closed c d slot is fits =
     rw is (record {
       says = refl;
@@ -110,10 +131,13 @@ gives-all-closed c d slot is fits =
 
 -- ---- and where nobody is logged in any more
 
-public-own : (es : List OwnObject) → map session_object (filter (λ e. not (flag e.object Private)) es) ≡ filter (λ e. not (flag e.object Private)) (map session_object es)
+public-own : (es : List OwnObject)
+    → map session_object (filter (λ e. not (flag e.object Private)) es) ≡ filter (λ e. not (flag e.object Private)) (map session_object es)
 public-own es = sym (filter-map (λ (e : SessionObject). not (flag e.object Private)) session_object es)
 
-pub gives-logged-out : (c : Contents) (d : DeskState) (s : ℕ) → is_none (session_of (view_of c d) s) ≡ false → is_none d.sessions.login ≡ false → Fits c d.handles.entries → Gives (logout (view_of c d) s) d.sessions.login c (Replies (Code Ok)) c (logged_out_desk d)
+pub gives-logged-out : (c : Contents) (d : DeskState) (s : ℕ) → is_none (session_of (view_of c d) s) ≡ false
+    → is_none d.sessions.login ≡ false → Fits c d.handles.entries
+    → GivesAnswer (logout (view_of c d) s) d.sessions.login c (Replies (Code Ok)) c (logged_out_desk d)
 gives-logged-out c d s there logged fits =
     rw (there, logged) (record {
       says = refl;

@@ -63,7 +63,11 @@ pub fn made<K: Keep>(
     verifier: Verifier,
     under_way: usize,
 ) -> Result<Reply, Refusal>
-    ensures { IsDone K.terms 1 (λ v. pin_made v verifier (record { objects = None; under_way = Some under_way; others_have_sessions = None })) store.old store.new desk.now result desk.now }
+    ensures { IsDone K.terms 1 (λ v. pin_made v verifier (record {
+      objects = None;
+      under_way = Some under_way;
+      others_have_sessions = None;
+    })) store.old store.new desk.now result desk.now }
 {
     let record = store.get_record();
     if !record.is_initialized() || under_way > TRIES_LIMIT as usize {

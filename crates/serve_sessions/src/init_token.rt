@@ -37,7 +37,11 @@ pub fn serve<K: Keep>(
 ) -> Result<Out, Refusal>
     requires below { desk.old.next_question < 2 ^ 63 }
     requires random { length random.now ≡ 16 }
-    ensures done { IsDoneAs K.terms said_of 1 (λ c v. init_token v slot pin label random.now (record { objects = None; under_way = None; others_have_sessions = Some others_have_sessions })) store.old store.new desk.old result desk.new }
+    ensures done { IsDoneAs K.terms said_of 1 (λ c v. init_token v slot pin label random.now (record {
+      objects = None;
+      under_way = None;
+      others_have_sessions = Some others_have_sessions;
+    })) store.old store.new desk.old result desk.new }
     ensures asker { IfOk result (IsFor app) }
 {
     if slot != SLOT {
@@ -86,7 +90,11 @@ pub fn made<K: Keep>(
     verifier: Verifier,
     others_have_sessions: bool,
 ) -> Result<Reply, Refusal>
-    ensures { IsDone K.terms 1 (λ v. inited v label verifier (record { objects = None; under_way = None; others_have_sessions = Some others_have_sessions })) store.old store.new desk.now result desk.now }
+    ensures { IsDone K.terms 1 (λ v. inited v label verifier (record {
+      objects = None;
+      under_way = None;
+      others_have_sessions = Some others_have_sessions;
+    })) store.old store.new desk.now result desk.now }
 {
     let record = store.get_record();
     if record.is_initialized() || record.tries(UserType::So) != 0 {
@@ -107,7 +115,11 @@ pub fn reset<K: Keep>(
     under_way: usize,
     others_have_sessions: bool,
 ) -> Result<Reply, Refusal>
-    ensures { IsDone K.terms 1 (λ v. reset v label (record { objects = None; under_way = Some under_way; others_have_sessions = Some others_have_sessions })) store.old store.new desk.now result desk.now }
+    ensures { IsDone K.terms 1 (λ v. reset v label (record {
+      objects = None;
+      under_way = Some under_way;
+      others_have_sessions = Some others_have_sessions;
+    })) store.old store.new desk.now result desk.now }
 {
     let record = store.get_record();
     if under_way >= record.tries(UserType::So) as usize {

@@ -45,7 +45,8 @@ pub(crate) fn ask_charged<K: Keep>(
     requires runnable { IsTrue (is_runnable work) }
     requires set { is_some (verifier_of «record» who) ≡ true }
     requires unlocked { tries_of «record» who < tries_limit }
-    ensures done { IsDoneIf (IsShortTask (task_of work)) EndsNone K.terms said_of 1 (λ c v. asks_charged «record» v function session (task_of work) who) store.old store.new desk.old result desk.new }
+    ensures done { IsDoneIf (IsShortTask (task_of work)) EndsNone K.terms said_of 1
+        (λ c v. asks_charged «record» v function session (task_of work) who) store.old store.new desk.old result desk.new }
     ensures asker { IfOk result (IsFor app) }
 {
     let job = new_job(alloc, app, desk, function, session, work)?;

@@ -88,7 +88,11 @@ pub fn changed<K: Keep>(
     verifier: Verifier,
     under_way: usize,
 ) -> Result<Reply, Refusal>
-    ensures { IsDone K.terms 1 (λ v. pin_changed v who verifier (record { objects = None; under_way = Some under_way; others_have_sessions = None })) store.old store.new desk.now result desk.now }
+    ensures { IsDone K.terms 1 (λ v. pin_changed v who verifier (record {
+      objects = None;
+      under_way = Some under_way;
+      others_have_sessions = None;
+    })) store.old store.new desk.now result desk.now }
 {
     let record = store.get_record();
     if under_way >= record.tries(who) as usize {

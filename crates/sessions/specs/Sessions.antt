@@ -65,8 +65,8 @@ module _ {W : Type 0} where
   with_work t handle work = record t { sessions = map (busy_at handle work) t.sessions }
 
   -- nobody is logged in, and nothing is in progress
-  abbrev pub logged_out : W → SessionTable W → SessionTable W
-  logged_out idle t = record t { sessions = map (busy_with idle) t.sessions; login = None }
+  abbrev pub table_logged_out : W → SessionTable W → SessionTable W
+  table_logged_out idle t = record t { sessions = map (busy_with idle) t.sessions; login = None }
 
   -- What is true of every table: numbers count from 1 and were given once each, and there are 64
   -- sessions at most. None is read-only while the SO is logged in, and nobody is logged in without

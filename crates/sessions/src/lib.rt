@@ -20,7 +20,7 @@ ghost use Rattle.std.specs.Option.{option_copied_mut};
 ghost use Rattle.std.specs.Borrow.{sem};
 ghost use Rattle.slab.specs.Slab.{entries};
 ghost use Rattle.lists.specs.InOrder.{in_order};
-ghost use Rattle.sessions.specs.Sessions.{no_sessions, session_at, state_of, has_read_only, with_session, without_session, busy_with, logged_out, IsTable};
+ghost use Rattle.sessions.specs.Sessions.{no_sessions, session_at, state_of, has_read_only, with_session, without_session, busy_with, table_logged_out, IsTable};
 
 use ck_types::{MAX_SESSION_COUNT, SessionState, UserType};
 use lists::NUMBER_LIMIT;
@@ -233,7 +233,7 @@ impl<W: Activity> Sessions<W> {
     pub fn logout(&mut self)
     where
         W: Drop,
-        ensures { self.new ≡ logged_out W.idle self.old }
+        ensures { self.new ≡ table_logged_out W.idle self.old }
     {
         self.login = None;
         end_work(&mut self.sessions);

@@ -26,8 +26,10 @@ module _ (size : ℕ) (log : List ℕ) (bad : ℕ) (earlier : (i : ℕ) → i < 
     ]
   ]
 
-  pub behind_bad : (it : IsPlainlyBroken size log) → IsFollowed size log (bad + 1) (end_behind size log bad) ⊎ IsFollowed size log (bad + 2) (end_behind size log bad)
-  behind_bad it = subst (λ (b : ℕ). IsFollowed size log (b + 1) (end_behind size log b) ⊎ IsFollowed size log (b + 2) (end_behind size log b)) (same_bad it) it.behind
+  pub behind_bad : (it : IsPlainlyBroken size log) → IsFollowed size log (bad + 1) (end_behind size log bad)
+      ⊎ IsFollowed size log (bad + 2) (end_behind size log bad)
+  behind_bad it = subst (λ (b : ℕ). IsFollowed size log (b + 1) (end_behind size log b)
+      ⊎ IsFollowed size log (b + 2) (end_behind size log b)) (same_bad it) it.behind
 
   -- not at once, so after one more frame
   pub after_one_more : (end one two : ℕ) → end_behind size log bad ≡ end → one ≤ 2 → one ≢ 2 → two ≤ 2 →

@@ -12,7 +12,8 @@ start_is size at = refl
 pub header_fits : (size at len : ℕ) → frame_at size at ≤ len → 32 ≤ len
 header_fits size at len within = omega (arith, within)
 
-pub frame_is : (log : List ℕ) (size at start : ℕ) → start ≡ frame_at size at → take (start + (24 + size) - start) (drop start log) ≡ frame size log at
+pub frame_is : (log : List ℕ) (size at start : ℕ) → start ≡ frame_at size at
+    → take (start + (24 + size) - start) (drop start log) ≡ frame size log at
 unfolding part
 frame_is log size at start is =
     let len : start + (24 + size) - start ≡ 24 + size = omega arith in
@@ -45,17 +46,26 @@ frame_before size (suc at) len is within =
     rw n short
 
 pub passes_of : (log : List ℕ) (size at : ℕ) → Passes size log at → PassesUnder (take 32 log) size log at
-passes_of log size at it = record { within = it.within; passes = subst (λ (h : List ℕ). IsFrame h (sum_before size log at) (frame size log at)) (sym (head_is log)) it.passes }
+passes_of log size at it = record {
+  within = it.within;
+  passes = subst (λ (h : List ℕ). IsFrame h (sum_before size log at) (frame size log at)) (sym (head_is log)) it.passes;
+}
 
 -- one more frame passes
-pub passes_up_to : (log : List ℕ) (size at : ℕ) → ((i : ℕ) → i < at → Passes size log i) → PassesUnder (take 32 log) size log at → (i : ℕ) → i < at + 1 → Passes size log i
+pub passes_up_to : (log : List ℕ) (size at : ℕ) → ((i : ℕ) → i < at → Passes size log i) → PassesUnder (take 32 log) size log at
+    → (i : ℕ) → i < at + 1 → Passes size log i
 passes_up_to log size at before it i low = elim (eq-or-lt_of_le {n = i} {m = at} (omega (arith, low))) [
-  | inl is ↦ subst (λ (j : ℕ). Passes size log j) (sym is) (record { within = it.within; passes = subst (λ (h : List ℕ). IsFrame h (sum_before size log at) (frame size log at)) (head_is log) it.passes })
+  | inl is ↦ subst (λ (j : ℕ). Passes size log j) (sym is)
+      (record {
+        within = it.within;
+        passes = subst (λ (h : List ℕ). IsFrame h (sum_before size log at) (frame size log at)) (head_is log) it.passes;
+      })
   | inr less ↦ before i less
 ]
 
 -- a frame that is one of those for which the log has the bytes
-pub inside : (log : List ℕ) (size at : ℕ) → 32 ≤ length log → at < (length log - 32) / (24 + size) → frame_at size at + (24 + size) ≤ length log
+pub inside : (log : List ℕ) (size at : ℕ) → 32 ≤ length log → at < (length log - 32) / (24 + size)
+    → frame_at size at + (24 + size) ≤ length log
 unfolding frames_len
 inside log size at long few =
     let n = 24 + size in
@@ -67,7 +77,8 @@ inside log size at long few =
 -- a frame for which the log has the bytes is one of those
 pub counted : (log : List ℕ) (at : ℕ) → frame_at 4096 at + 4120 ≤ length log → at < (length log - 32) / 4120
 unfolding frames_len
-counted log at within = (le-div_iff_mul-le {k = 4120} {x = suc at} {y = length log - 32} (omega arith)).1 (let step = suc-mul at 4120 in omega (arith, within, step))
+counted log at within = (le-div_iff_mul-le {k = 4120} {x = suc at} {y = length log - 32} (omega arith)).1
+    (let step = suc-mul at 4120 in omega (arith, within, step))
 
 pub commit_inside : (head log : List ℕ) (from : ℕ) (it : HasCommit head 4096 log from) → it.one < (length log - 32) / 4120
 commit_inside head log from it = counted log it.one (it.run it.one it.after (omega arith)).within

@@ -9,7 +9,8 @@ pub all_alike : (a b : List ℕ) (n : ℕ) → IsAlike n a b → n ≡ length a 
 all_alike a b n it first second = ext_get_or 0 a b (sym first ∙ second) (λ i low. it.each i (omega (arith, low, first)))
 
 -- it began alike, and has all bytes already
-pub cut_is : (bytes old new : List ℕ) (same : ℕ) → IsAlike same old bytes → length bytes ≤ same → Cut (length bytes) old new → length new ≡ length bytes → new ≡ bytes
+pub cut_is : (bytes old new : List ℕ) (same : ℕ) → IsAlike same old bytes → length bytes ≤ same → Cut (length bytes) old new
+    → length new ≡ length bytes → new ≡ bytes
 cut_is bytes old new same it all cut len =
     ext_get_or 0 new bytes len (λ i low.
     let few : i < length bytes = omega (arith, low, len) in
@@ -23,7 +24,8 @@ rest_is bytes same = take_all (length bytes - same) (drop same bytes) (let it = 
 
 -- it began alike, the bytes from there on were written, and the file was cut to their length
 module _ (bytes old mid new : List ℕ) (same : ℕ) (it : IsAlike same old bytes) (some : same < length bytes)
-    (torn_by : Torn same (length (take (length bytes - same) (drop same bytes))) old mid) (held : 0 < length (take (length bytes - same) (drop same bytes)) → Holds mid same (take (length bytes - same) (drop same bytes)))
+    (torn_by : Torn same (length (take (length bytes - same) (drop same bytes))) old mid)
+    (held : 0 < length (take (length bytes - same) (drop same bytes)) → Holds mid same (take (length bytes - same) (drop same bytes)))
     (cut : Cut (length bytes) mid new) (len : length new ≡ length bytes) where
   rest : length (drop same bytes) ≡ length bytes - same
   rest = length-drop same bytes
@@ -32,7 +34,8 @@ module _ (bytes old mid new : List ℕ) (same : ℕ) (it : IsAlike same old byte
   torn = subst (λ (bs : List ℕ). Torn same (length bs) old mid) (rest_is bytes same) torn_by
 
   holds : Holds mid same (drop same bytes)
-  holds = subst (λ (bs : List ℕ). Holds mid same bs) (rest_is bytes same) (held (let is = ap (λ (bs : List ℕ). length bs) (rest_is bytes same) in omega (arith, is, rest, some)))
+  holds = subst (λ (bs : List ℕ). Holds mid same bs) (rest_is bytes same)
+      (held (let is = ap (λ (bs : List ℕ). length bs) (rest_is bytes same) in omega (arith, is, rest, some)))
 
   covered : length bytes ≤ length mid
   covered = let w = holds.within in omega (arith, w, rest, some)
@@ -46,7 +49,8 @@ module _ (bytes old mid new : List ℕ) (same : ℕ) (it : IsAlike same old byte
         | inr behind ↦
             let back : same + (i - same) ≡ i = omega (arith, behind) in
             let inside : i - same < length (drop same bytes) = omega (arith, few, rest, behind) in
-            ap (λ (k : ℕ). slice_index mid k) (sym back) ∙ holds.each (i - same) inside ∙ get_or-drop same bytes (i - same) 0 ∙ ap (λ (k : ℕ). slice_index bytes k) back
+            ap (λ (k : ℕ). slice_index mid k) (sym back) ∙ holds.each (i - same) inside ∙ get_or-drop same bytes (i - same) 0
+            ∙ ap (λ (k : ℕ). slice_index bytes k) back
       ]
 
   pub written_is : new ≡ bytes
@@ -58,13 +62,19 @@ pub begins_same : (n : ℕ) (c : List ℕ) → BeginsAs n c c
 begins_same n c = record { long = omega arith; each = λ i low there. refl }
 
 pub begins_less : (n same : ℕ) (d c : List ℕ) → n ≤ same → BeginsAs same d c → BeginsAs n d c
-begins_less n same d c few it = record { long = (let l = it.long in omega (arith, few, l)); each = λ i low there. it.each i (omega (arith, low, few)) there }
+begins_less n same d c few it =
+    record { long = (let l = it.long in omega (arith, few, l)); each = λ i low there. it.each i (omega (arith, low, few)) there }
 
 pub begins_cut : (same len : ℕ) (d c : List ℕ) → same ≤ len → Cut len d c → BeginsAs same d c
-begins_cut same len d c within cut = record { long = (let l = cut.no_shorter in omega (arith, within, l)); each = λ i low there. cut.below i there (omega (arith, low, within)) }
+begins_cut same len d c within cut =
+    record {
+      long = (let l = cut.no_shorter in omega (arith, within, l));
+      each = λ i low there. cut.below i there (omega (arith, low, within));
+    }
 
 pub begins_torn : (same more len : ℕ) (d mid c : List ℕ) → same ≤ len → Torn same more d mid → Cut len mid c → BeginsAs same d c
 begins_torn same more len d mid c within torn cut = record {
   long = (let l = cut.no_shorter in let longer = torn.no_shorter in omega (arith, within, l, longer));
-  each = λ i low there. (let longer = torn.no_shorter in cut.below i (omega (arith, there, longer)) (omega (arith, low, within))) ∙ torn.below i there low;
+  each = λ i low there. (let longer = torn.no_shorter in cut.below i (omega (arith, there, longer)) (omega (arith, low, within)))
+      ∙ torn.below i there low;
 }

@@ -17,14 +17,14 @@ abbrev pub CommitsAt : ℕ → List ℕ → ℕ → Type 0
 CommitsAt size log at = commit_size (frame size log at) ≢ 0
 
 -- each frame from one to another is of the same log, and goes on from the one before it
-abbrev pub IsRun : List ℕ → ℕ → List ℕ → ℕ → ℕ → Type 0
-IsRun head size log from to = (at : ℕ) → from ≤ at → at ≤ to → PassesUnder head size log at
+abbrev pub IsFrameRun : List ℕ → ℕ → List ℕ → ℕ → ℕ → Type 0
+IsFrameRun head size log from to = (at : ℕ) → from ≤ at → at ≤ to → PassesUnder head size log at
 
 -- a run of frames with one that commits
 pub record HasCommit (head : List ℕ) (size : ℕ) (log : List ℕ) (from : ℕ) : Type 0 where
   pub one : ℕ
   pub after : from ≤ one
-  pub run : IsRun head size log from one
+  pub run : IsFrameRun head size log from one
   pub commits : CommitsAt size log one
 
 -- a run of frames with two that commit
@@ -33,7 +33,7 @@ pub record HasTwoCommits (head : List ℕ) (size : ℕ) (log : List ℕ) (from :
   pub two : ℕ
   pub after : from ≤ one
   pub later : one < two
-  pub run : IsRun head size log from two
+  pub run : IsFrameRun head size log from two
   pub first : CommitsAt size log one
   pub second : CommitsAt size log two
 

@@ -115,7 +115,8 @@ fn header_with(log: &[u8], magic: u8) -> [u8; 32]
 fn is_beheaded(log: &[u8]) -> bool
     requires { 56 ≤ length log.now }
     ensures sound { IsTrue result → HasAnyCommit 4096 log.now }
-    ensures found { frame_count 4096 log.now ≤ 4294901760 → HasEarlyCommit (mended_header 0x82 log.now) log.now ⊎ HasEarlyCommit (mended_header 0x83 log.now) log.now → IsTrue result }
+    ensures found { frame_count 4096 log.now ≤ 4294901760 → HasEarlyCommit (mended_header 0x82 log.now) log.now
+        ⊎ HasEarlyCommit (mended_header 0x83 log.now) log.now → IsTrue result }
 {
     let frames = (log.len() - HEADER_LEN) / (FRAME_HEADER_LEN + PAGE_SIZE);
     if frames > MOST_FRAMES {

@@ -43,10 +43,12 @@ first_plain = (refl, refl)
 abbrev first_edit : Trees → List Row → Edit
 first_edit db rows = edit_of db record_table [] Chosen 0 rows
 
-first_row : (db : Trees) (r : List ℕ) → db 0 ≡ [] → edited db (first_edit db ((Int (pos 1) ∷ Null ∷ Blob r ∷ []) ∷ [])) ≡ body_row (1, r) ∷ []
+first_row : (db : Trees) (r : List ℕ) → db 0 ≡ []
+    → edited db (first_edit db ((Int (pos 1) ∷ Null ∷ Blob r ∷ []) ∷ [])) ≡ body_row (1, r) ∷ []
 first_row db r none = rw (none, cast_null, cast_int (pos 1)) refl
 
-first_inserts : (limit : Option ℕ) (db : Trees) (r : List ℕ) (w : Written) → db 0 ≡ [] → Inserts (task_on limit record_table (set_params r)) (Values first_terms 3) db (Ok w)
+first_inserts : (limit : Option ℕ) (db : Trees) (r : List ℕ) (w : Written) → db 0 ≡ []
+    → Inserts (task_on limit record_table (set_params r)) (Values first_terms 3) db (Ok w)
     → (w.trees 0 ≡ body_row (1, r) ∷ []) × (w.trees 1 ≡ db 1) × (w.trees 2 ≡ db 2)
 first_inserts limit db r w none h =
     let given = went h in
@@ -62,12 +64,19 @@ first_inserts limit db r w none h =
 
 first_does : (r : List ℕ) (s : State) (text : List ℕ) (tally : Tally) (after : Database) → s.now.schema ≡ token_schema → s.now.trees 0 ≡ []
     → Does s.step_limit (mode_of s) (set_params r) s.now text None (Insert 0 (Values first_terms 3)) (Ok (tally, after))
-    → (after.schema ≡ token_schema) × (after.trees 0 ≡ body_row (1, r) ∷ []) × (after.trees 1 ≡ s.now.trees 1) × (after.trees 2 ≡ s.now.trees 2)
+    → (after.schema ≡ token_schema) × (after.trees 0 ≡ body_row (1, r) ∷ []) × (after.trees 1 ≡ s.now.trees 1)
+    × (after.trees 2 ≡ s.now.trees 2)
 first_does r s text tally after has none h =
-    let done = went (subst (λ (x : Schema). Does s.step_limit (mode_of s) (set_params r) (record s.now { schema = x }) text None (Insert 0 (Values first_terms 3)) (Ok (tally, after))) has h) in
+    let done = went (subst (λ (x : Schema). Does s.step_limit (mode_of s) (set_params r) (record s.now { schema = x }) text None
+    (Insert 0 (Values first_terms 3)) (Ok (tally, after))) has h) in
     let end = concluded s.step_limit record_table (set_params r) (mode_of s) done.0 tally after done.2 in
-    let all = first_inserts s.step_limit s.now.trees r done.0 none done.1 in
-    (ap (λ (d : Database). d.schema) end.0, ap (λ (d : Database). d.trees 0) end.0 ∙ all.0, ap (λ (d : Database). d.trees 1) end.0 ∙ all.1, ap (λ (d : Database). d.trees 2) end.0 ∙ all.2)
+    let all = first_inserts s.step_limit s.now.trees r done.0 none done.1 in (
+      ap (λ (d : Database). d.schema) end.0,
+      ap (λ (d : Database). d.trees 0) end.0 ∙ all.0,
+      ap (λ (d : Database). d.trees 1) end.0
+          ∙ all.1,
+      ap (λ (d : Database). d.trees 2) end.0 ∙ all.2,
+    )
 
 -- the three in turn
 pub creates_is : {S : Type 0} (g : Ghosts S) (old : Held S) (r : List ℕ) (db : Database) → (state g old).now.schema ≡ no_schema
@@ -77,13 +86,20 @@ creates_is g old r db has ran =
     let two = makes_objects (state g ran.half) (state g ran.mid) ran.counts.1 one.0 ran.two in
     let mid = state g ran.mid in
     let last = state g ran.last in
-    let w : Writes mid last None (Insert 0 (Values first_terms 3)) (statement_of first_text (understood token_schema first_text)) (set_params r) ran.counts.2 =
-    runs_as first_text (set_params r) mid last token_schema two.0 (Insert 0 (Values first_terms 3)) first_is first_plain ran.counts.2 ran.three in
-    let done = first_does r mid (statement_of first_text (understood token_schema first_text)) w.tally last.now two.0 (two.1 ∙ one.1) w.changed in
+    let w : Writes mid last None (Insert 0 (Values first_terms 3)) (statement_of first_text (understood token_schema first_text))
+    (set_params r) ran.counts.2 =
+    runs_as first_text (set_params r) mid last token_schema two.0
+    (Insert 0 (Values first_terms 3)) first_is first_plain ran.counts.2 ran.three in
+    let done = first_does r mid (statement_of first_text (understood token_schema first_text)) w.tally last.now two.0
+    (two.1 ∙ one.1) w.changed in
     let whole : HasRows last.now.trees (new_bodies r) = record {
       record_is = done.1;
       objects_are = done.2 ∙ two.2;
       count_is = done.3 ∙ two.3;
       ids = tt;
-    } in
-    (ap (λ (d : Database). d.schema) ran.is ∙ done.0, subst (λ (d : Database). HasRows d.trees (new_bodies r)) (sym ran.is) whole, subst (λ (d : Database). IsDatabase d) (sym ran.is) w.sound)
+    } in (
+      ap (λ (d : Database). d.schema) ran.is
+          ∙ done.0,
+      subst (λ (d : Database). HasRows d.trees (new_bodies r)) (sym ran.is) whole,
+      subst (λ (d : Database). IsDatabase d) (sym ran.is) w.sound,
+    )

@@ -117,19 +117,23 @@ source body = Null ∷ Null ∷ Blob body ∷ []
 abbrev pub insert_edit : Trees → ℤ → List Row → Edit
 insert_edit db top rows = edit_of db objects_table [] (Above top) 0 rows
 
-pub news_is : (db : Trees) (c : Bodies) (body : List ℕ) → HasRows db c → (insert_edit db (pos c.last_id) (source body ∷ [])).news ≡ body_row (c.last_id + 1, body) ∷ []
+pub news_is : (db : Trees) (c : Bodies) (body : List ℕ) → HasRows db c
+    → (insert_edit db (pos c.last_id) (source body ∷ [])).news ≡ body_row (c.last_id + 1, body) ∷ []
 news_is db c body it =
     let next = next_is 1 c.last_id c.objects (omega arith) (ups db c it) in
     let id : at_least (Above (pos c.last_id)) (next_rowid (db 1)) ≡ pos (c.last_id + 1) =
-    ap (λ (rows : List Row). at_least (Above (pos c.last_id)) (next_rowid rows)) it.objects_are ∙ ap (at_least (Above (pos c.last_id))) next.1 ∙ chosen_is c.last_id next.0 next.2 in
+    ap (λ (rows : List Row). at_least (Above (pos c.last_id)) (next_rowid rows)) it.objects_are
+    ∙ ap (at_least (Above (pos c.last_id))) next.1 ∙ chosen_is c.last_id next.0 next.2 in
     rw (cast_null, id)
 
 abbrev task : Option ℕ → List ℕ → Task
 task limit body = task_on limit objects_table (Blob body ∷ [])
 
 -- the rows of the count, and nothing else, are edited
-pub count_edited : (limit : Option ℕ) (body : List ℕ) (n : ℕ) (mid next : Trees) (ctr : Option Row) → edited mid (counting mid objects_table sequence_table (pos (suc n)) ctr) ≡ counter_rows (suc n)
-    → works token_schema Enforced 0 2 (taken_by mid (counting mid objects_table sequence_table (pos (suc n)) ctr)) (counting mid objects_table sequence_table (pos (suc n)) ctr).news ≡ []
+pub count_edited : (limit : Option ℕ) (body : List ℕ) (n : ℕ) (mid next : Trees) (ctr : Option Row)
+    → edited mid (counting mid objects_table sequence_table (pos (suc n)) ctr) ≡ counter_rows (suc n)
+    → works token_schema Enforced 0 2 (taken_by mid (counting mid objects_table sequence_table (pos (suc n)) ctr))
+    (counting mid objects_table sequence_table (pos (suc n)) ctr).news ≡ []
     → (counting mid objects_table sequence_table (pos (suc n)) ctr).table ≡ sequence_table
     → Edited token_schema Enforced mid (counting mid objects_table sequence_table (pos (suc n)) ctr) (Ok next)
     → (next 2 ≡ counter_rows (suc n)) × (next 1 ≡ mid 1) × (next 0 ≡ mid 0)
@@ -146,47 +150,62 @@ rises_is last = grind (arith, ints, nat_tests)
 pub same_id : value_cmp (Int (pos 1)) (Int (pos 1)) ≡ Equal
 same_id = value_cmp-Int (pos 1) (pos 1)
 
-first_count : (mid : Trees) (n : ℕ) → mid 2 ≡ [] → edited mid (counting mid objects_table sequence_table (pos (suc n)) None) ≡ counter_rows (suc n)
+first_count : (mid : Trees) (n : ℕ) → mid 2 ≡ []
+    → edited mid (counting mid objects_table sequence_table (pos (suc n)) None) ≡ counter_rows (suc n)
 first_count mid n is = rw (is, cast_null)
 
-later_count : (mid : Trees) (n m : ℕ) → mid 2 ≡ counter_row m ∷ [] → edited mid (counting mid objects_table sequence_table (pos (suc n)) (Some (counter_row m))) ≡ counter_rows (suc n)
+later_count : (mid : Trees) (n m : ℕ) → mid 2 ≡ counter_row m ∷ []
+    → edited mid (counting mid objects_table sequence_table (pos (suc n)) (Some (counter_row m))) ≡ counter_rows (suc n)
 later_count mid n m is = rw (is, same_id, cast_int (pos 1))
 
-pub counts_is : (limit : Option ℕ) (body : List ℕ) (last : ℕ) (db mid next : Trees) → db 2 ≡ counter_rows last → mid 2 ≡ db 2 → Counts (task limit body) mid (counter db) (pos (last + 1)) (Ok next)
+pub counts_is : (limit : Option ℕ) (body : List ℕ) (last : ℕ) (db mid next : Trees) → db 2 ≡ counter_rows last → mid 2 ≡ db 2
+    → Counts (task limit body) mid (counter db) (pos (last + 1)) (Ok next)
     → (next 2 ≡ counter_rows (last + 1)) × (next 1 ≡ mid 1) × (next 0 ≡ mid 0)
 counts_is limit body last db mid next is kept h =
-    let up : is_lt (int_cmp (count_of (counter db)) (pos (last + 1))) ≡ true = ap (λ (t : ℤ). is_lt (int_cmp t (pos (last + 1)))) (counter_is db last is) ∙ rises_is last in
+    let up : is_lt (int_cmp (count_of (counter db)) (pos (last + 1))) ≡ true =
+    ap (λ (t : ℤ). is_lt (int_cmp t (pos (last + 1)))) (counter_is db last is) ∙ rises_is last in
     let one : CountsIn (task limit body) mid (counter db) (pos (last + 1)) (Some sequence_table) (Ok next) =
     subst (λ (t : Option Table). CountsIn (task limit body) mid (counter db) (pos (last + 1)) t (Ok next)) sequence_is_there (rw up at h) in
-    count_by last is kept (subst (λ (n : ℕ). Edited token_schema Enforced mid (counting mid objects_table sequence_table (pos n) (counter db)) (Ok next)) (add-one last) one)
+    count_by last is kept (subst (λ (n : ℕ). Edited token_schema Enforced mid
+    (counting mid objects_table sequence_table (pos n) (counter db)) (Ok next)) (add-one last) one)
   where
-    count_by : (last : ℕ) → db 2 ≡ counter_rows last → mid 2 ≡ db 2 → Edited token_schema Enforced mid (counting mid objects_table sequence_table (pos (suc last)) (counter db)) (Ok next)
+    count_by : (last : ℕ) → db 2 ≡ counter_rows last → mid 2 ≡ db 2
+        → Edited token_schema Enforced mid (counting mid objects_table sequence_table (pos (suc last)) (counter db)) (Ok next)
         → (next 2 ≡ counter_rows (last + 1)) × (next 1 ≡ mid 1) × (next 0 ≡ mid 0)
     count_by zero is kept h =
         count_edited limit body 0 mid next None (first_count mid 0 (kept ∙ is)) refl refl
-        (subst (λ (ctr : Option Row). Edited token_schema Enforced mid (counting mid objects_table sequence_table (pos 1) ctr) (Ok next)) (counter_none db is) h)
+        (subst (λ (ctr : Option Row). Edited token_schema Enforced mid (counting mid objects_table sequence_table (pos 1) ctr)
+        (Ok next)) (counter_none db is) h)
     count_by (suc n) is kept h =
-        rw add-one (count_edited limit body (suc n) mid next (Some (counter_row (suc n))) (later_count mid (suc n) (suc n) (kept ∙ is)) refl refl
-        (subst (λ (ctr : Option Row). Edited token_schema Enforced mid (counting mid objects_table sequence_table (pos (suc (suc n))) ctr) (Ok next)) (counter_some db (suc n) is) h))
+        rw add-one (count_edited limit body (suc n) mid next (Some (counter_row (suc n)))
+        (later_count mid (suc n) (suc n) (kept ∙ is)) refl refl
+        (subst (λ (ctr : Option Row). Edited token_schema Enforced mid
+        (counting mid objects_table sequence_table (pos (suc (suc n))) ctr) (Ok next)) (counter_some db (suc n) is) h))
 
-pub inserts : (limit : Option ℕ) (db : Trees) (c : Bodies) (body : List ℕ) (w : Written) → HasRows db c → Inserts (task limit body) (Values terms 3) db (Ok w)
-    → (w.trees 0 ≡ db 0) × (w.trees 1 ≡ map body_row (c.objects ++ (c.last_id + 1, body) ∷ [])) × (w.trees 2 ≡ counter_rows (c.last_id + 1)) × (w.last ≡ Some (pos (c.last_id + 1)))
+pub inserts : (limit : Option ℕ) (db : Trees) (c : Bodies) (body : List ℕ) (w : Written) → HasRows db c
+    → Inserts (task limit body) (Values terms 3) db (Ok w)
+    → (w.trees 0 ≡ db 0) × (w.trees 1 ≡ map body_row (c.objects ++ (c.last_id + 1, body) ∷ []))
+    × (w.trees 2 ≡ counter_rows (c.last_id + 1)) × (w.last ≡ Some (pos (c.last_id + 1)))
 inserts limit db c body w it h =
     let given = went h in
     let count = went given.2 in
     let mid = went count.2 in
     let next = went mid.2 in
-    let ctr : count.0 ≡ counter db = same_value (subst (λ (t : Option Table). CounterIn (task limit body) db t (Ok count.0)) sequence_is_there count.1) in
+    let ctr : count.0 ≡ counter db =
+    same_value (subst (λ (t : Option Table). CounterIn (task limit body) db t (Ok count.0)) sequence_is_there count.1) in
     let top : count_of count.0 ≡ pos c.last_id = ap count_of ctr ∙ counter_is db c.last_id it.count_is in
     let edit = insert_edit db (count_of count.0) given.0 in
     let news : edit.news ≡ body_row (c.last_id + 1, body) ∷ [] =
-    ap (λ (rs : List Row). (insert_edit db (count_of count.0) rs).news) given.1.1 ∙ ap (λ (t : ℤ). (insert_edit db t (source body ∷ [])).news) top ∙ news_is db c body it in
+    ap (λ (rs : List Row). (insert_edit db (count_of count.0) rs).news) given.1.1
+    ∙ ap (λ (t : ℤ). (insert_edit db t (source body ∷ [])).news) top ∙ news_is db c body it in
     let low : c.last_id < c.last_id + 1 = omega arith in
     let app = one_step token_schema Enforced db mid.0 edit refl mid.1 in
     let here : mid.0 1 ≡ map body_row (c.objects ++ (c.last_id + 1, body) ∷ []) =
-    app.rows ∙ ap (λ (ns : List Row). put_all (db 1) ns) news ∙ ap (put_row (body_row (c.last_id + 1, body))) it.objects_are ∙ put_last c.last_id (c.last_id + 1) body c.objects (ups db c it) low in
+    app.rows ∙ ap (λ (ns : List Row). put_all (db 1) ns) news ∙ ap (put_row (body_row (c.last_id + 1, body))) it.objects_are
+    ∙ put_last c.last_id (c.last_id + 1) body c.objects (ups db c it) low in
     let top2 : fold higher (count_of count.0) edit.news ≡ pos (c.last_id + 1) =
-    ap (λ (t : ℤ). fold higher t edit.news) top ∙ ap (fold higher (pos c.last_id)) news ∙ ap (λ b. cond b (pos (c.last_id + 1)) (pos c.last_id)) (rises_is c.last_id) in
+    ap (λ (t : ℤ). fold higher t edit.news) top ∙ ap (fold higher (pos c.last_id)) news
+    ∙ ap (λ b. cond b (pos (c.last_id + 1)) (pos c.last_id)) (rises_is c.last_id) in
     let counted : Counts (task limit body) mid.0 (counter db) (pos (c.last_id + 1)) (Ok next.0) =
     subst₂ (λ (ctr : Option Row) (t : ℤ). Counts (task limit body) mid.0 ctr t (Ok next.0)) ctr top2 next.1 in
     let kept : mid.0 2 ≡ db 2 = app.tables.1.1.0 (λ e. absurd (omega arith)) in

@@ -16,7 +16,7 @@ use Rattle.sqlite.specs.Collation.TheVariants.{Binary}
 use Rattle.sqlite_sql.specs.Term.{Env, col}
 use Rattle.sqlite.specs.Query.{Query, inner, end, IsAnswer, output, output_cmp, Output}
 use Rattle.sqlite.specs.Program.{overlay}
-use Rattle.sql_statements.specs.Bodies.{Bodies, IdsRise, ids_of}
+use Rattle.sql_statements.specs.Bodies.{Bodies, RowIdsRise, row_ids}
 use Rattle.sql_statements.specs.Store.{HasRows, body_row}
 use Rattle.sql_statements.specs.Rows.{bodies, ids_and_bodies, natural}
 use Rattle.sql_statements.proofs.Texts.{plain_query}
@@ -30,7 +30,8 @@ record_query = record plain_query { from = inner 0 end; project = col 1 2 ∷ []
 abbrev pub objects_query : Query
 objects_query = record plain_query { project = col 1 0 ∷ col 1 2 ∷ [] }
 
-staged_all : (params : Row) (rows : List Row) → flat_map (λ (r : Row). (params ∷ r ∷ []) ∷ []) rows ≡ map (λ (r : Row). params ∷ r ∷ []) rows
+staged_all : (params : Row) (rows : List Row)
+    → flat_map (λ (r : Row). (params ∷ r ∷ []) ∷ []) rows ≡ map (λ (r : Row). params ∷ r ∷ []) rows
 staged_all params [] = refl
 staged_all params (r ∷ rows) = ap (λ (rest : List Env). (params ∷ r ∷ []) ∷ rest) (staged_all params rows)
 
@@ -42,19 +43,26 @@ map_twice {A} {B} {C} f g (x ∷ xs) = ap (λ (rest : List C). f (g x) ∷ rest)
 pub record_rows : (db : Trees) (rows : List Row) → IsAnswer record_query (overlay db []) [] rows → IsPermutation (bodies (db 0)) rows
 record_rows db rows a =
     let staged : a.staged ≡ map (λ (r : Row). [] ∷ r ∷ []) (db 0) = a.grouped ∙ staged_all [] (db 0) in
-    let kept : a.kept ≡ map (λ (r : Row). ([], column r 2 ∷ [])) (db 0) = a.distinct ∙ ap (map (output record_query)) staged ∙ map_twice (output record_query) (λ (r : Row). [] ∷ r ∷ []) (db 0) in
+    let kept : a.kept ≡ map (λ (r : Row). ([], column r 2 ∷ [])) (db 0) =
+    a.distinct ∙ ap (map (output record_query)) staged ∙ map_twice (output record_query) (λ (r : Row). [] ∷ r ∷ []) (db 0) in
     let moved = IsPermutation-map (λ (o : Output). o.1) a.kept a.ordered a.same in
-    let from : map (λ (o : Output). o.1) a.kept ≡ map (λ (r : Row). column r 2 ∷ []) (db 0) = ap (map (λ (o : Output). o.1)) kept ∙ map_twice (λ (o : Output). o.1) (λ (r : Row). ([], column r 2 ∷ [])) (db 0) in
-    subst (IsPermutation (map (λ (r : Row). column r 2 ∷ []) (db 0))) (sym a.shown) (subst (λ (k : List Row). IsPermutation k (map (λ (o : Output). o.1) a.ordered)) from moved)
+    let from : map (λ (o : Output). o.1) a.kept ≡ map (λ (r : Row). column r 2 ∷ []) (db 0) =
+    ap (map (λ (o : Output). o.1)) kept ∙ map_twice (λ (o : Output). o.1) (λ (r : Row). ([], column r 2 ∷ [])) (db 0) in
+    subst (IsPermutation (map (λ (r : Row). column r 2 ∷ []) (db 0))) (sym a.shown)
+    (subst (λ (k : List Row). IsPermutation k (map (λ (o : Output). o.1) a.ordered)) from moved)
 
 -- the ids and the bodies of the second
-pub object_rows : (db : Trees) (rows : List Row) → IsAnswer objects_query (overlay db []) [] rows → IsPermutation (ids_and_bodies (db 1)) rows
+pub object_rows : (db : Trees) (rows : List Row) → IsAnswer objects_query (overlay db []) [] rows
+    → IsPermutation (ids_and_bodies (db 1)) rows
 object_rows db rows a =
     let staged : a.staged ≡ map (λ (r : Row). [] ∷ r ∷ []) (db 1) = a.grouped ∙ staged_all [] (db 1) in
-    let kept : a.kept ≡ map (λ (r : Row). ([], rowid r ∷ column r 2 ∷ [])) (db 1) = a.distinct ∙ ap (map (output objects_query)) staged ∙ map_twice (output objects_query) (λ (r : Row). [] ∷ r ∷ []) (db 1) in
+    let kept : a.kept ≡ map (λ (r : Row). ([], rowid r ∷ column r 2 ∷ [])) (db 1) =
+    a.distinct ∙ ap (map (output objects_query)) staged ∙ map_twice (output objects_query) (λ (r : Row). [] ∷ r ∷ []) (db 1) in
     let moved = IsPermutation-map (λ (o : Output). o.1) a.kept a.ordered a.same in
-    let from : map (λ (o : Output). o.1) a.kept ≡ map (λ (r : Row). rowid r ∷ column r 2 ∷ []) (db 1) = ap (map (λ (o : Output). o.1)) kept ∙ map_twice (λ (o : Output). o.1) (λ (r : Row). ([], rowid r ∷ column r 2 ∷ [])) (db 1) in
-    subst (IsPermutation (map (λ (r : Row). rowid r ∷ column r 2 ∷ []) (db 1))) (sym a.shown) (subst (λ (k : List Row). IsPermutation k (map (λ (o : Output). o.1) a.ordered)) from moved)
+    let from : map (λ (o : Output). o.1) a.kept ≡ map (λ (r : Row). rowid r ∷ column r 2 ∷ []) (db 1) =
+    ap (map (λ (o : Output). o.1)) kept ∙ map_twice (λ (o : Output). o.1) (λ (r : Row). ([], rowid r ∷ column r 2 ∷ [])) (db 1) in
+    subst (IsPermutation (map (λ (r : Row). rowid r ∷ column r 2 ∷ []) (db 1))) (sym a.shown)
+    (subst (λ (k : List Row). IsPermutation k (map (λ (o : Output). o.1) a.ordered)) from moved)
 
 -- ---- the ids in order
 
@@ -74,7 +82,8 @@ IsId o = o ≡ id_output (id_of o)
 are_ids : (ns : List ℕ) → All IsId (map id_output ns)
 are_ids ns = from_each ns (λ k d. at ns k d)
   where
-    from_each : (ns : List ℕ) → ((k : ℕ) (d : Output) → k < length (map id_output ns) → IsId (get_or (map id_output ns) k d)) → All IsId (map id_output ns)
+    from_each : (ns : List ℕ) → ((k : ℕ) (d : Output) → k < length (map id_output ns) → IsId (get_or (map id_output ns) k d))
+        → All IsId (map id_output ns)
     from_each ns each = λ k d low. each k d low
 
     at : (ns : List ℕ) (k : ℕ) (d : Output) → k < length (map id_output ns) → IsId (get_or (map id_output ns) k d)
@@ -98,7 +107,13 @@ not_below m n test =
 
 ids_rise : (ms : List ℕ) → IsSorted (output_cmp ids_query) (map id_output ms) → AreFrom 0 ms
 ids_rise [] sorted = tt
-ids_rise (m ∷ ms) sorted = (omega arith, from_places m ms (λ k low. not_below _ _ (at m ms k low (subst (λ (i : ℕ). is_lt (output_cmp ids_query (get_or (map id_output (m ∷ ms)) i (id_output 0)) (get_or (map id_output (m ∷ ms)) k (id_output 0))) ≡ false) (add-one k) (sorted k (id_output 0) (omega arith) (omega (arith, lengths ms)))))))
+ids_rise (m ∷ ms) sorted = (
+  omega arith,
+  from_places m ms (λ k low. not_below _ _
+      (at m ms k low (subst (λ (i : ℕ). is_lt
+      (output_cmp ids_query (get_or (map id_output (m ∷ ms)) i (id_output 0)) (get_or (map id_output (m ∷ ms)) k (id_output 0)))
+      ≡ false) (add-one k) (sorted k (id_output 0) (omega arith) (omega (arith, lengths ms)))))),
+)
   where
     lengths : (ns : List ℕ) → length (map id_output ns) ≡ length ns
     lengths [] = refl
@@ -109,29 +124,34 @@ ids_rise (m ∷ ms) sorted = (omega arith, from_places m ms (λ k low. not_below
     place (n ∷ ns) zero low = refl
     place (n ∷ ns) (suc k) low = place ns k (omega arith)
 
-    at : (m : ℕ) (ms : List ℕ) (k : ℕ) → k < length ms → is_lt (output_cmp ids_query (get_or (map id_output ms) k (id_output 0)) (get_or (map id_output (m ∷ ms)) k (id_output 0))) ≡ false
+    at : (m : ℕ) (ms : List ℕ) (k : ℕ) → k < length ms
+        → is_lt (output_cmp ids_query (get_or (map id_output ms) k (id_output 0)) (get_or (map id_output (m ∷ ms)) k (id_output 0))) ≡ false
         → is_lt (output_cmp ids_query (id_output (get_or ms k 0)) (id_output (get_or (m ∷ ms) k 0))) ≡ false
     at m ms k low test = rw (place ms k low, place (m ∷ ms) k (omega arith)) at test
 
-ids_from : (low last : ℕ) (objects : List (ℕ × List ℕ)) → IdsRise low objects last → AreFrom low (map (λ (e : ℕ × List ℕ). e.0) objects)
+ids_from : (low last : ℕ) (objects : List (ℕ × List ℕ)) → RowIdsRise low objects last → AreFrom low (map (λ (e : ℕ × List ℕ). e.0) objects)
 ids_from low last [] ids = tt
 ids_from low last (e ∷ es) ids = (let h = ids.0 in omega arith, ids_from e.0 last es ids.2)
 
-pub ids_shown : (db : Trees) (c : Bodies) (rows : List Row) → HasRows db c → IsAnswer ids_query (overlay db []) [] rows → rows ≡ map (λ (n : ℕ). Int (pos n) ∷ []) (ids_of c)
+pub ids_shown : (db : Trees) (c : Bodies) (rows : List Row) → HasRows db c → IsAnswer ids_query (overlay db []) [] rows
+    → rows ≡ map (λ (n : ℕ). Int (pos n) ∷ []) (row_ids c)
 ids_shown db c rows it a =
     let staged : a.staged ≡ map (λ (r : Row). [] ∷ r ∷ []) (db 1) = a.grouped ∙ staged_all [] (db 1) in
-    let kept : a.kept ≡ map id_output (ids_of c) =
+    let kept : a.kept ≡ map id_output (row_ids c) =
     a.distinct ∙ ap (map (output ids_query)) staged ∙ map_twice (output ids_query) (λ (r : Row). [] ∷ r ∷ []) (db 1)
-    ∙ ap (map (λ (r : Row). (rowid r ∷ [], rowid r ∷ []))) it.objects_are ∙ map_twice (λ (r : Row). (rowid r ∷ [], rowid r ∷ [])) body_row c.objects
+    ∙ ap (map (λ (r : Row). (rowid r ∷ [], rowid r ∷ []))) it.objects_are
+    ∙ map_twice (λ (r : Row). (rowid r ∷ [], rowid r ∷ [])) body_row c.objects
     ∙ sym (map_twice id_output (λ (e : ℕ × List ℕ). e.0) c.objects) in
-    let same : IsPermutation (map id_output (ids_of c)) a.ordered = subst (λ (k : List Output). IsPermutation k a.ordered) kept a.same in
-    let all = All-permutation IsId (map id_output (ids_of c)) a.ordered same (are_ids (ids_of c)) in
+    let same : IsPermutation (map id_output (row_ids c)) a.ordered = subst (λ (k : List Output). IsPermutation k a.ordered) kept a.same in
+    let all = All-permutation IsId (map id_output (row_ids c)) a.ordered same (are_ids (row_ids c)) in
     let ordered = as_ids a.ordered all in
-    let numbers : IsPermutation (ids_of c) (map id_of a.ordered) =
-    subst (λ (k : List ℕ). IsPermutation k (map id_of a.ordered)) (map_twice id_of id_output (ids_of c) ∙ plain (ids_of c)) (IsPermutation-map id_of (map id_output (ids_of c)) a.ordered same) in
+    let numbers : IsPermutation (row_ids c) (map id_of a.ordered) =
+    subst (λ (k : List ℕ). IsPermutation k (map id_of a.ordered)) (map_twice id_of id_output (row_ids c) ∙ plain (row_ids c))
+    (IsPermutation-map id_of (map id_output (row_ids c)) a.ordered same) in
     let risen = ids_rise (map id_of a.ordered) (subst (IsSorted (output_cmp ids_query)) ordered a.sorted) in
-    let found : map id_of a.ordered ≡ ids_of c = one_order 0 0 (ids_of c) (map id_of a.ordered) (ids_from 0 c.last_id c.objects it.ids) risen numbers in
-    a.shown ∙ ap (map (λ (o : Output). o.1)) (ordered ∙ ap (map id_output) found) ∙ map_twice (λ (o : Output). o.1) id_output (ids_of c)
+    let found : map id_of a.ordered ≡ row_ids c =
+    one_order 0 0 (row_ids c) (map id_of a.ordered) (ids_from 0 c.last_id c.objects it.ids) risen numbers in
+    a.shown ∙ ap (map (λ (o : Output). o.1)) (ordered ∙ ap (map id_output) found) ∙ map_twice (λ (o : Output). o.1) id_output (row_ids c)
   where
     plain : (ns : List ℕ) → map (λ (n : ℕ). n) ns ≡ ns
     plain [] = refl

@@ -19,7 +19,8 @@ half_schema = record { tables = record_table ∷ []; indexes = []; views = [] }
 abbrev pub two_schema : Schema
 two_schema = record { tables = record_table ∷ objects_table ∷ []; indexes = []; views = [] }
 
-first_is : (command_of (understood no_schema record_text) ≡ CreateTable) × (statement_of record_text (understood no_schema record_text) ≡ record_text)
+first_is : (command_of (understood no_schema record_text) ≡ CreateTable)
+    × (statement_of record_text (understood no_schema record_text) ≡ record_text)
 unfolding understood everything
 first_is = (refl, refl)
 
@@ -27,7 +28,8 @@ first_plain : IsPlain (understood no_schema record_text)
 unfolding understood everything
 first_plain = (refl, refl)
 
-second_is : (command_of (understood half_schema objects_text) ≡ CreateTable) × (statement_of objects_text (understood half_schema objects_text) ≡ objects_text)
+second_is : (command_of (understood half_schema objects_text) ≡ CreateTable)
+    × (statement_of objects_text (understood half_schema objects_text) ≡ objects_text)
 unfolding understood everything
 second_is = (refl, refl)
 
@@ -39,9 +41,11 @@ lacks_one : lacks_sequence two_schema ≡ true
 unfolding everything
 lacks_one = refl
 
-pub makes_record : (old new : State) (count : ℕ) → old.now.schema ≡ no_schema → Executes record_text [] old new (Ok count) → (new.now.schema ≡ half_schema) × (new.now.trees 0 ≡ [])
+pub makes_record : (old new : State) (count : ℕ) → old.now.schema ≡ no_schema → Executes record_text [] old new (Ok count)
+    → (new.now.schema ≡ half_schema) × (new.now.trees 0 ≡ [])
 makes_record old new count has h =
-    let w = subst (λ t. Writes old new None CreateTable t [] count) first_is.1 (runs_as record_text [] old new no_schema has CreateTable first_is.0 first_plain count h) in
+    let w = subst (λ t. Writes old new None CreateTable t [] count) first_is.1
+    (runs_as record_text [] old new no_schema has CreateTable first_is.0 first_plain count h) in
     let all = went w.changed in
     let first = went all.1 in
     let made = first.1 in
@@ -49,13 +53,17 @@ makes_record old new count has h =
     let same : made.table ≡ record_table = cc in
     let schema : first.0.schema ≡ half_schema = made.is ∙ ap (λ s. created s made.table) has ∙ ap (created no_schema) same in
     let plain : lacks_sequence first.0.schema ≡ false = ap lacks_sequence schema in
-    let now : new.now ≡ first.0 = ap (λ (p : Tally × Database). p.1) (same_value all.2) ∙ same_value (rw plain at first.2) in
-    (ap (λ (d : Database). d.schema) now ∙ schema, ap (λ (d : Database). d.trees 0) now ∙ subst (λ s. first.0.trees (next_tree s) ≡ []) has made.empty)
+    let now : new.now ≡ first.0 = ap (λ (p : Tally × Database). p.1) (same_value all.2) ∙ same_value (rw plain at first.2) in (
+      ap (λ (d : Database). d.schema) now ∙ schema,
+      ap (λ (d : Database). d.trees 0) now
+          ∙ subst (λ s. first.0.trees (next_tree s) ≡ []) has made.empty,
+    )
 
 pub makes_objects : (old new : State) (count : ℕ) → old.now.schema ≡ half_schema → Executes objects_text [] old new (Ok count)
     → (new.now.schema ≡ token_schema) × (new.now.trees 0 ≡ old.now.trees 0) × (new.now.trees 1 ≡ []) × (new.now.trees 2 ≡ [])
 makes_objects old new count has h =
-    let w = subst (λ t. Writes old new None CreateTable t [] count) second_is.1 (runs_as objects_text [] old new half_schema has CreateTable second_is.0 second_plain count h) in
+    let w = subst (λ t. Writes old new None CreateTable t [] count) second_is.1
+    (runs_as objects_text [] old new half_schema has CreateTable second_is.0 second_plain count h) in
     let all = went w.changed in
     let first = went all.1 in
     let made = first.1 in

@@ -46,13 +46,18 @@ pub spares_is : (id : ℕ) (p : ℕ × List ℕ) → has_rowid (pos id) (body_ro
 spares_is id p = ap is_eq (value_cmp-Int (pos p.0) (pos id)) ∙ same_test p.0 id
 
 -- the rows that have the id, which is the first parameter
-pub picks : (id : ℕ) (rest : Row) (objects : List (ℕ × List ℕ)) → flat_map (λ (r : Row). if list_all (holds ((Int (pos id) ∷ rest) ∷ r ∷ [])) by_id then ((Int (pos id) ∷ rest) ∷ r ∷ []) ∷ [] else []) (map body_row objects)
+pub picks : (id : ℕ) (rest : Row) (objects : List (ℕ × List ℕ))
+    → flat_map (λ (r : Row). if list_all (holds ((Int (pos id) ∷ rest) ∷ r ∷ [])) by_id then ((Int (pos id) ∷ rest) ∷ r ∷ [])
+    ∷ [] else []) (map body_row objects)
     ≡ map (λ (p : ℕ × List ℕ). (Int (pos id) ∷ rest) ∷ body_row p ∷ []) (filter (λ (p : ℕ × List ℕ). p.0 == id) objects)
 picks id rest [] = refl
 picks id rest (p ∷ more) = rw (passes_is id rest p) (pick_one p more (p.0 == id) (picks id rest more))
   where
-    pick_one : (p : ℕ × List ℕ) (more : List (ℕ × List ℕ)) (b : Bool) {tail : List Env} → tail ≡ map (λ (q : ℕ × List ℕ). (Int (pos id) ∷ rest) ∷ body_row q ∷ []) (filter (λ (q : ℕ × List ℕ). q.0 == id) more)
-        → (if b then ((Int (pos id) ∷ rest) ∷ body_row p ∷ []) ∷ [] else []) ++ tail ≡ map (λ (q : ℕ × List ℕ). (Int (pos id) ∷ rest) ∷ body_row q ∷ []) (if b then p ∷ filter (λ (q : ℕ × List ℕ). q.0 == id) more else filter (λ (q : ℕ × List ℕ). q.0 == id) more)
+    pick_one : (p : ℕ × List ℕ) (more : List (ℕ × List ℕ)) (b : Bool) {tail : List Env}
+        → tail ≡ map (λ (q : ℕ × List ℕ). (Int (pos id) ∷ rest) ∷ body_row q ∷ []) (filter (λ (q : ℕ × List ℕ). q.0 == id) more)
+        → (if b then ((Int (pos id) ∷ rest) ∷ body_row p ∷ []) ∷ [] else []) ++ tail
+        ≡ map (λ (q : ℕ × List ℕ). (Int (pos id) ∷ rest) ∷ body_row q ∷ [])
+        (if b then p ∷ filter (λ (q : ℕ × List ℕ). q.0 == id) more else filter (λ (q : ℕ × List ℕ). q.0 == id) more)
     pick_one p more true h = ap (λ (tail : List Env). ((Int (pos id) ∷ rest) ∷ body_row p ∷ []) ∷ tail) h
     pick_one p more false h = h
 
@@ -62,41 +67,55 @@ differs m n h = grind (arith, nat_tests)
 above : (m n : ℕ) → (n ≡ m → ⊥) → (n == m) ≡ false
 above m n h = grind (arith, nat_tests)
 
-pub none_below : (low id : ℕ) (objects : List (ℕ × List ℕ)) → RiseFrom low objects → id ≤ low → filter (λ (p : ℕ × List ℕ). p.0 == id) objects ≡ []
+pub none_below : (low id : ℕ) (objects : List (ℕ × List ℕ)) → RiseFrom low objects → id ≤ low
+    → filter (λ (p : ℕ × List ℕ). p.0 == id) objects ≡ []
 none_below low id [] up below = refl
 none_below low id (p ∷ more) up below =
     let over : id < p.0 = let h = up.0 in omega arith in
     rw (differs id p.0 over) (none_below p.0 id more up.1 (omega arith))
 
 -- an id is that of no object, or of one
-pub one_found : (low id : ℕ) (objects : List (ℕ × List ℕ)) → RiseFrom low objects → (filter (λ (p : ℕ × List ℕ). p.0 == id) objects ≡ []) ⊎ ((b : List ℕ) × (filter (λ (p : ℕ × List ℕ). p.0 == id) objects ≡ (id, b) ∷ []))
+pub one_found : (low id : ℕ) (objects : List (ℕ × List ℕ)) → RiseFrom low objects
+    → (filter (λ (p : ℕ × List ℕ). p.0 == id) objects ≡ [])
+    ⊎ ((b : List ℕ) × (filter (λ (p : ℕ × List ℕ). p.0 == id) objects ≡ (id, b) ∷ []))
 one_found low id [] up = inl refl
 one_found low id (p ∷ more) up = go (p.0 == id) refl (one_found p.0 id more up.1)
   where
-    go : (t : Bool) → (p.0 == id) ≡ t → (filter (λ (q : ℕ × List ℕ). q.0 == id) more ≡ []) ⊎ ((b : List ℕ) × (filter (λ (q : ℕ × List ℕ). q.0 == id) more ≡ (id, b) ∷ []))
-        → (filter (λ (q : ℕ × List ℕ). q.0 == id) (p ∷ more) ≡ []) ⊎ ((b : List ℕ) × (filter (λ (q : ℕ × List ℕ). q.0 == id) (p ∷ more) ≡ (id, b) ∷ []))
+    go : (t : Bool) → (p.0 == id) ≡ t → (filter (λ (q : ℕ × List ℕ). q.0 == id) more ≡ [])
+        ⊎ ((b : List ℕ) × (filter (λ (q : ℕ × List ℕ). q.0 == id) more ≡ (id, b) ∷ []))
+        → (filter (λ (q : ℕ × List ℕ). q.0 == id) (p ∷ more) ≡ [])
+        ⊎ ((b : List ℕ) × (filter (λ (q : ℕ × List ℕ). q.0 == id) (p ∷ more) ≡ (id, b) ∷ []))
     go false is later = rw is later
     go true is later =
         let key : p.0 ≡ id = grind (arith, nat_tests) in
-        rw is (inr (p.1, ap (λ (n : ℕ). (n, p.1) ∷ filter (λ (q : ℕ × List ℕ). q.0 == id) more) key ∙ ap (λ (rest : List (ℕ × List ℕ)). (id, p.1) ∷ rest) (none_below p.0 id more up.1 (omega arith))))
+        rw is (inr (
+          p.1,
+          ap (λ (n : ℕ). (n, p.1) ∷ filter (λ (q : ℕ × List ℕ). q.0 == id) more) key
+              ∙ ap (λ (rest : List (ℕ × List ℕ)). (id, p.1) ∷ rest) (none_below p.0 id more up.1 (omega arith)),
+        ))
 
 abbrev pub removed_from : ℕ → List (ℕ × List ℕ) → List (ℕ × List ℕ)
 removed_from id objects = filter (λ (p : ℕ × List ℕ). not (p.0 == id)) objects
 
-pub not_there : (id : ℕ) (objects : List (ℕ × List ℕ)) → filter (λ (p : ℕ × List ℕ). p.0 == id) objects ≡ [] → removed_from id objects ≡ objects
+pub not_there : (id : ℕ) (objects : List (ℕ × List ℕ)) → filter (λ (p : ℕ × List ℕ). p.0 == id) objects ≡ []
+    → removed_from id objects ≡ objects
 not_there id [] none = refl
 not_there id (p ∷ more) none = go (p.0 == id) refl none (not_there id more)
   where
-    go : (t : Bool) → (p.0 == id) ≡ t → (if t then p ∷ filter (λ (q : ℕ × List ℕ). q.0 == id) more else filter (λ (q : ℕ × List ℕ). q.0 == id) more) ≡ [] → (filter (λ (q : ℕ × List ℕ). q.0 == id) more ≡ [] → removed_from id more ≡ more)
+    go : (t : Bool) → (p.0 == id) ≡ t
+        → (if t then p ∷ filter (λ (q : ℕ × List ℕ). q.0 == id) more else filter (λ (q : ℕ × List ℕ). q.0 == id) more) ≡ []
+        → (filter (λ (q : ℕ × List ℕ). q.0 == id) more ≡ [] → removed_from id more ≡ more)
         → removed_from id (p ∷ more) ≡ p ∷ more
     go true is none later = absurd (cc)
     go false is none later = rw is (ap (λ (rest : List (ℕ × List ℕ)). p ∷ rest) (later none))
 
-pub taken_out : (id : ℕ) (objects : List (ℕ × List ℕ)) → without_rowid (pos id) (map body_row objects) ≡ map body_row (removed_from id objects)
+pub taken_out : (id : ℕ) (objects : List (ℕ × List ℕ))
+    → without_rowid (pos id) (map body_row objects) ≡ map body_row (removed_from id objects)
 taken_out id [] = refl
 taken_out id (p ∷ more) = go (p.0 == id) refl (taken_out id more)
   where
-    go : (t : Bool) → (p.0 == id) ≡ t → without_rowid (pos id) (map body_row more) ≡ map body_row (removed_from id more) → without_rowid (pos id) (map body_row (p ∷ more)) ≡ map body_row (removed_from id (p ∷ more))
+    go : (t : Bool) → (p.0 == id) ≡ t → without_rowid (pos id) (map body_row more) ≡ map body_row (removed_from id more)
+        → without_rowid (pos id) (map body_row (p ∷ more)) ≡ map body_row (removed_from id (p ∷ more))
     go false is later = rw (spares_is id p, is) (ap (λ (rows : List Row). body_row p ∷ rows) later)
     go true is later = rw (spares_is id p, is) later
 
@@ -110,25 +129,31 @@ pub none_permuted : {X : Type 0} (ys : List X) → IsPermutation [] ys → ys �
 none_permuted [] h = refl
 none_permuted (y ∷ ys) h = absurd (let e : length (y ∷ ys) ≡ 0 = length_permutation [] (y ∷ ys) h in omega arith)
 
-rows_by : (db : Trees) (c : Bodies) (id : ℕ) (rows : List Row) → HasRows db c → IsAnswer remove_query (overlay db []) (id_params id) rows → edited db (remove_edit db rows) ≡ map body_row (removed_from id c.objects)
+rows_by : (db : Trees) (c : Bodies) (id : ℕ) (rows : List Row) → HasRows db c
+    → IsAnswer remove_query (overlay db []) (id_params id) rows → edited db (remove_edit db rows) ≡ map body_row (removed_from id c.objects)
 rows_by db c id rows it a = elim (one_found 0 id c.objects (rising db c it)) [
   | inl none ↦
-      let kept : a.kept ≡ [] = a.distinct ∙ ap (map (output remove_query)) (staged ∙ ap (map (λ (p : ℕ × List ℕ). id_params id ∷ body_row p ∷ [])) none) in
+      let kept : a.kept ≡ [] = a.distinct
+      ∙ ap (map (output remove_query)) (staged ∙ ap (map (λ (p : ℕ × List ℕ). id_params id ∷ body_row p ∷ [])) none) in
       let ordered = none_permuted a.ordered (subst (λ k. IsPermutation k a.ordered) kept a.same) in
       let found : rows ≡ [] = a.shown ∙ ap (λ xs. page remove_query (id_params id) (map (λ (p : Output). p.1) xs)) ordered in
       ap (λ (rs : List Row). edited db (remove_edit db rs)) found ∙ it.objects_are ∙ ap (map body_row) (sym (not_there id c.objects none))
   | inr one ↦
       let o : Output = ([], Int (pos id) ∷ []) in
-      let kept : a.kept ≡ o ∷ [] = a.distinct ∙ ap (map (output remove_query)) (staged ∙ ap (map (λ (p : ℕ × List ℕ). id_params id ∷ body_row p ∷ [])) one.1) in
+      let kept : a.kept ≡ o ∷ [] = a.distinct
+      ∙ ap (map (output remove_query)) (staged ∙ ap (map (λ (p : ℕ × List ℕ). id_params id ∷ body_row p ∷ [])) one.1) in
       let ordered = one_permutation o a.ordered (subst (λ k. IsPermutation k a.ordered) kept a.same) in
-      let found : rows ≡ (Int (pos id) ∷ []) ∷ [] = a.shown ∙ ap (λ xs. page remove_query (id_params id) (map (λ (p : Output). p.1) xs)) ordered in
-      ap (λ (rs : List Row). edited db (remove_edit db rs)) found ∙ ap (λ (rs : List Row). without_rowid (pos id) rs) it.objects_are ∙ taken_out id c.objects
+      let found : rows ≡ (Int (pos id) ∷ []) ∷ [] =
+      a.shown ∙ ap (λ xs. page remove_query (id_params id) (map (λ (p : Output). p.1) xs)) ordered in
+      ap (λ (rs : List Row). edited db (remove_edit db rs)) found ∙ ap (λ (rs : List Row). without_rowid (pos id) rs) it.objects_are
+      ∙ taken_out id c.objects
 ]
   where
     staged : a.staged ≡ map (λ (p : ℕ × List ℕ). id_params id ∷ body_row p ∷ []) (filter (λ (p : ℕ × List ℕ). p.0 == id) c.objects)
     staged = a.grouped ∙ rw it.objects_are (picks id [] c.objects)
 
-pub deletes : (limit : Option ℕ) (db : Trees) (c : Bodies) (id : ℕ) (w : Written) → HasRows db c → Deletes (task_on limit objects_table (id_params id)) (record { lets = []; body = remove_query }) db (Ok w)
+pub deletes : (limit : Option ℕ) (db : Trees) (c : Bodies) (id : ℕ) (w : Written) → HasRows db c
+    → Deletes (task_on limit objects_table (id_params id)) (record { lets = []; body = remove_query }) db (Ok w)
     → (w.trees 0 ≡ db 0) × (w.trees 1 ≡ map body_row (removed_from id c.objects)) × (w.trees 2 ≡ db 2)
 deletes limit db c id w it h =
     let given = went h in

@@ -48,37 +48,48 @@ replace_query = record plain_query { filter = by_id; project = col 1 0 ∷ col 1
 
 -- ---- the list with one body replaced
 
-none_replaced : (id : ℕ) (o : List ℕ) (objects : List (ℕ × List ℕ)) → filter (λ (p : ℕ × List ℕ). p.0 == id) objects ≡ [] → map (put_at id o) objects ≡ objects
+none_replaced : (id : ℕ) (o : List ℕ) (objects : List (ℕ × List ℕ)) → filter (λ (p : ℕ × List ℕ). p.0 == id) objects ≡ []
+    → map (put_at id o) objects ≡ objects
 none_replaced id o [] none = refl
 none_replaced id o (p ∷ more) none = go (p.0 == id) refl none (none_replaced id o more)
   where
-    go : (t : Bool) → (p.0 == id) ≡ t → (if t then p ∷ filter (λ (q : ℕ × List ℕ). q.0 == id) more else filter (λ (q : ℕ × List ℕ). q.0 == id) more) ≡ []
+    go : (t : Bool) → (p.0 == id) ≡ t
+        → (if t then p ∷ filter (λ (q : ℕ × List ℕ). q.0 == id) more else filter (λ (q : ℕ × List ℕ). q.0 == id) more) ≡ []
         → (filter (λ (q : ℕ × List ℕ). q.0 == id) more ≡ [] → map (put_at id o) more ≡ more) → map (put_at id o) (p ∷ more) ≡ p ∷ more
     go true is none later = absurd (cc)
     go false is none later = rw is (ap (λ (rest : List (ℕ × List ℕ)). p ∷ rest) (later none))
 
 -- a row below all others goes to the front
-put_first : (low id : ℕ) (o : List ℕ) (objects : List (ℕ × List ℕ)) → RiseFrom low objects → id ≤ low → put_row (body_row (id, o)) (map body_row objects) ≡ body_row (id, o) ∷ map body_row objects
+put_first : (low id : ℕ) (o : List ℕ) (objects : List (ℕ × List ℕ)) → RiseFrom low objects → id ≤ low
+    → put_row (body_row (id, o)) (map body_row objects) ≡ body_row (id, o) ∷ map body_row objects
 put_first low id o [] up below = refl
 put_first low id o (p ∷ more) up below =
     let over : id < p.0 = let h = up.0 in omega arith in
     let greater : value_cmp (Int (pos p.0)) (Int (pos id)) ≡ Greater = value_cmp-Int (pos p.0) (pos id) ∙ grind (arith, ints, nat_tests) in
     rw greater refl
 
-put_back : (low id : ℕ) (b o : List ℕ) (objects : List (ℕ × List ℕ)) → RiseFrom low objects → filter (λ (p : ℕ × List ℕ). p.0 == id) objects ≡ (id, b) ∷ []
+put_back : (low id : ℕ) (b o : List ℕ) (objects : List (ℕ × List ℕ)) → RiseFrom low objects
+    → filter (λ (p : ℕ × List ℕ). p.0 == id) objects ≡ (id, b) ∷ []
     → put_row (body_row (id, o)) (map body_row (removed_from id objects)) ≡ map body_row (map (put_at id o) objects)
 put_back low id b o [] up there = absurd (cc)
 put_back low id b o (p ∷ more) up there = go (p.0 == id) refl there (put_back p.0 id b o more up.1)
   where
-    go : (t : Bool) → (p.0 == id) ≡ t → (if t then p ∷ filter (λ (q : ℕ × List ℕ). q.0 == id) more else filter (λ (q : ℕ × List ℕ). q.0 == id) more) ≡ (id, b) ∷ []
-        → (filter (λ (q : ℕ × List ℕ). q.0 == id) more ≡ (id, b) ∷ [] → put_row (body_row (id, o)) (map body_row (removed_from id more)) ≡ map body_row (map (put_at id o) more))
+    go : (t : Bool) → (p.0 == id) ≡ t
+        → (if t then p ∷ filter (λ (q : ℕ × List ℕ). q.0 == id) more else filter (λ (q : ℕ × List ℕ). q.0 == id) more) ≡ (id, b) ∷ []
+        → (filter (λ (q : ℕ × List ℕ). q.0 == id) more ≡ (id, b) ∷ []
+        → put_row (body_row (id, o)) (map body_row (removed_from id more)) ≡ map body_row (map (put_at id o) more))
         → put_row (body_row (id, o)) (map body_row (removed_from id (p ∷ more))) ≡ map body_row (map (put_at id o) (p ∷ more))
     go true is there later =
         let key : p.0 ≡ id = grind (arith, nat_tests) in
         let none : filter (λ (q : ℕ × List ℕ). q.0 == id) more ≡ [] = cc in
-        rw (is, not_there id more none, none_replaced id o more none) (put_first p.0 id o more up.1 (omega arith) ∙ ap (λ (n : ℕ). body_row (n, o) ∷ map body_row more) (sym key))
+        rw (is, not_there id more none, none_replaced id o more none)
+        (put_first p.0 id o more up.1 (omega arith) ∙ ap (λ (n : ℕ). body_row (n, o) ∷ map body_row more) (sym key))
     go false is there later =
-        let low_id : p.0 < id = elim (cases_lt p.0 id) [ inl less ↦ less | inr below ↦ absurd (let none = none_below p.0 id more up.1 below in cc) ] in
+        let low_id : p.0 < id = elim (cases_lt p.0 id) [
+          | inl less ↦ less
+          | inr below ↦ absurd
+              (let none = none_below p.0 id more up.1 below in cc)
+        ] in
         let less : value_cmp (Int (pos p.0)) (Int (pos id)) ≡ Less = value_cmp-Int (pos p.0) (pos id) ∙ grind (arith, ints, nat_tests) in
         rw (is, less) (ap (λ (rows : List Row). body_row p ∷ rows) (later there))
 
@@ -87,27 +98,35 @@ put_back low id b o (p ∷ more) up there = go (p.0 == id) refl there (put_back 
 abbrev replace_edit : Trees → List Row → Edit
 replace_edit db rows = edit_of db objects_table (ids_of rows) Given 1 rows
 
-news_is : (db : Trees) (id : ℕ) (bytes : List ℕ) → (replace_edit db ((Int (pos id) ∷ Int (pos id) ∷ Null ∷ Blob bytes ∷ []) ∷ [])).news ≡ (Int (pos id) ∷ Null ∷ Blob bytes ∷ []) ∷ []
+news_is : (db : Trees) (id : ℕ) (bytes : List ℕ)
+    → (replace_edit db ((Int (pos id) ∷ Int (pos id) ∷ Null ∷ Blob bytes ∷ []) ∷ [])).news ≡ (Int (pos id) ∷ Null ∷ Blob bytes ∷ []) ∷ []
 news_is db id bytes = rw (cast_null, cast_int (pos id)) refl
 
-module _ (db : Trees) (objects : List (ℕ × List ℕ)) (are : db 1 ≡ map body_row objects) (rise : RiseFrom 0 objects) (id : ℕ) (o : List ℕ) where
+module _ (db : Trees) (objects : List (ℕ × List ℕ)) (are : db 1 ≡ map body_row objects) (rise : RiseFrom 0 objects) (id : ℕ)
+    (o : List ℕ) where
   staged_is : (rows : List Row) (a : IsAnswer replace_query (overlay db []) (replace_params id o) rows)
       → a.staged ≡ map (λ (p : ℕ × List ℕ). replace_params id o ∷ body_row p ∷ []) (filter (λ (p : ℕ × List ℕ). p.0 == id) objects)
   staged_is rows a = a.grouped ∙ rw are (picks id (Blob o ∷ []) objects)
 
-  rows_by : (rows : List Row) → IsAnswer replace_query (overlay db []) (replace_params id o) rows → edited db (replace_edit db rows) ≡ map body_row (map (put_at id o) objects)
+  rows_by : (rows : List Row) → IsAnswer replace_query (overlay db []) (replace_params id o) rows
+      → edited db (replace_edit db rows) ≡ map body_row (map (put_at id o) objects)
   rows_by rows a = elim (one_found 0 id objects rise) [
     | inl none ↦
-        let kept : a.kept ≡ [] = a.distinct ∙ ap (map (output replace_query)) (staged_is rows a ∙ ap (map (λ (p : ℕ × List ℕ). replace_params id o ∷ body_row p ∷ [])) none) in
+        let kept : a.kept ≡ [] = a.distinct
+        ∙ ap (map (output replace_query))
+        (staged_is rows a ∙ ap (map (λ (p : ℕ × List ℕ). replace_params id o ∷ body_row p ∷ [])) none) in
         let ordered = none_permuted a.ordered (subst (λ k. IsPermutation k a.ordered) kept a.same) in
         let found : rows ≡ [] = a.shown ∙ ap (λ xs. page replace_query (replace_params id o) (map (λ (p : Output). p.1) xs)) ordered in
         ap (λ (rs : List Row). edited db (replace_edit db rs)) found ∙ are ∙ ap (map body_row) (sym (none_replaced id o objects none))
     | inr one ↦
         let shown : Row = Int (pos id) ∷ Int (pos id) ∷ Null ∷ Blob o ∷ [] in
         let out : Output = ([], shown) in
-        let kept : a.kept ≡ out ∷ [] = a.distinct ∙ ap (map (output replace_query)) (staged_is rows a ∙ ap (map (λ (p : ℕ × List ℕ). replace_params id o ∷ body_row p ∷ [])) one.1) in
+        let kept : a.kept ≡ out ∷ [] =
+        a.distinct ∙ ap (map (output replace_query))
+        (staged_is rows a ∙ ap (map (λ (p : ℕ × List ℕ). replace_params id o ∷ body_row p ∷ [])) one.1) in
         let ordered = one_permutation out a.ordered (subst (λ k. IsPermutation k a.ordered) kept a.same) in
-        let found : rows ≡ shown ∷ [] = a.shown ∙ ap (λ xs. page replace_query (replace_params id o) (map (λ (p : Output). p.1) xs)) ordered in
+        let found : rows ≡ shown ∷ [] =
+        a.shown ∙ ap (λ xs. page replace_query (replace_params id o) (map (λ (p : Output). p.1) xs)) ordered in
         ap (λ (rs : List Row). edited db (replace_edit db rs)) found
         ∙ ap (λ (ns : List Row). put_all (without_rowid (pos id) (db 1)) ns) (news_is db id o)
         ∙ ap (λ (rs : List Row). put_row (body_row (id, o)) (without_rowid (pos id) rs)) are
@@ -115,7 +134,9 @@ module _ (db : Trees) (objects : List (ℕ × List ℕ)) (are : db 1 ≡ map bod
         ∙ put_back 0 id one.0 o objects rise one.1
   ]
 
-  replaces : (limit : Option ℕ) (w : Written) → Updates (task_on limit objects_table (replace_params id o)) (record { lets = []; body = replace_query }) (replace_params id o) db (Ok w)
+  replaces : (limit : Option ℕ) (w : Written)
+      → Updates (task_on limit objects_table (replace_params id o)) (record { lets = []; body = replace_query })
+      (replace_params id o) db (Ok w)
       → (w.trees 0 ≡ db 0) × (w.trees 1 ≡ map body_row (map (put_at id o) objects)) × (w.trees 2 ≡ db 2)
   replaces limit w h =
       let given = went h in
@@ -128,14 +149,23 @@ module _ (db : Trees) (objects : List (ℕ × List ℕ)) (are : db 1 ≡ map bod
       )
 
 -- what the statement makes of the tables
-pub replace_rows : (s : State) (text : List ℕ) (objects : List (ℕ × List ℕ)) (id : ℕ) (o : List ℕ) (tally : Tally) (after : Database) → s.now.schema ≡ token_schema → s.now.trees 1 ≡ map body_row objects
-    → RiseFrom 0 objects → Does s.step_limit (mode_of s) (replace_params id o) s.now text None (Update 1 (record { lets = []; body = replace_query })) (Ok (tally, after))
-    → (after.schema ≡ token_schema) × (after.trees 0 ≡ s.now.trees 0) × (after.trees 1 ≡ map body_row (map (put_at id o) objects)) × (after.trees 2 ≡ s.now.trees 2)
+pub replace_rows : (s : State) (text : List ℕ) (objects : List (ℕ × List ℕ)) (id : ℕ) (o : List ℕ) (tally : Tally)
+    (after : Database) → s.now.schema ≡ token_schema → s.now.trees 1 ≡ map body_row objects
+    → RiseFrom 0 objects → Does s.step_limit (mode_of s) (replace_params id o) s.now text None
+    (Update 1 (record { lets = []; body = replace_query })) (Ok (tally, after))
+    → (after.schema ≡ token_schema) × (after.trees 0 ≡ s.now.trees 0) × (after.trees 1 ≡ map body_row (map (put_at id o) objects))
+    × (after.trees 2 ≡ s.now.trees 2)
 replace_rows s text objects id o tally after has are rise h =
-    let done = went (subst (λ (x : Schema). Does s.step_limit (mode_of s) (replace_params id o) (record s.now { schema = x }) text None (Update 1 (record { lets = []; body = replace_query })) (Ok (tally, after))) has h) in
+    let done = went (subst (λ (x : Schema). Does s.step_limit (mode_of s) (replace_params id o)
+    (record s.now { schema = x }) text None (Update 1 (record { lets = []; body = replace_query })) (Ok (tally, after))) has h) in
     let end = concluded s.step_limit objects_table (replace_params id o) (mode_of s) done.0 tally after done.2 in
-    let all = replaces s.now.trees objects are rise id o s.step_limit done.0 done.1 in
-    (ap (λ (d : Database). d.schema) end.0, ap (λ (d : Database). d.trees 0) end.0 ∙ all.0, ap (λ (d : Database). d.trees 1) end.0 ∙ all.1, ap (λ (d : Database). d.trees 2) end.0 ∙ all.2)
+    let all = replaces s.now.trees objects are rise id o s.step_limit done.0 done.1 in (
+      ap (λ (d : Database). d.schema) end.0,
+      ap (λ (d : Database). d.trees 0) end.0 ∙ all.0,
+      ap (λ (d : Database). d.trees 1) end.0
+          ∙ all.1,
+      ap (λ (d : Database). d.trees 2) end.0 ∙ all.2,
+    )
 
 -- ---- as a step of the bodies
 
@@ -143,8 +173,10 @@ pub replace_plain : IsPlain (understood token_schema REPLACE_OBJECT.now)
 unfolding understood everything
 replace_plain = (refl, refl)
 
-replace_does : (id : ℕ) (o : List ℕ) (s : State) (text : List ℕ) (c : Bodies) (tally : Tally) (after : Database) → s.now.schema ≡ token_schema → HasRows s.now.trees c
-    → Does s.step_limit (mode_of s) (replace_params id o) s.now text None (Update 1 (record { lets = []; body = replace_query })) (Ok (tally, after)) → (after.schema ≡ token_schema) × HasRows after.trees (with_body_at id o c)
+replace_does : (id : ℕ) (o : List ℕ) (s : State) (text : List ℕ) (c : Bodies) (tally : Tally) (after : Database)
+    → s.now.schema ≡ token_schema → HasRows s.now.trees c
+    → Does s.step_limit (mode_of s) (replace_params id o) s.now text None (Update 1 (record { lets = []; body = replace_query }))
+    (Ok (tally, after)) → (after.schema ≡ token_schema) × HasRows after.trees (with_body_at id o c)
 replace_does id o s text c tally after has it h =
     let all = replace_rows s text c.objects id o tally after has it.objects_are (rising s.now.trees c it) h in (
       all.0,
@@ -156,7 +188,8 @@ replace_does id o s text c tally after has it h =
       },
     )
 
-pub replace_step : (id : ℕ) (o : List ℕ) → IsStep REPLACE_OBJECT.now (replace_params id o) (Update 1 (record { lets = []; body = replace_query })) (with_body_at id o)
+pub replace_step : (id : ℕ) (o : List ℕ)
+    → IsStep REPLACE_OBJECT.now (replace_params id o) (Update 1 (record { lets = []; body = replace_query })) (with_body_at id o)
 replace_step id o = record {
   is = replace_is;
   plain = replace_plain;

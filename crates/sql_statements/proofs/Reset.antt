@@ -11,7 +11,7 @@ use Rattle.sqlite.specs.Held.{Held, state}
 use Rattle.sqlite_tied.specs.Compute.{everything}
 use Rattle.sqlite.specs.Listing.{understood}
 use Rattle.sqlite.proofs.Callers.{IsPlain, statement_of, runs_as}
-use Rattle.sql_statements.specs.Bodies.{Bodies, after_reset}
+use Rattle.sql_statements.specs.Bodies.{Bodies, bodies_after_reset}
 use Rattle.sql_statements.specs.Tables.{token_schema, objects_table}
 use Rattle.sql_statements.specs.Store.{HasRows}
 use Rattle.sql_statements.specs.Ran.{RanPair}
@@ -27,10 +27,13 @@ clear_plain : IsPlain (understood token_schema CLEAR_OBJECTS.now)
 unfolding understood everything
 clear_plain = (refl, refl)
 
-clear_does : (s : State) (text : List ℕ) (c : Bodies) (tally : Tally) (after : Database) → s.now.schema ≡ token_schema → HasRows s.now.trees c
-    → Does s.step_limit (mode_of s) [] s.now text None (Delete 1 (record { lets = []; body = clear_query })) (Ok (tally, after)) → (after.schema ≡ token_schema) × HasRows after.trees (record c { objects = [] })
+clear_does : (s : State) (text : List ℕ) (c : Bodies) (tally : Tally) (after : Database) → s.now.schema ≡ token_schema
+    → HasRows s.now.trees c
+    → Does s.step_limit (mode_of s) [] s.now text None (Delete 1 (record { lets = []; body = clear_query })) (Ok (tally, after))
+    → (after.schema ≡ token_schema) × HasRows after.trees (record c { objects = [] })
 clear_does s text c tally after has it h =
-    let done = went (subst (λ (x : Schema). Does s.step_limit (mode_of s) [] (record s.now { schema = x }) text None (Delete 1 (record { lets = []; body = clear_query })) (Ok (tally, after))) has h) in
+    let done = went (subst (λ (x : Schema). Does s.step_limit (mode_of s) [] (record s.now { schema = x }) text None
+    (Delete 1 (record { lets = []; body = clear_query })) (Ok (tally, after))) has h) in
     let end = concluded s.step_limit objects_table [] (mode_of s) done.0 tally after done.2 in
     let all = clears s.step_limit s.now.trees c done.0 it done.1 in (
       ap (λ (d : Database). d.schema) end.0,
@@ -59,16 +62,27 @@ abbrev pub set_text : List ℕ
 set_text = SET_RECORD.now
 
 -- both, in turn
-pub reset_is : {S : Type 0} (g : Ghosts S) (old : Held S) (to : List ℕ) (c : Bodies) (db : Database) → (state g old).now.schema ≡ token_schema → HasRows (state g old).now.trees c
-    → RanPair g CLEAR_OBJECTS.now SET_RECORD.now to old db → (db.schema ≡ token_schema) × HasRows db.trees (after_reset to c) × IsDatabase db
+pub reset_is : {S : Type 0} (g : Ghosts S) (old : Held S) (to : List ℕ) (c : Bodies) (db : Database)
+    → (state g old).now.schema ≡ token_schema → HasRows (state g old).now.trees c
+    → RanPair g CLEAR_OBJECTS.now SET_RECORD.now to old db → (db.schema ≡ token_schema) × HasRows db.trees (bodies_after_reset to c)
+    × IsDatabase db
 reset_is g old to c db has it ran =
     let first = clear_step in
     let second = set_step to in
     let began = state g (record old { in_transaction = true }) in
     let mid = state g ran.mid in
     let last = state g ran.last in
-    let one = first.writes began mid (statement_of clear_text (understood token_schema clear_text)) ran.counts.0 (runs_as clear_text [] began mid token_schema has (Delete 1 (record { lets = []; body = clear_query })) first.is first.plain ran.counts.0 ran.one) in
+    let one = first.writes began mid (statement_of clear_text (understood token_schema clear_text)) ran.counts.0
+    (runs_as clear_text [] began mid token_schema has
+    (Delete 1 (record { lets = []; body = clear_query })) first.is first.plain ran.counts.0 ran.one) in
     let half = first.does began (statement_of clear_text (understood token_schema clear_text)) c one.tally mid.now has it one.changed in
-    let two = second.writes mid last (statement_of set_text (understood token_schema set_text)) ran.counts.1 (runs_as set_text (set_params to) mid last token_schema half.0 (Update 0 (record { lets = []; body = set_query })) second.is second.plain ran.counts.1 ran.two) in
-    let whole = second.does mid (statement_of set_text (understood token_schema set_text)) (record c { objects = [] }) two.tally last.now half.0 half.1 two.changed in
-    (ap (λ (d : Database). d.schema) ran.is ∙ whole.0, subst (λ (d : Database). HasRows d.trees (after_reset to c)) (sym ran.is) whole.1, subst (λ (d : Database). IsDatabase d) (sym ran.is) two.sound)
+    let two = second.writes mid last (statement_of set_text (understood token_schema set_text)) ran.counts.1
+    (runs_as set_text (set_params to) mid last token_schema half.0
+    (Update 0 (record { lets = []; body = set_query })) second.is second.plain ran.counts.1 ran.two) in
+    let whole = second.does mid (statement_of set_text (understood token_schema set_text))
+    (record c { objects = [] }) two.tally last.now half.0 half.1 two.changed in (
+      ap (λ (d : Database). d.schema) ran.is
+          ∙ whole.0,
+      subst (λ (d : Database). HasRows d.trees (bodies_after_reset to c)) (sym ran.is) whole.1,
+      subst (λ (d : Database). IsDatabase d) (sym ran.is) two.sound,
+    )

@@ -25,7 +25,8 @@ use Rattle.sql_statements.proofs.Ids.{rises_more}
 use Rattle.sql_statements.proofs.Insert.{went, same_value, task_on, terms, inserts}
 use Rattle.sql_statements.proofs.Lift.{IsStep}
 
-pub concluded : (limit : Option ℕ) (table : Table) (params : Row) (mode : Mode) (w : Written) (tally : Tally) (after : Database) → Concludes (task_on limit table params) mode None w (Ok (tally, after))
+pub concluded : (limit : Option ℕ) (table : Table) (params : Row) (mode : Mode) (w : Written) (tally : Tally) (after : Database)
+    → Concludes (task_on limit table params) mode None w (Ok (tally, after))
     → (after ≡ record { schema = token_schema; trees = w.trees }) × (tally.last ≡ w.last) × (tally.rows ≡ Some (length w.rows))
 concluded limit table params mode w tally after h =
     let both = same_value (went (went h).2).2 in
@@ -35,10 +36,13 @@ insert_plain : IsPlain (understood token_schema INSERT_OBJECT.now)
 unfolding understood everything
 insert_plain = (refl, refl)
 
-pub insert_does : (body : List ℕ) (s : State) (text : List ℕ) (c : Bodies) (tally : Tally) (after : Database) → s.now.schema ≡ token_schema → HasRows s.now.trees c
-    → Does s.step_limit (mode_of s) (Blob body ∷ []) s.now text None (Insert 1 (Values terms 3)) (Ok (tally, after)) → (after.schema ≡ token_schema) × HasRows after.trees (with_body body c)
+pub insert_does : (body : List ℕ) (s : State) (text : List ℕ) (c : Bodies) (tally : Tally) (after : Database)
+    → s.now.schema ≡ token_schema → HasRows s.now.trees c
+    → Does s.step_limit (mode_of s) (Blob body ∷ []) s.now text None (Insert 1 (Values terms 3)) (Ok (tally, after))
+    → (after.schema ≡ token_schema) × HasRows after.trees (with_body body c)
 insert_does body s text c tally after has it h =
-    let done = went (subst (λ (x : Schema). Does s.step_limit (mode_of s) (Blob body ∷ []) (record s.now { schema = x }) text None (Insert 1 (Values terms 3)) (Ok (tally, after))) has h) in
+    let done = went (subst (λ (x : Schema). Does s.step_limit (mode_of s) (Blob body ∷ []) (record s.now { schema = x }) text None
+    (Insert 1 (Values terms 3)) (Ok (tally, after))) has h) in
     let end = concluded s.step_limit objects_table (Blob body ∷ []) (mode_of s) done.0 tally after done.2 in
     let all = inserts s.step_limit s.now.trees c body done.0 it done.1 in (
       ap (λ (d : Database). d.schema) end.0,
@@ -63,18 +67,25 @@ insert_step body = record {
 abbrev pub insert_text : List ℕ
 insert_text = INSERT_OBJECT.now
 
-insert_tally : (body : List ℕ) (s : State) (text : List ℕ) (c : Bodies) (tally : Tally) (after : Database) → s.now.schema ≡ token_schema → HasRows s.now.trees c
-    → Does s.step_limit (mode_of s) (Blob body ∷ []) s.now text None (Insert 1 (Values terms 3)) (Ok (tally, after)) → tally.last ≡ Some (pos (c.last_id + 1))
+insert_tally : (body : List ℕ) (s : State) (text : List ℕ) (c : Bodies) (tally : Tally) (after : Database)
+    → s.now.schema ≡ token_schema → HasRows s.now.trees c
+    → Does s.step_limit (mode_of s) (Blob body ∷ []) s.now text None (Insert 1 (Values terms 3)) (Ok (tally, after))
+    → tally.last ≡ Some (pos (c.last_id + 1))
 insert_tally body s text c tally after has it h =
-    let done = went (subst (λ (x : Schema). Does s.step_limit (mode_of s) (Blob body ∷ []) (record s.now { schema = x }) text None (Insert 1 (Values terms 3)) (Ok (tally, after))) has h) in
+    let done = went (subst (λ (x : Schema). Does s.step_limit (mode_of s) (Blob body ∷ []) (record s.now { schema = x }) text None
+    (Insert 1 (Values terms 3)) (Ok (tally, after))) has h) in
     let end = concluded s.step_limit objects_table (Blob body ∷ []) (mode_of s) done.0 tally after done.2 in
     let all = inserts s.step_limit s.now.trees c body done.0 it done.1 in
     end.1 ∙ all.3
 
 -- the rowid that an insert gave
-pub insert_id : (body : List ℕ) (old new : State) (c : Bodies) (r : Result ℕ Error) → IsAtRows old c → Executes insert_text (Blob body ∷ []) old new r → OnOk r (new.last_rowid ≡ pos (c.last_id + 1))
+pub insert_id : (body : List ℕ) (old new : State) (c : Bodies) (r : Result ℕ Error) → IsAtRows old c
+    → Executes insert_text (Blob body ∷ []) old new r → OnOk r (new.last_rowid ≡ pos (c.last_id + 1))
 insert_id body old new c (Err e) at h = tt
 insert_id body old new c (Ok count) at h =
-    let w : Writes old new None (Insert 1 (Values terms 3)) (statement_of insert_text (understood token_schema insert_text)) (Blob body ∷ []) count =
+    let w : Writes old new None (Insert 1 (Values terms 3)) (statement_of insert_text (understood token_schema insert_text))
+    (Blob body ∷ []) count =
     runs_as insert_text (Blob body ∷ []) old new token_schema at.schema (Insert 1 (Values terms 3)) insert_is insert_plain count h in
-    w.last_rowid ∙ ap (λ (t : Option ℤ). unwrap_or t old.last_rowid) (insert_tally body old (statement_of insert_text (understood token_schema insert_text)) c w.tally new.now at.schema at.stores w.changed)
+    w.last_rowid ∙ ap (λ (t : Option ℤ). unwrap_or t old.last_rowid)
+    (insert_tally body old (statement_of insert_text
+    (understood token_schema insert_text)) c w.tally new.now at.schema at.stores w.changed)

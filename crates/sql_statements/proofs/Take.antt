@@ -23,10 +23,13 @@ remove_plain : IsPlain (understood token_schema REMOVE_OBJECT.now)
 unfolding understood everything
 remove_plain = (refl, refl)
 
-remove_does : (id : ℕ) (s : State) (text : List ℕ) (c : Bodies) (tally : Tally) (after : Database) → s.now.schema ≡ token_schema → HasRows s.now.trees c
-    → Does s.step_limit (mode_of s) (id_params id) s.now text None (Delete 1 (record { lets = []; body = remove_query })) (Ok (tally, after)) → (after.schema ≡ token_schema) × HasRows after.trees (without_body id c)
+remove_does : (id : ℕ) (s : State) (text : List ℕ) (c : Bodies) (tally : Tally) (after : Database) → s.now.schema ≡ token_schema
+    → HasRows s.now.trees c
+    → Does s.step_limit (mode_of s) (id_params id) s.now text None (Delete 1 (record { lets = []; body = remove_query }))
+    (Ok (tally, after)) → (after.schema ≡ token_schema) × HasRows after.trees (without_body id c)
 remove_does id s text c tally after has it h =
-    let done = went (subst (λ (x : Schema). Does s.step_limit (mode_of s) (id_params id) (record s.now { schema = x }) text None (Delete 1 (record { lets = []; body = remove_query })) (Ok (tally, after))) has h) in
+    let done = went (subst (λ (x : Schema). Does s.step_limit (mode_of s) (id_params id) (record s.now { schema = x }) text None
+    (Delete 1 (record { lets = []; body = remove_query })) (Ok (tally, after))) has h) in
     let end = concluded s.step_limit objects_table (id_params id) (mode_of s) done.0 tally after done.2 in
     let all = deletes s.step_limit s.now.trees c id done.0 it done.1 in (
       ap (λ (d : Database). d.schema) end.0,
@@ -38,7 +41,8 @@ remove_does id s text c tally after has it h =
       },
     )
 
-pub remove_step : (id : ℕ) → IsStep REMOVE_OBJECT.now (id_params id) (Delete 1 (record { lets = []; body = remove_query })) (without_body id)
+pub remove_step : (id : ℕ) → IsStep REMOVE_OBJECT.now (id_params id) (Delete 1 (record { lets = []; body = remove_query }))
+    (without_body id)
 remove_step id = record {
   is = remove_is;
   plain = remove_plain;

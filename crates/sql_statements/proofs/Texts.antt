@@ -48,19 +48,26 @@ pub insert_is : command_of (understood token_schema INSERT_OBJECT.now) ≡ Inser
 unfolding understood everything
 insert_is = refl
 
-pub remove_is : command_of (understood token_schema REMOVE_OBJECT.now) ≡ Delete 1 (record { lets = []; body = record plain_query { filter = by_id; project = col 1 0 ∷ [] } })
+pub remove_is : command_of (understood token_schema REMOVE_OBJECT.now)
+    ≡ Delete 1 (record { lets = []; body = record plain_query { filter = by_id; project = col 1 0 ∷ [] } })
 unfolding understood everything
 remove_is = refl
 
-pub clear_is : command_of (understood token_schema CLEAR_OBJECTS.now) ≡ Delete 1 (record { lets = []; body = record plain_query { project = col 1 0 ∷ [] } })
+pub clear_is : command_of (understood token_schema CLEAR_OBJECTS.now)
+    ≡ Delete 1 (record { lets = []; body = record plain_query { project = col 1 0 ∷ [] } })
 unfolding understood everything
 clear_is = refl
 
-pub replace_is : command_of (understood token_schema REPLACE_OBJECT.now) ≡ Update 1 (record { lets = []; body = record plain_query { filter = by_id; project = col 1 0 ∷ col 1 0 ∷ lit Null ∷ col 0 1 ∷ [] } })
+pub replace_is : command_of (understood token_schema REPLACE_OBJECT.now)
+    ≡ Update 1 (record { lets = []; body = record plain_query { filter = by_id; project = col 1 0 ∷ col 1 0 ∷ lit Null ∷ col 0 1 ∷ [] } })
 unfolding understood everything
 replace_is = refl
 
-pub set_is : command_of (understood token_schema SET_RECORD.now) ≡ Update 0 (record { lets = []; body = record plain_query { from = inner 0 end; project = col 1 0 ∷ col 1 0 ∷ lit Null ∷ col 0 0 ∷ [] } })
+pub set_is : command_of (understood token_schema SET_RECORD.now)
+    ≡ Update 0 (record {
+      lets = [];
+      body = record plain_query { from = inner 0 end; project = col 1 0 ∷ col 1 0 ∷ lit Null ∷ col 0 0 ∷ [] };
+    })
 unfolding understood everything
 set_is = refl
 
@@ -72,11 +79,13 @@ pub read_is : command_of (understood token_schema READ_OBJECT.now) ≡ Select (r
 unfolding understood everything
 read_is = refl
 
-pub objects_read_is : command_of (understood token_schema READ_OBJECTS.now) ≡ Select (record { lets = []; body = record plain_query { project = col 1 0 ∷ col 1 2 ∷ [] } }) (codes "id" ∷ codes "body" ∷ [])
+pub objects_read_is : command_of (understood token_schema READ_OBJECTS.now)
+    ≡ Select (record { lets = []; body = record plain_query { project = col 1 0 ∷ col 1 2 ∷ [] } }) (codes "id" ∷ codes "body" ∷ [])
 unfolding understood everything
 objects_read_is = refl
 
-pub ids_read_is : command_of (understood token_schema READ_IDS.now) ≡ Select (record { lets = []; body = record plain_query { project = col 1 0 ∷ []; order = (col 1 0, ascending Binary) ∷ [] } }) (codes "id" ∷ [])
+pub ids_read_is : command_of (understood token_schema READ_IDS.now)
+    ≡ Select (record { lets = []; body = record plain_query { project = col 1 0 ∷ []; order = (col 1 0, ascending Binary) ∷ [] } }) (codes "id" ∷ [])
 unfolding understood everything
 ids_read_is = refl
 

@@ -25,7 +25,8 @@ abbrev pub set_params : List ℕ → Row
 set_params r = Blob r ∷ []
 
 -- what the query gives: the rowid, and then the new row
-set_rows : (db : Trees) (old : List ℕ) (new : List ℕ) (rows : List Row) → db 0 ≡ body_row (1, old) ∷ [] → IsAnswer set_query (overlay db []) (set_params new) rows
+set_rows : (db : Trees) (old : List ℕ) (new : List ℕ) (rows : List Row) → db 0 ≡ body_row (1, old) ∷ []
+    → IsAnswer set_query (overlay db []) (set_params new) rows
     → rows ≡ (Int (pos 1) ∷ Int (pos 1) ∷ Null ∷ Blob new ∷ []) ∷ []
 set_rows db old new rows is a =
     let params = set_params new in
@@ -38,7 +39,8 @@ set_rows db old new rows is a =
 abbrev set_edit : Trees → List Row → Edit
 set_edit db rows = edit_of db record_table (ids_of rows) Given 1 rows
 
-one_set : (db : Trees) (old : List ℕ) (new : List ℕ) → db 0 ≡ body_row (1, old) ∷ [] → edited db (set_edit db ((Int (pos 1) ∷ Int (pos 1) ∷ Null ∷ Blob new ∷ []) ∷ [])) ≡ body_row (1, new) ∷ []
+one_set : (db : Trees) (old : List ℕ) (new : List ℕ) → db 0 ≡ body_row (1, old) ∷ []
+    → edited db (set_edit db ((Int (pos 1) ∷ Int (pos 1) ∷ Null ∷ Blob new ∷ []) ∷ [])) ≡ body_row (1, new) ∷ []
 one_set db old new is = rw (is, same_id, cast_null, cast_int (pos 1))
 
 pub updates : (limit : Option ℕ) (db : Trees) (old : List ℕ) (new : List ℕ) (w : Written) → db 0 ≡ body_row (1, old) ∷ []

@@ -10,16 +10,16 @@ pub record Bodies : Type 0 where
   pub last_id : ℕ
 
 -- ids rise, from above one on and to the last that was given
-abbrev pub IdsRise : ℕ → List (ℕ × List ℕ) → ℕ → Type 0
-IdsRise low [] last = ⊤
-IdsRise low (e ∷ es) last = (low < e.0) × (e.0 ≤ last) × IdsRise e.0 es last
+abbrev pub RowIdsRise : ℕ → List (ℕ × List ℕ) → ℕ → Type 0
+RowIdsRise low [] last = ⊤
+RowIdsRise low (e ∷ es) last = (low < e.0) × (e.0 ≤ last) × RowIdsRise e.0 es last
 
 -- ids are signed numbers of 64 bits above 0
-abbrev pub greatest_id : ℕ
-greatest_id = 2 ^ 63 - 1
+abbrev pub greatest_row_id : ℕ
+greatest_row_id = 2 ^ 63 - 1
 
-abbrev pub ids_of : Bodies → List ℕ
-ids_of b = map (λ e. e.0) b.objects
+abbrev pub row_ids : Bodies → List ℕ
+row_ids b = map (λ e. e.0) b.objects
 
 -- the body that has this id
 abbrev pub body_at : Bodies → ℕ → Option (List ℕ)
@@ -45,9 +45,9 @@ with_body_at id bytes b = record { objects = map (put_at id bytes) b.objects; to
 abbrev pub without_body : ℕ → Bodies → Bodies
 without_body id b = record { objects = filter (λ e. not (e.0 == id)) b.objects; token_record = b.token_record; last_id = b.last_id }
 
-abbrev pub with_record : List ℕ → Bodies → Bodies
-with_record bytes b = record { objects = b.objects; token_record = bytes; last_id = b.last_id }
+abbrev pub bodies_with_record : List ℕ → Bodies → Bodies
+bodies_with_record bytes b = record { objects = b.objects; token_record = bytes; last_id = b.last_id }
 
 -- no objects and another record; ids go on
-abbrev pub after_reset : List ℕ → Bodies → Bodies
-after_reset bytes b = record { objects = []; token_record = bytes; last_id = b.last_id }
+abbrev pub bodies_after_reset : List ℕ → Bodies → Bodies
+bodies_after_reset bytes b = record { objects = []; token_record = bytes; last_id = b.last_id }

@@ -11,7 +11,7 @@ use Rattle.sqlite.proofs.Callers.{command_of}
 use Rattle.sqlite.specs.Listing.{understood, reads_listing}
 use Rattle.sqlite.specs.State.{State, HasCleanDisk}
 use Rattle.sql_statements.specs.Tables.{token_schema}
-use Rattle.sql_statements.specs.Bodies.{Bodies, IdsRise, body_at}
+use Rattle.sql_statements.specs.Bodies.{Bodies, RowIdsRise, body_at}
 
 -- the row of an id and a body
 abbrev pub body_row : ℕ × List ℕ → Row
@@ -27,7 +27,7 @@ pub record HasRows (trees : Trees) (b : Bodies) : Type 0 where
   pub record_is : trees 0 ≡ body_row (1, b.token_record) ∷ []
   pub objects_are : trees 1 ≡ map body_row b.objects
   pub count_is : trees 2 ≡ counter_rows b.last_id
-  pub ids : IdsRise 0 b.objects b.last_id
+  pub ids : RowIdsRise 0 b.objects b.last_id
 
 -- the same, and the trees list the two tables and obey them
 pub record HasTables (trees : Trees) (b : Bodies) : Type 0 where
@@ -93,13 +93,15 @@ IsQuery sql = IsPlain (understood token_schema sql) × (reads_listing token_sche
 pub record Committed (old new : State) (step : Bodies → Bodies) : Type 0 where
   pub clean : doubt old.is_clean ≤ doubt new.is_clean
   pub held : (b : Bodies) → IsReady old → HoldsRows old b → HoldsRows new (step b)
-  pub crash : (b : Bodies) → IsReady old → HoldsRows old b → HasCleanDisk new → (left : Trees) → new.may_leave left → HasTables left (step b)
+  pub crash : (b : Bodies) → IsReady old → HoldsRows old b → HasCleanDisk new → (left : Trees) → new.may_leave left
+      → HasTables left (step b)
 
 -- it was not
 pub record Uncommitted (old new : State) (step : Bodies → Bodies) : Type 0 where
   pub clean : doubt old.is_clean ≤ doubt new.is_clean
   pub held : (b : Bodies) → IsReady old → HoldsRows old b → HoldsRows new b
-  pub crash : (b : Bodies) → IsReady old → HoldsRows old b → HasCleanDisk new → (left : Trees) → new.may_leave left → old.may_leave left ⊎ HasTables left (step b)
+  pub crash : (b : Bodies) → IsReady old → HoldsRows old b → HasCleanDisk new → (left : Trees) → new.may_leave left
+      → old.may_leave left ⊎ HasTables left (step b)
 
 -- ---- the same with no premise, where a call before has found the connection open
 
@@ -122,4 +124,5 @@ pub record RowsFailed (old new : State) (step : Bodies → Bodies) : Type 0 wher
   pub clean : doubt old.is_clean ≤ doubt new.is_clean
   pub was_open : HasCleanDisk new → IsTrue new.is_open → IsTrue old.is_open
   pub held : (b : Bodies) → HoldsRows old b → HoldsRows new b
-  pub crash : (b : Bodies) → HoldsRows old b → HasCleanDisk new → (left : Trees) → new.may_leave left → old.may_leave left ⊎ (IsTrue old.is_open × HasTables left (step b))
+  pub crash : (b : Bodies) → HoldsRows old b → HasCleanDisk new → (left : Trees) → new.may_leave left → old.may_leave left
+      ⊎ (IsTrue old.is_open × HasTables left (step b))

@@ -8,7 +8,8 @@ use Rattle.sqlite.specs.declared.error.ErrorCode.TheVariants.{Closed}
 use Rattle.sqlite_trees.specs.declared.error.StoreError.{StoreError}
 use Rattle.sqlite_trees.specs.declared.error.StoreError.TheVariants.{OutOfMemory, Io, Corrupt, Full, Broken, Unstorable}
 
-of_cause : (old new : State) (cause : StoreError) → store_error cause ≡ SqliteFailure Closed → HasCause old new ⊥ cause → old.is_open ≡ false
+of_cause : (old new : State) (cause : StoreError) → store_error cause ≡ SqliteFailure Closed → HasCause old new ⊥ cause
+    → old.is_open ≡ false
 of_cause old new OutOfMemory is it = absurd (cc)
 of_cause old new Io is it = absurd (cc)
 of_cause old new Corrupt is it = absurd (cc)
@@ -16,7 +17,8 @@ of_cause old new Full is it = absurd (cc)
 of_cause old new Broken is it = it
 of_cause old new Unstorable is it = absurd it
 
-pub shut_if_closed : (old new : State) (sql : List ℕ) (e : Error) → ((params : Row) → IsNotRun old new sql params e) → e ≡ SqliteFailure Closed → old.is_open ≡ false
+pub shut_if_closed : (old new : State) (sql : List ℕ) (e : Error) → ((params : Row) → IsNotRun old new sql params e)
+    → e ≡ SqliteFailure Closed → old.is_open ≡ false
 unfolding IsNotRun
 shut_if_closed old new sql e it is = elim (it []) [
   | inl miss ↦ elim miss.0 [

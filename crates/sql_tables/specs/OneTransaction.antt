@@ -7,7 +7,8 @@ use Rattle.sqlite.specs.Held.{Held, state}
 use Rattle.sqlite.specs.declared.error.Error.{Error}
 
 -- `Ran before db`: from the connection `before` the statements made `db`. The result is whether they were run at all
-pub record IsOneTransaction {S : Type 0} (g : Ghosts S) (Ran : Held S → Database → Type 0) (old new : Held S) (result : Result Bool Error) : Type 0 where
+pub record IsOneTransaction {S : Type 0} (g : Ghosts S) (Ran : Held S → Database → Type 0) (old new : Held S)
+    (result : Result Bool Error) : Type 0 where
   pub all : HasCleanDisk (state g new) → IfOk result (λ done. IsTrue done → Ran old (state g new).committed)
   pub settled : IfOk result (λ done. IsTrue done → IsTrue (state g new).is_open → (state g new).now ≡ (state g new).committed)
   pub up : HasCleanDisk (state g new) → IfOk result (λ done. IsTrue done → IsTrue (state g new).is_open)
@@ -15,5 +16,6 @@ pub record IsOneTransaction {S : Type 0} (g : Ghosts S) (Ran : Held S → Databa
   pub refused : IfOk result (λ done. done ≡ false → new ≡ old)
   pub busy : IfOk result (λ done. done ≡ false → old.in_transaction ≡ true)
   pub stopped : OnErr result (new.in_transaction ≡ false)
-  pub none : HasCleanDisk (state g new) → IsTrue (state g new).is_open → OnErr result (((state g new).now ≡ (state g old).now) × ((state g new).committed ≡ (state g old).committed))
+  pub none : HasCleanDisk (state g new) → IsTrue (state g new).is_open
+      → OnErr result (((state g new).now ≡ (state g old).now) × ((state g new).committed ≡ (state g old).committed))
   pub crash : Survives (state g old) (state g new) (λ trees. (db : Database) × Ran old db × (trees ≡ db.trees))

@@ -12,7 +12,8 @@ use Rattle.sql_tables.specs.declared.renewals.Renewal.{Renewal}
 abbrev pub RanEach : {S : Type 0} → Ghosts S → List Renewal → Held S → Held S → Type 0
 RanEach g [] old new = old ≡ new
 RanEach {S} g (e ∷ es) old new =
-    (mid : Held S) × ((count : ℕ) × Executes REPLACE_OBJECT.now (Int e.id ∷ Blob e.body.items ∷ []) (state g old) (state g mid) (Ok count)) × RanEach g es mid new
+    (mid : Held S) × ((count : ℕ)
+    × Executes REPLACE_OBJECT.now (Int e.id ∷ Blob e.body.items ∷ []) (state g old) (state g mid) (Ok count)) × RanEach g es mid new
 
 pub record RanRenewals {S : Type 0} (g : Ghosts S) (renewals : List Renewal) (bytes : List ℕ) (old : Held S) (db : Database) : Type 0 where
   pub mid : Held S

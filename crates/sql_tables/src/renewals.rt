@@ -28,7 +28,8 @@ pub struct Renewal {
 fn write_one<S: Alter>(tx: &mut Transaction<'_, S>, renewal: &Renewal) -> Result<usize, Error>
     ensures same_reference { tx.new.conn.ghost_name ≡ tx.old.conn.ghost_name }
     ensures runs { HasCleanDisk (state S.Store tx.new.conn.now) → IsTrue (state S.Store tx.old.conn.now).in_transaction
-        → ExecutesInside 0 REPLACE_OBJECT.now (Int renewal.now.id ∷ Blob renewal.now.body.items ∷ []) (state S.Store tx.old.conn.now) (state S.Store tx.new.conn.now) result }
+        → ExecutesInside 0 REPLACE_OBJECT.now (Int renewal.now.id ∷ Blob renewal.now.body.items ∷ []) (state S.Store tx.old.conn.now)
+        (state S.Store tx.new.conn.now) result }
     ensures survives { Survives (state S.Store tx.old.conn.now) (state S.Store tx.new.conn.now) (λ _. ⊥) }
 {
     tx.execute(REPLACE_OBJECT, params![renewal.id, renewal.body.as_slice()])
@@ -80,9 +81,11 @@ pub fn renew_bodies<S: Alter>(
     ensures busy { IfOk result (λ done. done ≡ false → conn.old.in_transaction ≡ true) }
     ensures refused { (db : Database) → IsReady (state S.Store conn.old) → Sees (state S.Store conn.old) db → HasCleanDisk (state S.Store conn.new)
         → IfOk result (λ done. done ≡ false → ShowsNow (state S.Store conn.new) db) }
-    ensures same { (db : Database) → IsReady (state S.Store conn.old) → Sees (state S.Store conn.old) db → HasCleanDisk (state S.Store conn.new) → IsTrue (state S.Store conn.new).is_open
+    ensures same { (db : Database) → IsReady (state S.Store conn.old) → Sees (state S.Store conn.old) db
+        → HasCleanDisk (state S.Store conn.new) → IsTrue (state S.Store conn.new).is_open
         → OnErr result (ShowsNow (state S.Store conn.new) db) }
-    ensures crash { (b : Bodies) → IsAtRows (state S.Store conn.old) b → AreNatural renewals.now → HasCleanDisk (state S.Store conn.new) → (left : Trees) → (state S.Store conn.new).may_leave left
+    ensures crash { (b : Bodies) → IsAtRows (state S.Store conn.old) b → AreNatural renewals.now → HasCleanDisk (state S.Store conn.new)
+        → (left : Trees) → (state S.Store conn.new).may_leave left
         → (state S.Store conn.old).may_leave left ⊎ HasTables left (renewed renewals.now bytes.now b) }
 {
     run_all(

@@ -9,7 +9,7 @@ ghost use Rattle.sqlite.specs.declared.error.Error.TheVariants.{SqliteFailure};
 ghost use Rattle.sqlite.specs.declared.error.ErrorCode.TheVariants.{Closed};
 ghost use Rattle.sqlite.specs.State.{HasCleanDisk, Executes, QueriesRow, Survives, CommitsBy, CommitsShowing};
 ghost use Rattle.sqlite.specs.Held.{state};
-ghost use Rattle.sql_statements.specs.Bodies.{Bodies, after_reset, greatest_id, with_body, with_body_at, with_record, without_body};
+ghost use Rattle.sql_statements.specs.Bodies.{Bodies, bodies_after_reset, greatest_row_id, with_body, with_body_at, bodies_with_record, without_body};
 ghost use Rattle.sql_statements.specs.Store.{Committed, HoldsRows, IsReady, RowsChanged, RowsFailed, RowsStayed, ShowsBody, Uncommitted, Unwritten};
 
 use crate::transactions::{Pair, run_all};
@@ -21,14 +21,15 @@ use sqlite::{Alter, Connection, Error, Row, params};
 fn insert_row<S: Alter>(conn: &mut Connection<S>, bytes: &[u8]) -> Result<usize, Error>
     ensures ok { OnOk result (Committed (state S.Store conn.old) (state S.Store conn.new) (with_body bytes.now)) }
     ensures err { OnErr result (Uncommitted (state S.Store conn.old) (state S.Store conn.new) (with_body bytes.now)) }
-    ensures id { HasCleanDisk (state S.Store conn.new) → (b : Bodies) → IsReady (state S.Store conn.old) → HoldsRows (state S.Store conn.old) b → OnOk result ((state S.Store conn.new).last_rowid ≡ pos (b.last_id + 1)) }
+    ensures id { HasCleanDisk (state S.Store conn.new) → (b : Bodies) → IsReady (state S.Store conn.old)
+        → HoldsRows (state S.Store conn.old) b → OnOk result ((state S.Store conn.new).last_rowid ≡ pos (b.last_id + 1)) }
 {
     conn.execute(INSERT_OBJECT, params![bytes])
 }
 
 fn set_row<S: Alter>(conn: &mut Connection<S>, bytes: &[u8]) -> Result<usize, Error>
-    ensures ok { OnOk result (Committed (state S.Store conn.old) (state S.Store conn.new) (with_record bytes.now)) }
-    ensures err { OnErr result (Uncommitted (state S.Store conn.old) (state S.Store conn.new) (with_record bytes.now)) }
+    ensures ok { OnOk result (Committed (state S.Store conn.old) (state S.Store conn.new) (bodies_with_record bytes.now)) }
+    ensures err { OnErr result (Uncommitted (state S.Store conn.old) (state S.Store conn.new) (bodies_with_record bytes.now)) }
 {
     conn.execute(SET_RECORD, params![bytes])
 }
@@ -36,7 +37,8 @@ fn set_row<S: Alter>(conn: &mut Connection<S>, bytes: &[u8]) -> Result<usize, Er
 // The cast of an id is hidden by these clauses.
 fn delete_by<S: Alter>(conn: &mut Connection<S>, id: u64) -> Result<usize, Error>
     requires { id < 2 ^ 63 }
-    ensures runs { HasCleanDisk (state S.Store conn.new) → Executes REMOVE_OBJECT.now (Int (pos id) ∷ []) (state S.Store conn.old) (state S.Store conn.new) result }
+    ensures runs { HasCleanDisk (state S.Store conn.new)
+        → Executes REMOVE_OBJECT.now (Int (pos id) ∷ []) (state S.Store conn.old) (state S.Store conn.new) result }
     ensures survives { Survives (state S.Store conn.old) (state S.Store conn.new) (CommitsBy REMOVE_OBJECT.now (Int (pos id) ∷ []) (state S.Store conn.old)) }
 {
     let id = id as i64;
@@ -45,8 +47,10 @@ fn delete_by<S: Alter>(conn: &mut Connection<S>, id: u64) -> Result<usize, Error
 
 fn replace_by<S: Alter>(conn: &mut Connection<S>, id: u64, bytes: &[u8]) -> Result<usize, Error>
     requires { id < 2 ^ 63 }
-    ensures runs { HasCleanDisk (state S.Store conn.new) → Executes REPLACE_OBJECT.now (Int (pos id) ∷ Blob bytes.now ∷ []) (state S.Store conn.old) (state S.Store conn.new) result }
-    ensures survives { Survives (state S.Store conn.old) (state S.Store conn.new) (CommitsBy REPLACE_OBJECT.now (Int (pos id) ∷ Blob bytes.now ∷ []) (state S.Store conn.old)) }
+    ensures runs { HasCleanDisk (state S.Store conn.new)
+        → Executes REPLACE_OBJECT.now (Int (pos id) ∷ Blob bytes.now ∷ []) (state S.Store conn.old) (state S.Store conn.new) result }
+    ensures survives { Survives (state S.Store conn.old) (state S.Store conn.new)
+        (CommitsBy REPLACE_OBJECT.now (Int (pos id) ∷ Blob bytes.now ∷ []) (state S.Store conn.old)) }
 {
     let id = id as i64;
     conn.execute(REPLACE_OBJECT, params![id, bytes])
@@ -54,8 +58,10 @@ fn replace_by<S: Alter>(conn: &mut Connection<S>, id: u64, bytes: &[u8]) -> Resu
 
 fn read_by<S: Alter>(conn: &mut Connection<S>, id: u64) -> Result<Row, Error>
     requires { id < 2 ^ 63 }
-    ensures row { HasCleanDisk (state S.Store conn.new) → QueriesRow READ_OBJECT.now (Int (pos id) ∷ []) (state S.Store conn.old) (state S.Store conn.new) result }
-    ensures survives { Survives (state S.Store conn.old) (state S.Store conn.new) (CommitsShowing READ_OBJECT.now (Int (pos id) ∷ []) (state S.Store conn.old)) }
+    ensures row { HasCleanDisk (state S.Store conn.new)
+        → QueriesRow READ_OBJECT.now (Int (pos id) ∷ []) (state S.Store conn.old) (state S.Store conn.new) result }
+    ensures survives { Survives (state S.Store conn.old) (state S.Store conn.new)
+        (CommitsShowing READ_OBJECT.now (Int (pos id) ∷ []) (state S.Store conn.old)) }
 {
     let id = id as i64;
     conn.query_row(READ_OBJECT, params![id])
@@ -92,7 +98,7 @@ pub fn ensure_open<S: Alter>(conn: &mut Connection<S>, sql: &str) -> Result<(), 
 /// The id of the object that was inserted last.
 fn last_id<S: Alter>(conn: &Connection<S>) -> u64
     ensures value { (n : ℕ) → (state S.Store conn.now).last_rowid ≡ pos n → result ≡ n }
-    ensures limit { result ≤ greatest_id }
+    ensures limit { result ≤ greatest_row_id }
 {
     let id = conn.last_insert_rowid();
     if id < 0 { 0 } else { id as u64 }
@@ -104,7 +110,7 @@ pub fn insert_object<S: Alter>(conn: &mut Connection<S>, bytes: &[u8]) -> Result
     ensures ok { OnOk result (RowsChanged (state S.Store conn.old) (state S.Store conn.new) (with_body bytes.now)) }
     ensures err { OnErr result (RowsFailed (state S.Store conn.old) (state S.Store conn.new) (with_body bytes.now)) }
     ensures id { HasCleanDisk (state S.Store conn.new) → (b : Bodies) → HoldsRows (state S.Store conn.old) b → IfOk result (λ id. id ≡ b.last_id + 1) }
-    ensures limit { IfOk result (λ id. id ≤ greatest_id) }
+    ensures limit { IfOk result (λ id. id ≤ greatest_row_id) }
 {
     ensure_open(conn, INSERT_OBJECT)?;
     insert_row(conn, bytes)?;
@@ -115,10 +121,10 @@ pub fn insert_object<S: Alter>(conn: &mut Connection<S>, bytes: &[u8]) -> Result
 /// `false` where a transaction was open. An error where the connection is shut or sqlite refused. The
 /// tables are as they were in both cases.
 pub fn reset_rows<S: Alter>(conn: &mut Connection<S>, bytes: &[u8]) -> Result<bool, Error>
-    ensures made { IfOk result (λ done. IsTrue done → RowsChanged (state S.Store conn.old) (state S.Store conn.new) (after_reset bytes.now)) }
+    ensures made { IfOk result (λ done. IsTrue done → RowsChanged (state S.Store conn.old) (state S.Store conn.new) (bodies_after_reset bytes.now)) }
     ensures busy { IfOk result (λ done. done ≡ false → conn.old.in_transaction ≡ true) }
-    ensures refused { IfOk result (λ done. done ≡ false → RowsFailed (state S.Store conn.old) (state S.Store conn.new) (after_reset bytes.now)) }
-    ensures err { OnErr result (RowsFailed (state S.Store conn.old) (state S.Store conn.new) (after_reset bytes.now)) }
+    ensures refused { IfOk result (λ done. done ≡ false → RowsFailed (state S.Store conn.old) (state S.Store conn.new) (bodies_after_reset bytes.now)) }
+    ensures err { OnErr result (RowsFailed (state S.Store conn.old) (state S.Store conn.new) (bodies_after_reset bytes.now)) }
 {
     ensure_open(conn, CLEAR_OBJECTS)?;
     run_all(
@@ -134,8 +140,8 @@ pub fn reset_rows<S: Alter>(conn: &mut Connection<S>, bytes: &[u8]) -> Result<bo
 /// Puts another body in the row of the record. An error where the connection is shut or sqlite refused; the
 /// tables are as they were then.
 pub fn put_record<S: Alter>(conn: &mut Connection<S>, bytes: &[u8]) -> Result<(), Error>
-    ensures ok { OnOk result (RowsChanged (state S.Store conn.old) (state S.Store conn.new) (with_record bytes.now)) }
-    ensures err { OnErr result (RowsFailed (state S.Store conn.old) (state S.Store conn.new) (with_record bytes.now)) }
+    ensures ok { OnOk result (RowsChanged (state S.Store conn.old) (state S.Store conn.new) (bodies_with_record bytes.now)) }
+    ensures err { OnErr result (RowsFailed (state S.Store conn.old) (state S.Store conn.new) (bodies_with_record bytes.now)) }
 {
     ensure_open(conn, SET_RECORD)?;
     set_row(conn, bytes)?;

@@ -13,10 +13,17 @@ use sqlite::{Alter, Connection, Error, Transaction, params};
 fn finish<S: Alter>(tx: Transaction<'_, S>, done: Result<usize, Error>) -> Result<(), Error>
     ensures ended { tx.exit.0.now.in_transaction ≡ false }
     ensures whole { OnOk result (IsOk done) }
-    ensures shows { HasCleanDisk (state S.Store tx.exit.0.now) → OnOk result (Shows (state S.Store tx.entry.conn.now) (state S.Store tx.exit.0.now) (state S.Store tx.entry.conn.now).now (state S.Store tx.entry.conn.now).now false) }
-    ensures undone { HasCleanDisk (state S.Store tx.exit.0.now) → IsTrue (state S.Store tx.exit.0.now).is_open → OnOk done (IsTrue (state S.Store tx.entry.conn.now).in_transaction)
-        → OnErr result (IsTrue (state S.Store tx.entry.conn.now).is_open × ((state S.Store tx.exit.0.now).now ≡ (state S.Store tx.entry.conn.now).committed) × ((state S.Store tx.exit.0.now).committed ≡ (state S.Store tx.entry.conn.now).committed)) }
-    ensures survives { Survives (state S.Store tx.entry.conn.now) (state S.Store tx.exit.0.now) (λ trees. IsOk done × (trees ≡ (state S.Store tx.entry.conn.now).now.trees)) }
+    ensures shows { HasCleanDisk (state S.Store tx.exit.0.now)
+        → OnOk result
+        (Shows (state S.Store tx.entry.conn.now) (state S.Store tx.exit.0.now) (state S.Store tx.entry.conn.now).now
+        (state S.Store tx.entry.conn.now).now false) }
+    ensures undone { HasCleanDisk (state S.Store tx.exit.0.now) → IsTrue (state S.Store tx.exit.0.now).is_open
+        → OnOk done (IsTrue (state S.Store tx.entry.conn.now).in_transaction)
+        → OnErr result (IsTrue (state S.Store tx.entry.conn.now).is_open
+        × ((state S.Store tx.exit.0.now).now ≡ (state S.Store tx.entry.conn.now).committed)
+        × ((state S.Store tx.exit.0.now).committed ≡ (state S.Store tx.entry.conn.now).committed)) }
+    ensures survives { Survives (state S.Store tx.entry.conn.now) (state S.Store tx.exit.0.now) (λ trees. IsOk done
+        × (trees ≡ (state S.Store tx.entry.conn.now).now.trees)) }
 {
     done?;
     tx.commit()
@@ -31,8 +38,10 @@ pub(crate) trait Statements<S: Alter> {
         ensures same_reference { tx.new.conn.ghost_name ≡ tx.old.conn.ghost_name }
         ensures ran { HasCleanDisk (state S.Store tx.new.conn.now) → (before : _) → tx.old.conn.now ≡ record before { in_transaction = true }
             → OnOk result (ran self.now before (state S.Store tx.new.conn.now).now) }
-        ensures inside { HasCleanDisk (state S.Store tx.new.conn.now) → IsTrue (state S.Store tx.old.conn.now).in_transaction → OnOk result (IsTrue (state S.Store tx.new.conn.now).in_transaction) }
-        ensures kept { HasCleanDisk (state S.Store tx.new.conn.now) → IsTrue (state S.Store tx.old.conn.now).in_transaction → KeepsCommit (state S.Store tx.old.conn.now) (state S.Store tx.new.conn.now) }
+        ensures inside { HasCleanDisk (state S.Store tx.new.conn.now) → IsTrue (state S.Store tx.old.conn.now).in_transaction
+            → OnOk result (IsTrue (state S.Store tx.new.conn.now).in_transaction) }
+        ensures kept { HasCleanDisk (state S.Store tx.new.conn.now) → IsTrue (state S.Store tx.old.conn.now).in_transaction
+            → KeepsCommit (state S.Store tx.old.conn.now) (state S.Store tx.new.conn.now) }
         ensures survives { Survives (state S.Store tx.old.conn.now) (state S.Store tx.new.conn.now) (λ _. ⊥) };
 }
 

@@ -5,8 +5,8 @@ use Rattle.sqlite_trees.specs.Tree.{put_row}
 use Rattle.sqlite_trees.specs.View.{View, OnlyWrites}
 
 -- only cursors may differ
-abbrev pub OnlyReads : View → View → Type 0
-OnlyReads old new = new ≡ record old { cursors = new.cursors }
+abbrev pub OnlyCursorsMove : View → View → Type 0
+OnlyCursorsMove old new = new ≡ record old { cursors = new.cursors }
 
 abbrev pub put_rows : List Row → List Row → List Row
 put_rows rows es = fold (λ (xs : List Row) (row : Row). put_row row xs) es rows

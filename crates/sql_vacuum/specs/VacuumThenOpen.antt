@@ -18,5 +18,6 @@ use Rattle.sql_vacuum.specs.FileOf.{IsFileOf}
 -- with no log holds these contents and no others, and a crash leaves them alone.
 abbrev pub VacuumThenOpen : {N : Type 0} → Ghosts N → Type 0
 VacuumThenOpen {N} h =
-    (trees : Trees) (c : Contents) (bytes : List ℕ) (version : ℕ) (next : SqlState (FileStore N h)) → IsStore trees c → ((b : Bodies) → HasRows trees b → IsFileOf bytes b version)
+    (trees : Trees) (c : Contents) (bytes : List ℕ) (version : ℕ) (next : SqlState (FileStore N h)) → IsStore trees c
+    → ((b : Bodies) → HasRows trees b → IsFileOf bytes b version)
     → OpenedFile (record { log = []; db = bytes }) next → HasCleanDisk (file_state next.conn) → Adopts (sql_terms over_files) next c

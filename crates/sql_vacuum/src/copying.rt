@@ -4,7 +4,7 @@ ghost use Rattle.std.specs.Prelude.{◌≡◌, ◌≤◌, IsTrue, IfOk, OnOk};
 ghost use Rattle.sqlite_trees.specs.declared.store.Shape.{Shape as Kind};
 ghost use Rattle.sqlite_trees.specs.Tree.{put_row, rowid};
 ghost use Rattle.sqlite_trees.specs.View.{IsClean, IsQuiet, KeepsSchema, OnlyWrites, SetsTree, is_int};
-ghost use Rattle.sql_vacuum.specs.Copies.{OnlyReads, PutsEach, PutsTrees};
+ghost use Rattle.sql_vacuum.specs.Copies.{OnlyCursorsMove, PutsEach, PutsTrees};
 
 use sqlite_trees::error::StoreError;
 use sqlite_trees::store::{Direction, Shape, Store};
@@ -15,7 +15,7 @@ use std::alloc::Global;
 /// All entries of a tree, in order.
 fn rows_of<S: Store>(alloc: Global, store: &mut S, tree: u32) -> Result<Vec<Row>, StoreError>
     ensures rows { IfOk result (λ rows. IsClean (S.Store.view store.new) → rows.items ≡ (S.Store.view store.old).trees tree) }
-    ensures same { OnOk result (IsClean (S.Store.view store.new) → OnlyReads (S.Store.view store.old) (S.Store.view store.new)) }
+    ensures same { OnOk result (IsClean (S.Store.view store.new) → OnlyCursorsMove (S.Store.view store.old) (S.Store.view store.new)) }
     ensures quiet { IsQuiet S.Store.view S.Store.faults S.Store.recovers S.Store.is_shielded store.old store.new }
 {
     let mut row = Row::new(alloc);
@@ -66,8 +66,9 @@ fn copy_tree<A: Store, B: Store>(
     to: &mut B,
     tree: u32,
 ) -> Result<(), StoreError>
-    ensures ok { OnOk result (IsClean (A.Store.view from.new) → IsClean (B.Store.view to.new) → PutsEach (B.Store.view to.old) (B.Store.view to.new) tree ((A.Store.view from.old).trees tree)) }
-    ensures same { OnOk result (IsClean (A.Store.view from.new) → OnlyReads (A.Store.view from.old) (A.Store.view from.new)) }
+    ensures ok { OnOk result (IsClean (A.Store.view from.new) → IsClean (B.Store.view to.new)
+        → PutsEach (B.Store.view to.old) (B.Store.view to.new) tree ((A.Store.view from.old).trees tree)) }
+    ensures same { OnOk result (IsClean (A.Store.view from.new) → OnlyCursorsMove (A.Store.view from.old) (A.Store.view from.new)) }
     ensures writes { OnOk result (IsClean (B.Store.view to.new) → OnlyWrites (B.Store.view to.old) (B.Store.view to.new)) }
     ensures from { IsQuiet A.Store.view A.Store.faults A.Store.recovers A.Store.is_shielded from.old from.new }
     ensures to { IsQuiet B.Store.view B.Store.faults B.Store.recovers B.Store.is_shielded to.old to.new }
@@ -84,7 +85,8 @@ pub fn copy_trees<A: Store, B: Store>(
     to: &mut B,
     count: u32,
 ) -> Result<(), StoreError>
-    ensures ok { OnOk result (IsClean (A.Store.view from.new) → IsClean (B.Store.view to.new) → PutsTrees (A.Store.view from.old) (B.Store.view to.old) (B.Store.view to.new) count) }
+    ensures ok { OnOk result (IsClean (A.Store.view from.new) → IsClean (B.Store.view to.new)
+        → PutsTrees (A.Store.view from.old) (B.Store.view to.old) (B.Store.view to.new) count) }
     ensures writes { OnOk result (IsClean (B.Store.view to.new) → OnlyWrites (B.Store.view to.old) (B.Store.view to.new)) }
     ensures from { IsQuiet A.Store.view A.Store.faults A.Store.recovers A.Store.is_shielded from.old from.new }
     ensures to { IsQuiet B.Store.view B.Store.faults B.Store.recovers B.Store.is_shielded to.old to.new }

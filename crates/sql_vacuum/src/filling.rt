@@ -96,7 +96,8 @@ fn fill<A: Store, B: Alter>(
     to: &mut B,
     version: u32,
 ) -> Result<(), StoreError>
-    ensures ok { OnOk result (IsClean (A.Store.view from.new) → IsClean (B.Store.view to.new) → PutsTables (A.Store.view from.old) (B.Store.view to.old) (B.Store.view to.new) version) }
+    ensures ok { OnOk result (IsClean (A.Store.view from.new) → IsClean (B.Store.view to.new)
+        → PutsTables (A.Store.view from.old) (B.Store.view to.old) (B.Store.view to.new) version) }
     ensures fresh { OnOk result (IsClean (B.Store.view to.new) → IsFresh (B.Store.view to.old) → IsFresh (B.Store.view to.new)) }
     ensures from { IsQuiet A.Store.view A.Store.faults A.Store.recovers A.Store.is_shielded from.old from.new }
     ensures clean { doubt (B.Store.view to.old).is_clean ≤ doubt (B.Store.view to.new).is_clean }
@@ -112,8 +113,10 @@ pub(crate) fn filled<A: Store>(
     from: &mut A,
     version: u32,
 ) -> Result<Connection<FileStore<Memory>>, Error>
-    ensures ok { IfOk result (λ conn. HasCleanDisk (file_state conn) → IsClean (A.Store.view from.new) → (b : Bodies) → HasRows (A.Store.view from.old).trees b → IsAtRows (file_state conn) b) }
-    ensures version { IfOk result (λ conn. HasCleanDisk (file_state conn) → IsClean (A.Store.view from.new) → (file_state conn).now.trees version_tree ≡ version_rows version) }
+    ensures ok { IfOk result (λ conn. HasCleanDisk (file_state conn) → IsClean (A.Store.view from.new) → (b : Bodies)
+        → HasRows (A.Store.view from.old).trees b → IsAtRows (file_state conn) b) }
+    ensures version { IfOk result (λ conn. HasCleanDisk (file_state conn) → IsClean (A.Store.view from.new)
+        → (file_state conn).now.trees version_tree ≡ version_rows version) }
     ensures from { IsQuiet A.Store.view A.Store.faults A.Store.recovers A.Store.is_shielded from.old from.new }
 {
     let mut to = new_store(alloc)?;

@@ -24,7 +24,8 @@ fn copy_of(alloc: Global, bytes: &[u8]) -> Result<Vec<u8>, Error>
 /// The bytes of a new database file with the rows of a token's store and a user version, and nothing else of the store. With no log
 /// beside it the file is a database with these rows. An error of the store, or for memory.
 pub fn vacuumed<A: Store>(alloc: Global, from: &mut A, version: u32) -> Result<Vec<u8>, Error>
-    ensures file { IfOk result (λ bytes. IsClean (A.Store.view from.new) → (b : Bodies) → HasRows (A.Store.view from.old).trees b → IsFileOf bytes.items b version) }
+    ensures file { IfOk result (λ bytes. IsClean (A.Store.view from.new) → (b : Bodies) → HasRows (A.Store.view from.old).trees b
+        → IsFileOf bytes.items b version) }
     ensures from { IsQuiet A.Store.view A.Store.faults A.Store.recovers A.Store.is_shielded from.old from.new }
 {
     let conn = filled(alloc, from, version)?;

@@ -3,15 +3,15 @@ use Rattle.std.specs.Prelude.{◌≡◌, ℕ, ◌⊎◌}
 use Rattle.standing.specs.declared.standing.Standing.{Standing}
 use Rattle.standing.specs.declared.standing.Standing.TheVariants as standings
 
-abbrev pub status_of : Standing → ℕ
-status_of (standings.Serves info) = 0
-status_of standings.Silent = 8
-status_of (standings.Forbidden allowed) = 9
-status_of standings.NobodyListens = 4
-status_of standings.NoFile = 4
-status_of standings.NoSocket = 4
-status_of (standings.Failed error) = 4
+abbrev pub standing_status : Standing → ℕ
+standing_status (standings.Serves info) = 0
+standing_status standings.Silent = 8
+standing_status (standings.Forbidden allowed) = 9
+standing_status standings.NobodyListens = 4
+standing_status standings.NoFile = 4
+standing_status standings.NoSocket = 4
+standing_status (standings.Failed error) = 4
 
 -- 0 where a daemon serves, or why not
-abbrev pub IsStatus : ℕ → Type 0
-IsStatus n = (n ≡ 0) ⊎ ((n ≡ 4) ⊎ ((n ≡ 8) ⊎ (n ≡ 9)))
+abbrev pub IsStandingStatus : ℕ → Type 0
+IsStandingStatus n = (n ≡ 0) ⊎ ((n ≡ 4) ⊎ ((n ≡ 8) ⊎ (n ≡ 9)))

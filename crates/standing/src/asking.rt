@@ -1,7 +1,7 @@
 //! A daemon is asked how it stands.
 
 ghost use Rattle.std.specs.Prelude.{IfOk};
-ghost use Rattle.standing.specs.Statuses.{IsStatus};
+ghost use Rattle.standing.specs.Statuses.{IsStandingStatus};
 
 use crate::address::write_path;
 use crate::groups::who_may;
@@ -27,7 +27,7 @@ const ANSWER_LEN: usize = 256;
 /// Prints a line on the daemon of the socket at a path, and returns the exit status. It takes less than a second. The error is of the
 /// output.
 pub fn print_standing<O: Write>(rt: &HostRuntime, path: &str, output: &mut O) -> io::Result<u8>
-    ensures { IfOk result IsStatus }
+    ensures { IfOk result IsStandingStatus }
 {
     let found = standing(rt, path);
     match writeln!(output, "{path}: {found}").and_then(|()| output.flush()) {

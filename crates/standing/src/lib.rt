@@ -6,7 +6,7 @@
 //!
 //! What the system does is tested, and no clause speaks of it (`test_program`, `tests/door.py`).
 //!
-//! Proved, by the names of contracts: the exit status of `tokend status` is that of what it found, one of 0, 4, 8 and 9 (`status_of`).
+//! Proved, by the names of contracts: the exit status of `tokend status` is that of what it found, one of 0, 4, 8 and 9 (`standing_status`).
 #![tactic(auto)]
 
 mod address;

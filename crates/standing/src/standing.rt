@@ -1,7 +1,7 @@
 //! What `tokend status` finds, and the line that it prints.
 
 ghost use Rattle.std.specs.Prelude.{◌≡◌};
-ghost use Rattle.standing.specs.Statuses.{IsStatus, status_of};
+ghost use Rattle.standing.specs.Statuses.{IsStandingStatus, standing_status};
 
 use ck_calls::TokenInfo;
 use pin_record::{
@@ -49,8 +49,8 @@ pub(crate) enum Standing {
 impl Standing {
     /// The exit status.
     pub(crate) fn status(&self) -> u8
-        ensures value { result ≡ status_of self.now }
-        ensures known { IsStatus result }
+        ensures value { result ≡ standing_status self.now }
+        ensures known { IsStandingStatus result }
     {
         match self {
             Standing::Serves(_) => 0,

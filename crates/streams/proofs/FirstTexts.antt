@@ -55,7 +55,8 @@ first_text-sound (suc n) test =
     (λ _. below_sound 256 (λ b. option_map (λ bytes. b ∷ bytes) (first_text n (λ bytes. test (b ∷ bytes)))) (Passes test)
     (λ b lt. begun_by test b lt (first_text n (λ bytes. test (b ∷ bytes))) (first_text-sound n (λ bytes. test (b ∷ bytes)))))
 
-first_text-complete : (n : ℕ) (test : List ℕ → Bool) (x : List ℕ) → AreBytes x → length x ≤ n → test x ≡ true → is_some (first_text n test) ≡ true
+first_text-complete : (n : ℕ) (test : List ℕ → Bool) (x : List ℕ) → AreBytes x → length x ≤ n → test x ≡ true
+    → is_some (first_text n test) ≡ true
 unfolding first_text
 first_text-complete zero test [] bytes le e =
     cond_both (test []) (Some []) None (λ o. is_some o ≡ true) (λ _. refl) (λ not. absurd (true≢false (sym e ∙ not)))
@@ -66,7 +67,8 @@ first_text-complete (suc n) test [] bytes le e =
 first_text-complete (suc n) test (b ∷ x) bytes le e =
     cond_both (test []) (Some []) (first_below 256 (λ c. option_map (λ bytes. c ∷ bytes) (first_text n (λ bytes. test (c ∷ bytes)))))
     (λ o. is_some o ≡ true) (λ _. refl)
-    (λ _. below_complete 256 (λ c. option_map (λ bytes. c ∷ bytes) (first_text n (λ bytes. test (c ∷ bytes)))) b (All-head (λ y. y < 256) b x bytes)
+    (λ _. below_complete 256 (λ c. option_map (λ bytes. c ∷ bytes) (first_text n (λ bytes. test (c ∷ bytes)))) b
+    (All-head (λ y. y < 256) b x bytes)
     (begun_some b (first_text n (λ bytes. test (b ∷ bytes)))
     (first_text-complete n (λ bytes. test (b ∷ bytes)) x (All-tail (λ y. y < 256) b x bytes) (omega arith) e)))
 
@@ -77,7 +79,8 @@ one_passes : (o : Option (List ℕ)) (test : List ℕ → Bool) (y : List ℕ) �
 one_passes None test y only e h = absurd (true≢false (sym e))
 one_passes (Some x) test y only e h = ap Some (only x h.1 h.0)
 
-none_passes : (o : Option (List ℕ)) (test : List ℕ → Bool) → ((x : List ℕ) → AreBytes x → test x ≡ true → ⊥) → IfSome o (Passes test) → o ≡ None
+none_passes : (o : Option (List ℕ)) (test : List ℕ → Bool) → ((x : List ℕ) → AreBytes x → test x ≡ true → ⊥)
+    → IfSome o (Passes test) → o ≡ None
 none_passes None test none h = refl
 none_passes (Some x) test none h = absurd (none x h.1 h.0)
 

@@ -12,7 +12,7 @@ use Rattle.streams.specs.declared.mechanism.Mechanism.{Mechanism}
 use Rattle.streams.specs.declared.mechanism.Mechanism.TheVariants.{Ecb, Cbc, CbcPad, Ctr}
 use Rattle.streams.specs.Streamed.{Streamed, after_piece}
 use Rattle.streams.specs.Lengths.{length_so_far, is_of_no_text}
-use Rattle.streams.specs.Right.{encrypted, whole_encrypted, IsRight, IsRest, IsOnlyRest, IsText}
+use Rattle.streams.specs.Right.{encrypted, whole_encrypted, IsRight, IsFinalPart, IsOnlyRest, IsText}
 use Rattle.streams.specs.Outputs.{output_so_far, whole_output, update_output, last_output}
 use Rattle.streams_model.specs.Flows.{Flow}
 use Rattle.streams_model.specs.EcbFlows.{IsEcbDecrypted}
@@ -52,7 +52,8 @@ module _ (m : Mechanism) (key taken given : List ℕ) where
       let count = r.size in
       let text : encrypted m key given ≡ take done taken = r.turned ∙ ap (λ n. take n taken) r.size in
       ap (λ o. unwrap_or o [])
-      (first_text-only (length (take done taken)) (λ x. (length x == done) && bytes_eq (encrypted m key x) (take done taken)) given bytes (omega (arith, size, count))
+      (first_text-only (length (take done taken))
+      (λ x. (length x == done) && bytes_eq (encrypted m key x) (take done taken)) given bytes (omega (arith, size, count))
       (and_from (length given == done) (bytes_eq (encrypted m key given) (take done taken)) (eq-eqb (length given) done r.size)
       ((bytes_eq-Decides (encrypted m key given) (take done taken)).1 text))
       (λ x hx e.
@@ -60,13 +61,13 @@ module _ (m : Mechanism) (key taken given : List ℕ) where
       r.only x hx (eqb-true (length x) done both.0 ∙ sym r.size)
       ((bytes_eq-Decides (encrypted m key x) (take done taken)).0 both.1 ∙ ap (λ n. take n taken) (sym r.size))))
 
-  pub whole_there : (out : List ℕ) → IsRest there out → whole_output there ≡ Some (given ++ out)
+  pub whole_there : (out : List ℕ) → IsFinalPart there out → whole_output there ≡ Some (given ++ out)
   whole_there out rest = ap Some (sym rest)
 
   abbrev pub is_the_text : List ℕ → Bool
   is_the_text x = not (is_of_no_text m Encrypt (length x)) && bytes_eq (whole_encrypted m key x) taken
 
-  pub whole_back : (out : List ℕ) → IsRest back out → IsOnlyRest back out → AreBytes (given ++ out) → IsText m (given ++ out)
+  pub whole_back : (out : List ℕ) → IsFinalPart back out → IsOnlyRest back out → AreBytes (given ++ out) → IsText m (given ++ out)
       → length (given ++ out) ≤ length taken → whole_output back ≡ Some (given ++ out)
   whole_back out rest only bytes text le =
       first_text-only (length taken) is_the_text (given ++ out) bytes le
@@ -101,7 +102,8 @@ IfOk-both (Err y) P Q p q = tt
 whole_blocks : (n : ℕ) → n % 16 ≡ 0 → not (n % 16 == 0) ≡ false
 whole_blocks n e = not_from_true (n % 16 == 0) (eq-eqb (n % 16) 0 e)
 
-pub ecb_whole : (f : Flow) (waiting : ℕ) (out : List ℕ) → IsEcbDecrypted f → waiting ≡ length f.taken - length f.given → waiting ≡ 0 → out ≡ []
+pub ecb_whole : (f : Flow) (waiting : ℕ) (out : List ℕ) → IsEcbDecrypted f → waiting ≡ length f.taken - length f.given → waiting ≡ 0
+    → out ≡ []
     → whole_output (of_flow Ecb Decrypt f) ≡ Some (f.given ++ out)
 ecb_whole f waiting out h w none empty =
     let size = h.size in
@@ -109,7 +111,8 @@ ecb_whole f waiting out h w none empty =
     whole_ended Ecb f.key f.taken f.given out empty (r.turned ∙ take_all (length f.given) f.taken (omega (arith, w, none)))
     (ecb_only_rest f waiting out h w none empty) h.bytes (whole_blocks (length f.given) (omega (arith, size))) (omega (arith, size))
 
-pub cbc_whole : (f : Flow) (waiting : ℕ) (out : List ℕ) → f.held ≡ 0 → IsCbcDecrypted f → waiting ≡ length f.taken - length f.given → waiting ≡ 0 → out ≡ []
+pub cbc_whole : (f : Flow) (waiting : ℕ) (out : List ℕ) → f.held ≡ 0 → IsCbcDecrypted f → waiting ≡ length f.taken - length f.given
+    → waiting ≡ 0 → out ≡ []
     → whole_output (of_flow (Cbc f.iv) Decrypt f) ≡ Some (f.given ++ out)
 cbc_whole f waiting out held h w none empty =
     let size = h.size in
@@ -117,19 +120,22 @@ cbc_whole f waiting out held h w none empty =
     whole_ended (Cbc f.iv) f.key f.taken f.given out empty (r.turned ∙ take_all (length f.given) f.taken (omega (arith, w, none)))
     (cbc_only_rest f waiting out h w none empty) h.bytes (whole_blocks (length f.given) (omega (arith, size))) (omega (arith, size))
 
-pub cbc_pad_whole : (f : Flow) (out : List ℕ) → IsRight (of_flow (CbcPad f.iv) Decrypt f) → cbc_pad_encrypted f.key f.iv (f.given ++ out) ≡ f.taken
+pub cbc_pad_whole : (f : Flow) (out : List ℕ) → IsRight (of_flow (CbcPad f.iv) Decrypt f)
+    → cbc_pad_encrypted f.key f.iv (f.given ++ out) ≡ f.taken
     → ((x : List ℕ) → AreBytes x → cbc_pad_encrypted f.key f.iv x ≡ f.taken → x ≡ f.given ++ out) → AreBytes (f.given ++ out)
     → length out ≤ length f.taken - length f.given → whole_output (of_flow (CbcPad f.iv) Decrypt f) ≡ Some (f.given ++ out)
 cbc_pad_whole f out r e only bytes le =
     let size = r.size in
-    whole_back (CbcPad f.iv) f.key f.taken f.given out e (λ x hx text same. only x hx same) bytes refl (omega (arith, le, size, length-append f.given out))
+    whole_back (CbcPad f.iv) f.key f.taken f.given out e (λ x hx text same. only x hx same) bytes refl
+    (omega (arith, le, size, length-append f.given out))
 
 pub ctr_whole : (c : Counting) (out : List ℕ) → IsKey c.key → AreBytes (ctr_output c) → out ≡ []
     → whole_output (of_counting Decrypt c) ≡ Some (ctr_output c ++ out)
 ctr_whole c out is_key bytes empty =
     let r = ctr_right_back c is_key in
     let size = r.size in
-    whole_ended (Ctr c.bits c.start) c.key c.taken (ctr_output c) out empty (r.turned ∙ take_all (length (ctr_output c)) c.taken (omega (arith, size)))
+    whole_ended (Ctr c.bits c.start) c.key c.taken (ctr_output c) out empty
+    (r.turned ∙ take_all (length (ctr_output c)) c.taken (omega (arith, size)))
     (ctr_only_rest c out is_key empty) bytes refl (omega (arith, size))
 
 -- ---- what a call adds

@@ -30,7 +30,8 @@ module _ (mode : List ℕ → ℕ → List ℕ) (local : (xs ys : List ℕ) (i :
       ∙ first_blocks-append mode local (take (16 * n) taken) (drop (16 * n) taken) n (omega (arith, start))
       ∙ ap (first_blocks (mode (take (16 * n) taken))) count
 
-  there : given ≡ first_blocks (mode taken) n → given ≡ first_blocks (mode (take (length given) taken)) (length (take (length given) taken) / 16)
+  there : given ≡ first_blocks (mode taken) n
+      → given ≡ first_blocks (mode (take (length given) taken)) (length (take (length given) taken) / 16)
   there out = out ∙ beginning ∙ ap (λ m. first_blocks (mode (take m taken)) (length (take m taken) / 16)) (sym size)
 
   back_again : first_blocks (mode given) n ≡ take (16 * n) taken → first_blocks (mode given) (length given / 16) ≡ take (length given) taken
@@ -45,12 +46,14 @@ ecb_right f h =
 
 pub cbc_right : (f : Flow) → IsCbcEncrypted f → IsRight (of_flow (Cbc f.iv) Encrypt f)
 cbc_right f h =
-    let turned = there (cbc_block f.key f.iv) (cbc_block-append f.key f.iv) f.taken f.given (length f.taken / 16) h.size (omega arith) h.out in
+    let turned = there (cbc_block f.key f.iv) (cbc_block-append f.key f.iv) f.taken f.given (length f.taken / 16) h.size
+    (omega arith) h.out in
     record { size = h.size; turned = turned; only = λ x _ _ e. e ∙ sym turned }
 
 pub cbc_pad_right : (f : Flow) → IsCbcEncrypted f → IsRight (of_flow (CbcPad f.iv) Encrypt f)
 cbc_pad_right f h =
-    let turned = there (cbc_block f.key f.iv) (cbc_block-append f.key f.iv) f.taken f.given (length f.taken / 16) h.size (omega arith) h.out in
+    let turned = there (cbc_block f.key f.iv) (cbc_block-append f.key f.iv) f.taken f.given (length f.taken / 16) h.size
+    (omega arith) h.out in
     record { size = h.size; turned = turned; only = λ x _ _ e. e ∙ sym turned }
 
 pub ecb_right_back : (f : Flow) → IsEcbDecrypted f → IsRight (of_flow Ecb Decrypt f)
@@ -60,17 +63,20 @@ ecb_right_back f h =
     record {
       size = size;
       turned = turned;
-      only = λ x bytes same e. ecb_encrypted-only f.key h.is_key x f.given bytes h.bytes (omega (arith, same, size)) (omega (arith, size)) (e ∙ sym turned);
+      only = λ x bytes same e. ecb_encrypted-only f.key h.is_key x f.given bytes h.bytes (omega (arith, same, size))
+          (omega (arith, size)) (e ∙ sym turned);
     }
 
 cbc_turned : (f : Flow) → IsCbcDecrypted f → cbc_encrypted f.key f.iv f.given ≡ take (length f.given) f.taken
-cbc_turned f h = back_again (cbc_block f.key f.iv) (cbc_block-append f.key f.iv) f.taken f.given (blocks_done f.held f.taken) h.size (omega arith) h.back
+cbc_turned f h = back_again (cbc_block f.key f.iv) (cbc_block-append f.key f.iv) f.taken f.given (blocks_done f.held f.taken) h.size
+    (omega arith) h.back
 
 cbc_only : (f : Flow) → IsCbcDecrypted f → (x : List ℕ) → AreBytes x → length x ≡ length f.given
     → cbc_encrypted f.key f.iv x ≡ take (length f.given) f.taken → x ≡ f.given
 cbc_only f h x bytes same e =
     let size = h.size in
-    cbc_encrypted-only f.key h.is_key f.iv x f.given h.block bytes h.bytes (omega (arith, same, size)) (omega (arith, size)) (e ∙ sym (cbc_turned f h))
+    cbc_encrypted-only f.key h.is_key f.iv x f.given h.block bytes h.bytes (omega (arith, same, size)) (omega (arith, size))
+    (e ∙ sym (cbc_turned f h))
 
 pub cbc_right_back : (f : Flow) → f.held ≡ 0 → IsCbcDecrypted f → IsRight (of_flow (Cbc f.iv) Decrypt f)
 cbc_right_back f none h = record {
@@ -119,7 +125,8 @@ is_whole x text = eqb-true (length x % 16) 0 (not-false (length x % 16 == 0) tex
 pub with_nothing : (given out : List ℕ) → out ≡ [] → given ≡ given ++ out
 with_nothing given out none = sym (append-nil given) ∙ ap (λ x. given ++ x) (sym none)
 
-pub ecb_only_rest : (f : Flow) (waiting : ℕ) (out : List ℕ) → IsEcbDecrypted f → waiting ≡ length f.taken - length f.given → waiting ≡ 0 → out ≡ []
+pub ecb_only_rest : (f : Flow) (waiting : ℕ) (out : List ℕ) → IsEcbDecrypted f → waiting ≡ length f.taken - length f.given
+    → waiting ≡ 0 → out ≡ []
     → IsOnlyRest (of_flow Ecb Decrypt f) out
 ecb_only_rest f waiting out h w none empty x bytes text e =
     let size = h.size in
@@ -128,12 +135,14 @@ ecb_only_rest f waiting out h w none empty x bytes text e =
     ecb_encrypted-only f.key h.is_key x f.given bytes h.bytes (is_whole x text) (omega (arith, size)) (e ∙ sym (r.turned ∙ all))
     ∙ with_nothing f.given out empty
 
-pub cbc_only_rest : (f : Flow) (waiting : ℕ) (out : List ℕ) → IsCbcDecrypted f → waiting ≡ length f.taken - length f.given → waiting ≡ 0 → out ≡ []
+pub cbc_only_rest : (f : Flow) (waiting : ℕ) (out : List ℕ) → IsCbcDecrypted f → waiting ≡ length f.taken - length f.given
+    → waiting ≡ 0 → out ≡ []
     → IsOnlyRest (of_flow (Cbc f.iv) Decrypt f) out
 cbc_only_rest f waiting out h w none empty x bytes text e =
     let size = h.size in
     let all : take (length f.given) f.taken ≡ f.taken = take_all (length f.given) f.taken (omega (arith, w, none)) in
-    cbc_encrypted-only f.key h.is_key f.iv x f.given h.block bytes h.bytes (is_whole x text) (omega (arith, size)) (e ∙ sym (cbc_turned f h ∙ all))
+    cbc_encrypted-only f.key h.is_key f.iv x f.given h.block bytes h.bytes (is_whole x text) (omega (arith, size))
+    (e ∙ sym (cbc_turned f h ∙ all))
     ∙ with_nothing f.given out empty
 
 pub ctr_only_rest : (c : Counting) (out : List ℕ) → IsKey c.key → out ≡ [] → IsOnlyRest (of_counting Decrypt c) out

@@ -23,7 +23,8 @@ first_below (suc n) f = or_else (first_below n f) (f n)
 -- the first text of at most n bytes that passes a test
 unfoldable pub first_text : ℕ → (List ℕ → Bool) → Option (List ℕ)
 first_text zero test = if test [] then Some [] else None
-first_text (suc n) test = if test [] then Some [] else first_below 256 (λ b. option_map (λ bytes. b ∷ bytes) (first_text n (λ bytes. test (b ∷ bytes))))
+first_text (suc n) test = if test [] then Some [] else first_below 256
+    (λ b. option_map (λ bytes. b ∷ bytes) (first_text n (λ bytes. test (b ∷ bytes))))
 
 -- what a text is encrypted or decrypted to: its cipher text, or the text of such a length that the mode encrypts to it, if there is one
 abbrev pub turned : Direction → (List ℕ → List ℕ) → (ℕ → Bool) → List ℕ → Option (List ℕ)

@@ -32,8 +32,8 @@ pub record IsRight (s : Streamed) : Type 0 where
       → IsTurned s.direction (encrypted s.mechanism s.key) (take (length s.given) s.taken) x → x ≡ s.given
 
 -- `out` is the final part of what all data is encrypted or decrypted to
-abbrev pub IsRest : Streamed → List ℕ → Type 0
-IsRest s out = IsTurned s.direction (whole_encrypted s.mechanism s.key) s.taken (s.given ++ out)
+abbrev pub IsFinalPart : Streamed → List ℕ → Type 0
+IsFinalPart s out = IsTurned s.direction (whole_encrypted s.mechanism s.key) s.taken (s.given ++ out)
 
 -- a text that the mechanism encrypts
 abbrev pub IsText : Mechanism → List ℕ → Type 0

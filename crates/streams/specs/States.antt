@@ -14,7 +14,13 @@ abbrev pub of_flow : Mechanism → Direction → Flow → Streamed
 of_flow mechanism direction f = record { mechanism = mechanism; direction = direction; key = f.key; taken = f.taken; given = f.given }
 
 abbrev pub of_counting : Direction → Counting → Streamed
-of_counting direction c = record { mechanism = Ctr c.bits c.start; direction = direction; key = c.key; taken = c.taken; given = ctr_output c }
+of_counting direction c = record {
+  mechanism = Ctr c.bits c.start;
+  direction = direction;
+  key = c.key;
+  taken = c.taken;
+  given = ctr_output c;
+}
 
 abbrev pub streamed : State → Streamed
 streamed (EcbEncrypt f) = of_flow Ecb Encrypt f
@@ -27,7 +33,7 @@ streamed (CtrEncrypt c) = of_counting Encrypt c
 streamed (CtrDecrypt c) = of_counting Decrypt c
 
 -- where a padding is to be taken off, a byte at least stays buffered
-abbrev pub HoldsBack : State → Type 0
-HoldsBack (CbcDecrypt f) = f.held ≡ 0
-HoldsBack (CbcPadDecrypt f) = f.held ≡ 1
-HoldsBack _ = Unit {0}
+abbrev pub HoldsPaddingBack : State → Type 0
+HoldsPaddingBack (CbcDecrypt f) = f.held ≡ 0
+HoldsPaddingBack (CbcPadDecrypt f) = f.held ≡ 1
+HoldsPaddingBack _ = Unit {0}

@@ -1,6 +1,6 @@
 -- The fields of a stream.
 use Rattle.std.specs.Prelude.{◌≡◌, ◌==◌, not, length}
-use Rattle.streams.specs.States.{streamed, HoldsBack}
+use Rattle.streams.specs.States.{streamed, HoldsPaddingBack}
 use Rattle.streams.specs.Streamed.{Streamed}
 use Rattle.streams.specs.declared.stream.Stream.TheInside.{Inside}
 
@@ -9,5 +9,5 @@ streamed_of s = streamed s.state
 
 -- it is kept whether data was taken
 pub record Holds (s : Inside) : Type 0 where
-  pub held : HoldsBack s.state
+  pub held : HoldsPaddingBack s.state
   pub has_taken : s.has_taken ≡ not (length (streamed s.state).taken == 0)

@@ -12,8 +12,8 @@ pub record Streamed : Type 0 where
   pub taken : List ℕ
   pub given : List ℕ
 
-abbrev pub started : Mechanism → Direction → List ℕ → Streamed
-started mechanism direction key = record { mechanism = mechanism; direction = direction; key = key; taken = []; given = [] }
+abbrev pub started_stream : Mechanism → Direction → List ℕ → Streamed
+started_stream mechanism direction key = record { mechanism = mechanism; direction = direction; key = key; taken = []; given = [] }
 
 -- one more part, for which `out` was output
 abbrev pub after_piece : Streamed → List ℕ → List ℕ → Streamed

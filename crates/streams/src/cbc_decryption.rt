@@ -32,11 +32,11 @@ impl Model for CbcDecryption {
 
     ghost Value = { Flow };
 
-    ghost use Rattle.streams.specs.CbcDecryptions.{flow_of, Holds};
+    ghost use Rattle.streams.specs.CbcDecryptions.{flow_of, DecryptionHolds};
 
     ghost view = { flow_of };
 
-    ghost invariant = { Holds };
+    ghost invariant = { DecryptionHolds };
 }
 
 // What the first blocks of buffered bytes and a part are decrypted to, and the last of these blocks.

@@ -13,7 +13,7 @@
 //!   `aes_modes`. What is decrypted is the one text that the mode encrypts to the data.
 //! - The output so far is what the mode encrypts or decrypts the first bytes of the data to (`IsRight`). How many these
 //!   are is in the table of lengths (`specs/Lengths.antt`). With the final part it is what all data is encrypted or
-//!   decrypted to (`IsRest`), and nothing else is (`IsOnlyRest`).
+//!   decrypted to (`IsFinalPart`), and nothing else is (`IsOnlyRest`).
 //! - `LenRange` comes exactly where the data's length is that of no text. `CounterEnd` comes exactly
 //!   where a counter block would come again, before anything changes. `BadPad` comes only where no
 //!   text is encrypted to the data. But for these there is only `Memory`, for a failed allocation.
@@ -26,7 +26,7 @@
 //! and, for a padding, at most two more. No read and no branch depends on the key or the data, as in `aes_vector`, but on
 //! their lengths and on whether a padding is right.
 //!
-//! Proved, by the names of contracts: SP 800-38A in parts (`IsRight`, `IsRest`, `IsOnlyRest`), with the lengths that `room_of` returns
+//! Proved, by the names of contracts: SP 800-38A in parts (`IsRight`, `IsFinalPart`, `IsOnlyRest`), with the lengths that `room_of` returns
 //! before any work (`length`, `wanted`). Neither a refusal nor an allocation failure changes a stream (`err`).
 #![tactic(auto)]
 

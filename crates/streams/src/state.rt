@@ -2,7 +2,7 @@
 
 ghost use Rattle.std.specs.Prelude.{◌≡◌, ◌⊎◌, ◌↔◌, true, IfOk, IfErr, OnErr, IsErrOf};
 ghost use Rattle.streams.specs.Lengths.{ends_counters};
-ghost use Rattle.streams.specs.States.{streamed, HoldsBack};
+ghost use Rattle.streams.specs.States.{streamed, HoldsPaddingBack};
 ghost use Rattle.streams.specs.Streamed.{after_piece};
 
 use crate::cbc_decryption::CbcDecryption;
@@ -61,9 +61,9 @@ impl State {
 
     /// Takes one more part, and returns what it adds to the output. An `Err` changes nothing.
     pub(crate) fn update(&mut self, alloc: Global, piece: &[u8]) -> Result<Vec<u8>, ModeFault>
-        requires { HoldsBack self.old }
+        requires { HoldsPaddingBack self.old }
         ensures state { IfOk result (λ out. streamed self.new ≡ after_piece (streamed self.old) piece.now out.items) }
-        ensures held { HoldsBack self.new }
+        ensures held { HoldsPaddingBack self.new }
         ensures err { OnErr result (self.new ≡ self.old) }
         ensures counter_end { IsErrOf result ModeFault.CounterEnd ↔ (ends_counters (streamed self.old) piece.now ≡ true) }
         ensures faults { IfErr result (λ fault. (fault ≡ ModeFault.CounterEnd) ⊎ (fault ≡ ModeFault.Memory)) }

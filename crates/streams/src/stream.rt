@@ -2,11 +2,11 @@
 
 ghost use Rattle.std.specs.Prelude.{◌≡◌, ◌≢◌, ◌≤◌, ◌⊎◌, ℕ, List, ◌↔◌, ◌==◌, true, false, not, Some, None, ◌++◌, length, IfOk, IfErr, OnErr, IsErrOf};
 ghost use Rattle.fips_197.specs.Bytes.{AreBytes};
-ghost use Rattle.streams.specs.Streamed.{started, after_piece};
+ghost use Rattle.streams.specs.Streamed.{started_stream, after_piece};
 ghost use Rattle.streams.specs.Lengths.{wanted, is_of_no_text, refuses_length, ends_counters};
 ghost use Rattle.streams.specs.Outputs.{output_so_far, whole_output, with_data, update_output, last_output};
-ghost use Rattle.streams.specs.States.{streamed, HoldsBack};
-ghost use Rattle.streams.specs.Right.{whole_encrypted, IsRight, IsRest, IsOnlyRest, TakesPaddingOff};
+ghost use Rattle.streams.specs.States.{streamed, HoldsPaddingBack};
+ghost use Rattle.streams.specs.Right.{whole_encrypted, IsRight, IsFinalPart, IsOnlyRest, TakesPaddingOff};
 
 use crate::cbc_decryption::CbcDecryption;
 use crate::cbc_encryption::CbcEncryption;
@@ -45,8 +45,8 @@ impl Model for Stream {
 
 // The state of a stream that has taken nothing.
 fn begun(mechanism: Mechanism, direction: Direction, key: Key) -> State
-    ensures state { streamed result ≡ started mechanism direction key }
-    ensures held { HoldsBack result }
+    ensures state { streamed result ≡ started_stream mechanism direction key }
+    ensures held { HoldsPaddingBack result }
 {
     match mechanism {
         Mechanism::Ecb => match direction {
@@ -71,7 +71,7 @@ fn begun(mechanism: Mechanism, direction: Direction, key: Key) -> State
 impl Stream {
     /// A stream that has taken nothing. It takes no memory and cannot fail.
     pub fn new(mechanism: Mechanism, direction: Direction, key: Key) -> Stream
-        ensures { result ≡ started mechanism direction key }
+        ensures { result ≡ started_stream mechanism direction key }
     {
         Stream {
             state: begun(mechanism, direction, key),
@@ -148,7 +148,7 @@ impl Stream {
     /// gets no memory.
     pub fn last(&self, alloc: Global, input: &[u8]) -> Result<Vec<u8>, ModeFault>
         ensures value { IfOk result (λ out. last_output self.now input.now ≡ Some out.items) }
-        ensures rest { IfOk result (λ out. IsRest (with_data self.now input.now) out.items) }
+        ensures rest { IfOk result (λ out. IsFinalPart (with_data self.now input.now) out.items) }
         ensures only { IfOk result (λ out. IsOnlyRest (with_data self.now input.now) out.items) }
         ensures length { IfOk result (λ out. length out.items ≤ wanted Part.Last self.now (length input.now)) }
         ensures len_range { IsErrOf result ModeFault.LenRange ↔ (refuses_length Part.Last self.now (length input.now) ≡ true) }
@@ -170,7 +170,7 @@ impl Stream {
     // The final part of the output where no data is left: of `CbcPad` the last block with the padding, or
     // what the last block has before its padding, and else nothing.
     fn finish(&self, alloc: Global) -> Result<Vec<u8>, ModeFault>
-        ensures rest { IfOk result (λ out. IsRest self.now out.items) }
+        ensures rest { IfOk result (λ out. IsFinalPart self.now out.items) }
         ensures only { IfOk result (λ out. IsOnlyRest self.now out.items) }
         ensures value { IfOk result (λ out. whole_output self.now ≡ Some (self.now.given ++ out.items)) }
         ensures length { IfOk result (λ out. length out.items ≤ wanted Part.Last self.now 0) }

@@ -27,7 +27,8 @@ module _ (key iv given taken piece chain kept out : List ℕ) (q n : ℕ) (at : 
       let sum : 16 * q + 16 * n ≡ 16 * (q + n) = omega arith in
       let all : List ℕ = given ++ out in
       let first : cbc_blocks key iv all q ≡ take (16 * q) (taken ++ piece) =
-      first_blocks-append (cbc_block key iv) (cbc_block-append key iv) given out q (omega arith) ∙ back ∙ sym (take-append-le (16 * q) taken piece at) in
+      first_blocks-append (cbc_block key iv) (cbc_block-append key iv) given out q (omega arith) ∙ back
+      ∙ sym (take-append-le (16 * q) taken piece at) in
       let later : cbc_blocks key (chained key iv all q) (drop (16 * q) all) n ≡ take (16 * n) (drop (16 * q) (taken ++ piece)) =
       (λ t. cbc_blocks key (((chained-append key iv given out q (omega arith)) ∙ sym c) t) (drop_at given out (16 * q) size t) n)
       ∙ b ∙ ap (take (16 * n)) (joined taken piece kept q at k) in

@@ -7,7 +7,8 @@ use Rattle.aes_modes.proofs.Chains.{chained-append, chained-add, cbc_block-appen
 use Rattle.streams_model.specs.CbcFlows.{IsCbcEncrypted}
 use Rattle.streams_model.proofs.Pieces.{joined, whole, count_after, size_after}
 
-module _ (key iv taken piece chain kept : List ℕ) (q n : ℕ) (at : 16 * q ≤ length taken) (c : chain ≡ chained key iv taken q) (k : kept ≡ drop (16 * q) taken) where
+module _ (key iv taken piece chain kept : List ℕ) (q n : ℕ) (at : 16 * q ≤ length taken) (c : chain ≡ chained key iv taken q)
+    (k : kept ≡ drop (16 * q) taken) where
   next_chain : chained key chain (kept ++ piece) n ≡ chained key iv (taken ++ piece) (q + n)
   next_chain =
       (λ t. chained key ((c ∙ sym (chained-append key iv taken piece q at)) t) (joined taken piece kept q at k t) n)

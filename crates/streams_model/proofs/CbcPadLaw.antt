@@ -77,7 +77,8 @@ module _ (key iv given taken chain kept d last block : List ℕ) (held : ℕ)
   ended_value out found =
       ap (cbc_encrypted key iv) (append_padded given out q g.size ∙ ap (λ x. given ++ x) found) ∙ ended_back
 
-  pub ended_only : (out : List ℕ) → padded out ≡ last → AreBytes out → (x : List ℕ) → AreBytes x → cbc_pad_encrypted key iv x ≡ taken → x ≡ given ++ out
+  pub ended_only : (out : List ℕ) → padded out ≡ last → AreBytes out → (x : List ℕ) → AreBytes x
+      → cbc_pad_encrypted key iv x ≡ taken → x ≡ given ++ out
   ended_only out found bytes x hx same =
       cbc_pad_encrypted-only key g.is_key iv x (given ++ out) g.block hx (All-append (λ y. y < 256) given out g.bytes bytes)
       (same ∙ sym (ended_value out found))
@@ -85,5 +86,6 @@ module _ (key iv given taken chain kept d last block : List ℕ) (held : ℕ)
   pub ended_none : AreBytes last → (x : List ℕ) → AreBytes x → cbc_pad_encrypted key iv x ≡ taken → padded (drop (16 * q) x) ≡ last
   ended_none bytes x hx same =
       padded_tail x given last q g.size ll
-      (cbc_encrypted-only key g.is_key iv (padded x) (given ++ last) g.block (AreBytes-padded x hx) (All-append (λ y. y < 256) given last g.bytes bytes)
+      (cbc_encrypted-only key g.is_key iv (padded x) (given ++ last) g.block (AreBytes-padded x hx)
+      (All-append (λ y. y < 256) given last g.bytes bytes)
       (IsWhole-padded x) (omega (arith, length-append given last, g.size, ll)) (same ∙ sym ended_back))

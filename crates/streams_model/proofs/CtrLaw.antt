@@ -21,13 +21,15 @@ use Rattle.streams_model.proofs.Pieces.{take-past, joined, whole_held, count_hel
 -- ---- under counters from a number on
 
 pub numbered-more : (key text out output : List ℕ) (number i : ℕ) → out ≡ first_blocks (number_block key number text) i
-    → output ≡ encrypted_block key (to_be_bytes w128 (number + i)) → out ++ xor_bytes (block_of text i) output ≡ first_blocks (number_block key number text) (i + 1)
+    → output ≡ encrypted_block key (to_be_bytes w128 (number + i))
+    → out ++ xor_bytes (block_of text i) output ≡ first_blocks (number_block key number text) (i + 1)
 unfolding number_block
 numbered-more key text out output number i before is =
     (λ t. before t ++ xor_bytes (block_of text i) (is t)) ∙ sym (first_blocks-more (number_block key number text) i)
 
 -- the last block, which is shorter
-pub numbered-last : (key text out rest output last : List ℕ) (number : ℕ) → out ≡ first_blocks (number_block key number text) (length text / 16)
+pub numbered-last : (key text out rest output last : List ℕ) (number : ℕ)
+    → out ≡ first_blocks (number_block key number text) (length text / 16)
     → rest ≡ drop (16 * (length text / 16)) text → 0 < length rest
     → output ≡ encrypted_block key (to_be_bytes w128 (number + length text / 16)) → length output ≡ 16
     → last ≡ xor_bytes (rest ++ replicate (16 - length rest) 0) output
@@ -42,7 +44,8 @@ numbered-last key text out rest output last number before rest_is some output_is
     ∙ numbered-more key text out output number n before output_is
     ∙ ap (first_blocks (number_block key number text)) count
 
-pub numbered-whole : (key text : List ℕ) (number : ℕ) → length text % 16 ≡ 0 → first_blocks (number_block key number text) (length text / 16) ≡ numbered key number text
+pub numbered-whole : (key text : List ℕ) (number : ℕ) → length text % 16 ≡ 0
+    → first_blocks (number_block key number text) (length text / 16) ≡ numbered key number text
 numbered-whole key text number whole =
     let count : length text / 16 ≡ blocks_begun text = omega arith in ap (first_blocks (number_block key number text)) count
 
@@ -86,7 +89,8 @@ module _ (key start : List ℕ) (m : ℕ) where
 
     -- the block that was begun, in the block that it becomes
     first_bytes : 0 < length kept
-        → take (length kept) (ctr_block key m start (taken ++ piece) (blocks_done 1 taken)) ≡ ctr_block key m start taken (blocks_done 1 taken)
+        → take (length kept) (ctr_block key m start (taken ++ piece) (blocks_done 1 taken))
+        ≡ ctr_block key m start taken (blocks_done 1 taken)
     unfolding ctr_block
     first_bytes some =
         let o = IsBlock-output_block key m start (blocks_done 1 taken) is_key in
@@ -98,10 +102,20 @@ module _ (key start : List ℕ) (m : ℕ) where
     unfolding ctr_block
     long_enough =
         let o = IsBlock-output_block key m start (blocks_done 1 taken) is_key in
-        let l : length (kept ++ take (16 - length kept) piece) ≡ length kept + length (take (16 - length kept) piece) = length-append kept (take (16 - length kept) piece) in
+        let l : length (kept ++ take (16 - length kept) piece) ≡ length kept + length (take (16 - length kept) piece) =
+        length-append kept (take (16 - length kept) piece) in
         let n = length-take (16 - length kept) piece in
         let b = ap length block_all in
-        omega (arith, size, o.size, l, n, b, length-xor_short (block_of (taken ++ piece) (blocks_done 1 taken)) (output_block key m start (blocks_done 1 taken)) (omega (arith, size, o.size, l, n, b)))
+        omega (
+          arith,
+          size,
+          o.size,
+          l,
+          n,
+          b,
+          length-xor_short (block_of (taken ++ piece) (blocks_done 1 taken)) (output_block key m start (blocks_done 1 taken))
+              (omega (arith, size, o.size, l, n, b)),
+        )
 
     abbrev pub later : List ℕ
     later = first_blocks (λ i. ctr_block key m start (taken ++ piece) (blocks_done 1 taken + i)) (blocks_begun (kept ++ piece))
@@ -109,7 +123,8 @@ module _ (key start : List ℕ) (m : ℕ) where
     begun_all : blocks_begun (taken ++ piece) ≡ blocks_done 1 taken + blocks_begun (kept ++ piece)
     begun_all = omega (arith, size, length-append taken piece, length-append kept piece)
 
-    before_same : first_blocks (ctr_block key m start (taken ++ piece)) (blocks_done 1 taken) ≡ first_blocks (ctr_block key m start taken) (blocks_done 1 taken)
+    before_same : first_blocks (ctr_block key m start (taken ++ piece)) (blocks_done 1 taken)
+        ≡ first_blocks (ctr_block key m start taken) (blocks_done 1 taken)
     before_same = first_blocks-append (ctr_block key m start) (ctr_block-append key m start) taken piece (blocks_done 1 taken) (omega arith)
 
     all_is : ctr_encrypted key m start (taken ++ piece) ≡ first_blocks (ctr_block key m start taken) (blocks_done 1 taken) ++ later
@@ -128,7 +143,8 @@ module _ (key start : List ℕ) (m : ℕ) where
         let at : f 0 ≡ ctr_block key m start (taken ++ piece) (blocks_done 1 taken) = ap (ctr_block key m start (taken ++ piece)) none in
         ap (λ c. take (length kept) (first_blocks f c)) one
         ∙ ap (take (length kept)) (first_blocks-add f 1 n ∙ ap (λ l. l ++ first_blocks (λ j. f (1 + j)) n) at)
-        ∙ take-append-le (length kept) (ctr_block key m start (taken ++ piece) (blocks_done 1 taken)) (first_blocks (λ j. f (1 + j)) n) long_enough
+        ∙ take-append-le (length kept) (ctr_block key m start (taken ++ piece) (blocks_done 1 taken))
+        (first_blocks (λ j. f (1 + j)) n) long_enough
         ∙ first_bytes some
 
     pub further_is : ctr_encrypted key m start taken ++ drop (length kept) later ≡ ctr_encrypted key m start (taken ++ piece)
@@ -140,15 +156,18 @@ module _ (key start : List ℕ) (m : ℕ) where
           | inr kept_some ↦
               let some : 0 < length kept = omega (arith, kept_some) in
               let count : blocks_begun taken ≡ blocks_done 1 taken + 1 = omega (arith, begun_kept, size) in
-              ap (λ l. l ++ drop (length kept) later) (ap (ctr_blocks key m start taken) count ∙ first_blocks-more (ctr_block key m start taken) (blocks_done 1 taken))
-              ∙ append_assoc (ctr_blocks key m start taken (blocks_done 1 taken)) (ctr_block key m start taken (blocks_done 1 taken)) (drop (length kept) later)
+              ap (λ l. l ++ drop (length kept) later)
+              (ap (ctr_blocks key m start taken) count ∙ first_blocks-more (ctr_block key m start taken) (blocks_done 1 taken))
+              ∙ append_assoc (ctr_blocks key m start taken (blocks_done 1 taken))
+              (ctr_block key m start taken (blocks_done 1 taken)) (drop (length kept) later)
               ∙ ap (λ l. ctr_blocks key m start taken (blocks_done 1 taken) ++ l)
               (ap (λ l. l ++ drop (length kept) later) (sym (later_begins some)) ∙ take-append-drop (length kept) later)
               ∙ sym all_is
         ]
 
 -- a list encrypted, and cut
-pub turned : (xs out part : List ℕ) (used n : ℕ) → length xs ≡ used + n → out ≡ drop used xs ++ take used xs → part ≡ take n out → part ≡ drop used xs
+pub turned : (xs out part : List ℕ) (used n : ℕ) → length xs ≡ used + n → out ≡ drop used xs ++ take used xs → part ≡ take n out
+    → part ≡ drop used xs
 turned xs out part used n size o p =
     p ∙ ap (take n) o ∙ take_at (drop used xs) (take used xs) n (omega (arith, size, length-drop used xs))
 
@@ -161,8 +180,10 @@ fits_further start m q n number left le v fits all within =
     omega (arith, f, v)
 
 -- where nothing was taken
-pub begun_left : (start first taken : List ℕ) (m number bits : ℕ) → m ≤ 128 → bits ≡ m → number ≡ from_be_bytes w128 start → first ≡ start → taken ≡ []
-    → counter_start m first + blocks_done 1 taken + ((2 ^ 128 - 1) / 2 ^ (128 - bits) - bit_and number ((2 ^ 128 - 1) / 2 ^ (128 - bits)) + 1) ≡ 2 ^ m
+pub begun_left : (start first taken : List ℕ) (m number bits : ℕ) → m ≤ 128 → bits ≡ m → number ≡ from_be_bytes w128 start
+    → first ≡ start → taken ≡ []
+    → counter_start m first + blocks_done 1 taken +
+    ((2 ^ 128 - 1) / 2 ^ (128 - bits) - bit_and number ((2 ^ 128 - 1) / 2 ^ (128 - bits)) + 1) ≡ 2 ^ m
 begun_left start first taken m number bits le b v f none =
     let below = counter_start-below m start in
     let zero : blocks_done 1 taken ≡ 0 = ap (blocks_done 1) none in
@@ -175,7 +196,8 @@ module _ (key start taken piece kept after : List ℕ) (m number left n total le
     (le : m ≤ 128) (v : number ≡ from_be_bytes w128 start + blocks_done 1 taken)
     (room : counter_start m start + blocks_done 1 taken + (left + 1) ≡ 2 ^ m)
     (k : kept ≡ drop (16 * blocks_done 1 taken) taken)
-    (l : len ≡ length kept) (t : total ≡ len + length piece - 1) (is : n ≡ total / 16) (a : after ≡ taken ++ piece) (within : n ≤ left) where
+    (l : len ≡ length kept) (t : total ≡ len + length piece - 1) (is : n ≡ total / 16) (a : after ≡ taken ++ piece)
+    (within : n ≤ left) where
   whole : 16 * blocks_done 1 taken ≤ length taken
   whole = whole_held 1 taken piece kept after n total len (omega arith) k l t is a
 
@@ -191,13 +213,17 @@ module _ (key start taken piece kept after : List ℕ) (m number left n total le
   pub left_further : counter_start m start + blocks_done 1 after + (left - n + 1) ≡ 2 ^ m
   left_further = omega (arith, room, within, count)
 
-  pub output_further : IsKey key → (all out part : List ℕ) → all ≡ numbered key number (kept ++ piece) → length all ≡ length kept + length piece
+  pub output_further : IsKey key → (all out part : List ℕ) → all ≡ numbered key number (kept ++ piece)
+      → length all ≡ length kept + length piece
       → out ≡ drop len all ++ take len all → part ≡ take (length piece) out
       → ctr_encrypted key m start taken ++ part ≡ ctr_encrypted key m start after
   output_further is_key all out part e size o p =
-      let enough : counter_start m start + (blocks_done 1 taken + blocks_begun (kept ++ piece)) ≤ 2 ^ m = omega (arith, room, within, blocks, length-append kept piece) in
-      let later = e ∙ numbered-is key start m (taken ++ piece) (kept ++ piece) number (blocks_done 1 taken) (joined taken piece kept (blocks_done 1 taken) whole k) v enough in
-      ap (λ x. ctr_encrypted key m start taken ++ x) (turned all out part len (length piece) (omega (arith, size, l)) o p ∙ (λ i. drop (l i) (later i)))
+      let enough : counter_start m start + (blocks_done 1 taken + blocks_begun (kept ++ piece)) ≤ 2 ^ m =
+      omega (arith, room, within, blocks, length-append kept piece) in
+      let later = e ∙ numbered-is key start m (taken ++ piece) (kept ++ piece) number (blocks_done 1 taken)
+      (joined taken piece kept (blocks_done 1 taken) whole k) v enough in
+      ap (λ x. ctr_encrypted key m start taken ++ x)
+      (turned all out part len (length piece) (omega (arith, size, l)) o p ∙ (λ i. drop (l i) (later i)))
       ∙ further_is key start m is_key taken piece kept k
       ∙ ap (ctr_encrypted key m start) (sym a)
 

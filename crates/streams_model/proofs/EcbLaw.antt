@@ -17,7 +17,8 @@ ecb_block-drop : (key text : List ℕ) (q i : ℕ) → ecb_block key text (q + i
 unfolding ecb_block
 ecb_block-drop key text q i = ap (encrypted_block key) (sym (block_of-drop text q i))
 
-ecb_blocks-add : (key text : List ℕ) (q i : ℕ) → ecb_blocks key text (q + i) ≡ ecb_blocks key text q ++ ecb_blocks key (drop (16 * q) text) i
+ecb_blocks-add : (key text : List ℕ) (q i : ℕ)
+    → ecb_blocks key text (q + i) ≡ ecb_blocks key text q ++ ecb_blocks key (drop (16 * q) text) i
 ecb_blocks-add key text q i =
     first_blocks-add (ecb_block key text) q i
     ∙ ap (λ l. ecb_blocks key text q ++ l)
@@ -54,7 +55,8 @@ module _ (key given taken piece kept out all after : List ℕ) (n len : ℕ)
       let count : q + n ≡ length after / 16 = count_after taken piece kept after n len k l is a in
       let sum : 16 * q + 16 * n ≡ 16 * (q + n) = omega arith in
       let first : ecb_blocks key both q ≡ take (16 * q) (taken ++ piece) =
-      first_blocks-append (ecb_block key) (ecb_block-append key) given out q (omega (arith, g.size)) ∙ g.back ∙ sym (take-append-le (16 * q) taken piece at) in
+      first_blocks-append (ecb_block key) (ecb_block-append key) given out q (omega (arith, g.size)) ∙ g.back
+      ∙ sym (take-append-le (16 * q) taken piece at) in
       let later : ecb_blocks key (drop (16 * q) both) n ≡ take (16 * n) (drop (16 * q) (taken ++ piece)) =
       ap (λ x. ecb_blocks key x n) (drop_at given out (16 * q) g.size) ∙ back ∙ ap (take (16 * n)) (joined taken piece kept q at k) in
       record {

@@ -38,7 +38,8 @@ block_of-first block piece new n l lt le e =
 
 -- ---- q blocks are done, and what is behind them is buffered
 
-pub joined : (taken piece kept : List ℕ) (q : ℕ) → 16 * q ≤ length taken → kept ≡ drop (16 * q) taken → kept ++ piece ≡ drop (16 * q) (taken ++ piece)
+pub joined : (taken piece kept : List ℕ) (q : ℕ) → 16 * q ≤ length taken → kept ≡ drop (16 * q) taken
+    → kept ++ piece ≡ drop (16 * q) (taken ++ piece)
 joined taken piece kept q whole k = ap (λ l. l ++ piece) k ∙ sym (drop-append-le (16 * q) taken piece whole)
 
 pub next_kept : (taken piece kept : List ℕ) (q n : ℕ) → 16 * q ≤ length taken → kept ≡ drop (16 * q) taken
@@ -46,7 +47,8 @@ pub next_kept : (taken piece kept : List ℕ) (q n : ℕ) → 16 * q ≤ length 
 next_kept taken piece kept q n whole k =
     let sum : 16 * n + 16 * q ≡ 16 * (q + n) = omega arith in
     let swap : 16 * q + 16 * n ≡ 16 * (q + n) = omega arith in
-    ap (drop (16 * n)) (joined taken piece kept q whole k) ∙ drop-drop (16 * n) (16 * q) (taken ++ piece) ∙ ap (λ j. drop j (taken ++ piece)) swap
+    ap (drop (16 * n)) (joined taken piece kept q whole k) ∙ drop-drop (16 * n) (16 * q) (taken ++ piece)
+    ∙ ap (λ j. drop j (taken ++ piece)) swap
 
 -- all whole blocks are done
 pub next_count : (taken piece kept : List ℕ) → kept ≡ drop (16 * (length taken / 16)) taken
@@ -59,7 +61,8 @@ next_count taken piece kept k =
 pub next_done : (held : ℕ) (taken piece kept : List ℕ) → held ≤ 1 → kept ≡ drop (16 * blocks_done held taken) taken
     → blocks_done held taken + (length kept + length piece - held) / 16 ≡ blocks_done held (taken ++ piece)
 next_done held taken piece kept le k =
-    let size : length kept ≡ length taken - 16 * ((length taken - held) / 16) = ap length k ∙ length-drop (16 * blocks_done held taken) taken in
+    let size : length kept ≡ length taken - 16 * ((length taken - held) / 16) =
+    ap length k ∙ length-drop (16 * blocks_done held taken) taken in
     omega (arith, length-append taken piece)
 
 -- where nothing was taken
@@ -75,7 +78,8 @@ pub waiting-whole : (taken given kept : List ℕ) → length given ≡ 16 * (len
     → length kept ≡ length taken - length given
 waiting-whole taken given kept g k = ap length k ∙ length-drop (16 * (length taken / 16)) taken ∙ omega (arith, g)
 
-pub waiting-held : (held : ℕ) (taken given kept : List ℕ) → length given ≡ 16 * blocks_done held taken → kept ≡ drop (16 * blocks_done held taken) taken
+pub waiting-held : (held : ℕ) (taken given kept : List ℕ) → length given ≡ 16 * blocks_done held taken
+    → kept ≡ drop (16 * blocks_done held taken) taken
     → length kept ≡ length taken - length given
 waiting-held held taken given kept g k = ap length k ∙ length-drop (16 * blocks_done held taken) taken ∙ omega (arith, g)
 
@@ -98,7 +102,8 @@ module _ (taken piece kept after : List ℕ) (n len : ℕ) (k : kept ≡ drop (1
   size_after given out all g o e = ap length e ∙ length-append given out ∙ omega (arith, g, o, count_after)
 
 -- and where bytes stay buffered until the final part
-module _ (held : ℕ) (taken piece kept after : List ℕ) (n total len : ℕ) (le : held ≤ 1) (k : kept ≡ drop (16 * blocks_done held taken) taken)
+module _ (held : ℕ) (taken piece kept after : List ℕ) (n total len : ℕ) (le : held ≤ 1)
+    (k : kept ≡ drop (16 * blocks_done held taken) taken)
     (l : len ≡ length kept) (t : total ≡ len + length piece - held) (is : n ≡ total / 16) (a : after ≡ taken ++ piece) where
   pub whole_held : 16 * blocks_done held taken ≤ length taken
   whole_held = omega arith

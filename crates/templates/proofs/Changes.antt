@@ -34,9 +34,44 @@ IsAmong rs r = list_any (λ q. eqb (row_number q) (row_number r)) rs ≡ true
 rows_among : (class : ObjectClass) → AllByRecursion (IsAmong (rows_of class)) (rows_of class)
 unfolding attribute_table
 rows_among Data = (refl, (refl, (refl, (refl, (refl, (refl, (refl, (refl, (refl, (refl, tt))))))))))
-rows_among SecretKey = (refl, (refl, (refl, (refl, (refl, (refl, (refl, (refl, (refl, (refl, (refl, (refl, (refl, (refl, (refl, (refl, (refl, (refl, (refl, (refl, (refl, (refl, (refl, (refl, (refl, (refl, tt))))))))))))))))))))))))))
+rows_among SecretKey = (
+  refl,
+  (
+    refl,
+    (
+      refl,
+      (
+        refl,
+        (
+          refl,
+          (
+            refl,
+            (
+              refl,
+              (
+                refl,
+                (
+                  refl,
+                  (
+                    refl,
+                    (
+                      refl,
+                      (refl, (refl, (refl, (refl, (refl, (refl, (refl, (refl, (refl, (refl, (refl, (refl, (refl, (refl, (refl, tt))))))))))))))),
+                    ),
+                  ),
+                ),
+              ),
+            ),
+          ),
+        ),
+      ),
+    ),
+  ),
+)
 
-kept_formed : (full : List AttributeRow) (es : List Entry) (rs : List AttributeRow) → AllByRecursion IsFormed full → fits_rows full es ≡ true → AllByRecursion IsFormed rs → AllByRecursion (IsAmong full) rs → AllByRecursion (λ r. has_form r.form (unwrap_or (attribute es (row_number r)) []) ≡ true) rs
+kept_formed : (full : List AttributeRow) (es : List Entry) (rs : List AttributeRow) → AllByRecursion IsFormed full
+    → fits_rows full es ≡ true → AllByRecursion IsFormed rs → AllByRecursion (IsAmong full) rs
+    → AllByRecursion (λ r. has_form r.form (unwrap_or (attribute es (row_number r)) []) ≡ true) rs
 kept_formed full es [] formed fits rows among = tt
 kept_formed full es (r ∷ rs) formed fits rows among =
     let step : (o : Option (List ℕ)) → attribute es (row_number r) ≡ o → has_form r.form (unwrap_or o []) ≡ true =
@@ -46,28 +81,34 @@ kept_formed full es (r ∷ rs) formed fits rows among =
     ] in
     (step (attribute es (row_number r)) refl, kept_formed full es rs formed fits rows.1 among.1)
 
-pub original_formed : (class : ObjectClass) (es : List Entry) → fits_rows (rows_of class) es ≡ true → AllByRecursion (λ r. has_form r.form (unwrap_or (attribute es (row_number r)) []) ≡ true) (rows_of class)
+pub original_formed : (class : ObjectClass) (es : List Entry) → fits_rows (rows_of class) es ≡ true
+    → AllByRecursion (λ r. has_form r.form (unwrap_or (attribute es (row_number r)) []) ≡ true) (rows_of class)
 original_formed class es fits =
     let formed = AllByRecursion-filter IsFormed (is_held_by class) attribute_table table_formed in
     kept_formed (rows_of class) es (rows_of class) formed fits formed (rows_among class)
 
 -- an attribute that isn't given stays
-pub stays : (template es : List Entry) (n : ℕ) → attribute template n ≡ None → (attribute es n ≡ None → ⊥) → Some (unwrap_or (attribute template n) (unwrap_or (attribute es n) [])) ≡ attribute es n
+pub stays : (template es : List Entry) (n : ℕ) → attribute template n ≡ None → (attribute es n ≡ None → ⊥)
+    → Some (unwrap_or (attribute template n) (unwrap_or (attribute es n) [])) ≡ attribute es n
 stays template es n none held =
-    let step : (o : Option (List ℕ)) → attribute es n ≡ o → Some (unwrap_or o []) ≡ o = λ o. elim o as (λ p. attribute es n ≡ p → Some (unwrap_or p []) ≡ p) [ Some v ↦ λ e. refl | None ↦ λ e. absurd (held e) ] in
+    let step : (o : Option (List ℕ)) → attribute es n ≡ o → Some (unwrap_or o []) ≡ o =
+    λ o. elim o as (λ p. attribute es n ≡ p → Some (unwrap_or p []) ≡ p) [ Some v ↦ λ e. refl | None ↦ λ e. absurd (held e) ] in
     ap (λ (o : Option (List ℕ)). Some (unwrap_or o (unwrap_or (attribute es n) []))) none ∙ step (attribute es n) refl
 
 -- an object whose class is known has it
 held_class : (k : ObjectClass) (es : List Entry) → class_of es ≡ Some k → attribute_of es attr.Class ≡ None → ⊥
-held_class k es class none = let no : None ≡ Some k = sym class_at-none ∙ ap (λ (o : Option (List ℕ)). class_at (number_of o)) (sym none) ∙ class in cc
+held_class k es class none = let no : None ≡ Some k = sym class_at-none
+    ∙ ap (λ (o : Option (List ℕ)). class_at (number_of o)) (sym none) ∙ class in cc
 
 -- ---- what an object of a class has
 
 pub data_rows_fit : (es : List Entry) → class_of es ≡ Some Data → IsObject es → fits_rows (rows_of Data) es ≡ true
 data_rows_fit es class is = ap (λ (k : Option ObjectClass). is_of_class k es) (sym class) ∙ is
 
-pub key_fits : (es : List Entry) → class_of es ≡ Some SecretKey → IsObject es → (fits_rows (rows_of SecretKey) es ≡ true) × (has_key_value es ≡ true)
-key_fits es class is = and_parts (fits_rows (rows_of SecretKey) es) (has_key_value es) (ap (λ (k : Option ObjectClass). is_of_class k es) (sym class) ∙ is)
+pub key_fits : (es : List Entry) → class_of es ≡ Some SecretKey → IsObject es → (fits_rows (rows_of SecretKey) es ≡ true)
+    × (has_key_value es ≡ true)
+key_fits es class is = and_parts (fits_rows (rows_of SecretKey) es) (has_key_value es)
+    (ap (λ (k : Option ObjectClass). is_of_class k es) (sym class) ∙ is)
 
 -- ---- the parts of a changed object
 
@@ -77,12 +118,16 @@ pub record Keeps (es new : List Entry) : Type 0 where
   pub value_is : attribute_of new attr.Value ≡ attribute_of es attr.Value
   pub len_is : attribute_of new attr.ValueLen ≡ attribute_of es attr.ValueLen
 
-key_kept : (es new : List Entry) → class_of es ≡ Some SecretKey → Keeps es new → has_key_value es ≡ true → fits_rows (rows_of SecretKey) new ≡ true → IsObject new
+key_kept : (es new : List Entry) → class_of es ≡ Some SecretKey → Keeps es new → has_key_value es ≡ true
+    → fits_rows (rows_of SecretKey) new ≡ true → IsObject new
 key_kept es new class keeps value fits =
     is_key_object new (ap (λ (o : Option (List ℕ)). class_at (number_of o)) keeps.class_is ∙ class) fits
-    (ap (λ (o : Option (List ℕ)). is_key_value (key_type_at (number_of o)) (attribute_of new attr.Value) (number_of (attribute_of new attr.ValueLen))) keeps.type_is
-    ∙ ap (λ (o : Option (List ℕ)). is_key_value (key_type_at (number_of (attribute_of es attr.KeyType))) o (number_of (attribute_of new attr.ValueLen))) keeps.value_is
-    ∙ ap (λ (o : Option (List ℕ)). is_key_value (key_type_at (number_of (attribute_of es attr.KeyType))) (attribute_of es attr.Value) (number_of o)) keeps.len_is
+    (ap (λ (o : Option (List ℕ)). is_key_value (key_type_at (number_of o)) (attribute_of new attr.Value)
+    (number_of (attribute_of new attr.ValueLen))) keeps.type_is
+    ∙ ap (λ (o : Option (List ℕ)). is_key_value (key_type_at (number_of (attribute_of es attr.KeyType))) o
+    (number_of (attribute_of new attr.ValueLen))) keeps.value_is
+    ∙ ap (λ (o : Option (List ℕ)). is_key_value (key_type_at (number_of (attribute_of es attr.KeyType)))
+    (attribute_of es attr.Value) (number_of o)) keeps.len_is
     ∙ value)
 
 -- ---- a copy, or a changed object
@@ -96,7 +141,8 @@ both P copy set making.Copy e = copy
 both P copy set making.Set e = set
 
 -- the class stays
-pub made_class-altered : (c : Making) → alters c ≡ true → (original template : List Entry) → made_class c original template ≡ class_of original
+pub made_class-altered : (c : Making) → alters c ≡ true → (original template : List Entry)
+    → made_class c original template ≡ class_of original
 made_class-altered c alt original template = both (λ c. made_class c original template ≡ class_of original) refl refl c alt
 
 -- whether a call refuses a value of a type
@@ -111,31 +157,38 @@ IsFixed k t c = (s : SessionState) (present : Option (List ℕ)) (v : List ℕ) 
 abbrev pub given_or_kept : List Entry → List Entry → ℕ → List ℕ
 given_or_kept original template n = unwrap_or (attribute template n) (unwrap_or (attribute original n) [])
 
-row_kept : (c : Making) → alters c ≡ true → (k : ObjectClass) (original template : List Entry) (random : List ℕ) (n : ℕ) → eqb n (attr_type_number attr.UniqueId) ≡ false → (r : AttributeRow) → row_number r ≡ n
+row_kept : (c : Making) → alters c ≡ true → (k : ObjectClass) (original template : List Entry) (random : List ℕ) (n : ℕ)
+    → eqb n (attr_type_number attr.UniqueId) ≡ false → (r : AttributeRow) → row_number r ≡ n
     → made_value c k original template random [] r ≡ given_or_kept original template n
 row_kept c alt k original template random n other r is =
     let digits = encode_lower (take 16 random) in
     both (λ c. made_value c k original template random [] r ≡ given_or_kept original template n)
-    (ap (λ (m : ℕ). cond (eqb m (attr_type_number attr.UniqueId)) digits (given_or_kept original template m)) is ∙ ap (λ (b : Bool). cond b digits (given_or_kept original template n)) other)
+    (ap (λ (m : ℕ). cond (eqb m (attr_type_number attr.UniqueId)) digits (given_or_kept original template m)) is
+    ∙ ap (λ (b : Bool). cond b digits (given_or_kept original template n)) other)
     (ap (given_or_kept original template) is)
     c alt
 
-at_row : (f : AttributeRow → List ℕ) (v : List ℕ) (n : ℕ) → ((r : AttributeRow) → row_number r ≡ n → f r ≡ v) → (rs : List AttributeRow) → list_any (λ r. eqb (row_number r) n) rs ≡ true
+at_row : (f : AttributeRow → List ℕ) (v : List ℕ) (n : ℕ) → ((r : AttributeRow) → row_number r ≡ n → f r ≡ v)
+    → (rs : List AttributeRow) → list_any (λ r. eqb (row_number r) n) rs ≡ true
     → attribute (map (λ r. record { attr_type = row_number r; value = f r }) rs) n ≡ Some v
 at_row f v n same [] there = absurd cc
 at_row f v n same (r ∷ rs) there =
     let rest = attribute (map (λ r. record { attr_type = row_number r; value = f r }) rs) n in
-    let step : (b : Bool) → eqb (row_number r) n ≡ b → (b || list_any (λ r. eqb (row_number r) n) rs) ≡ true → cond b (Some (f r)) rest ≡ Some v =
-    λ b. elim b as (λ d. eqb (row_number r) n ≡ d → (d || list_any (λ r. eqb (row_number r) n) rs) ≡ true → cond d (Some (f r)) rest ≡ Some v) [
+    let step : (b : Bool) → eqb (row_number r) n ≡ b → (b || list_any (λ r. eqb (row_number r) n) rs) ≡ true
+    → cond b (Some (f r)) rest ≡ Some v =
+    λ b. elim b as (λ d. eqb (row_number r) n ≡ d → (d || list_any (λ r. eqb (row_number r) n) rs) ≡ true
+    → cond d (Some (f r)) rest ≡ Some v) [
       | true ↦ λ is e. ap (λ (w : List ℕ). Some w) (same r (eqb-true (row_number r) n is))
       | false ↦ λ is e. at_row f v n same rs e
     ] in
     step (eqb (row_number r) n) refl there
 
-pub kept_at : (c : Making) → alters c ≡ true → (k : ObjectClass) (original template : List Entry) (random : List ℕ) (n : ℕ) → eqb n (attr_type_number attr.UniqueId) ≡ false → list_any (λ r. eqb (row_number r) n) (rows_of k) ≡ true
+pub kept_at : (c : Making) → alters c ≡ true → (k : ObjectClass) (original template : List Entry) (random : List ℕ) (n : ℕ)
+    → eqb n (attr_type_number attr.UniqueId) ≡ false → list_any (λ r. eqb (row_number r) n) (rows_of k) ≡ true
     → attribute (made_entries c k original template random []) n ≡ Some (given_or_kept original template n)
 kept_at c alt k original template random n other there =
-    at_row (made_value c k original template random []) (given_or_kept original template n) n (row_kept c alt k original template random n other) (rows_of k) there
+    at_row (made_value c k original template random []) (given_or_kept original template n) n
+    (row_kept c alt k original template random n other) (rows_of k) there
 
 fixed_class : (c : Making) → alters c ≡ true → (k : ObjectClass) → IsFixed k attr.Class c
 unfolding attribute_table
@@ -159,28 +212,38 @@ unfolding attribute_table
 has_class Data = refl
 has_class SecretKey = refl
 
-module _ (c : Making) (alt : alters c ≡ true) (s : SessionState) (original template : List Entry) (random : List ℕ) (ok : IsFaultless c s original template) where
+module _ (c : Making) (alt : alters c ≡ true) (s : SessionState) (original template : List Entry) (random : List ℕ)
+    (ok : IsFaultless c s original template) where
   abbrev new : ObjectClass → List Entry
   new k = made_entries c k original template random []
 
-  keeps : (k : ObjectClass) (t : AttrType) → class_of original ≡ Some k → IsFixed k t c → eqb (attr_type_number t) (attr_type_number attr.UniqueId) ≡ false → list_any (λ r. eqb (row_number r) (attr_type_number t)) (rows_of k) ≡ true
+  keeps : (k : ObjectClass) (t : AttrType) → class_of original ≡ Some k → IsFixed k t c
+      → eqb (attr_type_number t) (attr_type_number attr.UniqueId) ≡ false
+      → list_any (λ r. eqb (row_number r) (attr_type_number t)) (rows_of k) ≡ true
       → (attribute_of original t ≡ None → ⊥) → attribute_of (new k) t ≡ attribute_of original t
   keeps k t class fixed other there held =
       kept_at c alt k original template random (attr_type_number t) other there
-      ∙ stays template original (attr_type_number t) (not_read_only c s (Some k) original template (attr_type_number t) class (fixed s) ok.writable) held
+      ∙ stays template original (attr_type_number t)
+      (not_read_only c s (Some k) original template (attr_type_number t) class (fixed s) ok.writable) held
 
   pub keeps_class : (k : ObjectClass) → class_of original ≡ Some k → class_of (new k) ≡ Some k
   keeps_class k class =
-      ap (λ (o : Option (List ℕ)). class_at (number_of o)) (keeps k attr.Class class (fixed_class c alt k) refl (has_class k) (held_class k original class)) ∙ class
+      ap (λ (o : Option (List ℕ)). class_at (number_of o))
+      (keeps k attr.Class class (fixed_class c alt k) refl (has_class k) (held_class k original class)) ∙ class
 
-  keeps_part : (t : AttrType) → class_of original ≡ Some SecretKey → fits_rows (rows_of SecretKey) original ≡ true → IsFixed SecretKey t c → eqb (attr_type_number t) (attr_type_number attr.UniqueId) ≡ false
-      → list_any (λ r. eqb (row_number r) (attr_type_number t)) (rows_of SecretKey) ≡ true → attribute_of (new SecretKey) t ≡ attribute_of original t
-  keeps_part t class fits fixed other there = keeps SecretKey t class fixed other there (fits_rows-held (rows_of SecretKey) original (attr_type_number t) fits there)
+  keeps_part : (t : AttrType) → class_of original ≡ Some SecretKey → fits_rows (rows_of SecretKey) original ≡ true
+      → IsFixed SecretKey t c → eqb (attr_type_number t) (attr_type_number attr.UniqueId) ≡ false
+      → list_any (λ r. eqb (row_number r) (attr_type_number t)) (rows_of SecretKey) ≡ true
+      → attribute_of (new SecretKey) t ≡ attribute_of original t
+  keeps_part t class fits fixed other there =
+      keeps SecretKey t class fixed other there (fits_rows-held (rows_of SecretKey) original (attr_type_number t) fits there)
 
   new_fits : (k : ObjectClass) → fits_rows (rows_of k) original ≡ true → fits_rows (rows_of k) (new k) ≡ true
   new_fits k fits =
       made_fit c k original template random [] ok.formed
-      (subst (λ (b : Bool). AllByRecursion (λ r. has_form r.form (cond b (unwrap_or (attribute original (row_number r)) []) (by_default r.default c k template [] r.attribute)) ≡ true) (rows_of k)) (sym alt) (original_formed k original fits))
+      (subst (λ (b : Bool). AllByRecursion
+      (λ r. has_form r.form (cond b (unwrap_or (attribute original (row_number r)) [])
+      (by_default r.default c k template [] r.attribute)) ≡ true) (rows_of k)) (sym alt) (original_formed k original fits))
 
   pub altered_is_object : (k : ObjectClass) → class_of original ≡ Some k → IsObject original → IsObject (new k)
   unfolding attribute_table
@@ -201,13 +264,19 @@ flag_stays : (given present : Option (List ℕ)) → given ≡ None → is_true 
 flag_stays given None none = ap (λ (o : Option (List ℕ)). is_true (Some (unwrap_or o []))) none
 flag_stays given (Some v) none = ap (λ (o : Option (List ℕ)). is_true (Some (unwrap_or o v))) none
 
-pub changed_placed : (s : SessionState) (original template : List Entry) (random : List ℕ) (class : ObjectClass) → class_of original ≡ Some class → IsFaultless making.Set s original template → StaysPlaced original (made_entries making.Set class original template random [])
+pub changed_placed : (s : SessionState) (original template : List Entry) (random : List ℕ) (class : ObjectClass)
+    → class_of original ≡ Some class → IsFaultless making.Set s original template
+    → StaysPlaced original (made_entries making.Set class original template random [])
 unfolding attribute_table
 changed_placed s original template random Data class ok = record {
-  token = flag_stays (attribute_of template attr.Token) (attribute_of original attr.Token) (not_read_only making.Set s (Some Data) original template (attr_type_number attr.Token) class (λ p v. refl) ok.writable);
-  private = flag_stays (attribute_of template attr.Private) (attribute_of original attr.Private) (not_read_only making.Set s (Some Data) original template (attr_type_number attr.Private) class (λ p v. refl) ok.writable);
+  token = flag_stays (attribute_of template attr.Token) (attribute_of original attr.Token)
+      (not_read_only making.Set s (Some Data) original template (attr_type_number attr.Token) class (λ p v. refl) ok.writable);
+  private = flag_stays (attribute_of template attr.Private) (attribute_of original attr.Private)
+      (not_read_only making.Set s (Some Data) original template (attr_type_number attr.Private) class (λ p v. refl) ok.writable);
 }
 changed_placed s original template random SecretKey class ok = record {
-  token = flag_stays (attribute_of template attr.Token) (attribute_of original attr.Token) (not_read_only making.Set s (Some SecretKey) original template (attr_type_number attr.Token) class (λ p v. refl) ok.writable);
-  private = flag_stays (attribute_of template attr.Private) (attribute_of original attr.Private) (not_read_only making.Set s (Some SecretKey) original template (attr_type_number attr.Private) class (λ p v. refl) ok.writable);
+  token = flag_stays (attribute_of template attr.Token) (attribute_of original attr.Token)
+      (not_read_only making.Set s (Some SecretKey) original template (attr_type_number attr.Token) class (λ p v. refl) ok.writable);
+  private = flag_stays (attribute_of template attr.Private) (attribute_of original attr.Private)
+      (not_read_only making.Set s (Some SecretKey) original template (attr_type_number attr.Private) class (λ p v. refl) ok.writable);
 }

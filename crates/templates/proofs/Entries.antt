@@ -24,26 +24,31 @@ pub record Gives (es : List Entry) (n : ℕ) (v : List ℕ) (p : Entry → Bool)
   pub fails : p entry ≡ false
 
 -- a test that no entry passes fails for the entry that gives a value
-pub any_false-attribute : (p : Entry → Bool) (es : List Entry) (n : ℕ) (v : List ℕ) → list_any p es ≡ false → attribute es n ≡ Some v → Gives es n v p
+pub any_false-attribute : (p : Entry → Bool) (es : List Entry) (n : ℕ) (v : List ℕ) → list_any p es ≡ false
+    → attribute es n ≡ Some v → Gives es n v p
 any_false-attribute p [] n v none e = absurd cc
 any_false-attribute p (x ∷ es) n v none e =
     let f = both_false (p x) (list_any p es) none in
     let step : (b : Bool) → eqb x.attr_type n ≡ b → cond b (Some x.value) (attribute es n) ≡ Some v → Gives (x ∷ es) n v p =
     λ b. elim b as (λ c. eqb x.attr_type n ≡ c → cond c (Some x.value) (attribute es n) ≡ Some v → Gives (x ∷ es) n v p) [
       | true ↦ λ h k. record { entry = x; number_is = eqb-true x.attr_type n h; value_is = cc; fails = f.0 }
-      | false ↦ λ h k. let g = any_false-attribute p es n v f.1 k in record { entry = g.entry; number_is = g.number_is; value_is = g.value_is; fails = g.fails }
+      | false ↦ λ h k. let g = any_false-attribute p es n v f.1 k in
+          record { entry = g.entry; number_is = g.number_is; value_is = g.value_is; fails = g.fails }
     ] in
     step (eqb x.attr_type n) refl e
 
 -- what holds of each row holds of each that passes a test
-pub AllByRecursion-filter : (P : AttributeRow → Type 0) (p : AttributeRow → Bool) (rs : List AttributeRow) → AllByRecursion P rs → AllByRecursion P (filter p rs)
+pub AllByRecursion-filter : (P : AttributeRow → Type 0) (p : AttributeRow → Bool) (rs : List AttributeRow) → AllByRecursion P rs
+    → AllByRecursion P (filter p rs)
 AllByRecursion-filter P p [] all = tt
 AllByRecursion-filter P p (r ∷ rs) all =
     let rest = AllByRecursion-filter P p rs all.1 in
-    let step : (b : Bool) → AllByRecursion P (cond b (r ∷ filter p rs) (filter p rs)) = λ b. elim b as (λ c. AllByRecursion P (cond c (r ∷ filter p rs) (filter p rs))) [ true ↦ (all.0, rest) | false ↦ rest ] in
+    let step : (b : Bool) → AllByRecursion P (cond b (r ∷ filter p rs) (filter p rs)) =
+    λ b. elim b as (λ c. AllByRecursion P (cond c (r ∷ filter p rs) (filter p rs))) [ true ↦ (all.0, rest) | false ↦ rest ] in
     step (p r)
 
 -- entries that are made of rows fit them
-pub fits_rows-map : (f : AttributeRow → List ℕ) (rs : List AttributeRow) → AllByRecursion (λ r. has_form r.form (f r) ≡ true) rs → fits_rows rs (map (λ r. record { attr_type = row_number r; value = f r }) rs) ≡ true
+pub fits_rows-map : (f : AttributeRow → List ℕ) (rs : List AttributeRow) → AllByRecursion (λ r. has_form r.form (f r) ≡ true) rs
+    → fits_rows rs (map (λ r. record { attr_type = row_number r; value = f r }) rs) ≡ true
 fits_rows-map f [] all = refl
 fits_rows-map f (r ∷ rs) all = rw (eq-eqb (row_number r) (row_number r) refl, all.0) (fits_rows-map f rs all.1)

@@ -34,7 +34,8 @@ pub record IsFaultless (c : Making) (s : SessionState) (original template : List
   pub right_len : has_bad_len c template ≡ false
   pub right_unwrapped_len : has_bad_unwrapped_len c template ≡ false
 
-pub faultless : (c : Making) (s : SessionState) (original template : List Entry) → template_fault c s original template ≡ None → IsFaultless c s original template
+pub faultless : (c : Making) (s : SessionState) (original template : List Entry) → template_fault c s original template ≡ None
+    → IsFaultless c s original template
 unfolding template_fault
 faultless c s original template e =
     let f1 = cond_none (list_any (is_unknown (class_of original)) template) _ _ e in
@@ -46,32 +47,53 @@ faultless c s original template e =
     let f7 = cond_none (has_bad_len c template) _ _ f6.1 in
     let f8 = cond_none (has_bad_unwrapped_len c template) _ _ f7.1 in
     let two = both_false (list_any (is_excluded c original) template) (disagrees c template) f5.0 in
-    record { formed = f2.0; writable = f4.0; included = two.0; agrees = two.1; complete = f6.0; right_len = f7.0; right_unwrapped_len = f8.0 }
+    record {
+      formed = f2.0;
+      writable = f4.0;
+      included = two.0;
+      agrees = two.1;
+      complete = f6.0;
+      right_len = f7.0;
+      right_unwrapped_len = f8.0;
+    }
 
 -- ---- what isn't given
 
 when_given : (template : List Entry) (n : ℕ) → ((v : List ℕ) → attribute template n ≡ Some v → ⊥) → attribute template n ≡ None
 when_given template n none =
-    let step : (o : Option (List ℕ)) → attribute template n ≡ o → attribute template n ≡ None = λ o. elim o as (λ p. attribute template n ≡ p → attribute template n ≡ None) [ Some v ↦ λ e. absurd (none v e) | None ↦ λ e. e ] in
+    let step : (o : Option (List ℕ)) → attribute template n ≡ o → attribute template n ≡ None =
+    λ o. elim o as (λ p. attribute template n ≡ p → attribute template n ≡ None) [ Some v ↦ λ e. absurd (none v e) | None ↦ λ e. e ] in
     step (attribute template n) refl
 
-pub not_excluded : (c : Making) (k : Option ObjectClass) (original template : List Entry) (n : ℕ) → class_of original ≡ k → list_any (λ r. is_about k n r && is_inconsistent (rule c r)) attribute_table ≡ true → list_any (is_excluded c original) template ≡ false → attribute template n ≡ None
+pub not_excluded : (c : Making) (k : Option ObjectClass) (original template : List Entry) (n : ℕ) → class_of original ≡ k
+    → list_any (λ r. is_about k n r && is_inconsistent (rule c r)) attribute_table ≡ true
+    → list_any (is_excluded c original) template ≡ false → attribute template n ≡ None
 not_excluded c k original template n class refused included =
     when_given template n (λ v given.
     let g = any_false-attribute (is_excluded c original) template n v included given in
-    let at_class : list_any (λ r. is_about k g.entry.attr_type r && is_inconsistent (rule c r)) attribute_table ≡ false = subst (λ (j : Option ObjectClass). list_any (λ r. is_about j g.entry.attr_type r && is_inconsistent (rule c r)) attribute_table ≡ false) class g.fails in
-    let at_number : list_any (λ r. is_about k n r && is_inconsistent (rule c r)) attribute_table ≡ false = subst (λ (m : ℕ). list_any (λ r. is_about k m r && is_inconsistent (rule c r)) attribute_table ≡ false) g.number_is at_class in
+    let at_class : list_any (λ r. is_about k g.entry.attr_type r && is_inconsistent (rule c r)) attribute_table ≡ false =
+    subst (λ (j : Option ObjectClass). list_any
+    (λ r. is_about j g.entry.attr_type r && is_inconsistent (rule c r)) attribute_table ≡ false) class g.fails in
+    let at_number : list_any (λ r. is_about k n r && is_inconsistent (rule c r)) attribute_table ≡ false =
+    subst (λ (m : ℕ). list_any (λ r. is_about k m r && is_inconsistent (rule c r)) attribute_table ≡ false) g.number_is at_class in
     let no : true ≡ false = sym refused ∙ at_number in
     cc)
 
-pub not_read_only : (c : Making) (s : SessionState) (k : Option ObjectClass) (original template : List Entry) (n : ℕ) → class_of original ≡ k
-    → ((present : Option (List ℕ)) (v : List ℕ) → list_any (λ r. is_about k n r && refuses (rule c r) s present v) attribute_table ≡ true) → list_any (is_read_only c s original) template ≡ false → attribute template n ≡ None
+pub not_read_only : (c : Making) (s : SessionState) (k : Option ObjectClass) (original template : List Entry) (n : ℕ)
+    → class_of original ≡ k
+    → ((present : Option (List ℕ)) (v : List ℕ)
+    → list_any (λ r. is_about k n r && refuses (rule c r) s present v) attribute_table ≡ true)
+    → list_any (is_read_only c s original) template ≡ false → attribute template n ≡ None
 not_read_only c s k original template n class refused writable =
     when_given template n (λ v given.
     let g = any_false-attribute (is_read_only c s original) template n v writable given in
     let present = attribute original g.entry.attr_type in
-    let at_class : list_any (λ r. is_about k g.entry.attr_type r && refuses (rule c r) s present g.entry.value) attribute_table ≡ false = subst (λ (j : Option ObjectClass). list_any (λ r. is_about j g.entry.attr_type r && refuses (rule c r) s present g.entry.value) attribute_table ≡ false) class g.fails in
-    let at_number : list_any (λ r. is_about k n r && refuses (rule c r) s present g.entry.value) attribute_table ≡ false = subst (λ (m : ℕ). list_any (λ r. is_about k m r && refuses (rule c r) s present g.entry.value) attribute_table ≡ false) g.number_is at_class in
+    let at_class : list_any (λ r. is_about k g.entry.attr_type r && refuses (rule c r) s present g.entry.value) attribute_table
+    ≡ false = subst (λ (j : Option ObjectClass). list_any
+    (λ r. is_about j g.entry.attr_type r && refuses (rule c r) s present g.entry.value) attribute_table ≡ false) class g.fails in
+    let at_number : list_any (λ r. is_about k n r && refuses (rule c r) s present g.entry.value) attribute_table ≡ false =
+    subst (λ (m : ℕ). list_any (λ r. is_about k m r && refuses (rule c r) s present g.entry.value) attribute_table
+    ≡ false) g.number_is at_class in
     let no : true ≡ false = sym (refused present g.entry.value) ∙ at_number in
     cc)
 
@@ -82,29 +104,46 @@ is_given (Some v) e = (v, refl)
 is_given None e = absurd cc
 
 -- what is required of a class, by the class that is given
-pub complete_at : (c : Making) (k : Option ObjectClass) (template : List Entry) → class_of template ≡ k → list_any (is_missing c template) attribute_table ≡ false → list_any (λ r. is_required (rule c r) && (is_held k r && is_none (attribute template (row_number r)))) attribute_table ≡ false
-complete_at c k template class complete = subst (λ (j : Option ObjectClass). list_any (λ r. is_required (rule c r) && (is_held j r && is_none (attribute template (row_number r)))) attribute_table ≡ false) class complete
+pub complete_at : (c : Making) (k : Option ObjectClass) (template : List Entry) → class_of template ≡ k
+    → list_any (is_missing c template) attribute_table ≡ false
+    → list_any (λ r. is_required (rule c r) && (is_held k r && is_none (attribute template (row_number r)))) attribute_table ≡ false
+complete_at c k template class complete =
+    subst (λ (j : Option ObjectClass). list_any
+    (λ r. is_required (rule c r) && (is_held j r && is_none (attribute template (row_number r)))) attribute_table ≡ false) class complete
 
 -- a class that is given is listed
-pub listed_class : (template : List Entry) (v : List ℕ) → list_any is_ill_formed template ≡ false → attribute_of template attr.Class ≡ Some v → class_at (number_of (Some v)) ≡ None → ⊥
+pub listed_class : (template : List Entry) (v : List ℕ) → list_any is_ill_formed template ≡ false
+    → attribute_of template attr.Class ≡ Some v → class_at (number_of (Some v)) ≡ None → ⊥
 listed_class template v formed given none =
     let g = any_false-attribute is_ill_formed template (attr_type_number attr.Class) v formed given in
-    let listed = (both_false (not (fits_form_of (form_in attribute_table g.entry.attr_type) g.entry.value)) (is_unlisted g.entry) g.fails).1 in
-    let first = (both_false (eqb g.entry.attr_type (attr_type_number attr.Class) && is_none (class_at (number_of (Some g.entry.value)))) (eqb g.entry.attr_type (attr_type_number attr.KeyType) && is_none (key_type_at (number_of (Some g.entry.value)))) listed).0 in
-    let is_class : eqb g.entry.attr_type (attr_type_number attr.Class) ≡ true = eq-eqb g.entry.attr_type (attr_type_number attr.Class) g.number_is in
-    let unlisted : is_none (class_at (number_of (Some g.entry.value))) ≡ true = ap (λ (w : List ℕ). is_none (class_at (number_of (Some w)))) g.value_is ∙ ap is_none none in
+    let listed = (both_false (not (fits_form_of (form_in attribute_table g.entry.attr_type) g.entry.value))
+    (is_unlisted g.entry) g.fails).1 in
+    let first = (both_false (eqb g.entry.attr_type (attr_type_number attr.Class) && is_none
+    (class_at (number_of (Some g.entry.value))))
+    (eqb g.entry.attr_type (attr_type_number attr.KeyType) && is_none (key_type_at (number_of (Some g.entry.value)))) listed).0 in
+    let is_class : eqb g.entry.attr_type (attr_type_number attr.Class) ≡ true =
+    eq-eqb g.entry.attr_type (attr_type_number attr.Class) g.number_is in
+    let unlisted : is_none (class_at (number_of (Some g.entry.value))) ≡ true =
+    ap (λ (w : List ℕ). is_none (class_at (number_of (Some w)))) g.value_is ∙ ap is_none none in
     let no : true ≡ false = sym (ap (λ (b : Bool). b && is_none (class_at (number_of (Some g.entry.value)))) is_class ∙ unlisted) ∙ first in
     cc
 
 -- so is a key type
-pub listed_type : (template : List Entry) (v : List ℕ) → list_any is_ill_formed template ≡ false → attribute_of template attr.KeyType ≡ Some v → key_type_at (number_of (Some v)) ≡ None → ⊥
+pub listed_type : (template : List Entry) (v : List ℕ) → list_any is_ill_formed template ≡ false
+    → attribute_of template attr.KeyType ≡ Some v → key_type_at (number_of (Some v)) ≡ None → ⊥
 listed_type template v formed given none =
     let g = any_false-attribute is_ill_formed template (attr_type_number attr.KeyType) v formed given in
-    let listed = (both_false (not (fits_form_of (form_in attribute_table g.entry.attr_type) g.entry.value)) (is_unlisted g.entry) g.fails).1 in
-    let second = (both_false (eqb g.entry.attr_type (attr_type_number attr.Class) && is_none (class_at (number_of (Some g.entry.value)))) (eqb g.entry.attr_type (attr_type_number attr.KeyType) && is_none (key_type_at (number_of (Some g.entry.value)))) listed).1 in
-    let is_type : eqb g.entry.attr_type (attr_type_number attr.KeyType) ≡ true = eq-eqb g.entry.attr_type (attr_type_number attr.KeyType) g.number_is in
-    let unlisted : is_none (key_type_at (number_of (Some g.entry.value))) ≡ true = ap (λ (w : List ℕ). is_none (key_type_at (number_of (Some w)))) g.value_is ∙ ap is_none none in
-    let no : true ≡ false = sym (ap (λ (b : Bool). b && is_none (key_type_at (number_of (Some g.entry.value)))) is_type ∙ unlisted) ∙ second in
+    let listed = (both_false (not (fits_form_of (form_in attribute_table g.entry.attr_type) g.entry.value))
+    (is_unlisted g.entry) g.fails).1 in
+    let second = (both_false (eqb g.entry.attr_type (attr_type_number attr.Class) && is_none
+    (class_at (number_of (Some g.entry.value))))
+    (eqb g.entry.attr_type (attr_type_number attr.KeyType) && is_none (key_type_at (number_of (Some g.entry.value)))) listed).1 in
+    let is_type : eqb g.entry.attr_type (attr_type_number attr.KeyType) ≡ true =
+    eq-eqb g.entry.attr_type (attr_type_number attr.KeyType) g.number_is in
+    let unlisted : is_none (key_type_at (number_of (Some g.entry.value))) ≡ true =
+    ap (λ (w : List ℕ). is_none (key_type_at (number_of (Some w)))) g.value_is ∙ ap is_none none in
+    let no : true ≡ false = sym (ap (λ (b : Bool). b && is_none (key_type_at (number_of (Some g.entry.value)))) is_type ∙ unlisted)
+    ∙ second in
     cc
 
 -- ---- numbers

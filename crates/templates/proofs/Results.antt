@@ -7,12 +7,14 @@ use Rattle.templates.specs.declared.fault.MakeFault.{MakeFault}
 use Rattle.templates.specs.declared.fault.MakeFault.TheVariants.{Memory}
 use Rattle.templates.specs.Made.{Answers}
 
-pub ok_so : (P : List Entry → Type 0) (r : Result (List Entry) MakeFault) (made : List Entry) → MatchResult r (λ o. o ≡ made) (λ fault. fault ≡ Memory) → P made → IfOk r (λ o. P o)
+pub ok_so : (P : List Entry → Type 0) (r : Result (List Entry) MakeFault) (made : List Entry)
+    → MatchResult r (λ o. o ≡ made) (λ fault. fault ≡ Memory) → P made → IfOk r (λ o. P o)
 ok_so P (Ok o) made e p = subst P (sym e) p
 ok_so P (Err fault) made e p = tt
 
 -- where no condition holds, it is the object, or memory ran out
-pub answers_so : (r : Result (List Entry) MakeFault) (f : Option Rv) (made whole : List Entry) → f ≡ None → made ≡ whole → MatchResult r (λ o. o ≡ made) (λ fault. fault ≡ Memory) → Answers r f whole
+pub answers_so : (r : Result (List Entry) MakeFault) (f : Option Rv) (made whole : List Entry) → f ≡ None → made ≡ whole
+    → MatchResult r (λ o. o ≡ made) (λ fault. fault ≡ Memory) → Answers r f whole
 answers_so (Ok o) None made whole none same is = is ∙ same
 answers_so (Ok o) (Some code) made whole none same is = absurd cc
 answers_so (Err fault) None made whole none same is = is

@@ -22,7 +22,7 @@ use Rattle.attrs.specs.Table.{attribute_table, row_number, is_held_by}
 use Rattle.attrs.specs.Objects.{attribute, attribute_of, is_true, number_of, class_at, class_of, key_type_at, key_type_of, is_key_len, has_form}
 use Rattle.templates.specs.declared.making.Making.{Making}
 use Rattle.templates.specs.declared.making.Making.TheVariants as making
-use Rattle.ck_mechanisms.specs.Table.{key_type_of as key_type_for}
+use Rattle.ck_mechanisms.specs.Table.{mech_key_type as key_type_for}
 use Rattle.templates.specs.Making.{rule}
 
 -- whether the objects of a class have the attribute, or where no class is known some objects
@@ -60,19 +60,19 @@ abbrev pub contradicts : Entry → Entry → Bool
 contradicts e f = (e.attr_type == f.attr_type) && not (bytes_eq e.value f.value)
 
 -- 4. The rule of the attribute doesn't allow the value, given the present one.
-abbrev pub is_set : List ℕ → Bool
-is_set value = is_true (Some value)
+abbrev pub is_value_set : List ℕ → Bool
+is_value_set value = is_true (Some value)
 
 abbrev pub is_present : Option (List ℕ) → List ℕ → Bool
 is_present None value = false
 is_present (Some present) value = bytes_eq present value
 
-abbrev pub is_so : SessionState → Bool
-is_so state.RoPublic = false
-is_so state.RoUser = false
-is_so state.RwPublic = false
-is_so state.RwUser = false
-is_so state.RwSo = true
+abbrev pub is_so_state : SessionState → Bool
+is_so_state state.RoPublic = false
+is_so_state state.RoUser = false
+is_so_state state.RwPublic = false
+is_so_state state.RwUser = false
+is_so_state state.RwSo = true
 
 abbrev pub refuses : Rule → SessionState → Option (List ℕ) → List ℕ → Bool
 refuses Unused s present value = false
@@ -80,12 +80,14 @@ refuses Required s present value = false
 refuses Optional s present value = false
 refuses Inconsistent s present value = false
 refuses ReadOnly s present value = true
-refuses FalseOnly s present value = is_set value && not (is_present present value)
-refuses TrueOnly s present value = not (is_set value) && not (is_present present value)
-refuses TrueBySo s present value = is_set value && (not (is_so s) && not (is_present present value))
+refuses FalseOnly s present value = is_value_set value && not (is_present present value)
+refuses TrueOnly s present value = not (is_value_set value) && not (is_present present value)
+refuses TrueBySo s present value = is_value_set value && (not (is_so_state s) && not (is_present present value))
 
 abbrev pub is_read_only : Making → SessionState → List Entry → Entry → Bool
-is_read_only c s original e = list_any (λ r. is_about (class_of original) e.attr_type r && refuses (rule c r) s (attribute original e.attr_type) e.value) attribute_table
+is_read_only c s original e =
+    list_any (λ r. is_about (class_of original) e.attr_type r && refuses (rule c r) s
+    (attribute original e.attr_type) e.value) attribute_table
 
 -- 5. The attribute doesn't go with the call, or with what else is asked for.
 abbrev pub is_inconsistent : Rule → Bool
@@ -144,7 +146,8 @@ len_of (Some value) = Some (length value)
 
 abbrev pub has_bad_len : Making → List Entry → Bool
 has_bad_len making.Create template = is_bad_len (key_type_of template) (len_of (attribute_of template attr.Value))
-has_bad_len (making.Generate mechanism) template = is_bad_len (Some (key_type_for mechanism)) (number_of (attribute_of template attr.ValueLen))
+has_bad_len (making.Generate mechanism) template =
+    is_bad_len (Some (key_type_for mechanism)) (number_of (attribute_of template attr.ValueLen))
 has_bad_len (making.Unwrap len) template = false
 has_bad_len making.Copy template = false
 has_bad_len making.Set template = false

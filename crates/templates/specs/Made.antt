@@ -21,7 +21,7 @@ use Rattle.templates.specs.declared.making.Making.{Making}
 use Rattle.templates.specs.declared.making.Making.TheVariants as making
 use Rattle.templates.specs.declared.fault.MakeFault.{MakeFault}
 use Rattle.templates.specs.declared.fault.MakeFault.TheVariants.{Refused, Memory}
-use Rattle.ck_mechanisms.specs.Table.{key_type_of as key_type_for}
+use Rattle.ck_mechanisms.specs.Table.{mech_key_type as key_type_for}
 
 abbrev pub truth : Bool → List ℕ
 truth true = 1 ∷ []
@@ -122,7 +122,8 @@ made_value c class original template random value r =
     else unwrap_or (attribute template (row_number r)) (not_given c class original template value r)
 
 abbrev pub made_entry : Making → ObjectClass → List Entry → List Entry → List ℕ → List ℕ → AttributeRow → Entry
-made_entry c class original template random value r = record { attr_type = row_number r; value = made_value c class original template random value r }
+made_entry c class original template random value r =
+    record { attr_type = row_number r; value = made_value c class original template random value r }
 
 abbrev pub made_entries : Making → ObjectClass → List Entry → List Entry → List ℕ → List ℕ → List Entry
 made_entries c class original template random value = map (made_entry c class original template random value) (rows_of class)

@@ -5,7 +5,7 @@ ghost use Rattle.std.specs.List.{list_any};
 ghost use Rattle.std.specs.Option.{option_copied};
 ghost use Rattle.attrs.specs.Objects.{class_of};
 ghost use Rattle.attrs.specs.Table.{attribute_table};
-ghost use Rattle.templates.specs.Faults.{contradicts, disagrees, fits_form_of, form_in, has_bad_len, has_bad_unwrapped_len, is_about, is_bad_len, is_excluded, is_held, is_ill_formed, is_inconsistent, is_missing, is_of_other_class, is_other, is_present, is_read_only, is_required, is_set, is_so, is_unknown, is_unlisted, len_of, refuses};
+ghost use Rattle.templates.specs.Faults.{contradicts, disagrees, fits_form_of, form_in, has_bad_len, has_bad_unwrapped_len, is_about, is_bad_len, is_excluded, is_held, is_ill_formed, is_inconsistent, is_missing, is_of_other_class, is_other, is_present, is_read_only, is_required, is_value_set, is_so_state, is_unknown, is_unlisted, len_of, refuses};
 
 use crate::making::{Making, rule_of};
 use attrs::{
@@ -108,7 +108,7 @@ pub(crate) fn any_contradicted(template: &[Entry]) -> bool
 }
 
 fn is_set_value(value: &[u8]) -> bool
-    ensures { result ≡ is_set value.now }
+    ensures { result ≡ is_value_set value.now }
 {
     value.len() == 1 && value[0] == 1
 }
@@ -123,7 +123,7 @@ fn is_present_value(present: Option<&[u8]>, value: &[u8]) -> bool
 }
 
 fn is_so_state(state: SessionState) -> bool
-    ensures { result ≡ is_so state }
+    ensures { result ≡ is_so_state state }
 {
     match state {
         SessionState::RwSo => true,

@@ -21,7 +21,9 @@ use std::alloc::{AllocError, Global};
 
 fn make_entry(alloc: Global, recipe: &Recipe, row: &AttributeRow) -> Result<Entry, AllocError>
     requires { 16 ≤ length recipe.now.random.now }
-    ensures { IfOk result (λ entry. entry ≡ made_entry recipe.now.making recipe.now.class recipe.now.original.now recipe.now.template.now recipe.now.random.now recipe.now.value.now row.now) }
+    ensures { IfOk result
+        (λ entry. entry ≡ made_entry recipe.now.making recipe.now.class recipe.now.original.now recipe.now.template.now
+        recipe.now.random.now recipe.now.value.now row.now) }
 {
     let number = row.attribute.number();
     let value = value_made(alloc, recipe, row)?;
@@ -33,7 +35,9 @@ fn make_entry(alloc: Global, recipe: &Recipe, row: &AttributeRow) -> Result<Entr
 
 fn make_entries(alloc: Global, recipe: &Recipe) -> Result<Items<Entry>, AllocError>
     requires { 16 ≤ length recipe.now.random.now }
-    ensures { IfOk result (λ entries. entries ≡ made_entries recipe.now.making recipe.now.class recipe.now.original.now recipe.now.template.now recipe.now.random.now recipe.now.value.now) }
+    ensures { IfOk result
+        (λ entries. entries ≡ made_entries recipe.now.making recipe.now.class recipe.now.original.now recipe.now.template.now
+        recipe.now.random.now recipe.now.value.now) }
 {
     let mut entries = Items::new(alloc);
     for row in attributes() {
@@ -46,8 +50,11 @@ fn make_entries(alloc: Global, recipe: &Recipe) -> Result<Items<Entry>, AllocErr
 
 fn make(alloc: Global, recipe: &Recipe) -> Result<Object, MakeFault>
     requires random { 16 ≤ length recipe.now.random.now }
-    requires object { IsObject (made_entries recipe.now.making recipe.now.class recipe.now.original.now recipe.now.template.now recipe.now.random.now recipe.now.value.now) }
-    ensures { MatchResult result (λ object. object ≡ made_entries recipe.now.making recipe.now.class recipe.now.original.now recipe.now.template.now recipe.now.random.now recipe.now.value.now) (λ fault. fault ≡ Memory) }
+    requires object { IsObject
+        (made_entries recipe.now.making recipe.now.class recipe.now.original.now recipe.now.template.now recipe.now.random.now recipe.now.value.now) }
+    ensures { MatchResult result
+        (λ object. object ≡ made_entries recipe.now.making recipe.now.class recipe.now.original.now recipe.now.template.now
+        recipe.now.random.now recipe.now.value.now) (λ fault. fault ≡ Memory) }
 {
     let entries = make_entries(alloc, recipe)?;
     Ok(Object::new(alloc, entries)?)
@@ -70,7 +77,8 @@ pub fn created(
     random: &[u8],
 ) -> Result<Object, MakeFault>
     requires { 16 ≤ length random.now }
-    ensures { Answers result (template_fault calls.Create state [] template.now) (object_made calls.Create [] template.now random.now (given_value template.now)) }
+    ensures { Answers result (template_fault calls.Create state [] template.now)
+        (object_made calls.Create [] template.now random.now (given_value template.now)) }
 {
     let template = template.as_slice();
     if let Some(code) = find_fault(Making::Create, state, &[], template) {
@@ -144,7 +152,8 @@ pub fn generated(
     random: &[u8],
 ) -> Result<Object, MakeFault>
     requires { 16 + generated_len template.now ≤ length random.now }
-    ensures { Answers result (template_fault (calls.Generate mechanism) state [] template.now) (object_made (calls.Generate mechanism) [] template.now random.now (generated_value template.now random.now)) }
+    ensures { Answers result (template_fault (calls.Generate mechanism) state [] template.now)
+        (object_made (calls.Generate mechanism) [] template.now random.now (generated_value template.now random.now)) }
 {
     let template = template.as_slice();
     let (_, after) = random.split_at(UNIQUE_ID_BYTES);
@@ -164,7 +173,8 @@ pub fn unwrapped(
     random: &[u8],
 ) -> Result<Object, MakeFault>
     requires { 16 ≤ length random.now }
-    ensures { Answers result (template_fault (calls.Unwrap (length value.now)) state [] template.now) (object_made (calls.Unwrap (length value.now)) [] template.now random.now value.now) }
+    ensures { Answers result (template_fault (calls.Unwrap (length value.now)) state [] template.now)
+        (object_made (calls.Unwrap (length value.now)) [] template.now random.now value.now) }
 {
     let making = Making::Unwrap(value.len());
     make_key(alloc, making, state, template.as_slice(), random, value)

@@ -141,7 +141,8 @@ fn value_by_token(
 }
 
 fn default_value(alloc: Global, recipe: &Recipe, row: &AttributeRow) -> Result<Bytes, AllocError>
-    ensures { IfOk result (λ bytes. bytes ≡ by_default row.now.default recipe.now.making recipe.now.class recipe.now.template.now recipe.now.value.now row.now.attribute) }
+    ensures { IfOk result
+        (λ bytes. bytes ≡ by_default row.now.default recipe.now.making recipe.now.class recipe.now.template.now recipe.now.value.now row.now.attribute) }
 {
     match row.default {
         DefaultValue::ByToken => value_by_token(
@@ -169,7 +170,8 @@ fn original_value(alloc: Global, recipe: &Recipe, row: &AttributeRow) -> Result<
 }
 
 fn value_not_given(alloc: Global, recipe: &Recipe, row: &AttributeRow) -> Result<Bytes, AllocError>
-    ensures { IfOk result (λ bytes. bytes ≡ not_given recipe.now.making recipe.now.class recipe.now.original.now recipe.now.template.now recipe.now.value.now row.now) }
+    ensures { IfOk result
+        (λ bytes. bytes ≡ not_given recipe.now.making recipe.now.class recipe.now.original.now recipe.now.template.now recipe.now.value.now row.now) }
 {
     match recipe.making {
         Making::Create | Making::Generate(_) | Making::Unwrap(_) => default_value(
@@ -201,7 +203,9 @@ pub(crate) fn value_made(
     row: &AttributeRow,
 ) -> Result<Bytes, AllocError>
     requires { 16 ≤ length recipe.now.random.now }
-    ensures { IfOk result (λ bytes. bytes ≡ made_value recipe.now.making recipe.now.class recipe.now.original.now recipe.now.template.now recipe.now.random.now recipe.now.value.now row.now) }
+    ensures { IfOk result
+        (λ bytes. bytes ≡ made_value recipe.now.making recipe.now.class recipe.now.original.now recipe.now.template.now
+        recipe.now.random.now recipe.now.value.now row.now) }
 {
     if is_renewed_by(recipe.making, row) {
         let digits = hex::encode(alloc, recipe.random.split_at(16).0)?;

@@ -10,9 +10,9 @@ abbrev pub is_gone : List ℕ → ℕ → Bool
 is_gone gone app = list_any (λ other. nat_eq other app) gone
 
 -- an application that disconnects by it has gone
-abbrev pub Notes : List ℕ → SeatEvent → Type 0
-Notes gone (Call c) = Unit {0}
-Notes gone (Gone app) = IsTrue (is_gone gone app)
+abbrev pub NotesGone : List ℕ → SeatEvent → Type 0
+NotesGone gone (Call c) = Unit {0}
+NotesGone gone (Gone app) = IsTrue (is_gone gone app)
 
 -- whoever disconnected by these has gone
 abbrev pub AllGone : List ℕ → List Exchange → Type 0

@@ -4,11 +4,12 @@
 use crate::keepers::frame_of;
 use ck_calls::{Function, Reply, need};
 use keep::ListKeep;
-use line::{LineFault, Words, serve_one};
+use line::Words;
 use pin_record::Record;
 use std::alloc::Global;
 use std::process::Abort;
 use std::test::*;
+use stdio_line::{LineFault, serve_one};
 use test_scripts::{EVERY_CALL, Step, call_of, expect_row, token_over};
 use watched::Watched;
 use wire::{FrameReader, read_reply};

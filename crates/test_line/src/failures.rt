@@ -5,11 +5,12 @@ ghost use Rattle.std.specs.Prelude.{Some};
 use crate::tests::{Drip, Narrow, after_cut, first_run};
 use door::{Free, Sink, Source};
 use keep::ListKeep;
-use line::{LineFault, Words, serve_one};
+use line::Words;
 use pin_record::Record;
 use std::alloc::Global;
 use std::io::{self, ErrorKind, Read, Write};
 use std::test::*;
+use stdio_line::{LineFault, serve_one};
 use test_scripts::token_over;
 use watched::Watched;
 

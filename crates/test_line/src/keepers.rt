@@ -2,11 +2,12 @@
 
 use ck_types::Rv;
 use keep::ListKeep;
-use line::{Words, serve_one};
+use line::Words;
 use pin_record::Record;
 use std::alloc::Global;
 use std::process::Abort;
 use std::test::*;
+use stdio_line::serve_one;
 use test_keepers::{FailingKeep, Failure};
 use test_scripts::given::*;
 use test_scripts::{Step, call_of, token_over};

@@ -54,7 +54,8 @@ work-value (ResetToken label verifier pin) = refl
 module _ (v : View) (objects : List (List Entry)) (f : UserType → ℕ) (others_have_sessions : Bool) where
   -- by the outcome alone, at the session of the pending call
   abbrev pub ends_by : ℕ → Outcome → Answer
-  ends_by s (out.Piece output stream) = becomes (Output (Data output)) (with_operation (answered v) s (place_for stream.direction) (Some (operation_of stream)))
+  ends_by s (out.Piece output stream) =
+      becomes (Output (Data output)) (with_operation (answered v) s (place_for stream.direction) (Some (operation_of stream)))
   ends_by s (out.Rest direction output) = becomes (Output (Data output)) (with_operation (answered v) s (place_for direction) None)
   ends_by s (out.BadPadding direction) = becomes (Code EncryptedDataInvalid) (with_operation (answered v) s (place_for direction) None)
   ends_by s (out.Taken p mac) = becomes (Code Ok) (with_mac (answered v) s p (Some (mac_of mac)))
@@ -78,31 +79,38 @@ module _ (v : View) (objects : List (List Entry)) (f : UserType → ℕ) (others
     pub answer-ends : (w : Work) → answer_by w (outcome_of w) ≡ ends_by q.session (outcome_of w)
     answer-ends (Cipher stream Update input) = refl
     answer-ends (Cipher stream Last input) = step (last_output stream input) where
-      step : (o : Option (List ℕ)) → answer_by (Cipher stream Last input) (rest_of stream.direction o) ≡ ends_by q.session (rest_of stream.direction o)
+      step : (o : Option (List ℕ)) → answer_by (Cipher stream Last input) (rest_of stream.direction o)
+          ≡ ends_by q.session (rest_of stream.direction o)
       step None = refl
       step (Some output) = refl
     answer-ends (Take p mac input) = refl
     answer-ends (Sign mac input) = refl
     answer-ends (Verify mac input signature) = step (bytes_eq signature (tag_of (longer mac input))) where
-      step : (b : Bool) → answer_by (Verify mac input signature) (cond b out.RightSignature out.WrongSignature) ≡ ends_by q.session (cond b out.RightSignature out.WrongSignature)
+      step : (b : Bool) → answer_by (Verify mac input signature) (cond b out.RightSignature out.WrongSignature)
+          ≡ ends_by q.session (cond b out.RightSignature out.WrongSignature)
       step true = refl
       step false = refl
     answer-ends (Wrap key value) = refl
     answer-ends (Unwrap key wrapped state template random) = step (value_wrapped_in key wrapped) where
-      step : (o : Option (List ℕ)) → answer_by (Unwrap key wrapped state template random) (key_of template random o) ≡ ends_by q.session (key_of template random o)
+      step : (o : Option (List ℕ)) → answer_by (Unwrap key wrapped state template random) (key_of template random o)
+          ≡ ends_by q.session (key_of template random o)
       step None = refl
       step (Some value) = refl
     answer-ends (CheckPin who verifier pin) = step (accepts verifier pin) where
-      step : (b : Bool) → answer_by (CheckPin who verifier pin) (cond b (out.RightPin who) out.WrongPin) ≡ ends_by q.session (cond b (out.RightPin who) out.WrongPin)
+      step : (b : Bool) → answer_by (CheckPin who verifier pin) (cond b (out.RightPin who) out.WrongPin)
+          ≡ ends_by q.session (cond b (out.RightPin who) out.WrongPin)
       step true = refl
       step false = refl
     answer-ends (MakePin pin salt) = refl
     answer-ends (ChangePin who verifier pin new_pin salt) = step (accepts verifier pin) where
-      step : (b : Bool) → answer_by (ChangePin who verifier pin new_pin salt) (cond b (out.PinChanged who (verifier_for new_pin salt new_rounds)) out.WrongPin) ≡ ends_by q.session (cond b (out.PinChanged who (verifier_for new_pin salt new_rounds)) out.WrongPin)
+      step : (b : Bool) → answer_by (ChangePin who verifier pin new_pin salt)
+          (cond b (out.PinChanged who (verifier_for new_pin salt new_rounds)) out.WrongPin)
+          ≡ ends_by q.session (cond b (out.PinChanged who (verifier_for new_pin salt new_rounds)) out.WrongPin)
       step true = refl
       step false = refl
     answer-ends (InitToken label pin salt) = refl
     answer-ends (ResetToken label verifier pin) = step (accepts verifier pin) where
-      step : (b : Bool) → answer_by (ResetToken label verifier pin) (cond b (out.TokenReset label) out.WrongPin) ≡ ends_by q.session (cond b (out.TokenReset label) out.WrongPin)
+      step : (b : Bool) → answer_by (ResetToken label verifier pin) (cond b (out.TokenReset label) out.WrongPin)
+          ≡ ends_by q.session (cond b (out.TokenReset label) out.WrongPin)
       step true = refl
       step false = refl

@@ -33,10 +33,17 @@ outcome-short (Cipher stream part input) x is room few = omega (arith, room, few
 outcome-short (Sign mac input) x is room few = omega (arith, room)
 outcome-short (Wrap key value) x is room few = omega (arith, room, few)
 outcome-short (Take place mac input) x is room few = nothing-short x (ap given_of is)
-outcome-short (Verify mac input signature) x is room few = nothing-short x (ap given_of is ∙ either-none (bytes_eq signature (tag_of (longer mac input))) out.RightSignature out.WrongSignature refl refl)
-outcome-short (Unwrap key bytes state template random) x is room few = nothing-short x (ap given_of is ∙ key-none template random (value_wrapped_in key bytes))
-outcome-short (CheckPin who verifier pin) x is room few = nothing-short x (ap given_of is ∙ either-none (accepts verifier pin) (out.RightPin who) out.WrongPin refl refl)
+outcome-short (Verify mac input signature) x is room few =
+    nothing-short x (ap given_of is
+    ∙ either-none (bytes_eq signature (tag_of (longer mac input))) out.RightSignature out.WrongSignature refl refl)
+outcome-short (Unwrap key bytes state template random) x is room few =
+    nothing-short x (ap given_of is ∙ key-none template random (value_wrapped_in key bytes))
+outcome-short (CheckPin who verifier pin) x is room few =
+    nothing-short x (ap given_of is ∙ either-none (accepts verifier pin) (out.RightPin who) out.WrongPin refl refl)
 outcome-short (MakePin pin salt) x is room few = nothing-short x (ap given_of is)
-outcome-short (ChangePin who verifier pin new_pin salt) x is room few = nothing-short x (ap given_of is ∙ either-none (accepts verifier pin) (out.PinChanged who (verifier_for new_pin salt new_rounds)) out.WrongPin refl refl)
+outcome-short (ChangePin who verifier pin new_pin salt) x is room few =
+    nothing-short x (ap given_of is
+    ∙ either-none (accepts verifier pin) (out.PinChanged who (verifier_for new_pin salt new_rounds)) out.WrongPin refl refl)
 outcome-short (InitToken label pin salt) x is room few = nothing-short x (ap given_of is)
-outcome-short (ResetToken label verifier pin) x is room few = nothing-short x (ap given_of is ∙ either-none (accepts verifier pin) (out.TokenReset label) out.WrongPin refl refl)
+outcome-short (ResetToken label verifier pin) x is room few =
+    nothing-short x (ap given_of is ∙ either-none (accepts verifier pin) (out.TokenReset label) out.WrongPin refl refl)

@@ -27,6 +27,6 @@ noted_at c (Ok (Reply reply)) d = d
 noted_at c (Err fault) d = d
 
 -- a refusal leaves what the desk shows, or what the answer says, whatever is kept
-abbrev pub Stands : (View → Answer) → DeskState → Result Out Fault → DeskState → Type 0
-Stands f before (Ok out) desk = is_refused (said_of out) ≡ true → ShowsSame before desk ⊎ GivesAnyway (λ c. f) before (said_of out) desk
-Stands f before (Err fault) desk = Unit {0}
+abbrev pub DeskStands : (View → Answer) → DeskState → Result Out Fault → DeskState → Type 0
+DeskStands f before (Ok out) desk = is_refused (said_of out) ≡ true → ShowsSame before desk ⊎ GivesAnyway (λ c. f) before (said_of out) desk
+DeskStands f before (Err fault) desk = Unit {0}

@@ -40,14 +40,18 @@ IsShortOutcome outcome = length (given_of outcome) ≤ most_data
 -- the answer to an outcome, which is of this work
 abbrev pub outcome_answer : Outcome → Others → Work → Question → Contents → View → Answer
 outcome_answer outcome others work q c v =
-    answer_outcome v q (task_of work) (told_of outcome) (reveal_by_outcome (task_of work) (told_of outcome) (objects_of c) (under_way_of others) others.others_have_sessions)
+    answer_outcome v q (task_of work) (told_of outcome)
+    (reveal_by_outcome (task_of work) (told_of outcome) (objects_of c) (under_way_of others) others.others_have_sessions)
 
 -- The outcome of some work is answered as the definition of the pending call says, and shortly where it is short. A refusal may
 -- end an operation, as the answer says.
-abbrev pub EndsBy : {K : Type 0} → Terms K → ℕ → Outcome → Others → StoreState K → StoreState K → DeskState → Result Reply Refusal → DeskState → Type 0
-EndsBy terms session outcome others old new before result desk =
+abbrev pub OutcomeEndsBy : {K : Type 0} → Terms K → ℕ → Outcome → Others → StoreState K → StoreState K → DeskState → Result Reply Refusal
+    → DeskState → Type 0
+OutcomeEndsBy terms session outcome others old new before result desk =
     (work : Work) (q : Question) → outcome ≡ outcome_of work → q.session ≡ session
-    → IsDoneIf (IsShortOutcome outcome) (λ said. GivesAnyway (outcome_answer outcome others work q) before said desk) terms Replies 1 (outcome_answer outcome others work q) old new before result desk
+    → IsDoneIf (IsShortOutcome outcome)
+    (λ said. GivesAnyway (outcome_answer outcome others work q) before said desk) terms Replies 1
+    (outcome_answer outcome others work q) old new before result desk
 
 -- what is returned for it
 abbrev pub settled_reply : Result Reply Refusal → Result Reply Fault

@@ -3,7 +3,7 @@
 ghost use Rattle.std.specs.Prelude.{◌≡◌};
 ghost use Rattle.desk.specs.Desks.{over};
 ghost use Rattle.model_runs.specs.Applications.{Finishes, reveal_by_job};
-ghost use Rattle.token.specs.Endings.{EndsBy, settled_reply, under_way_of};
+ghost use Rattle.token.specs.Endings.{OutcomeEndsBy, settled_reply, under_way_of};
 
 use ck_calls::{Output, Reply};
 use ck_types::{Rv, UserType};
@@ -44,7 +44,8 @@ pub(crate) fn finish_at<K: Keep>(
     done: Done,
     others: &Others,
 ) -> Result<Reply, Fault>
-    ensures { Finishes K.terms done.job.value (reveal_by_job done.job.value (under_way_of others.now) others.now.others_have_sessions) store.old store.new desk.old result desk.new }
+    ensures { Finishes K.terms done.job.value
+        (reveal_by_job done.job.value (under_way_of others.now) others.now.others_have_sessions) store.old store.new desk.old result desk.new }
 {
     let session = match desk.question() {
         Some(question) => question.session(),
@@ -66,7 +67,7 @@ fn serve_outcome<K: Keep>(
     others: &Others,
 ) -> Result<Reply, Refusal>
     requires { over desk.old ≡ desk.old }
-    ensures { EndsBy K.terms session outcome others.now store.old store.new desk.old result desk.new }
+    ensures { OutcomeEndsBy K.terms session outcome others.now store.old store.new desk.old result desk.new }
 {
     match outcome {
         // Encryption and decryption (PKCS #11 v3.1, 5.8 and 5.10).

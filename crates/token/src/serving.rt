@@ -44,7 +44,8 @@ pub(crate) fn serve<K: Keep>(
     others_have_sessions: bool,
 ) -> Result<Out, Fault>
     requires { length random.now ≡ random_bytes call }
-    ensures served { IsServedIf (IsShortCall call) K.terms (IsFor app) (λ v. answer v call random.now (reveal_by_call call others_have_sessions)) store.old store.new desk.old result desk.new }
+    ensures served { IsServedIf (IsShortCall call) K.terms (IsFor app)
+        (λ v. answer v call random.now (reveal_by_call call others_have_sessions)) store.old store.new desk.old result desk.new }
     ensures small { takes_no_memory call ≡ true → RepliesAtOnce Fault.Memory result }
 {
     if desk.is_busy() {
@@ -68,7 +69,8 @@ fn serve_taken<K: Keep>(
 ) -> Result<Out, Fault>
     requires random { length random.now ≡ random_bytes call }
     requires free { is_busy desk.old ≡ false }
-    ensures served { IsServedIf (IsShortCall call) K.terms (IsFor app) (λ v. answer_to v call random.now (reveal_by_call call others_have_sessions)) store.old store.new desk.old result desk.new }
+    ensures served { IsServedIf (IsShortCall call) K.terms (IsFor app)
+        (λ v. answer_to v call random.now (reveal_by_call call others_have_sessions)) store.old store.new desk.old result desk.new }
     ensures small { takes_no_memory call ≡ true → RepliesAtOnce Fault.Memory result }
 {
     match call {
@@ -104,7 +106,8 @@ fn dispatch<K: Keep>(
     requires random { length random.now ≡ random_bytes call }
     requires free { is_busy desk.old ≡ false }
     requires other { is_on_sessions call ≡ false }
-    ensures served { IsServedIf (IsShortCall call) K.terms (IsFor app) (λ v. answer_to v call random.now (reveal_by_call call others_have_sessions)) store.old store.new desk.old result desk.new }
+    ensures served { IsServedIf (IsShortCall call) K.terms (IsFor app)
+        (λ v. answer_to v call random.now (reveal_by_call call others_have_sessions)) store.old store.new desk.old result desk.new }
     ensures small { takes_no_memory call ≡ true → RepliesAtOnce Fault.Memory result }
 {
     match call {

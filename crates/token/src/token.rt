@@ -10,7 +10,7 @@ ghost use Rattle.ck_types.specs.declared.rv.Rv.TheVariants.{DeviceError, Functio
 ghost use Rattle.ck_types.specs.declared.user_type.UserType.{UserType as Who};
 ghost use Rattle.desk.specs.Desks.{SameDesk, empty_desk, over};
 ghost use Rattle.keep.specs.Contents.{Contents};
-ghost use Rattle.pin_record.specs.Charges.{is_same};
+ghost use Rattle.pin_record.specs.Charges.{is_same_user};
 ghost use Rattle.pin_record.specs.Records.{tries_limit, tries_of};
 ghost use Rattle.keep.specs.Keeping.{Counted, Rises, Stays};
 ghost use Rattle.keep.specs.declared.keep.KeepFault.TheVariants as keep_faults;
@@ -22,15 +22,15 @@ ghost use Rattle.model_views.specs.Answering.{pin_checked_in};
 ghost use Rattle.model_answers.specs.Answers.{answer};
 ghost use Rattle.model_views.specs.Refusals.{is_refusal, is_refused, resource_error_in, refusal, resource_error};
 ghost use Rattle.model_worlds.specs.Worlds.{World, called, list_change, checks_of, goes, happens, is_init_token, others_checking, reply_to, reveal_by_call, says_called, without_checks};
-ghost use Rattle.model_worlds.specs.Tries.{IsSound};
+ghost use Rattle.model_worlds.specs.Tries.{IsSoundWorld};
 ghost use Rattle.serve_base.specs.Shown.{IsFor, IsReply, RepliesAtOnce, question_of, said_of, task_of};
 ghost use Rattle.serve_base.specs.Short.{IsShort, IsShortCall, IsShortSaid, IsShortTask};
-ghost use Rattle.token.specs.Dispatching.{Stands};
+ghost use Rattle.token.specs.Dispatching.{DeskStands};
 ghost use Rattle.token.specs.Memory.{takes_no_memory};
 ghost use Rattle.model_runs.specs.Applications.{Finishes, HasJobs, reveal_by_job, checks_after, has_session_at, are_others_in_session, HasNumbers, IsOpen, IsOther, TakesJob, answer_by, desk_at, is_answer, move_of, opening, told_as, told_result, Shows, ShowsAfter, StandsAtDesk, StandsOverDesk};
 ghost use Rattle.serve_base.specs.Refusing.{IsServedIf};
 ghost use Rattle.serve_base.specs.Stores.{FailsForIds, LacksId, Served};
-ghost use Rattle.model_runs.specs.Runs.{AccountsFor, Advances, BlamesForIds, HasIds, IsRun, IsStep, IsTakenBy, Lasting, LeavesBy, LeftBy, MayLeave, blames, call_change};
+ghost use Rattle.model_runs.specs.Runs.{AccountsFor, RunAdvances, BlamesForIds, HasIds, IsRun, IsStep, IsTakenBy, Lasting, LeavesBy, LeftBy, MayLeave, blames, call_change};
 
 use crate::ending::{Others, finish_at};
 use crate::no_memory::takes_no_memory;
@@ -73,10 +73,12 @@ impl<K: Keep> Token<K> {
         // It has given no id: all that the keeper had are to come.
         ensures ids { (c : Contents) → K.terms.holds keep c → IfOk result (λ t. K.terms.doubt t.store.keep ≡ 0 → ShowsAfter K.terms c 0 t (opening c)) }
         // The ten tries begin.
-        ensures sound { IfOk result (λ t. (w : World) → Shows K.terms t w → ((who : Who) → tries_of (w.token_record) who ≤ tries_limit) → IsSound (tries_of (w.token_record)) w) }
+        ensures sound { IfOk result (λ t. (w : World) → Shows K.terms t w → ((who : Who) → tries_of (w.token_record) who ≤ tries_limit)
+            → IsSoundWorld (tries_of (w.token_record)) w) }
         // No call is pending.
         ensures jobs { IfOk result (λ t. (w : World) → Shows K.terms t w → HasJobs w []) }
-        ensures leaves { (c : Contents) → K.terms.holds keep c → IfOk result (λ t. (left : Option Contents) → K.terms.may_leave t.store.keep left → K.terms.may_leave keep left) }
+        ensures leaves { (c : Contents) → K.terms.holds keep c
+            → IfOk result (λ t. (left : Option Contents) → K.terms.may_leave t.store.keep left → K.terms.may_leave keep left) }
         ensures back { IfErr result (λ e. Stays K.terms keep e.1) }
         // A steady keeper stays so, and is not refused by `Device`.
         ensures steady { K.terms.is_steady keep → IfOk result (λ t. K.terms.is_steady t.store.keep) }
@@ -103,21 +105,28 @@ impl<K: Keep> Token<K> {
     pub fn call(&mut self, alloc: Global, app: u64, call: Call, random: &[u8]) -> Out
         requires { length random.now ≡ random_bytes call }
         // The token refines the world after the call.
-        ensures world { K.terms.doubt self.new.store.keep ≡ 0 → (w : World) → Shows K.terms self.old w → Shows K.terms self.new (called w app call random.now (resource_error_in (said_of result))) }
+        ensures world { K.terms.doubt self.new.store.keep ≡ 0 → (w : World) → Shows K.terms self.old w
+            → Shows K.terms self.new (called w app call random.now (resource_error_in (said_of result))) }
         // What is returned is the answer to what the application sees, or a resource error.
-        ensures says { K.terms.doubt self.new.store.keep ≡ 0 → (w : World) → Shows K.terms self.old w → said_of result ≡ says_called w app call random.now (resource_error_in (said_of result)) }
+        ensures says { K.terms.doubt self.new.store.keep ≡ 0 → (w : World) → Shows K.terms self.old w
+            → said_of result ≡ says_called w app call random.now (resource_error_in (said_of result)) }
         // A job is the application's.
         ensures asker { IsFor app result }
         // A crash leaves the change of the call alone, or after a refusal what it could leave before, or the change.
-        ensures leaves { K.terms.doubt self.new.store.keep ≡ 0 → (w : World) → Shows K.terms self.old w → (l : Option Lasting) → MayLeave K.terms self.new l → LeavesBy (MayLeave K.terms self.old) (call_change w app call random.now) (called w app call random.now None) (resource_error_in (said_of result)) l }
+        ensures leaves { K.terms.doubt self.new.store.keep ≡ 0 → (w : World) → Shows K.terms self.old w → (l : Option Lasting)
+            → MayLeave K.terms self.new l
+            → LeavesBy (MayLeave K.terms self.old) (call_change w app call random.now) (called w app call random.now None)
+            (resource_error_in (said_of result)) l }
         // At most one write is tried.
         ensures counts { Counted K.terms self.old.store.keep self.new.store.keep 0 1 }
         // CKR_DEVICE_ERROR comes only where a failure of the keeper was counted.
         ensures cause { result ≡ OutReply (Code DeviceError) → Rises (K.terms.failures self.old.store.keep) (K.terms.failures self.new.store.keep) }
         // Over a steady keeper it comes only to a call that adds a token object, where every id was given.
-        ensures steady { K.terms.is_steady self.old.store.keep → result ≡ OutReply (Code DeviceError) → (w : World) → (s : Shows K.terms self.old w) → LacksId (call_change w app call random.now) s.contents }
+        ensures steady { K.terms.is_steady self.old.store.keep → result ≡ OutReply (Code DeviceError) → (w : World)
+            → (s : Shows K.terms self.old w) → LacksId (call_change w app call random.now) s.contents }
         // One id is given at most.
-        ensures ids { K.terms.doubt self.new.store.keep ≡ 0 → (w : World) → (s : Shows K.terms self.old w) → ShowsAfter K.terms s.contents 1 self.new (called w app call random.now (resource_error_in (said_of result))) }
+        ensures ids { K.terms.doubt self.new.store.keep ≡ 0 → (w : World) → (s : Shows K.terms self.old w)
+            → ShowsAfter K.terms s.contents 1 self.new (called w app call random.now (resource_error_in (said_of result))) }
         // Of the other applications nothing changes, nor where it is refused of this one, but capacities.
         ensures others { (b : ℕ) → b ≢ app → SameDesk (desk_at self.old.desks b) (desk_at self.new.desks b) }
         ensures stays { IsSome (resource_error_in (said_of result)) → SameDesk (desk_at self.old.desks app) (desk_at self.new.desks app) }
@@ -145,23 +154,31 @@ impl<K: Keep> Token<K> {
     /// `CKR_HOST_MEMORY`; the call is pending no more.
     pub fn finish(&mut self, _alloc: Global, app: u64, done: Done) -> Reply
         // The token refines the world after the result.
-        ensures world { K.terms.doubt self.new.store.keep ≡ 0 → (w : World) → Shows K.terms self.old w → IsOpen w app done.job.value → Shows K.terms self.new (happens w (move_of (Finish app) (OutReply result))) }
+        ensures world { K.terms.doubt self.new.store.keep ≡ 0 → (w : World) → Shows K.terms self.old w → IsOpen w app done.job.value
+            → Shows K.terms self.new (happens w (move_of (Finish app) (OutReply result))) }
         // What is returned is the answer to the result of the pending call, or a resource error.
-        ensures told { K.terms.doubt self.new.store.keep ≡ 0 → (w : World) → Shows K.terms self.old w → IsOpen w app done.job.value → reply_to w (move_of (Finish app) (OutReply result)) ≡ (app, result) ∷ [] }
+        ensures told { K.terms.doubt self.new.store.keep ≡ 0 → (w : World) → Shows K.terms self.old w → IsOpen w app done.job.value
+            → reply_to w (move_of (Finish app) (OutReply result)) ≡ (app, result) ∷ [] }
         // A result that has the pending call's numbers is taken by its own value, whatever job it is of.
-        ensures taken { K.terms.doubt self.new.store.keep ≡ 0 → (w : World) → Shows K.terms self.old w → HasNumbers (w.views app).question app done.job.value → IsTakenBy (Shows K.terms self.new) (MayLeave K.terms self.old) (MayLeave K.terms self.new) w app done.job.value result }
+        ensures taken { K.terms.doubt self.new.store.keep ≡ 0 → (w : World) → Shows K.terms self.old w
+            → HasNumbers (w.views app).question app done.job.value
+            → IsTakenBy (Shows K.terms self.new) (MayLeave K.terms self.old) (MayLeave K.terms self.new) w app done.job.value result }
         // That of no pending call changes nothing, store faithful or not.
-        ensures other { IsOther (option_map question_of (desk_at self.old.desks app).question) app done.job.value → (result ≡ Code FunctionFailed) × (self.new ≡ self.old) }
+        ensures other { IsOther (option_map question_of (desk_at self.old.desks app).question) app done.job.value
+            → (result ≡ Code FunctionFailed) × (self.new ≡ self.old) }
         // A crash leaves the change of the result alone, or after a refusal what it could leave before, or the change.
-        ensures leaves { K.terms.doubt self.new.store.keep ≡ 0 → (w : World) → Shows K.terms self.old w → IsOpen w app done.job.value → (l : Option Lasting) → MayLeave K.terms self.new l → LeftBy (MayLeave K.terms self.old) w (move_of (Finish app) (OutReply result)) l }
+        ensures leaves { K.terms.doubt self.new.store.keep ≡ 0 → (w : World) → Shows K.terms self.old w → IsOpen w app done.job.value
+            → (l : Option Lasting) → MayLeave K.terms self.new l → LeftBy (MayLeave K.terms self.old) w (move_of (Finish app) (OutReply result)) l }
         // At most one write is tried.
         ensures counts { Counted K.terms self.old.store.keep self.new.store.keep 0 1 }
         // CKR_DEVICE_ERROR comes only where a failure of the keeper was counted.
         ensures cause { result ≡ Code DeviceError → Rises (K.terms.failures self.old.store.keep) (K.terms.failures self.new.store.keep) }
         // Over a steady keeper it comes only to a result that adds a token object, where every id was given.
-        ensures steady { K.terms.is_steady self.old.store.keep → result ≡ Code DeviceError → (w : World) → (s : Shows K.terms self.old w) → LacksId (list_change w app (answer_by w app done.job.value)) s.contents }
+        ensures steady { K.terms.is_steady self.old.store.keep → result ≡ Code DeviceError → (w : World) → (s : Shows K.terms self.old w)
+            → LacksId (list_change w app (answer_by w app done.job.value)) s.contents }
         // One id is given at most.
-        ensures ids { K.terms.doubt self.new.store.keep ≡ 0 → (w : World) → (s : Shows K.terms self.old w) → IsOpen w app done.job.value → ShowsAfter K.terms s.contents 1 self.new (happens w (move_of (Finish app) (OutReply result))) }
+        ensures ids { K.terms.doubt self.new.store.keep ≡ 0 → (w : World) → (s : Shows K.terms self.old w) → IsOpen w app done.job.value
+            → ShowsAfter K.terms s.contents 1 self.new (happens w (move_of (Finish app) (OutReply result))) }
         // Of the other applications nothing changes, nor where it is refused of this one, but its pending call and capacities.
         ensures others { (b : ℕ) → b ≢ app → desk_at self.new.desks b ≡ desk_at self.old.desks b }
         ensures stays { IsSome (resource_error result) → SameDesk (over (desk_at self.old.desks app)) (desk_at self.new.desks app) }
@@ -211,8 +228,11 @@ impl<K: Keep> Token<K> {
     ) -> Option<(u64, Reply)>
         requires room { vec_len out.old < vec_capacity out.old }
         requires random { HasRandom event }
-        ensures step { K.terms.doubt self.new.store.keep ≡ 0 → (w : World) → (s : Shows K.terms self.old w) → HasJobs w out.old.items → IsStep (ShowsAfter K.terms s.contents 1 self.new) (MayLeave K.terms self.old) (MayLeave K.terms self.new) w event (option_to_list result) out.new.items }
-        ensures steady { K.terms.is_steady self.old.store.keep → (w : World) → (s : Shows K.terms self.old w) → HasJobs w out.old.items → BlamesForIds w event s.contents (map (λ r. r.1) (option_to_list result)) }
+        ensures step { K.terms.doubt self.new.store.keep ≡ 0 → (w : World) → (s : Shows K.terms self.old w) → HasJobs w out.old.items
+            → IsStep (ShowsAfter K.terms s.contents 1 self.new) (MayLeave K.terms self.old) (MayLeave K.terms self.new) w event
+            (option_to_list result) out.new.items }
+        ensures steady { K.terms.is_steady self.old.store.keep → (w : World) → (s : Shows K.terms self.old w) → HasJobs w out.old.items
+            → BlamesForIds w event s.contents (map (λ r. r.1) (option_to_list result)) }
         ensures counts { Counted K.terms self.old.store.keep self.new.store.keep 0 1 }
         ensures accounts { AccountsFor (K.terms.failures self.old.store.keep) (K.terms.failures self.new.store.keep) (map (λ r. r.1) (option_to_list result)) }
     {
@@ -249,13 +269,19 @@ impl<K: Keep> Token<K> {
     ) -> Result<(), AllocError>
         requires some { 0 < vec_len events.old }
         requires random { All HasRandom events.old.items }
-        ensures ok { OnOk result (Advances (K.terms.doubt self.new.store.keep ≡ 0) (Shows K.terms self.old) (Shows K.terms self.new) (MayLeave K.terms self.old) (MayLeave K.terms self.new) (reverse events.old.items) out.old.items replies.old.items (reverse events.new.items) out.new.items replies.new.items) }
-        ensures err { OnErr result ((events.new.items ≡ events.old.items) × (out.new.items ≡ out.old.items) × (replies.new.items ≡ replies.old.items) × (self.new ≡ self.old)) }
+        ensures ok { OnOk result
+            (RunAdvances (K.terms.doubt self.new.store.keep ≡ 0) (Shows K.terms self.old) (Shows K.terms self.new) (MayLeave K.terms self.old)
+            (MayLeave K.terms self.new) (reverse events.old.items) out.old.items replies.old.items (reverse events.new.items) out.new.items replies.new.items) }
+        ensures err { OnErr result ((events.new.items ≡ events.old.items) × (out.new.items ≡ out.old.items)
+            × (replies.new.items ≡ replies.old.items) × (self.new ≡ self.old)) }
         ensures shorter { OnOk result (vec_len events.new < vec_len events.old) }
         ensures random { All HasRandom events.new.items }
         ensures doubt { K.terms.doubt self.old.store.keep ≤ K.terms.doubt self.new.store.keep }
-        ensures accounts { (before : ℕ) → AccountsFor before (K.terms.failures self.old.store.keep) (map (λ r. r.1) replies.old.items) → AccountsFor before (K.terms.failures self.new.store.keep) (map (λ r. r.1) replies.new.items) }
-        ensures ids { HasIds K.terms self.old out.old.items (length events.old.items) → OnOk result ((blames (map (λ r. r.1) replies.new.items) ≡ blames (map (λ r. r.1) replies.old.items)) × HasIds K.terms self.new out.new.items (length events.new.items)) }
+        ensures accounts { (before : ℕ) → AccountsFor before (K.terms.failures self.old.store.keep) (map (λ r. r.1) replies.old.items)
+            → AccountsFor before (K.terms.failures self.new.store.keep) (map (λ r. r.1) replies.new.items) }
+        ensures ids { HasIds K.terms self.old out.old.items (length events.old.items)
+            → OnOk result ((blames (map (λ r. r.1) replies.new.items) ≡ blames (map (λ r. r.1) replies.old.items))
+            × HasIds K.terms self.new out.new.items (length events.new.items)) }
     {
         replies.reserve(1)?;
         out.reserve(1)?;
@@ -274,13 +300,15 @@ impl<K: Keep> Token<K> {
         requires random { All HasRandom events.items }
         requires jobs { (w : World) → Shows K.terms self.old w → HasJobs w out.items }
         ensures run { K.terms.doubt self.new.store.keep ≡ 0 → (w : World) → Shows K.terms self.old w
-            → IsRun (Shows K.terms self.new) (MayLeave K.terms self.old) (MayLeave K.terms self.new) w events.items result.replies.items result.left.items result.out.items }
+            → IsRun (Shows K.terms self.new) (MayLeave K.terms self.old)
+            (MayLeave K.terms self.new) w events.items result.replies.items result.left.items result.out.items }
         // No fault of the disk is forgotten.
         ensures doubt { K.terms.doubt self.old.store.keep ≤ K.terms.doubt self.new.store.keep }
         // For each CKR_DEVICE_ERROR a failure of the keeper was counted.
         ensures accounts { AccountsFor (K.terms.failures self.old.store.keep) (K.terms.failures self.new.store.keep) (map (λ r. r.1) result.replies.items) }
         // None is returned over a steady keeper that has an id for each event.
-        ensures ids { HasIds K.terms self.old out.items (length events.items) → (blames (map (λ r. r.1) result.replies.items) ≡ 0) × HasIds K.terms self.new result.out.items (length result.left.items) }
+        ensures ids { HasIds K.terms self.old out.items (length events.items) → (blames (map (λ r. r.1) result.replies.items) ≡ 0)
+            × HasIds K.terms self.new result.out.items (length result.left.items) }
     {
         let mut replies = Vec::new(alloc);
         events.reverse();
@@ -340,16 +368,20 @@ fn serve_app<K: Keep>(
     random: &[u8],
 ) -> Result<Out, Fault>
     requires { length random.now ≡ random_bytes call }
-    ensures serves { Served K.terms said_of (λ v. answer v call random.now (reveal_by_call call (are_others_in_session desks.old.entries app))) store.old store.new (desk_at desks.old.entries app) (desk_at desks.old.entries app) result (desk_at desks.new.entries app) }
+    ensures serves { Served K.terms said_of
+        (λ v. answer v call random.now (reveal_by_call call (are_others_in_session desks.old.entries app))) store.old store.new
+        (desk_at desks.old.entries app) (desk_at desks.old.entries app) result (desk_at desks.new.entries app) }
     ensures others { (b : ℕ) → b ≢ app → SameDesk (desk_at desks.old.entries b) (desk_at desks.new.entries b) }
     ensures checks { checks.new.items ≡ checks_after app result checks.old.items }
     ensures asker { IfOk result (IsFor app) }
     ensures counts { Counted K.terms store.old.keep store.new.keep 0 1 }
     ensures cause { IsErrOf result Device → Rises (K.terms.failures store.old.keep) (K.terms.failures store.new.keep) }
-    ensures steady { FailsForIds K.terms Device (λ c v. answer v call random.now (reveal_by_call call (are_others_in_session desks.old.entries app))) store.old (desk_at desks.old.entries app) result }
+    ensures steady { FailsForIds K.terms Device
+        (λ c v. answer v call random.now (reveal_by_call call (are_others_in_session desks.old.entries app))) store.old (desk_at desks.old.entries app) result }
     ensures plain { IfOk result (λ out. resource_error_in (said_of out) ≡ None) }
     ensures stays { IfErr result (λ fault. SameDesk (desk_at desks.old.entries app) (desk_at desks.new.entries app)) }
-    ensures refused { Stands (λ v. answer v call random.now (reveal_by_call call (are_others_in_session desks.old.entries app))) (desk_at desks.old.entries app) result (desk_at desks.new.entries app) }
+    ensures refused { DeskStands (λ v. answer v call random.now (reveal_by_call call (are_others_in_session desks.old.entries app)))
+        (desk_at desks.old.entries app) result (desk_at desks.new.entries app) }
     ensures small { takes_no_memory call ≡ true → RepliesAtOnce Fault.Memory result }
     ensures short { IsShortCall call → IfOk result (λ out. IsShortSaid (said_of out)) }
 {
@@ -385,15 +417,18 @@ fn serve_seated<K: Keep>(
     others_have_sessions: bool,
 ) -> Result<Out, Fault>
     requires { length random.now ≡ random_bytes call }
-    ensures serves { Served K.terms said_of (λ v. answer v call random.now (reveal_by_call call others_have_sessions)) store.old store.new (desk_at desks.old.entries app) (desk_at desks.old.entries app) result (desk_at desks.new.entries app) }
+    ensures serves { Served K.terms said_of (λ v. answer v call random.now (reveal_by_call call others_have_sessions)) store.old store.new
+        (desk_at desks.old.entries app) (desk_at desks.old.entries app) result (desk_at desks.new.entries app) }
     ensures others { (b : ℕ) → b ≢ app → SameDesk (desk_at desks.old.entries b) (desk_at desks.new.entries b) }
     ensures asker { IfOk result (IsFor app) }
     ensures counts { Counted K.terms store.old.keep store.new.keep 0 1 }
     ensures cause { IsErrOf result Device → Rises (K.terms.failures store.old.keep) (K.terms.failures store.new.keep) }
-    ensures steady { FailsForIds K.terms Device (λ c v. answer v call random.now (reveal_by_call call others_have_sessions)) store.old (desk_at desks.old.entries app) result }
+    ensures steady { FailsForIds K.terms Device (λ c v. answer v call random.now (reveal_by_call call others_have_sessions)) store.old
+        (desk_at desks.old.entries app) result }
     ensures plain { IfOk result (λ out. resource_error_in (said_of out) ≡ None) }
     ensures stays { IfErr result (λ fault. SameDesk (desk_at desks.old.entries app) (desk_at desks.new.entries app)) }
-    ensures refused { Stands (λ v. answer v call random.now (reveal_by_call call others_have_sessions)) (desk_at desks.old.entries app) result (desk_at desks.new.entries app) }
+    ensures refused { DeskStands (λ v. answer v call random.now (reveal_by_call call others_have_sessions))
+        (desk_at desks.old.entries app) result (desk_at desks.new.entries app) }
     ensures small { takes_no_memory call ≡ true → RepliesAtOnce Fault.Memory result }
     ensures short { IsShortCall call → IfOk result (λ out. IsShortSaid (said_of out)) }
 {
@@ -539,7 +574,9 @@ fn finish_app<K: Keep>(
     app: u64,
     done: Done,
 ) -> Result<Reply, Fault>
-    ensures finishes { Finishes K.terms done.job.value (reveal_by_job done.job.value (others_checking checks.now app) (are_others_in_session desks.old.entries app)) store.old store.new (desk_at desks.old.entries app) result (desk_at desks.new.entries app) }
+    ensures finishes { Finishes K.terms done.job.value
+        (reveal_by_job done.job.value (others_checking checks.now app) (are_others_in_session desks.old.entries app)) store.old store.new
+        (desk_at desks.old.entries app) result (desk_at desks.new.entries app) }
     ensures others { (b : ℕ) → b ≢ app → desk_at desks.new.entries b ≡ desk_at desks.old.entries b }
 {
     let others = Others {
@@ -561,7 +598,7 @@ fn others_checking(checks: &[Check], app: u64, who: UserType) -> usize
 }
 
 fn count_others(checks: &[Check], app: u64, who: UserType) -> usize
-    ensures { result ≡ count_by (λ c. is_same who c.user && not (c.app == app)) checks.now }
+    ensures { result ≡ count_by (λ c. is_same_user who c.user && not (c.app == app)) checks.now }
 {
     checks
         .iter()
@@ -570,7 +607,7 @@ fn count_others(checks: &[Check], app: u64, who: UserType) -> usize
 }
 
 fn is_other_check(check: &Check, app: u64, who: UserType) -> bool
-    ensures { result ≡ (is_same who check.now.user && not (check.now.app == app)) }
+    ensures { result ≡ (is_same_user who check.now.user && not (check.now.app == app)) }
 {
     let same = match (who, check.user) {
         (UserType::So, UserType::So) | (UserType::User, UserType::User) => true,

@@ -27,14 +27,20 @@ failed-after a b c p (inr many) = inr (omega (arith, p.calls, many))
 
 -- ---- a call that may be made again
 
-pub passed : {T : Type 0} (a b : Noting T) (error : Error) (told : Bool) → (IsTrue told → IsInterruption error) × (IsInterruption error → IsTrue told) → told ≡ true → (IsInterruption error → Passes a b) × ((¬ IsInterruption error) → Slips a b) → Passes a b
+pub passed : {T : Type 0} (a b : Noting T) (error : Error) (told : Bool) → (IsTrue told → IsInterruption error)
+    × (IsInterruption error → IsTrue told) → told ≡ true → (IsInterruption error → Passes a b)
+    × ((¬ IsInterruption error) → Slips a b) → Passes a b
 passed a b error told says is n = n.0 (says.0 is)
 
 pub settles-none : {T : Type 0} (a : Noting T) → Settles a a
 settles-none a = record { calls = omega arith; failures = refl; flushed = λ none. none }
 
 pub settles-then : {T : Type 0} (a b c : Noting T) → Settles a b → Settles b c → Settles a c
-settles-then a b c p q = record { calls = omega (arith, p.calls, q.calls); failures = q.failures ∙ p.failures; flushed = λ none. q.flushed (p.flushed none) }
+settles-then a b c p q = record {
+  calls = omega (arith, p.calls, q.calls);
+  failures = q.failures ∙ p.failures;
+  flushed = λ none. q.flushed (p.flushed none);
+}
 
 pub settles-unfailing : {T : Type 0} (a b : Noting T) → Settles a b → Unfailing a b
 settles-unfailing a b p = record { calls = p.calls; failures = p.failures }

@@ -35,7 +35,8 @@ Notes old new (Err e) = (IsInterruption e → Passes old new) × ((¬ IsInterrup
 
 -- a write fails also where it takes nothing of bytes that are there
 abbrev pub NotesWrite : {T : Type 0} → Noting T → Noting T → List ℕ → Result ℕ Error → Type 0
-NotesWrite old new bytes (Ok n) = (0 < n → Passes old new) × (length bytes ≡ 0 → Passes old new) × (n ≡ 0 → 0 < length bytes → Slips old new)
+NotesWrite old new bytes (Ok n) = (0 < n → Passes old new) × (length bytes ≡ 0 → Passes old new)
+    × (n ≡ 0 → 0 < length bytes → Slips old new)
 NotesWrite old new bytes (Err e) = (IsInterruption e → Passes old new) × ((¬ IsInterruption e) → Slips old new)
 
 -- what a write took waits to be flushed

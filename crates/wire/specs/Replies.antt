@@ -102,7 +102,8 @@ Fits-reply (replies.Session session) = (pair return_code number64).Fits (rv.Ok, 
 Fits-reply (replies.SessionInfo info) = (pair return_code session_info).Fits (rv.Ok, info)
 Fits-reply (replies.Object object) = (pair return_code number64).Fits (rv.Ok, object)
 Fits-reply (replies.ObjectSize size) = (pair return_code number64).Fits (rv.Ok, size)
-Fits-reply (replies.AttributeValues code values) = (carries shapes.AttributeValues code ≡ true) × (pair return_code attribute_values).Fits (code, values)
+Fits-reply (replies.AttributeValues code values) = (carries shapes.AttributeValues code ≡ true)
+    × (pair return_code attribute_values).Fits (code, values)
 Fits-reply (replies.Objects objects) = (pair return_code numbers).Fits (rv.Ok, objects)
 Fits-reply (replies.Output out) = (pair return_code output).Fits (rv.Ok, out)
 Fits-reply (replies.BufferTooSmall wanted) = (pair return_code output).Fits (rv.BufferTooSmall, Length wanted)
@@ -112,7 +113,8 @@ Fits-reply (replies.Random bytes) = (pair return_code byte_string).Fits (rv.Ok, 
 -- with one of their codes. Then each part has an encoding, since the types bound its other numbers.
 abbrev pub IsWithinLimits : Reply → Type 0
 IsWithinLimits (replies.MechanismList mechanisms) = length mechanisms ≤ 1024
-IsWithinLimits (replies.AttributeValues code values) = (carries shapes.AttributeValues code ≡ true) × (length values ≤ MAX_ENTRIES) × AllByRecursion attribute_value.Fits values
+IsWithinLimits (replies.AttributeValues code values) = (carries shapes.AttributeValues code ≡ true) × (length values ≤ MAX_ENTRIES)
+    × AllByRecursion attribute_value.Fits values
 IsWithinLimits (replies.Objects objects) = length objects ≤ 1024
 IsWithinLimits (replies.Output (Data bytes)) = length bytes < 2 ^ 32
 IsWithinLimits (replies.Random bytes) = length bytes < 2 ^ 32
@@ -164,12 +166,14 @@ decode_carried shapes.Object code bytes = whole number64 bytes >>= λ x. Some (r
 decode_carried shapes.ObjectSize code bytes = whole number64 bytes >>= λ x. Some (replies.ObjectSize x)
 decode_carried shapes.AttributeValues code bytes = whole attribute_values bytes >>= λ x. Some (replies.AttributeValues code x)
 decode_carried shapes.Objects code bytes = whole numbers bytes >>= λ x. Some (replies.Objects x)
-decode_carried shapes.Output code bytes = whole output bytes >>= λ x. if rv_number code == rv_number rv.Ok then Some (replies.Output x) else too_small x
+decode_carried shapes.Output code bytes =
+    whole output bytes >>= λ x. if rv_number code == rv_number rv.Ok then Some (replies.Output x) else too_small x
 decode_carried shapes.Random code bytes = whole byte_string bytes >>= λ x. Some (replies.Random x)
 
 -- the reply of a shape with a code and the bytes after it
 abbrev pub decode_after : Shape → Rv → List ℕ → Option Reply
-decode_after shape code bytes = if carries shape code then decode_carried shape code bytes else (if length bytes == 0 then Some (replies.Code code) else None)
+decode_after shape code bytes =
+    if carries shape code then decode_carried shape code bytes else (if length bytes == 0 then Some (replies.Code code) else None)
 
 abbrev pub decode_reply : Shape → List ℕ → Option Reply
 decode_reply shape bytes = return_code.decode bytes >>= λ x. decode_after shape x.0 x.1

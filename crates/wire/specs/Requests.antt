@@ -94,8 +94,10 @@ encode_fields (calls.Verify session «data» signature) = number_and_strings.enc
 encode_fields (calls.VerifyUpdate session part) = number_and_string.encode (session, part)
 encode_fields (calls.VerifyFinal session signature) = number_and_string.encode (session, signature)
 encode_fields (calls.GenerateKey session mechanism template) = generate_fields.encode (session, (mechanism, template))
-encode_fields (calls.WrapKey session mechanism wrapping_key key buffer_len) = wrap_fields.encode (session, (mechanism, (wrapping_key, (key, buffer_len))))
-encode_fields (calls.UnwrapKey session mechanism unwrapping_key wrapped_key template) = unwrap_fields.encode (session, (mechanism, (unwrapping_key, (wrapped_key, template))))
+encode_fields (calls.WrapKey session mechanism wrapping_key key buffer_len) =
+    wrap_fields.encode (session, (mechanism, (wrapping_key, (key, buffer_len))))
+encode_fields (calls.UnwrapKey session mechanism unwrapping_key wrapped_key template) =
+    unwrap_fields.encode (session, (mechanism, (unwrapping_key, (wrapped_key, template))))
 encode_fields (calls.GenerateRandom session len) = two_numbers.encode (session, len)
 
 -- whether each field of a call has an encoding
@@ -138,8 +140,10 @@ Fits-fields (calls.Verify session «data» signature) = number_and_strings.Fits 
 Fits-fields (calls.VerifyUpdate session part) = number_and_string.Fits (session, part)
 Fits-fields (calls.VerifyFinal session signature) = number_and_string.Fits (session, signature)
 Fits-fields (calls.GenerateKey session mechanism template) = generate_fields.Fits (session, (mechanism, template))
-Fits-fields (calls.WrapKey session mechanism wrapping_key key buffer_len) = wrap_fields.Fits (session, (mechanism, (wrapping_key, (key, buffer_len))))
-Fits-fields (calls.UnwrapKey session mechanism unwrapping_key wrapped_key template) = unwrap_fields.Fits (session, (mechanism, (unwrapping_key, (wrapped_key, template))))
+Fits-fields (calls.WrapKey session mechanism wrapping_key key buffer_len) =
+    wrap_fields.Fits (session, (mechanism, (wrapping_key, (key, buffer_len))))
+Fits-fields (calls.UnwrapKey session mechanism unwrapping_key wrapped_key template) =
+    unwrap_fields.Fits (session, (mechanism, (unwrapping_key, (wrapped_key, template))))
 Fits-fields (calls.GenerateRandom session len) = two_numbers.Fits (session, len)
 
 -- the call of a function with the fields that are all of the bytes

@@ -126,7 +126,8 @@ fn len_5<A: EncodedLen, B: EncodedLen, C: EncodedLen, D: EncodedLen, E: EncodedL
     d: &D,
     e: &E,
 ) -> usize
-    ensures { result ≡ capped (length ((pair A.layout (pair B.layout (pair C.layout (pair D.layout E.layout)))).encode (a.now, (b.now, (c.now, (d.now, e.now)))))) }
+    ensures { result ≡ capped
+        (length ((pair A.layout (pair B.layout (pair C.layout (pair D.layout E.layout)))).encode (a.now, (b.now, (c.now, (d.now, e.now)))))) }
 {
     len_2(a, b).saturating_add(len_3(c, d, e))
 }

@@ -1,6 +1,6 @@
 use Rattle.std.proofs.Common.{false, refl, sym, subst, ◌∙◌, ap}
 use Rattle.lists.specs.Bisection.{KeysRise}
-use Rattle.handles.specs.Stored.{handles_in, id_in}
+use Rattle.handles.specs.Stored.{handles_in, entry_id}
 use Rattle.handles.proofs.EntryLemmas.{put-between, revived, revived-rise}
 use Rattle.handles.proofs.LiveLemmas.{KeysRise-placed}
 use Rattle.handles.proofs.put_by_id.Goals as goal
@@ -18,9 +18,11 @@ returns-in-Ok-clause-rise c =
 pub returns-in-Err-clause-put : goal.returns-in-Err-clause-put
 returns-in-Err-clause-put c =
     let gap = rw c.deref.ensures.value at c.in-Err.ensures in
-    ap handles_in (c.insert_reserved.ensures.items ∙ sym (gap.2 (record { handle = c.args.handle; retired = false }) refl)) ∙ put-between (λ h. h.id) c.args.handle c.args.entries.now.items c.requires.rise
+    ap handles_in (c.insert_reserved.ensures.items ∙ sym (gap.2 (record { handle = c.args.handle; retired = false }) refl))
+    ∙ put-between (λ h. h.id) c.args.handle c.args.entries.now.items c.requires.rise
 
 pub returns-in-Err-clause-rise : goal.returns-in-Err-clause-rise
 returns-in-Err-clause-rise c =
     let gap = rw c.deref.ensures.value at c.in-Err.ensures in
-    subst (KeysRise id_in) (gap.2 (record { handle = c.args.handle; retired = false }) refl ∙ sym c.insert_reserved.ensures.items) (KeysRise-placed id_in (record { handle = c.args.handle; retired = false }) c.args.entries.now.items gap.1 c.requires.rise)
+    subst (KeysRise entry_id) (gap.2 (record { handle = c.args.handle; retired = false }) refl ∙ sym c.insert_reserved.ensures.items)
+    (KeysRise-placed entry_id (record { handle = c.args.handle; retired = false }) c.args.entries.now.items gap.1 c.requires.rise)

@@ -5,7 +5,8 @@ use Rattle.handles.proofs.retire_id.Goals as goal
 pub returns-in-Ok-clause-found : goal.returns-in-Ok-clause-found
 returns-in-Ok-clause-found c =
     let index = rw c.deref.ensures.value at c.in-Ok.ensures in
-    c.live-found.ensures ∙ found-in (λ h. h.id) c.args.id c.args.entries.now.items c.requires c.index.result.now (index.1 c.index.result.now ∙ ap Some (sym c.index.ensures))
+    c.live-found.ensures ∙ found-in (λ h. h.id) c.args.id c.args.entries.now.items c.requires c.index.result.now
+    (index.1 c.index.result.now ∙ ap Some (sym c.index.ensures))
 
 pub returns-in-Ok-clause-left : goal.returns-in-Ok-clause-left
 returns-in-Ok-clause-left c =

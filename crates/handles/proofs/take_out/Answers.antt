@@ -7,4 +7,5 @@ pub returns-clause-left : goal.returns-clause-left
 returns-clause-left c = filter_same _ (λ e. not e.retired) _ (λ e keep next called. search rules) _ _ c.retain.ensures.filtered
 
 pub returns-clause-len : goal.returns-clause-len
-returns-clause-len c = c.retain.new.self.ok.0 ∙ ap length (returns-clause-left c) ∙ length-taken (λ e. e.retired) (λ e. e.handle) c.args.entries.now.items
+returns-clause-len c = c.retain.new.self.ok.0 ∙ ap length (returns-clause-left c)
+    ∙ length-taken (λ e. e.retired) (λ e. e.handle) c.args.entries.now.items

@@ -29,12 +29,17 @@ use Rattle.model_views.proofs.Checks.{Entry, mask_object, Condition, View, mask,
 
 -- ---- the operation of a session, as it is seen
 
-placed-mask : (ops : Operations) (place : Place) (o p : Option Operation) → option_map mask_operation o ≡ option_map mask_operation p → mask_operations (placed (mask_operations ops) place o) ≡ mask_operations (placed ops place p)
+placed-mask : (ops : Operations) (place : Place) (o p : Option Operation)
+    → option_map mask_operation o ≡ option_map mask_operation p
+    → mask_operations (placed (mask_operations ops) place o) ≡ mask_operations (placed ops place p)
 placed-mask ops places.Encrypt o p same = rw (same, operation-twice ops.decrypt, mac-twice ops.sign, mac-twice ops.verify) refl
 placed-mask ops places.Decrypt o p same = rw (same, operation-twice ops.encrypt, mac-twice ops.sign, mac-twice ops.verify) refl
 
-module _ (v : View) (session : ℕ) (place : Place) (o p : Option Operation) (same : option_map mask_operation o ≡ option_map mask_operation p) where
-  with-masked : (s : Option (Session Operations)) → mask (record (mask v) { sessions = placed_in (mask_sessions v.sessions) session (option_map mask_session s) place o }) ≡ mask (record v { sessions = placed_in v.sessions session s place p })
+module _ (v : View) (session : ℕ) (place : Place) (o p : Option Operation)
+    (same : option_map mask_operation o ≡ option_map mask_operation p) where
+  with-masked : (s : Option (Session Operations))
+      → mask (record (mask v) { sessions = placed_in (mask_sessions v.sessions) session (option_map mask_session s) place o })
+      ≡ mask (record v { sessions = placed_in v.sessions session s place p })
   with-masked None = mask-twice v
   with-masked (Some s) =
       rw (
@@ -42,21 +47,26 @@ module _ (v : View) (session : ℕ) (place : Place) (o p : Option Operation) (sa
         own-twice v.own,
         question-twice v.question,
         record-twice v.token_record,
-        busy-mask session (placed (mask_operations s.work) place o) (placed s.work place p) (placed-mask s.work place o p same) v.sessions.sessions,
+        busy-mask session (placed (mask_operations s.work) place o) (placed s.work place p)
+            (placed-mask s.work place o p same) v.sessions.sessions,
       ) refl
 
   pub with_operation-mask : mask (with_operation (mask v) session place o) ≡ mask (with_operation v session place p)
-  with_operation-mask = ap (λ x. mask (record (mask v) { sessions = placed_in (mask_sessions v.sessions) session x place o })) (session-mask v session) ∙ with-masked (session_of v session)
+  with_operation-mask = ap (λ x. mask (record (mask v) { sessions = placed_in (mask_sessions v.sessions) session x place o }))
+      (session-mask v session) ∙ with-masked (session_of v session)
 
-pub operation-mask : (v : View) (s : ℕ) (place : Place) → operation_in (session_of (mask v) s) place ≡ option_map mask_operation (operation_in (session_of v s) place)
+pub operation-mask : (v : View) (s : ℕ) (place : Place)
+    → operation_in (session_of (mask v) s) place ≡ option_map mask_operation (operation_in (session_of v s) place)
 operation-mask v s place = ap (λ x. operation_in x place) (session-mask v s) ∙ of (session_of v s) place where
-  of : (x : Option (Session Operations)) (place : Place) → operation_in (option_map mask_session x) place ≡ option_map mask_operation (operation_in x place)
+  of : (x : Option (Session Operations)) (place : Place)
+      → operation_in (option_map mask_session x) place ≡ option_map mask_operation (operation_in x place)
   of None place = refl
   of (Some x) places.Encrypt = refl
   of (Some x) places.Decrypt = refl
 
 pub blind-ends : (v : View) (s : ℕ) (place : Place) (row : Condition) → shown (ends (mask v) s place row) ≡ shown (ends v s place row)
-blind-ends v s place row = blind-becomes (Code (code_of Ok row)) (with_operation (mask v) s place None) (with_operation v s place None) (with_operation-mask v s place None None refl)
+blind-ends v s place row = blind-becomes (Code (code_of Ok row)) (with_operation (mask v) s place None)
+    (with_operation v s place None) (with_operation-mask v s place None None refl)
 
 -- ---- the call
 
@@ -64,18 +74,23 @@ is_some-masked : (o : Option Operation) → is_some (option_map mask_operation o
 is_some-masked None = refl
 is_some-masked (Some o) = refl
 
-pub class-masked : (o : Option (List Entry)) → is_secret_key (class_of (unwrap_or (option_map mask_object o) [])) ≡ is_secret_key (class_of (unwrap_or o []))
+pub class-masked : (o : Option (List Entry))
+    → is_secret_key (class_of (unwrap_or (option_map mask_object o) [])) ≡ is_secret_key (class_of (unwrap_or o []))
 class-masked None = refl
 class-masked (Some o) = ap is_secret_key (class_of-mask o)
 
-pub type-masked : (o : Option (List Entry)) → is_aes (key_type_at (number_of (attribute_of (unwrap_or (option_map mask_object o) []) attr.KeyType))) ≡ is_aes (key_type_at (number_of (attribute_of (unwrap_or o []) attr.KeyType)))
+pub type-masked : (o : Option (List Entry))
+    → is_aes (key_type_at (number_of (attribute_of (unwrap_or (option_map mask_object o) []) attr.KeyType)))
+    ≡ is_aes (key_type_at (number_of (attribute_of (unwrap_or o []) attr.KeyType)))
 type-masked None = refl
 type-masked (Some o) = ap (λ a. is_aes (key_type_at (number_of a))) (attribute-mask o _ (λ e. absurd (omega (arith, e))))
 
 module _ (d : Direction) (v : View) (s : ℕ) where
-  row-mask : (m : Option Mechanism) (o : Option (List Entry)) (row : Condition) → init_row d (mask v) s m (option_map mask_object o) row ≡ init_row d v s m o row
+  row-mask : (m : Option Mechanism) (o : Option (List Entry)) (row : Condition)
+      → init_row d (mask v) s m (option_map mask_object o) row ≡ init_row d v s m o row
   row-mask m o NoSession = row-session v s
-  row-mask m o OperationActive = ap is_some (operation-mask v s (place_for d)) ∙ is_some-masked (operation_in (session_of v s) (place_for d))
+  row-mask m o OperationActive = ap is_some (operation-mask v s (place_for d))
+      ∙ is_some-masked (operation_in (session_of v s) (place_for d))
   row-mask m o NoKey = rw (none-masked o, class-masked o) refl
   row-mask m o WrongKeyType = ap not (type-masked o)
   row-mask m o KeyNotPermitted = ap not (permitted d) where
@@ -92,22 +107,28 @@ module _ (d : Direction) (v : View) (s : ℕ) where
   blind-begins mechanism x y =
       let p : Option Operation = Some (started mechanism d (attribute_of x attr.Value)) in
       let q : Option Operation = Some (started mechanism d (attribute_of y attr.Value)) in
-      blind-becomes (Code Ok) (with_operation (mask v) s (place_for d) p) (with_operation v s (place_for d) q) (with_operation-mask v s (place_for d) p q refl)
+      blind-becomes (Code Ok) (with_operation (mask v) s (place_for d) p) (with_operation v s (place_for d) q)
+      (with_operation-mask v s (place_for d) p q refl)
 
-  blind-under : (m : Option Mechanism) (o : Option (List Entry)) → shown (begins_under d (mask v) s m (option_map mask_object o)) ≡ shown (begins_under d v s m o)
+  blind-under : (m : Option Mechanism) (o : Option (List Entry))
+      → shown (begins_under d (mask v) s m (option_map mask_object o)) ≡ shown (begins_under d v s m o)
   blind-under m o =
       let mechanism : Cipher = unwrap_or (cipher_in m) Ecb in
-      blind-checked_by (init_function d) (init_row d (mask v) s m (option_map mask_object o)) (init_row d v s m o) (init_says d (mask v) s) (init_says d v s) (begins d (mask v) s mechanism (unwrap_or (option_map mask_object o) [])) (begins d v s mechanism (unwrap_or o []))
+      blind-checked_by (init_function d) (init_row d (mask v) s m (option_map mask_object o)) (init_row d v s m o)
+      (init_says d (mask v) s) (init_says d v s) (begins d (mask v) s mechanism (unwrap_or (option_map mask_object o) []))
+      (begins d v s mechanism (unwrap_or o []))
       (row-mask m o) blind-says (blind-begins mechanism (unwrap_or (option_map mask_object o) []) (unwrap_or o []))
 
   fair-says : (row : Condition) → IsFair true v (init_says d v s row)
   fair-says NoMechanism = fair v {a = ends v s (place_for d) NoMechanism} refl refl refl refl refl
   fair-says row = fair-row v row
 
-pub proper-cipher_init : (d : Direction) (s : ℕ) (mechanism : Option Mechanism) (key : ℕ) → IsProper (λ v r. cipher_init d v s mechanism key) true
+pub proper-cipher_init : (d : Direction) (s : ℕ) (mechanism : Option Mechanism) (key : ℕ)
+    → IsProper (λ v r. cipher_init d v s mechanism key) true
 proper-cipher_init d s m key = record {
   blind = λ v r. ap (λ o. shown (begins_under d (mask v) s m o)) (object-mask v key) ∙ blind-under d v s m (object_at v key);
   fair = λ v r.
       let a = begins d v s (unwrap_or (cipher_in m) Ecb) (unwrap_or (object_at v key) []) in
-      fair-checked_by (init_function d) v (init_row d v s m (object_at v key)) (init_says d v s) a (fair-says d v s) (fair v {a = a} refl refl refl refl refl);
+      fair-checked_by (init_function d) v (init_row d v s m (object_at v key)) (init_says d v s) a (fair-says d v s)
+      (fair v {a = a} refl refl refl refl refl);
 }

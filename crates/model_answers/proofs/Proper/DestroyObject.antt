@@ -40,9 +40,11 @@ blind-destroyed handle v (Some index) =
 
 fair-destroyed : (handle : ℕ) (v : View) (index : Option ℕ) → IsFair false v (destroyed v handle index)
 fair-destroyed handle v None = fair v {a = destroyed v handle None} refl refl refl refl refl
-fair-destroyed handle v (Some index) = record { plain = refl; still = λ q. absurd (false≢true q); asks = refl; shows = refl; charges = refl; seats = λ k. cc }
+fair-destroyed handle v (Some index) =
+    record { plain = refl; still = λ q. absurd (false≢true q); asks = refl; shows = refl; charges = refl; seats = λ k. cc }
 
 pub proper-destroy_object : (s handle : ℕ) → IsProper (λ v r. destroy_object v s handle) false
 proper-destroy_object s handle =
     proper-checked DestroyObject (λ v. destroy_row v s handle) (λ v. destroyed v handle (index_of v.tokens handle)) (row-mask s handle)
-    (λ v. blind-index (λ u p. destroyed u handle p) v handle (blind-destroyed handle v)) (λ v. fair-destroyed handle v (index_of v.tokens handle))
+    (λ v. blind-index (λ u p. destroyed u handle p) v handle (blind-destroyed handle v))
+    (λ v. fair-destroyed handle v (index_of v.tokens handle))

@@ -23,21 +23,34 @@ search-mask v s = ap search_in (session-mask v s) ∙ of (session_of v s) where
   of None = refl
   of (Some x) = refl
 
-search-twice : (ops : Operations) (search : Option (List ℕ)) → mask_operations (record (mask_operations ops) { find = search }) ≡ mask_operations (record ops { find = search })
+search-twice : (ops : Operations) (search : Option (List ℕ))
+    → mask_operations (record (mask_operations ops) { find = search }) ≡ mask_operations (record ops { find = search })
 search-twice ops search = rw (operation-twice ops.encrypt, operation-twice ops.decrypt, mac-twice ops.sign, mac-twice ops.verify) refl
 
-pub searching-mask : (t : SessionTable Operations) (s : ℕ) (search : Option (List ℕ)) → mask_sessions (with_search (mask_sessions t) s search) ≡ mask_sessions (with_search t s search)
+pub searching-mask : (t : SessionTable Operations) (s : ℕ) (search : Option (List ℕ))
+    → mask_sessions (with_search (mask_sessions t) s search) ≡ mask_sessions (with_search t s search)
 searching-mask t s search =
-    ap (λ o. mask_sessions (searching_in (mask_sessions t) s o search)) (find-map (λ (x : Session Operations). x.handle == s) mask_session t.sessions)
+    ap (λ o. mask_sessions (searching_in (mask_sessions t) s o search))
+    (find-map (λ (x : Session Operations). x.handle == s) mask_session t.sessions)
     ∙ of (session_at t.sessions s) where
-      of : (o : Option (Session Operations)) → mask_sessions (searching_in (mask_sessions t) s (option_map mask_session o) search) ≡ mask_sessions (searching_in t s o search)
+      of : (o : Option (Session Operations))
+          → mask_sessions (searching_in (mask_sessions t) s (option_map mask_session o) search) ≡ mask_sessions (searching_in t s o search)
       of None = ap (λ ss. record { sessions = ss; login = t.login; next_number = t.next_number }) (sessions-twice t.sessions)
       of (Some x) =
           ap (λ ss. record { sessions = ss; login = t.login; next_number = t.next_number })
-          (busy-mask s (record (mask_operations x.work) { find = search }) (record x.work { find = search }) (search-twice x.work search) t.sessions)
+          (busy-mask s (record (mask_operations x.work) { find = search }) (record x.work { find = search })
+          (search-twice x.work search) t.sessions)
 
-view-mask : (v : View) (s : ℕ) (search : Option (List ℕ)) → mask (record (mask v) { sessions = with_search (mask_sessions v.sessions) s search }) ≡ mask (record v { sessions = with_search v.sessions s search })
-view-mask v s search = rw (searching-mask v.sessions s search, tokens-twice v.tokens, own-twice v.own, question-twice v.question, record-twice v.token_record) refl
+view-mask : (v : View) (s : ℕ) (search : Option (List ℕ))
+    → mask (record (mask v) { sessions = with_search (mask_sessions v.sessions) s search })
+    ≡ mask (record v { sessions = with_search v.sessions s search })
+view-mask v s search = rw (
+  searching-mask v.sessions s search,
+  tokens-twice v.tokens,
+  own-twice v.own,
+  question-twice v.question,
+  record-twice v.token_record,
+) refl
 
 -- ---- the calls
 
@@ -46,19 +59,28 @@ row-mask s v NoSession = row-session v s
 row-mask s v NoOperation = ap is_none (search-mask v s)
 row-mask s v _ = refl
 
-blind-gives : (s count : ℕ) (v : View) → shown (gives_found (mask v) s count (unwrap_or (search_in (session_of (mask v) s)) [])) ≡ shown (gives_found v s count (unwrap_or (search_in (session_of v s)) []))
+blind-gives : (s count : ℕ) (v : View)
+    → shown (gives_found (mask v) s count (unwrap_or (search_in (session_of (mask v) s)) []))
+    ≡ shown (gives_found v s count (unwrap_or (search_in (session_of v s)) []))
 blind-gives s count v =
     let all : List ℕ = unwrap_or (search_in (session_of v s)) [] in
     ap (λ o. shown (gives_found (mask v) s count (unwrap_or o []))) (search-mask v s)
-    ∙ blind-becomes (Objects (take count all)) (record (mask v) { sessions = with_search (mask_sessions v.sessions) s (Some (drop count all)) }) (record v { sessions = with_search v.sessions s (Some (drop count all)) }) (view-mask v s (Some (drop count all)))
+    ∙ blind-becomes (Objects (take count all))
+    (record (mask v) { sessions = with_search (mask_sessions v.sessions) s (Some (drop count all)) })
+    (record v { sessions = with_search v.sessions s (Some (drop count all)) }) (view-mask v s (Some (drop count all)))
 
 pub proper-find_objects : (s max_count : ℕ) → IsProper (λ v r. find_objects v s max_count) true
 proper-find_objects s max_count =
-    proper-checked FindObjects (λ v. search_row v s) (λ v. gives_found v s (answered_at_once max_count) (unwrap_or (search_in (session_of v s)) [])) (row-mask s)
-    (blind-gives s (answered_at_once max_count)) (λ v. fair v {a = gives_found v s (answered_at_once max_count) (unwrap_or (search_in (session_of v s)) [])} refl refl refl refl refl)
+    proper-checked FindObjects (λ v. search_row v s)
+    (λ v. gives_found v s (answered_at_once max_count) (unwrap_or (search_in (session_of v s)) [])) (row-mask s)
+    (blind-gives s (answered_at_once max_count))
+    (λ v. fair v {a = gives_found v s (answered_at_once max_count)
+    (unwrap_or (search_in (session_of v s)) [])} refl refl refl refl refl)
 
 pub proper-find_objects_final : (s : ℕ) → IsProper (λ v r. find_objects_final v s) true
 proper-find_objects_final s =
-    proper-checked FindObjectsFinal (λ v. search_row v s) (λ v. becomes (Code Ok) (record v { sessions = with_search v.sessions s None })) (row-mask s)
-    (λ v. blind-becomes (Code Ok) (record (mask v) { sessions = with_search (mask_sessions v.sessions) s None }) (record v { sessions = with_search v.sessions s None }) (view-mask v s None))
+    proper-checked FindObjectsFinal (λ v. search_row v s)
+    (λ v. becomes (Code Ok) (record v { sessions = with_search v.sessions s None })) (row-mask s)
+    (λ v. blind-becomes (Code Ok) (record (mask v) { sessions = with_search (mask_sessions v.sessions) s None })
+    (record v { sessions = with_search v.sessions s None }) (view-mask v s None))
     (λ v. fair v {a = becomes (Code Ok) (record v { sessions = with_search v.sessions s None })} refl refl refl refl refl)

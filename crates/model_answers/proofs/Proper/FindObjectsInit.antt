@@ -24,24 +24,35 @@ module _ (template : List Entry) where
   takes-mask : (t : TokenObject) → takes_handle template (mask_token_object t) ≡ takes_handle template t
   takes-mask t = ap (λ b. b && is_none t.handle) (template_matches-mask template t.object)
 
-  handles-mask : (next : ℕ) (ts : List TokenObject) → with_handles template next (map mask_token_object ts) ≡ map mask_token_object (with_handles template next ts)
+  handles-mask : (next : ℕ) (ts : List TokenObject)
+      → with_handles template next (map mask_token_object ts) ≡ map mask_token_object (with_handles template next ts)
   handles-mask next [] = refl
   handles-mask next (t ∷ ts) =
-      ap (λ b. cond b (record { object = mask_object t.object; handle = Some next } ∷ with_handles template (next + 1) (map mask_token_object ts)) (mask_token_object t ∷ with_handles template next (map mask_token_object ts))) (takes-mask t)
+      ap (λ b. cond b (record { object = mask_object t.object; handle = Some next }
+      ∷ with_handles template (next + 1) (map mask_token_object ts))
+      (mask_token_object t ∷ with_handles template next (map mask_token_object ts))) (takes-mask t)
       ∙ step (takes_handle template t) (handles-mask (next + 1) ts) (handles-mask next ts) where
-        step : (b : Bool) → with_handles template (next + 1) (map mask_token_object ts) ≡ map mask_token_object (with_handles template (next + 1) ts) → with_handles template next (map mask_token_object ts) ≡ map mask_token_object (with_handles template next ts)
-            → cond b (record { object = mask_object t.object; handle = Some next } ∷ with_handles template (next + 1) (map mask_token_object ts)) (mask_token_object t ∷ with_handles template next (map mask_token_object ts))
-            ≡ map mask_token_object (cond b (record { object = t.object; handle = Some next } ∷ with_handles template (next + 1) ts) (t ∷ with_handles template next ts))
+        step : (b : Bool) → with_handles template (next + 1) (map mask_token_object ts)
+            ≡ map mask_token_object (with_handles template (next + 1) ts)
+            → with_handles template next (map mask_token_object ts) ≡ map mask_token_object (with_handles template next ts)
+            → cond b (record { object = mask_object t.object; handle = Some next }
+            ∷ with_handles template (next + 1) (map mask_token_object ts))
+            (mask_token_object t ∷ with_handles template next (map mask_token_object ts))
+            ≡ map mask_token_object (cond b (record { object = t.object; handle = Some next } ∷ with_handles template (next + 1) ts)
+            (t ∷ with_handles template next ts))
         step true more same = ap (λ xs. record { object = mask_object t.object; handle = Some next } ∷ xs) more
         step false more same = ap (λ xs. mask_token_object t ∷ xs) same
 
   next-mask : (next : ℕ) (ts : List TokenObject) → next_after template next (map mask_token_object ts) ≡ next_after template next ts
   next-mask next [] = refl
   next-mask next (t ∷ ts) =
-      ap (λ b. cond b (next_after template (next + 1) (map mask_token_object ts)) (next_after template next (map mask_token_object ts))) (takes-mask t)
+      ap (λ b. cond b (next_after template (next + 1) (map mask_token_object ts))
+      (next_after template next (map mask_token_object ts))) (takes-mask t)
       ∙ step (takes_handle template t) (next-mask (next + 1) ts) (next-mask next ts) where
-        step : (b : Bool) → next_after template (next + 1) (map mask_token_object ts) ≡ next_after template (next + 1) ts → next_after template next (map mask_token_object ts) ≡ next_after template next ts
-            → cond b (next_after template (next + 1) (map mask_token_object ts)) (next_after template next (map mask_token_object ts)) ≡ cond b (next_after template (next + 1) ts) (next_after template next ts)
+        step : (b : Bool) → next_after template (next + 1) (map mask_token_object ts) ≡ next_after template (next + 1) ts
+            → next_after template next (map mask_token_object ts) ≡ next_after template next ts
+            → cond b (next_after template (next + 1) (map mask_token_object ts))
+            (next_after template next (map mask_token_object ts)) ≡ cond b (next_after template (next + 1) ts) (next_after template next ts)
         step true more same = more
         step false more same = same
 
@@ -49,14 +60,17 @@ module _ (template : List Entry) where
   tokens_found-mask ts =
       ap (map (λ (t : TokenObject). unwrap_or t.handle 0)) (
       filter-map (λ (t : TokenObject). template_matches template t.object) mask_token_object ts
-      ∙ ap (map mask_token_object) (filter-equal (λ (t : TokenObject). template_matches template (mask_object t.object)) (λ t. template_matches template t.object) ts (λ t. template_matches-mask template t.object)))
+      ∙ ap (map mask_token_object) (filter-equal (λ (t : TokenObject). template_matches template (mask_object t.object))
+      (λ t. template_matches template t.object) ts (λ t. template_matches-mask template t.object)))
       ∙ map-map mask_token_object (λ (t : TokenObject). unwrap_or t.handle 0) (filter (λ t. template_matches template t.object) ts)
 
   own_found-mask : (es : List SessionObject) → own_found template (map mask_session_object es) ≡ own_found template es
   own_found-mask es =
       ap (map (λ (e : SessionObject). e.handle)) (
       filter-map (λ (e : SessionObject). template_matches template e.object) mask_session_object es
-      ∙ ap (map mask_session_object) (filter-equal (λ (e : SessionObject). template_matches template (mask_object e.object)) (λ e. template_matches template e.object) es (λ e. template_matches-mask template e.object)))
+      ∙ ap (map mask_session_object)
+      (filter-equal (λ (e : SessionObject). template_matches template (mask_object e.object))
+      (λ e. template_matches template e.object) es (λ e. template_matches-mask template e.object)))
       ∙ map-map mask_session_object (λ (e : SessionObject). e.handle) (filter (λ e. template_matches template e.object) es)
 
   found-mask : (v : View) → found template (handled template (mask v)) ≡ found template (handled template v)
@@ -70,11 +84,23 @@ module _ (template : List Entry) where
   searches-mask s v =
       let seen : List TokenObject = with_handles template v.next_handle v.tokens in
       let all : List ℕ = found template (handled template v) in
-      let of : List ℕ → List TokenObject → ℕ → View = λ ns ts next. mask (record (mask v) { tokens = ts; next_handle = next; sessions = with_search (mask_sessions v.sessions) s (Some ns) }) in
-      ap (λ ns. of ns (with_handles template v.next_handle (map mask_token_object v.tokens)) (next_after template v.next_handle (map mask_token_object v.tokens))) (found-mask v)
+      let of : List ℕ → List TokenObject → ℕ → View =
+      λ ns ts next. mask (record (mask v) {
+        tokens = ts;
+        next_handle = next;
+        sessions = with_search (mask_sessions v.sessions) s (Some ns);
+      }) in
+      ap (λ ns. of ns (with_handles template v.next_handle (map mask_token_object v.tokens))
+      (next_after template v.next_handle (map mask_token_object v.tokens))) (found-mask v)
       ∙ ap (λ ts. of all ts (next_after template v.next_handle (map mask_token_object v.tokens))) (handles-mask v.next_handle v.tokens)
       ∙ ap (λ next. of all (map mask_token_object seen) next) (next-mask v.next_handle v.tokens)
-      ∙ rw (searching-mask v.sessions s (Some all), tokens-twice seen, own-twice v.own, question-twice v.question, record-twice v.token_record) refl
+      ∙ rw (
+        searching-mask v.sessions s (Some all),
+        tokens-twice seen,
+        own-twice v.own,
+        question-twice v.question,
+        record-twice v.token_record,
+      ) refl
 
 pub proper-find_objects_init : (s : ℕ) (template : List Entry) → IsProper (λ v r. find_objects_init v s template) true
 proper-find_objects_init s template =

@@ -31,14 +31,20 @@ key_len-mask None = refl
 key_len-mask (Some o) = value_len-mask o
 
 module _ (v : View) (s : ℕ) (m : Mechanism) where
-  row-mask : (wrapping key : Option (List Entry)) (buffer_len : Option ℕ) (row : Condition) → wrap_row (mask v) s m (option_map mask_object wrapping) (option_map mask_object key) buffer_len row ≡ wrap_row v s m wrapping key buffer_len row
+  row-mask : (wrapping key : Option (List Entry)) (buffer_len : Option ℕ) (row : Condition)
+      → wrap_row (mask v) s m (option_map mask_object wrapping) (option_map mask_object key) buffer_len row
+      ≡ wrap_row v s m wrapping key buffer_len row
   row-mask wrapping key buffer_len NoSession = row-session v s
   row-mask wrapping key buffer_len NoWrappingKey = no_key-mask wrapping
   row-mask wrapping key buffer_len NoKey = no_key-mask key
   row-mask wrapping key buffer_len WrongWrappingKeyType = ap not (type-masked wrapping)
   row-mask wrapping key buffer_len KeyNotPermitted = ap not (flag-masked wrapping attr.Wrap (λ e. absurd (omega (arith, e))))
   row-mask wrapping key buffer_len KeyUnextractable = ap not (flag-masked key attr.Extractable (λ e. absurd (omega (arith, e))))
-  row-mask wrapping key buffer_len KeyNotWrappable = rw (flag-masked key attr.WrapWithTrusted (λ e. absurd (omega (arith, e))), flag-masked wrapping attr.Trusted (λ e. absurd (omega (arith, e)))) refl
+  row-mask wrapping key buffer_len KeyNotWrappable =
+      rw (
+        flag-masked key attr.WrapWithTrusted (λ e. absurd (omega (arith, e))),
+        flag-masked wrapping attr.Trusted (λ e. absurd (omega (arith, e))),
+      ) refl
   row-mask wrapping key buffer_len KeyLength = ap (λ n. not (is_value_length n)) (key_len-mask key)
   row-mask wrapping key buffer_len SmallBuffer = rw (key_len-mask key) refl
   row-mask wrapping key buffer_len _ = refl
@@ -49,12 +55,20 @@ module _ (v : View) (s : ℕ) (m : Mechanism) where
   blind-says n row = blind-row v row
 
   -- the pending call is revealed without the values of both keys
-  blind-wraps : (wrapping key : Option (List Entry)) (buffer_len : Option ℕ) → shown (wraps (mask v) s m (option_map mask_object wrapping) (option_map mask_object key) buffer_len) ≡ shown (wraps v s m wrapping key buffer_len)
+  blind-wraps : (wrapping key : Option (List Entry)) (buffer_len : Option ℕ)
+      → shown (wraps (mask v) s m (option_map mask_object wrapping) (option_map mask_object key) buffer_len)
+      ≡ shown (wraps v s m wrapping key buffer_len)
   blind-wraps wrapping key buffer_len =
       let task = WrapsKey (attribute_of (unwrap_or wrapping []) attr.Value) (attribute_of (unwrap_or key []) attr.Value) in
-      let masked = WrapsKey (attribute_of (unwrap_or (option_map mask_object wrapping) []) attr.Value) (attribute_of (unwrap_or (option_map mask_object key) []) attr.Value) in
-      ap (λ n. shown (checked_by functions.WrapKey (wrap_row (mask v) s m (option_map mask_object wrapping) (option_map mask_object key) buffer_len) (wrap_says (mask v) (n + 8)) (asks (mask v) functions.WrapKey s masked))) (key_len-mask key)
-      ∙ blind-checked_by functions.WrapKey (wrap_row (mask v) s m (option_map mask_object wrapping) (option_map mask_object key) buffer_len) (wrap_row v s m wrapping key buffer_len) (wrap_says (mask v) (wrapped_len key)) (wrap_says v (wrapped_len key)) (asks (mask v) functions.WrapKey s masked) (asks v functions.WrapKey s task)
+      let masked = WrapsKey (attribute_of (unwrap_or (option_map mask_object wrapping) []) attr.Value)
+      (attribute_of (unwrap_or (option_map mask_object key) []) attr.Value) in
+      ap (λ n. shown (checked_by functions.WrapKey
+      (wrap_row (mask v) s m (option_map mask_object wrapping) (option_map mask_object key) buffer_len)
+      (wrap_says (mask v) (n + 8)) (asks (mask v) functions.WrapKey s masked))) (key_len-mask key)
+      ∙ blind-checked_by functions.WrapKey
+      (wrap_row (mask v) s m (option_map mask_object wrapping) (option_map mask_object key) buffer_len)
+      (wrap_row v s m wrapping key buffer_len) (wrap_says (mask v) (wrapped_len key)) (wrap_says v (wrapped_len key))
+      (asks (mask v) functions.WrapKey s masked) (asks v functions.WrapKey s task)
       (row-mask wrapping key buffer_len) (blind-says (wrapped_len key)) (blind-asks v functions.WrapKey s masked task refl)
 
   fair-says : (n : ℕ) (row : Condition) → IsFair true v (wrap_says v n row)
@@ -62,12 +76,16 @@ module _ (v : View) (s : ℕ) (m : Mechanism) where
   fair-says n SmallBuffer = fair v {a = replies v (replied.BufferTooSmall n)} refl refl refl refl refl
   fair-says n row = fair-row v row
 
-pub fair-wraps : (v : View) (s : ℕ) (m : Mechanism) (wrapping key : Option (List Entry)) (buffer_len : Option ℕ) → IsFair true v (wraps v s m wrapping key buffer_len)
+pub fair-wraps : (v : View) (s : ℕ) (m : Mechanism) (wrapping key : Option (List Entry)) (buffer_len : Option ℕ)
+    → IsFair true v (wraps v s m wrapping key buffer_len)
 fair-wraps v s m wrapping key buffer_len =
-    let a = asks v functions.WrapKey s (WrapsKey (attribute_of (unwrap_or wrapping []) attr.Value) (attribute_of (unwrap_or key []) attr.Value)) in
-    fair-checked_by functions.WrapKey v (wrap_row v s m wrapping key buffer_len) (wrap_says v (wrapped_len key)) a (fair-says v s m (wrapped_len key)) (fair v {a = a} refl refl refl refl refl)
+    let a = asks v functions.WrapKey s
+    (WrapsKey (attribute_of (unwrap_or wrapping []) attr.Value) (attribute_of (unwrap_or key []) attr.Value)) in
+    fair-checked_by functions.WrapKey v (wrap_row v s m wrapping key buffer_len) (wrap_says v (wrapped_len key)) a
+    (fair-says v s m (wrapped_len key)) (fair v {a = a} refl refl refl refl refl)
 
-pub proper-wrap_key : (s : ℕ) (m : Mechanism) (wrapping key : ℕ) (buffer_len : Option ℕ) → IsProper (λ v r. wrap_key v s m wrapping key buffer_len) true
+pub proper-wrap_key : (s : ℕ) (m : Mechanism) (wrapping key : ℕ) (buffer_len : Option ℕ)
+    → IsProper (λ v r. wrap_key v s m wrapping key buffer_len) true
 proper-wrap_key s m wrapping key buffer_len = record {
   blind = λ v r.
       ap (λ o. shown (wraps (mask v) s m o (object_at (mask v) key) buffer_len)) (object-mask v wrapping)

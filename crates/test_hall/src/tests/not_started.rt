@@ -3,9 +3,10 @@
 ghost use Rattle.std.specs.Prelude.{◌≡◌, ◌∷◌, [], true, IfOk};
 ghost use Rattle.hall_log.specs.Histories.{History};
 ghost use Rattle.hall.specs.Given.{Serves};
+ghost use Rattle.hall.specs.Terms.{token_terms};
 
 use ck_calls::{Call, Reply};
-use hall::{Gate, HallFault, Held, Seat, SeatEvent, hold_with};
+use hall::{Gate, HallFault, Held, Seat, SeatEvent, hold};
 use hall_log::{Naming, Opened, Told};
 use keep::{Keep, ListKeep};
 use pin_record::Record;
@@ -103,11 +104,11 @@ fn hold_named<
     stacks: (usize, usize, usize, usize),
 ) -> Result<Held<Token<K>, Silent>, (HallFault, Token<K>)>
     requires book { opened.seen.book ≡ J.book }
-    requires means { (h : History) → J.served h → Serves K.terms J.was_read token h }
-    requires all { (h : History) → Serves K.terms J.was_read token h → J.served h }
+    requires means { (h : History) → J.served h → Serves (token_terms K.terms) J.was_read token h }
+    requires all { (h : History) → Serves (token_terms K.terms) J.was_read token h → J.served h }
     requires numbers { (seats.0.number ≡ 0) × (seats.1.number ≡ 1) × (seats.2.number ≡ 2) × (seats.3.number ≡ 3) }
 {
-    hold_with::<J, K, Silent, Open, R>(rt, alloc, opened, token, seats, gate, stacks)
+    hold::<J, Token<K>, Silent, Open, R>(rt, alloc, opened, token, seats, gate, stacks)
 }
 
 /// Why seats were not held, if they were not, whether one was asked, and whether the token is as it was.

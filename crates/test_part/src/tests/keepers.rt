@@ -19,11 +19,15 @@ fn charge_and_read<K: Keep>(
     who: UserType,
     id: u64,
 ) -> Result<Option<Object>, KeepFault>
-    ensures charged { (c : Contents) → K.terms.holds keep.old c → IfOk result (λ found. OnSome found (K.terms.holds keep.new (with_record (charged c.token_record who) c))) }
+    ensures charged { (c : Contents) → K.terms.holds keep.old c
+        → IfOk result (λ found. OnSome found (K.terms.holds keep.new (with_record (charged c.token_record who) c))) }
     ensures refused { (c : Contents) → K.terms.holds keep.old c → IfOk result (λ found. IfNone found (K.terms.holds keep.new c)) }
-    ensures object { K.terms.doubt keep.new ≡ 0 → (c : Contents) → K.terms.holds keep.old c → IfOk result (λ found. IfSome found (λ object. object_at c id ≡ Some object)) }
-    ensures either { (c : Contents) → K.terms.holds keep.old c → OnErr result (K.terms.holds keep.new c ⊎ K.terms.holds keep.new (with_record (charged c.token_record who) c)) }
-    ensures crash { (c : Contents) (left : Option Contents) → K.terms.holds keep.old c → K.terms.may_leave keep.new left → IfOk result (λ found. OnSome found (left ≡ Some (with_record (charged c.token_record who) c))) }
+    ensures object { K.terms.doubt keep.new ≡ 0 → (c : Contents) → K.terms.holds keep.old c
+        → IfOk result (λ found. IfSome found (λ object. object_at c id ≡ Some object)) }
+    ensures either { (c : Contents) → K.terms.holds keep.old c
+        → OnErr result (K.terms.holds keep.new c ⊎ K.terms.holds keep.new (with_record (charged c.token_record who) c)) }
+    ensures crash { (c : Contents) (left : Option Contents) → K.terms.holds keep.old c → K.terms.may_leave keep.new left
+        → IfOk result (λ found. OnSome found (left ≡ Some (with_record (charged c.token_record who) c))) }
     ensures tried { K.terms.tried keep.new ≤ K.terms.tried keep.old + 1 }
     ensures doubt { K.terms.doubt keep.old ≤ K.terms.doubt keep.new }
     ensures some { K.terms.doubt keep.new ≡ 0 → LeavesSome (K.terms.may_leave keep.new) }

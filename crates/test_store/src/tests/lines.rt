@@ -5,10 +5,10 @@ use super::served::{Served, expect_served, frames_of, serve};
 use ck_calls::Call;
 use ck_types::{AttrType, Rv};
 use keep::Keep;
-use line::LineFault;
 use pin_record::Record;
 use std::alloc::Global;
 use std::test::*;
+use stdio_line::LineFault;
 use test_scripts::Step::{
     CreateObject, FindObjects, FindObjectsInit, GenerateRandom, GetAttributeValue, GetObjectSize,
 };

@@ -2,9 +2,10 @@
 
 use ck_calls::Function;
 use keep::Keep;
-use line::{LineFault, Words, serve_one};
+use line::Words;
 use std::alloc::Global;
 use std::test::*;
+use stdio_line::{LineFault, serve_one};
 use test_scripts::{Row, Step, call_of, expect_row, token_over};
 use token::Token;
 use watched::Watched;

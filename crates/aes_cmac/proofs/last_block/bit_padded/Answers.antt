@@ -11,7 +11,8 @@ loop-i-preserved c =
     let bytes = c.args.bytes.now in
     let i = c.loop-i.i in
     let start : List ℕ = set (replicate 16 0) (length bytes) 0x80 in
-    ap (λ b. set b i (get_or bytes i 0)) c.loop-i.invariant ∙ over-more bytes start i (omega arith) (omega (arith, length-set {A = ℕ} (replicate 16 0) (length bytes) 0x80))
+    ap (λ b. set b i (get_or bytes i 0)) c.loop-i.invariant
+    ∙ over-more bytes start i (omega arith) (omega (arith, length-set {A = ℕ} (replicate 16 0) (length bytes) 0x80))
 
 pub returns : goal.returns
 returns c =

@@ -9,7 +9,8 @@ use Rattle.aes_modes.proofs.batches.push_counted.Goals as goal
 pub turns-init : goal.turns-init
 turns-init c =
     let text = c.args.front.now ++ c.args.piece.now in
-    none_yet (λ i. xor_bytes (block_of text i) (encrypted_block c.args.key.now (to_be_bytes w128 (c.args.first + i)))) c.args.out.now.items c.args.blocks
+    none_yet (λ i. xor_bytes (block_of text i)
+    (encrypted_block c.args.key.now (to_be_bytes w128 (c.args.first + i)))) c.args.out.now.items c.args.blocks
 
 pub turns-preserved : goal.turns-preserved
 turns-preserved c =
@@ -29,5 +30,6 @@ turns-preserved c =
     let e = c.encipher.ensures k lt low ∙ (λ t. encrypted_block (c.in_ok-cipher.ensures t) (c.numbers-counters.ensures k lt t))
     ∙ ap (λ v. encrypted_block key (to_be_bytes w128 v)) sum in
     c.xor_batches-batch.ensures k low ∙ (λ t. xor_bytes (b t) (e t)) in
-    blocks_further f c.args.out.now.items c.turns.out.items c.xor_batches-batch.result c.extend_from_slice.new.self.items n c.args.blocks m c.turns.invariant
+    blocks_further f c.args.out.now.items c.turns.out.items c.xor_batches-batch.result c.extend_from_slice.new.self.items n
+    c.args.blocks m c.turns.invariant
     c.min-left.ensures some each c.in_ok-extend_from_slice.ensures.items

@@ -8,4 +8,6 @@ use Rattle.aes_modes.proofs.batches.push_counted.Given as goal
 
 abbrev pub invariant-turns : goal.invariant-turns
 invariant-turns l =
-    l.out.items ≡ l.initial.out.items ++ first_blocks (λ i. xor_bytes (block_of (l.front ++ l.piece) i) (encrypted_block l.key (to_be_bytes w128 (l.fn.first + i)))) (min (8 * l.n) l.fn.blocks)
+    l.out.items ≡ l.initial.out.items
+    ++ first_blocks (λ i. xor_bytes (block_of (l.front ++ l.piece) i)
+    (encrypted_block l.key (to_be_bytes w128 (l.fn.first + i)))) (min (8 * l.n) l.fn.blocks)

@@ -6,4 +6,5 @@ use Rattle.aes_modes.proofs.batches.push_encrypted.Given as goal
 
 abbrev pub invariant-turns : goal.invariant-turns
 invariant-turns l =
-    l.out.items ≡ l.initial.out.items ++ first_blocks (λ i. encrypted_block l.key (block_of (l.front ++ l.piece) i)) (min (8 * l.n) l.fn.blocks)
+    l.out.items ≡ l.initial.out.items
+    ++ first_blocks (λ i. encrypted_block l.key (block_of (l.front ++ l.piece) i)) (min (8 * l.n) l.fn.blocks)

@@ -9,7 +9,8 @@ use Rattle.aes_modes.proofs.batches.push_unchained.Goals as goal
 pub turns-init : goal.turns-init
 turns-init c =
     let text = c.args.front.now ++ c.args.piece.now in
-    none_yet (λ i. xor_bytes (decrypted_block c.args.key.now (block_of text i)) (block_of (c.args.iv ++ text) i)) c.args.out.now.items c.args.blocks
+    none_yet (λ i. xor_bytes (decrypted_block c.args.key.now (block_of text i))
+    (block_of (c.args.iv ++ text) i)) c.args.out.now.items c.args.blocks
 
 pub turns-preserved : goal.turns-preserved
 turns-preserved c =
@@ -30,9 +31,11 @@ turns-preserved c =
     let low : k < 8 = omega (arith, lt, c.min-left.ensures) in
     let within : 16 * (8 * n + k) + 16 ≤ length front + length piece = omega (arith, lt, some, c.min-left.ensures, c.requires.within) in
     let d = c.decipher-decrypted.ensures k lt low
-    ∙ (λ t. decrypted_block (c.in_ok-cipher.ensures t) (block_at_batch front piece c.batch_at.result n k c.batch_at.ensures low within t)) in
+    ∙ (λ t. decrypted_block (c.in_ok-cipher.ensures t)
+    (block_at_batch front piece c.batch_at.result n k c.batch_at.ensures low within t)) in
     let b = block_at_batch before piece c.batch_at-in-turns.result n k c.batch_at-in-turns.ensures low (omega (arith, within, long))
     ∙ ap (λ l. block_of l (8 * n + k)) whole in
     c.xor_batches-batch.ensures k low ∙ (λ t. xor_bytes (d t) (b t)) in
-    blocks_further f c.args.out.now.items c.turns.out.items c.xor_batches-batch.result c.extend_from_slice.new.self.items n c.args.blocks m c.turns.invariant
+    blocks_further f c.args.out.now.items c.turns.out.items c.xor_batches-batch.result c.extend_from_slice.new.self.items n
+    c.args.blocks m c.turns.invariant
     c.min-left.ensures some each c.in_ok-extend_from_slice.ensures.items

@@ -20,7 +20,8 @@ returns-clause-value c =
     let wide : length iv ≡ 16 = omega arith in
     let f : ℕ → List ℕ = λ i. xor_bytes (decrypted_block key (block_of text i)) (block_of (iv ++ text) i) in
     let is : out ≡ first_blocks f n = c.in_ok-push_unchained.ensures ∙ ap (λ l. l ++ first_blocks f n) c.in_ok-out.ensures.items in
-    cbc_encrypted-all key iv text out n (ap length is ∙ cbc-size key c.is_key.ensures text c.are_bytes-2.ensures n within iv wide) (omega arith) c.requires
+    cbc_encrypted-all key iv text out n (ap length is ∙ cbc-size key c.is_key.ensures text c.are_bytes-2.ensures n within iv wide)
+    (omega arith) c.requires
     (ap (λ o. cbc_blocks key iv o n) is ∙ cbc-back key c.is_key.ensures text c.are_bytes-2.ensures n within iv wide)
 
 pub returns-clause-length : goal.returns-clause-length

@@ -18,7 +18,8 @@ returns-clause-value c =
     let within : 16 * n ≤ length text = omega arith in
     let is : out ≡ first_blocks (λ i. decrypted_block key (block_of text i)) n =
     c.in_ok-push_decrypted.ensures ∙ ap (λ l. l ++ first_blocks (λ i. decrypted_block key (block_of text i)) n) c.in_ok-out.ensures.items in
-    ecb_encrypted-all key text out n (ap length is ∙ ecb-size key c.is_key.ensures text c.are_bytes.ensures n within) (omega arith) c.requires
+    ecb_encrypted-all key text out n (ap length is ∙ ecb-size key c.is_key.ensures text c.are_bytes.ensures n within)
+    (omega arith) c.requires
     (ap (λ o. ecb_blocks key o n) is ∙ ecb-back key c.is_key.ensures text c.are_bytes.ensures n within)
 
 pub returns-clause-length : goal.returns-clause-length
@@ -27,7 +28,8 @@ returns-clause-length c =
     let text = c.args.text.now in
     let n : ℕ = length text / 16 in
     let within : 16 * n ≤ length text = omega arith in
-    ap length (c.in_ok-push_decrypted.ensures ∙ ap (λ l. l ++ first_blocks (λ i. decrypted_block key (block_of text i)) n) c.in_ok-out.ensures.items)
+    ap length (c.in_ok-push_decrypted.ensures
+    ∙ ap (λ l. l ++ first_blocks (λ i. decrypted_block key (block_of text i)) n) c.in_ok-out.ensures.items)
     ∙ ecb-size key c.is_key.ensures text c.are_bytes.ensures n within ∙ omega (arith, c.requires)
 
 pub returns-clause-only : goal.returns-clause-only

@@ -24,7 +24,8 @@ whole_blocks : (key : List ℕ) (m : ℕ) (start text out none : List ℕ) (v : 
     → v ≡ from_be_bytes w128 start → counter_start m start + length text / 16 ≤ 2 ^ m
     → out ≡ ctr_blocks key m start text (length text / 16)
 whole_blocks key m start text out none v nothing is e within =
-    is ∙ ap (λ l. l ++ first_blocks (λ i. xor_bytes (block_of text i) (encrypted_block key (to_be_bytes w128 (v + i)))) (length text / 16)) nothing
+    is ∙ ap (λ l. l ++ first_blocks (λ i. xor_bytes (block_of text i) (encrypted_block key (to_be_bytes w128 (v + i))))
+    (length text / 16)) nothing
     ∙ ctr_blocks-counted key m start text v (length text / 16) e within
 
 -- a number is above 0 where the test finds that it isn't 0
@@ -34,7 +35,8 @@ some n test = grind (arith, nat_tests)
 pub overflow_add-first : goal.overflow_add-first
 overflow_add-first c =
     let more : 0 < length c.args.text.now % 16 = omega (arith, c.rest_of-rest.ensures.size, some _ c.if-is_empty.ensures) in
-    let fits = counter-fits c.from_be_bytes-first.result c.args.start c.args.bits (length c.args.text.now / 16) c.requires.bits (omega arith)
+    let fits = counter-fits c.from_be_bytes-first.result c.args.start c.args.bits (length c.args.text.now / 16) c.requires.bits
+    (omega arith)
     c.from_be_bytes-first.ensures (omega (arith, c.requires.counters)) in
     omega (arith, fits)
 

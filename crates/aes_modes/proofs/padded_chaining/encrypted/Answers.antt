@@ -16,5 +16,6 @@ returns c =
     let last = c.encipher.ensures.value
     ∙ ap (encrypted_block key) (c.xor_blocks.ensures.value ∙ (λ t. xor_bytes (filled t) (c.in_ok-before.ensures.chained t))) in
     c.in_ok-extend_from_slice.ensures.items
-    ∙ (λ t. (c.in_ok-before.ensures.blocks ∙ ap (λ o. o ++ cbc_blocks key iv text (length text / 16)) c.in_ok-out.ensures.items) t ++ last t)
+    ∙ (λ t. (c.in_ok-before.ensures.blocks ∙ ap (λ o. o ++ cbc_blocks key iv text (length text / 16)) c.in_ok-out.ensures.items) t
+    ++ last t)
     ∙ cbc_pad-blocks key iv text

@@ -40,7 +40,8 @@ rounds-preserved c w p j lt =
     (c.rows_shifted.ensures j (with_constant y) (IsBlock-with_constant y hy) boxed) in
     let mixed = subst (IsSliced c.mixed.result j) (ap in_rows (constant-mix_columns t t_is hm))
     (c.mixed.ensures j (with_constant t) (IsBlock-with_constant t t_is) moved) in
-    let key = subst (λ t. IsSliced t j (in_rows (with_constant k))) (sym c.eight_at-in-rounds.ensures) (p.middle r (omega arith) (omega arith) j lt) in
+    let key = subst (λ t. IsSliced t j (in_rows (with_constant k))) (sym c.eight_at-in-rounds.ensures)
+    (p.middle r (omega arith) (omega arith) j lt) in
     let all = subst (IsSliced c.added-s.result j)
     (in_rows-sum (with_constant m) (with_constant k) (IsBlock-with_constant m hm).size (IsBlock-with_constant k hk).size
     ∙ ap in_rows (constants_gone m k))
@@ -70,7 +71,8 @@ returns c w p j lt =
     let moved = subst (IsSliced c.rows_shifted_last.result j) (constant-shift_rows y hy)
     (c.rows_shifted_last.ensures j (with_constant y) (IsBlock-with_constant y hy) boxed) in
     let key = subst (λ t. IsSliced t j (with_constant k)) (sym c.eight_at-2.ensures) (p.last j lt) in
-    let all = subst (IsSliced c.added-2.result j) (constants_gone t k) (c.added-2.ensures j (with_constant t) (with_constant k) moved key) in
+    let all = subst (IsSliced c.added-2.result j) (constants_gone t k)
+    (c.added-2.ensures j (with_constant t) (with_constant k) moved key) in
     let end : r ≡ n = omega arith in
     back c.added-2.result c.transposed-result.result j (last_round k before) lt c.transposed-result.ensures all
     (c.are_blocks-2.ensures j lt) (IsBlock-last_round k before (p.blocks n (omega arith)) known.0)

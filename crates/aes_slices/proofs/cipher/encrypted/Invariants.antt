@@ -10,4 +10,5 @@ use Rattle.aes_slices.proofs.cipher.encrypted.Given as goal
 abbrev pub invariant-rounds : goal.invariant-rounds
 invariant-rounds l =
     (w : List ℕ) → ArePlanes l.keys l.fn.rounds w → (j : ℕ) → j < 8
-    → IsBlock (state_after w (vector_of l.fn.blocks j) (l.r - 1)) × IsSliced l.s j (in_rows (state_after w (vector_of l.fn.blocks j) (l.r - 1)))
+    → IsBlock (state_after w (vector_of l.fn.blocks j) (l.r - 1))
+    × IsSliced l.s j (in_rows (state_after w (vector_of l.fn.blocks j) (l.r - 1)))

@@ -4,7 +4,7 @@ use Rattle.fips_197.specs.Field.{product}
 use Rattle.fips_197.proofs.Blocks.{IsBlock-xor_bytes}
 use Rattle.aes_vector.specs.Rows.{pick}
 use Rattle.aes_planes.specs.Planes.{IsSliced}
-use Rattle.aes_slices.specs.Rows.{rows_next, rows_after_next, in_rows}
+use Rattle.aes_slices.specs.Rows.{plane_rows_next, rows_after_next, in_rows}
 use Rattle.aes_slices.proofs.InRows.{IsBlock-in_rows}
 use Rattle.aes_slices.proofs.MadeBlocks.{IsBlock-pick}
 use Rattle.aes_slices.proofs.MixedColumns.{mixed-of}
@@ -14,9 +14,9 @@ pub returns : goal.returns
 returns c j z inside is =
     let x = in_rows z in
     let block = IsBlock-in_rows z inside in
-    let n = pick rows_next x in
+    let n = pick plane_rows_next x in
     let t = xor_bytes x n in
-    let sum_is : IsBlock t = IsBlock-xor_bytes x n block (IsBlock-pick rows_next x refl block) in
+    let sum_is : IsBlock t = IsBlock-xor_bytes x n block (IsBlock-pick plane_rows_next x refl block) in
     let next = c.next_rows-next.ensures j x is in
     let sum = c.added-sum.ensures j x n is next in
     let twice = c.doubled.ensures j t sum_is.bytes sum in

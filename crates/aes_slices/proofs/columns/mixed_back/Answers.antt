@@ -4,7 +4,7 @@ use Rattle.fips_197.specs.Field.{product}
 use Rattle.fips_197.proofs.Blocks.{IsBlock-xor_bytes}
 use Rattle.aes_vector.specs.Rows.{pick}
 use Rattle.aes_planes.specs.Planes.{IsSliced}
-use Rattle.aes_slices.specs.Rows.{rows_next, rows_after_next, in_rows}
+use Rattle.aes_slices.specs.Rows.{plane_rows_next, rows_after_next, in_rows}
 use Rattle.aes_slices.proofs.InRows.{IsBlock-in_rows}
 use Rattle.aes_slices.proofs.MadeBlocks.{IsBlock-pick, IsBlock-doubled}
 use Rattle.aes_slices.proofs.MixedColumns.{mixed_back-of}
@@ -14,14 +14,14 @@ pub returns : goal.returns
 returns c j z inside is =
     let x = in_rows z in
     let block = IsBlock-in_rows z inside in
-    let n = pick rows_next x in
+    let n = pick plane_rows_next x in
     let t = xor_bytes x n in
     let t2 = map (product 2) t in
     let l = xor_bytes t2 x in
     let l2 = map (product 2) l in
     let l4 = map (product 2) l2 in
     let h = xor_bytes l4 t in
-    let t_is : IsBlock t = IsBlock-xor_bytes x n block (IsBlock-pick rows_next x refl block) in
+    let t_is : IsBlock t = IsBlock-xor_bytes x n block (IsBlock-pick plane_rows_next x refl block) in
     let l_is : IsBlock l = IsBlock-xor_bytes t2 x (IsBlock-doubled t t_is) block in
     let l2_is : IsBlock l2 = IsBlock-doubled l l_is in
     let sum = c.added-sum.ensures j x n is (c.next_rows.ensures j x is) in

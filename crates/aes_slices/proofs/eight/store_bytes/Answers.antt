@@ -12,7 +12,8 @@ returns-clause-here c =
     let k = from + 16 - from in
     let ks = c.args.text.now in
     let size : k ≡ 16 = omega arith in
-    ap (λ l. block_of (put_mid from k ks l) c.args.i) c.copy_from_slice.ensures.after ∙ stored_here ks c.args.block c.args.i k size (omega arith) (omega arith)
+    ap (λ l. block_of (put_mid from k ks l) c.args.i) c.copy_from_slice.ensures.after
+    ∙ stored_here ks c.args.block c.args.i k size (omega arith) (omega arith)
 
 pub returns-clause-others : goal.returns-clause-others
 unfolding block_of round_key
@@ -21,4 +22,5 @@ returns-clause-others c = λ q ne.
     let k = from + 16 - from in
     let ks = c.args.text.now in
     let size : k ≡ 16 = omega arith in
-    ap (λ l. block_of (put_mid from k ks l) q) c.copy_from_slice.ensures.after ∙ stored_others ks c.args.block c.args.i k size (omega arith) (omega arith) q ne
+    ap (λ l. block_of (put_mid from k ks l) q) c.copy_from_slice.ensures.after
+    ∙ stored_others ks c.args.block c.args.i k size (omega arith) (omega arith) q ne

@@ -6,11 +6,20 @@ pub returns-clause-here : goal.returns-clause-here
 unfolding eight_at
 returns-clause-here c =
     let at = 8 * c.args.n in
-    let e0 = c.store-8.ensures.others at (omega arith) ∙ c.store-7.ensures.others at (omega arith) ∙ c.store-6.ensures.others at (omega arith) ∙ c.store-5.ensures.others at (omega arith) ∙ c.store-4.ensures.others at (omega arith) ∙ c.store-3.ensures.others at (omega arith) ∙ c.store-2.ensures.others at (omega arith) ∙ c.store.ensures.here in
-    let e1 = c.store-8.ensures.others (at + 1) (omega arith) ∙ c.store-7.ensures.others (at + 1) (omega arith) ∙ c.store-6.ensures.others (at + 1) (omega arith) ∙ c.store-5.ensures.others (at + 1) (omega arith) ∙ c.store-4.ensures.others (at + 1) (omega arith) ∙ c.store-3.ensures.others (at + 1) (omega arith) ∙ c.store-2.ensures.here in
-    let e2 = c.store-8.ensures.others (at + 2) (omega arith) ∙ c.store-7.ensures.others (at + 2) (omega arith) ∙ c.store-6.ensures.others (at + 2) (omega arith) ∙ c.store-5.ensures.others (at + 2) (omega arith) ∙ c.store-4.ensures.others (at + 2) (omega arith) ∙ c.store-3.ensures.here in
-    let e3 = c.store-8.ensures.others (at + 3) (omega arith) ∙ c.store-7.ensures.others (at + 3) (omega arith) ∙ c.store-6.ensures.others (at + 3) (omega arith) ∙ c.store-5.ensures.others (at + 3) (omega arith) ∙ c.store-4.ensures.here in
-    let e4 = c.store-8.ensures.others (at + 4) (omega arith) ∙ c.store-7.ensures.others (at + 4) (omega arith) ∙ c.store-6.ensures.others (at + 4) (omega arith) ∙ c.store-5.ensures.here in
+    let e0 = c.store-8.ensures.others at (omega arith) ∙ c.store-7.ensures.others at (omega arith)
+    ∙ c.store-6.ensures.others at (omega arith) ∙ c.store-5.ensures.others at (omega arith)
+    ∙ c.store-4.ensures.others at (omega arith) ∙ c.store-3.ensures.others at (omega arith)
+    ∙ c.store-2.ensures.others at (omega arith) ∙ c.store.ensures.here in
+    let e1 = c.store-8.ensures.others (at + 1) (omega arith) ∙ c.store-7.ensures.others (at + 1) (omega arith)
+    ∙ c.store-6.ensures.others (at + 1) (omega arith) ∙ c.store-5.ensures.others (at + 1) (omega arith)
+    ∙ c.store-4.ensures.others (at + 1) (omega arith) ∙ c.store-3.ensures.others (at + 1) (omega arith) ∙ c.store-2.ensures.here in
+    let e2 = c.store-8.ensures.others (at + 2) (omega arith) ∙ c.store-7.ensures.others (at + 2) (omega arith)
+    ∙ c.store-6.ensures.others (at + 2) (omega arith) ∙ c.store-5.ensures.others (at + 2) (omega arith)
+    ∙ c.store-4.ensures.others (at + 2) (omega arith) ∙ c.store-3.ensures.here in
+    let e3 = c.store-8.ensures.others (at + 3) (omega arith) ∙ c.store-7.ensures.others (at + 3) (omega arith)
+    ∙ c.store-6.ensures.others (at + 3) (omega arith) ∙ c.store-5.ensures.others (at + 3) (omega arith) ∙ c.store-4.ensures.here in
+    let e4 = c.store-8.ensures.others (at + 4) (omega arith) ∙ c.store-7.ensures.others (at + 4) (omega arith)
+    ∙ c.store-6.ensures.others (at + 4) (omega arith) ∙ c.store-5.ensures.here in
     let e5 = c.store-8.ensures.others (at + 5) (omega arith) ∙ c.store-7.ensures.others (at + 5) (omega arith) ∙ c.store-6.ensures.here in
     let e6 = c.store-8.ensures.others (at + 6) (omega arith) ∙ c.store-7.ensures.here in
     let e7 = c.store-8.ensures.here in
@@ -21,7 +30,10 @@ unfolding eight_at
 returns-clause-others c k lt =
     let at = 8 * k in
     let low = λ (i : ℕ) (h : i < 8 * c.args.n).
-    c.store-8.ensures.others i (omega (arith, h)) ∙ c.store-7.ensures.others i (omega (arith, h)) ∙ c.store-6.ensures.others i (omega (arith, h)) ∙ c.store-5.ensures.others i (omega (arith, h)) ∙ c.store-4.ensures.others i (omega (arith, h)) ∙ c.store-3.ensures.others i (omega (arith, h)) ∙ c.store-2.ensures.others i (omega (arith, h)) ∙ c.store.ensures.others i (omega (arith, h)) in
+    c.store-8.ensures.others i (omega (arith, h)) ∙ c.store-7.ensures.others i (omega (arith, h))
+    ∙ c.store-6.ensures.others i (omega (arith, h)) ∙ c.store-5.ensures.others i (omega (arith, h))
+    ∙ c.store-4.ensures.others i (omega (arith, h)) ∙ c.store-3.ensures.others i (omega (arith, h))
+    ∙ c.store-2.ensures.others i (omega (arith, h)) ∙ c.store.ensures.others i (omega (arith, h)) in
     let e0 = low at (omega (arith, lt)) in
     let e1 = low (at + 1) (omega (arith, lt)) in
     let e2 = low (at + 2) (omega (arith, lt)) in

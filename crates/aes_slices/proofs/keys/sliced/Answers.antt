@@ -21,7 +21,8 @@ keys-init c =
     let k = round_key (key_expansion c.args.key.now) 0 in
     record {
       size = c.store_eight.ensures.size ∙ refl;
-      first = λ j lt. subst (λ t. IsSliced t j k) (sym c.store_eight.ensures.here) (subst (IsSliced c.planes_of.result j) c.round_vector.ensures (c.planes_of.ensures j lt));
+      first = λ j lt. subst (λ t. IsSliced t j k) (sym c.store_eight.ensures.here)
+          (subst (IsSliced c.planes_of.result j) c.round_vector.ensures (c.planes_of.ensures j lt));
       so_far = λ q lt some. absurd (omega (arith, lt, some));
     }
 
@@ -30,15 +31,18 @@ keys-preserved c =
     let w = key_expansion c.args.key.now in
     let r = c.keys.r in
     let next = c.store_eight-in-keys.new.text in
-    let made = λ (some : 1 ≤ r) (j : ℕ) (lt : j < 8). subst (λ t. IsSliced t j (in_rows (with_constant (round_key w r)))) (sym c.store_eight-in-keys.ensures.here)
+    let made = λ (some : 1 ≤ r) (j : ℕ) (lt : j < 8). subst (λ t. IsSliced t j (in_rows (with_constant (round_key w r))))
+    (sym c.store_eight-in-keys.ensures.here)
     (subst (IsSliced c.planes_of-in-keys.result j)
     (c.by_row.ensures ∙ ap in_rows (c.with_constant-round_key.ensures ∙ ap with_constant c.round_vector-in-keys.ensures))
     (c.planes_of-in-keys.ensures j lt)) in
     record {
       size = c.store_eight-in-keys.ensures.size ∙ c.keys.invariant.size;
-      first = λ j lt. subst (λ t. IsSliced t j (round_key w 0)) (sym (c.store_eight-in-keys.ensures.others 0 (omega arith))) (c.keys.invariant.first j lt);
+      first = λ j lt. subst (λ t. IsSliced t j (round_key w 0)) (sym (c.store_eight-in-keys.ensures.others 0 (omega arith)))
+          (c.keys.invariant.first j lt);
       so_far = below_more (λ q. 1 ≤ q → (j : ℕ) → j < 8 → IsSliced (eight_at next q) j (in_rows (with_constant (round_key w q)))) r
-          (λ q lt some j below. subst (λ t. IsSliced t j (in_rows (with_constant (round_key w q)))) (sym (c.store_eight-in-keys.ensures.others q lt))
+          (λ q lt some j below. subst (λ t. IsSliced t j (in_rows (with_constant (round_key w q))))
+          (sym (c.store_eight-in-keys.ensures.others q lt))
           (c.keys.invariant.so_far q lt some j below))
           made;
     }
@@ -53,9 +57,11 @@ returns c =
       blocks = λ r le. IsBlock-round_key key r c.rounds-rounds.ensures.key (omega (arith, c.rounds-rounds.ensures.value));
       first = λ j lt. subst (λ t. IsSliced t j (round_key w 0))
           (sym (c.store_eight-2.ensures.others 0 (omega (arith, c.rounds-rounds.ensures.value, bounds)))) (c.keys.invariant.first j lt);
-      middle = λ r some lt j below. subst (λ t. IsSliced t j (in_rows (with_constant (round_key w r)))) (sym (c.store_eight-2.ensures.others r lt))
+      middle = λ r some lt j below. subst (λ t. IsSliced t j (in_rows (with_constant (round_key w r))))
+          (sym (c.store_eight-2.ensures.others r lt))
           (c.keys.invariant.so_far r (omega arith) some j below);
       last = λ j lt. subst (λ t. IsSliced t j (with_constant (round_key w n))) (sym c.store_eight-2.ensures.here)
-          (subst (IsSliced c.planes_of-2.result j) (c.with_constant-last.ensures ∙ ap with_constant c.round_vector-2.ensures) (c.planes_of-2.ensures j lt));
+          (subst (IsSliced c.planes_of-2.result j) (c.with_constant-last.ensures ∙ ap with_constant c.round_vector-2.ensures)
+          (c.planes_of-2.ensures j lt));
     } in
     subst (λ m. ArePlanes c.store_eight-2.new.text m w) c.rounds-rounds.ensures.value all

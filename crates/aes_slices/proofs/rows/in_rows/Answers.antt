@@ -1,9 +1,9 @@
-use Rattle.aes_slices.specs.Rows.{by_rows}
+use Rattle.aes_slices.specs.Rows.{row_by_row}
 use Rattle.aes_planes.proofs.Bits.{IsSliced-picked}
 use Rattle.aes_slices.proofs.rows.in_rows.Goals as goal
 
 pub returns : goal.returns
-returns c j x is = IsSliced-picked by_rows c.args.s _ j x record {
+returns c j x is = IsSliced-picked row_by_row c.args.s _ j x record {
   at0 = c.by_row.ensures;
   at1 = c.by_row-2.ensures;
   at2 = c.by_row-3.ensures;

@@ -1,9 +1,9 @@
-use Rattle.aes_slices.specs.Rows.{rows_next}
+use Rattle.aes_slices.specs.Rows.{plane_rows_next}
 use Rattle.aes_planes.proofs.Bits.{IsSliced-picked}
 use Rattle.aes_slices.proofs.rows.next_rows.Goals as goal
 
 pub returns : goal.returns
-returns c j x is = IsSliced-picked rows_next c.args.s _ j x record {
+returns c j x is = IsSliced-picked plane_rows_next c.args.s _ j x record {
   at0 = c.next_row.ensures;
   at1 = c.next_row-2.ensures;
   at2 = c.next_row-3.ensures;

@@ -13,8 +13,10 @@ unfolding inverse_state_after
 inverse_rounds-init c w p =
     let n = c.args.rounds in
     let block = IsBlock-lanes c.args.block c.fits-block in
-    let key = p.blocks n (omega arith) in
-    (IsBlock-add_round_key c.args.block (round_key w n) block key, first_inverse-of c.args.block (round_key w n) c.in_tables.result _ block key c.in_tables.ensures (c.round_key.ensures ∙ p.first))
+    let key = p.blocks n (omega arith) in (
+      IsBlock-add_round_key c.args.block (round_key w n) block key,
+      first_inverse-of c.args.block (round_key w n) c.in_tables.result _ block key c.in_tables.ensures (c.round_key.ensures ∙ p.first),
+    )
 
 pub inverse_rounds-preserved : goal.inverse_rounds-preserved
 unfolding inverse_state_after
@@ -28,9 +30,11 @@ inverse_rounds-preserved c w p =
     let next : r + 1 - 1 ≡ suc (r - 1) = omega arith in
     let here : suc (r - 1) ≡ r = omega arith in
     let e : inverse_round mixed_key before ≡ inverse_state_after w n c.args.block (r + 1 - 1) =
-    ap (λ j. inverse_round (inverse_mix_columns (round_key w (n - j))) before) (sym here) ∙ ap (inverse_state_after w n c.args.block) (sym next) in (
+    ap (λ j. inverse_round (inverse_mix_columns (round_key w (n - j))) before) (sym here)
+    ∙ ap (inverse_state_after w n c.args.block) (sym next) in (
       subst IsBlock e (IsBlock-inverse_round mixed_key before key known.0),
-      c.inverse_round-x.ensures before mixed_key known.0 key known.1 (c.round_key-in-inverse_rounds.ensures ∙ p.middle r (omega arith) (omega arith)) ∙ ap (map inverse_basis) e,
+      c.inverse_round-x.ensures before mixed_key known.0 key known.1
+          (c.round_key-in-inverse_rounds.ensures ∙ p.middle r (omega arith) (omega arith)) ∙ ap (map inverse_basis) e,
     )
 
 pub returns : goal.returns
@@ -40,5 +44,6 @@ returns c w p =
     let r = c.inverse_rounds.r in
     let end : r ≡ n = omega arith in
     let known = c.inverse_rounds.invariant w p in
-    c.inverse_last_round.ensures (inverse_state_after w n c.args.block (r - 1)) (round_key w 0) known.0 (p.blocks 0 (omega arith)) known.1 (c.round_key-2.ensures ∙ p.last)
+    c.inverse_last_round.ensures (inverse_state_after w n c.args.block (r - 1)) (round_key w 0) known.0
+    (p.blocks 0 (omega arith)) known.1 (c.round_key-2.ensures ∙ p.last)
     ∙ (λ i. inverse_last_round (round_key w 0) (inverse_state_after w n c.args.block (end i - 1)))

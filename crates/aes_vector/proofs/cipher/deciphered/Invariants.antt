@@ -8,4 +8,5 @@ use Rattle.aes_vector.proofs.cipher.deciphered.Given as goal
 abbrev pub invariant-inverse_rounds : goal.invariant-inverse_rounds
 invariant-inverse_rounds l =
     (w : List ℕ) → AreInversePrepared l.keys l.fn.rounds w
-    → IsBlock (inverse_state_after w l.fn.rounds l.fn.block (l.r - 1)) × (l.x ≡ map inverse_basis (inverse_state_after w l.fn.rounds l.fn.block (l.r - 1)))
+    → IsBlock (inverse_state_after w l.fn.rounds l.fn.block (l.r - 1))
+    × (l.x ≡ map inverse_basis (inverse_state_after w l.fn.rounds l.fn.block (l.r - 1)))

@@ -17,14 +17,16 @@ look-requires c = placed high c.args.x _ c.high-high.ensures (places high refl c
 
 pub look-requires-2 : goal.look-requires-2
 look-requires-2 c =
-    placed both c.args.x _ (zip2_of_maps bit_xor high low c.args.x c.high-high.ensures c.low-low.ensures) (places both refl c.args.x c.fits-x.1)
+    placed both c.args.x _ (zip2_of_maps bit_xor high low c.args.x c.high-high.ensures c.low-low.ensures)
+    (places both refl c.args.x c.fits-x.1)
 
 pub look-requires-3 : goal.look-requires-3
 look-requires-3 c =
     let v = c.args.x in
     let ak = then_look INVERSE_TIMES_A low v _ _ c.low-low.ensures c.look-term.ensures in
     let i = then_look INVERSE high v _ _ c.high-high.ensures c.look.ensures in
-    placed upper_place v _ (zip2_of_maps bit_xor (λ b. look INVERSE (high b)) (λ b. look INVERSE_TIMES_A (low b)) v i ak) (places upper_place refl v c.fits-x.1)
+    placed upper_place v _ (zip2_of_maps bit_xor (λ b. look INVERSE (high b)) (λ b. look INVERSE_TIMES_A (low b)) v i ak)
+    (places upper_place refl v c.fits-x.1)
 
 pub look-requires-4 : goal.look-requires-4
 look-requires-4 c =
@@ -32,7 +34,8 @@ look-requires-4 c =
     let ak = then_look INVERSE_TIMES_A low v _ _ c.low-low.ensures c.look-term.ensures in
     let both_are = zip2_of_maps bit_xor high low v c.high-high.ensures c.low-low.ensures in
     let j = then_look INVERSE both v _ _ both_are c.look-2.ensures in
-    placed lower_place v _ (zip2_of_maps bit_xor (λ b. look INVERSE (both b)) (λ b. look INVERSE_TIMES_A (low b)) v j ak) (places lower_place refl v c.fits-x.1)
+    placed lower_place v _ (zip2_of_maps bit_xor (λ b. look INVERSE (both b)) (λ b. look INVERSE_TIMES_A (low b)) v j ak)
+    (places lower_place refl v c.fits-x.1)
 
 pub returns-clause-upper : goal.returns-clause-upper
 returns-clause-upper c =
@@ -50,7 +53,8 @@ returns-clause-lower c =
     let both_are = zip2_of_maps bit_xor high low v c.high-high.ensures c.low-low.ensures in
     let j = then_look INVERSE both v _ _ both_are c.look-2.ensures in
     let place = zip2_of_maps bit_xor (λ b. look INVERSE (both b)) (λ b. look INVERSE_TIMES_A (low b)) v j ak in
-    zip2_of_maps bit_xor (λ b. look INVERSE (lower_place b)) high v (then_look INVERSE lower_place v _ _ place c.look-4.ensures) c.high-high.ensures
+    zip2_of_maps bit_xor (λ b. look INVERSE (lower_place b)) high v
+    (then_look INVERSE lower_place v _ _ place c.look-4.ensures) c.high-high.ensures
 
 pub returns-clause-places : goal.returns-clause-places
 returns-clause-places c = (

@@ -14,7 +14,8 @@ pub returns : goal.returns
 unfolding inverse_last_round inverse_substitute_bytes
 returns c s k bs bk ex ek =
     let f = of_inverse END_UPPER END_LOWER in
-    let e = c.by_halves.ensures c.shifted_back.result c.inverted.ensures.upper c.inverted.ensures.lower ∙ ap (map f) c.shifted_back.ensures in
+    let e = c.by_halves.ensures c.shifted_back.result c.inverted.ensures.upper c.inverted.ensures.lower
+    ∙ ap (map f) c.shifted_back.ensures in
     (λ i. zip2 bit_xor (e i) ((ek ∙ whole k bk.size) i))
     ∙ inverse_last_round-of f s k c.args.x bs ex end-at
     ∙ ap (λ l. add_round_key (inverse_shift_rows (map inverse_s_box s)) l) (sym (whole k bk.size))

@@ -5,4 +5,5 @@ use Rattle.attrs.specs.Stored.{stored_entry}
 use Rattle.attrs.proofs.stored.decode_entries.Given as goal
 
 abbrev pub invariant-loop : goal.invariant-loop
-invariant-loop l = with_front l.entries.items (decode_many stored_entry (l.count - l.counter) l.rest) ≡ decode_many stored_entry l.count l.bytes
+invariant-loop l = with_front l.entries.items (decode_many stored_entry (l.count - l.counter) l.rest)
+    ≡ decode_many stored_entry l.count l.bytes

@@ -10,10 +10,14 @@ overflow_cast-entries c =
 
 pub encode_entry-requires-clause-number : goal.encode_entry-requires-clause-number
 encode_entry-requires-clause-number c =
-    let small : IsSmall c.entry-item.result = entry_small c.args.object.now c.entries-entries.result.now c.loop-entry.entry-index c.entry-item.result c.entries-entries.ensures.entries c.entries-entries.ensures.object c.loop-entry-test.true c.entry-item.is in
+    let small : IsSmall c.entry-item.result =
+    entry_small c.args.object.now c.entries-entries.result.now c.loop-entry.entry-index c.entry-item.result
+    c.entries-entries.ensures.entries c.entries-entries.ensures.object c.loop-entry-test.true c.entry-item.is in
     omega (arith, small.number_small)
 
 pub encode_entry-requires-clause-value : goal.encode_entry-requires-clause-value
 encode_entry-requires-clause-value c =
-    let small : IsSmall c.entry-item.result = entry_small c.args.object.now c.entries-entries.result.now c.loop-entry.entry-index c.entry-item.result c.entries-entries.ensures.entries c.entries-entries.ensures.object c.loop-entry-test.true c.entry-item.is in
+    let small : IsSmall c.entry-item.result =
+    entry_small c.args.object.now c.entries-entries.result.now c.loop-entry.entry-index c.entry-item.result
+    c.entries-entries.ensures.entries c.entries-entries.ensures.object c.loop-entry-test.true c.entry-item.is in
     omega (arith, small.value_small)

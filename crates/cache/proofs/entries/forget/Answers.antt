@@ -5,4 +5,5 @@ use Rattle.cache.proofs.Remembered.{Contains-without}
 use Rattle.cache.proofs.entries.forget.Goals as goal
 
 pub returns : goal.returns
-returns c = λ e h. Contains-without c.args.entries.now.entries c.args.id e c.len-len.ensures.valid.0 (subst (λ (x : LruCache ℕ (List Entry)). Contains x.entries e) c.pop.ensures.entries h)
+returns c = λ e h. Contains-without c.args.entries.now.entries c.args.id e c.len-len.ensures.valid.0
+    (subst (λ (x : LruCache ℕ (List Entry)). Contains x.entries e) c.pop.ensures.entries h)

@@ -15,7 +15,8 @@ allowed false rw = refl
 pub returns-then-visible-clause-access : goal.returns-then-visible-clause-access
 returns-then-visible-clause-access c =
     let o = c.args.object.now in
-    ap not (c.needs_read_write.ensures ∙ ap (λ b. c.flag.result && not b) c.is_read_write.ensures ∙ ap (λ b. b && not (is_rw c.args.state)) c.flag.ensures)
+    ap not (c.needs_read_write.ensures ∙ ap (λ b. c.flag.result && not b) c.is_read_write.ensures
+    ∙ ap (λ b. b && not (is_rw c.args.state)) c.flag.ensures)
     ∙ allowed (flag o attr.Token) (is_rw c.args.state)
     ∙ ap (λ b. b && (is_session_object o || is_rw c.args.state)) c.if-visible.ensures.access
 

@@ -6,13 +6,19 @@ use Rattle.hall.proofs.Turns.{answered_so, if_some, pending_is, there_still, two
 use Rattle.hall.proofs.seat_loop.ask.Goals as goal
 
 pub work-requires-clause-there : goal.work-requires-clause-there
-work-requires-clause-there g c = there_still c.args.call.app (done_by c.args.port.now.putter) (done_by c.ask.new.self.putter) c.args.call (Some c.in_ok-reply.field-0) c.requires.may.there c.in_ok-reply.ensures.done
+work-requires-clause-there g c =
+    there_still c.args.call.app (done_by c.args.port.now.putter) (done_by c.ask.new.self.putter) c.args.call
+    (Some c.in_ok-reply.field-0) c.requires.may.there c.in_ok-reply.ensures.done
 
 pub work-requires-clause-job : goal.work-requires-clause-job
-work-requires-clause-job g c = pending_is (done_by c.args.port.now.putter) (done_by c.ask.new.self.putter) (Call c.args.call, Some (Ask c.in-Ask.job)) (answered_so _ _ _ _ _ c.in_ok-reply.ensures.done c.in-Ask.is)
+work-requires-clause-job g c =
+    pending_is (done_by c.args.port.now.putter) (done_by c.ask.new.self.putter) (Call c.args.call, Some (Ask c.in-Ask.job))
+    (answered_so _ _ _ _ _ c.in_ok-reply.ensures.done c.in-Ask.is)
 
 pub returns-in-Reply-clause-settled : goal.returns-in-Reply-clause-settled
-returns-in-Reply-clause-settled g c = pending_is (done_by c.args.port.now.putter) (done_by c.ask.new.self.putter) (Call c.args.call, Some (Reply c.in-Reply.reply)) (answered_so _ _ _ _ _ c.in_ok-reply.ensures.done c.in-Reply.is)
+returns-in-Reply-clause-settled g c =
+    pending_is (done_by c.args.port.now.putter) (done_by c.ask.new.self.putter) (Call c.args.call, Some (Reply c.in-Reply.reply))
+    (answered_so _ _ _ _ _ c.in_ok-reply.ensures.done c.in-Reply.is)
 
 pub returns-in-Ask-clause-done : goal.returns-in-Ask-clause-done
 returns-in-Ask-clause-done g c = if_some c.work.result _ _
@@ -20,7 +26,9 @@ returns-in-Ask-clause-done g c = if_some c.work.result _ _
       (Call c.args.call, Some (Ask c.in-Ask.job)) ∷ (Finish c.args.call.app h.0, Some (Reply r)) ∷ [],
       inr (c.in-Ask.job, h.0, r, h.1, refl),
       refl,
-      two_more (done_by c.args.port.now.putter) (done_by c.ask.new.self.putter) (done_by c.work.new.port.putter) (Call c.args.call, Some (Ask c.in-Ask.job)) (Finish c.args.call.app h.0, Some (Reply r)) (answered_so _ _ _ _ _ c.in_ok-reply.ensures.done c.in-Ask.is) h.2,
+      two_more (done_by c.args.port.now.putter) (done_by c.ask.new.self.putter) (done_by c.work.new.port.putter)
+          (Call c.args.call, Some (Ask c.in-Ask.job)) (Finish c.args.call.app h.0, Some (Reply r))
+          (answered_so _ _ _ _ _ c.in_ok-reply.ensures.done c.in-Ask.is) h.2,
     ))
     c.work.ensures.done
 

@@ -15,8 +15,10 @@ take-requires g c =
         before = done_by c.args.port.now.putter;
         call = c.in-Call.call;
         more = put.0;
-        waits_for = subst (λ (e : SeatEvent). StandsThen (g.S.Seat.stands c.args.seat.now) (g.S.Seat.waits c.args.seat.now) (done_by c.args.port.now.putter) e) c.in-Call.is c.requires.stands;
-        now_is = told_is c.ask.new.port.putter (g.S.Seat.number c.args.seat.now) c.told-told.result (c.requires.number ∙ sym c.in-Some.ensures.seat) c.told-told.ensures.told ∙ put.3;
+        waits_for = subst (λ (e : SeatEvent). StandsThen (g.S.Seat.stands c.args.seat.now) (g.S.Seat.waits c.args.seat.now)
+            (done_by c.args.port.now.putter) e) c.in-Call.is c.requires.stands;
+        now_is = told_is c.ask.new.port.putter (g.S.Seat.number c.args.seat.now) c.told-told.result
+            (c.requires.number ∙ sym c.in-Some.ensures.seat) c.told-told.ensures.told ∙ put.3;
         turn = put.1;
         heard = put.2;
       };
@@ -26,5 +28,6 @@ pub returns-in-Gone-clause-ends : goal.returns-in-Gone-clause-ends
 returns-in-Gone-clause-ends g c = λ t. (
   pending_is (done_by c.args.port.now.putter) (done_by c.tell.new.self.putter) (Gone c.in-Gone.app, None) (c.tell.ensures.done t),
   subst (g.S.Seat.stands c.args.seat.now) (sym (c.tell.ensures.done t))
-      (subst (λ (e : SeatEvent). StandsThen (g.S.Seat.stands c.args.seat.now) (g.S.Seat.waits c.args.seat.now) (done_by c.args.port.now.putter) e) c.in-Gone.is c.requires.stands),
+      (subst (λ (e : SeatEvent). StandsThen (g.S.Seat.stands c.args.seat.now) (g.S.Seat.waits c.args.seat.now)
+      (done_by c.args.port.now.putter) e) c.in-Gone.is c.requires.stands),
 )

@@ -7,4 +7,5 @@ abbrev pub invariant-loop : goal.invariant-loop
 invariant-loop g l =
     (goal.iterator-loop g).can_next l.iterator' × (goal.iterator-loop g).is_finite l.iterator'
     × (l.serving.began.value ≡ l.fn.serving.began.value)
-    × IsSoFar g.M.Machine.doubt g.M.Machine.failures g.M.Machine.shows g.M.Machine.leaves g.M.Machine.spare g.J.Naming.was_read l.serving.began.value l.serving.machine (served l.serving.server)
+    × IsSoFar g.M.Machine.terms g.J.Naming.was_read
+    l.serving.began.value l.serving.machine (served l.serving.server)

@@ -29,20 +29,37 @@ put_by_id-requires-clause-room c =
 pub invariant_of-self : goal.invariant_of-self
 invariant_of-self c =
     let none = rw c.deref.ensures.value at c.in_default.ensures in
-    let taken = IsStored-taken c.self.inside.next_number _ _ c.make_room.new.entries.items c.make_room-2.new.entries.items c.self.invariant c.make_room.ensures.left c.make_room-2.ensures.left in
+    let taken = IsStored-taken c.self.inside.next_number _ _ c.make_room.new.entries.items c.make_room-2.new.entries.items
+    c.self.invariant c.make_room.ensures.left c.make_room-2.ensures.left in
     let absent = none ∙ ap (find (λ h. h.id == c.args.id)) (sym (taken-same _ _ c.make_room-2.ensures.left)) in
-    rw c.push_reserved.ensures.items (IsStored-given c.self.inside.next_number c.args.id c.args.private _ _ _ absent c.put_by_id.ensures.put c.put_by_id.ensures.rise taken)
+    rw c.push_reserved.ensures.items
+    (IsStored-given c.self.inside.next_number c.args.id c.args.private _ _ _ absent c.put_by_id.ensures.put
+    c.put_by_id.ensures.rise taken)
 
 pub returns-clause-given : goal.returns-clause-given
 returns-clause-given c =
     let none = rw c.deref.ensures.value at c.in_default.ensures in
     let absent = IsStored-number_of c.self.inside.next_number _ _ c.self.invariant c.args.id None none in
-    let items = ap handles_in c.push_reserved.ensures.items ∙ pushed-same c.make_room.new.entries.items (record { handle = c.self.inside.next_number; id = c.args.id; private = c.args.private }) in
-    rw (← c.self.view_is, absent, items, taken-same _ _ c.make_room.ensures.left, c.push_reserved.ensures.capacity, c.make_room.ensures.capacity, c.put_by_id.ensures.capacity, c.make_room-2.ensures.capacity) refl
+    let items = ap handles_in c.push_reserved.ensures.items
+    ∙ pushed-same c.make_room.new.entries.items
+    (record { handle = c.self.inside.next_number; id = c.args.id; private = c.args.private }) in
+    rw (
+      ← c.self.view_is,
+      absent,
+      items,
+      taken-same _ _ c.make_room.ensures.left,
+      c.push_reserved.ensures.capacity,
+      c.make_room.ensures.capacity,
+      c.put_by_id.ensures.capacity,
+      c.make_room-2.ensures.capacity,
+    ) refl
 
 pub returns-clause-handle : goal.returns-clause-handle
 returns-clause-handle c =
     let none = rw c.deref.ensures.value at c.in_default.ensures in
     let absent = IsStored-number_of c.self.inside.next_number _ _ c.self.invariant c.args.id None none in
-    let items = ap handles_in c.push_reserved.ensures.items ∙ pushed-same c.make_room.new.entries.items (record { handle = c.self.inside.next_number; id = c.args.id; private = c.args.private }) in
-    rw (items, taken-same _ _ c.make_room.ensures.left) (number_of-push _ (record { handle = c.self.inside.next_number; id = c.args.id; private = c.args.private }) absent)
+    let items = ap handles_in c.push_reserved.ensures.items
+    ∙ pushed-same c.make_room.new.entries.items
+    (record { handle = c.self.inside.next_number; id = c.args.id; private = c.args.private }) in
+    rw (items, taken-same _ _ c.make_room.ensures.left)
+    (number_of-push _ (record { handle = c.self.inside.next_number; id = c.args.id; private = c.args.private }) absent)

@@ -16,4 +16,5 @@ returns-in-Some-clause-object c =
 pub returns-in-Some-clause-matched : goal.returns-in-Some-clause-matched
 returns-in-Some-clause-matched c =
     let found = rw c.deref.ensures.value at c.in-Some.ensures in
-    rw (← c.self.view_is) (IfSome-object_of c.self.inside.next_number c.args.handle (handles_in c.self.inside.entries.items) (Some c.in-Some.found.id) c.self.invariant.table (ap (option_map (λ h. h.id)) found))
+    rw (← c.self.view_is) (IfSome-object_of c.self.inside.next_number c.args.handle (handles_in c.self.inside.entries.items)
+    (Some c.in-Some.found.id) c.self.invariant.table (ap (option_map (λ h. h.id)) found))

@@ -1,11 +1,11 @@
 use Rattle.std.proofs.Common.{◌∙◌, ap, refl, set, get_or, arith, bit_xor, ◌≡◌, ◌<◌, length, suc, ◌+◌, ◌++◌, drop}
 use Rattle.std.proofs.lemmas.List.{take_all}
-use Rattle.hmac_sha2.specs.Hmac.{xor_bytes}
+use Rattle.hmac_sha2.specs.Hmac.{xor_strings}
 use Rattle.hmac_sha2.proofs.XorBytes.{done, get_or-done, set-done}
 use Rattle.hmac_sha2.proofs.xor.xor_into.Goals as goal
 
 pub loop-i-init : goal.loop-i-init
-unfolding xor_bytes
+unfolding xor_strings
 loop-i-init c = refl
 
 pub loop-i-preserved : goal.loop-i-preserved
@@ -26,4 +26,4 @@ returns c =
     let end : c.loop-i.i ≡ length c.args.bytes.now = omega arith in
     c.loop-i.invariant
     ∙ ap (done c.args.sum.now c.args.bytes.now) end
-    ∙ ap (λ l. xor_bytes c.args.sum.now l ++ drop (length c.args.bytes.now) c.args.sum.now) (take_all _ c.args.bytes.now (omega arith))
+    ∙ ap (λ l. xor_strings c.args.sum.now l ++ drop (length c.args.bytes.now) c.args.sum.now) (take_all _ c.args.bytes.now (omega arith))

@@ -12,7 +12,8 @@ returns-in_err-bytes-clause-err g c = unsent_if (state g.S.Store c.args.conn.now
 pub returns-in-Ok-clause-ok : goal.returns-in-Ok-clause-ok
 returns-in-Ok-clause-ok g c =
     changed (state g.S.Store c.args.conn.now) (state g.S.Store c.insert_object.new.conn) (with_object c.args.object.now) _
-    (insert_step c.args.object.now c.as_slice.result.now c.requires c.entries-entries.ensures.object (object_bytes c.args.object.now _ (c.as_slice.ensures.value ∙ c.in_ok-bytes.ensures))) c.in-Ok.ensures.ok
+    (insert_step c.args.object.now c.as_slice.result.now c.requires c.entries-entries.ensures.object
+    (object_bytes c.args.object.now _ (c.as_slice.ensures.value ∙ c.in_ok-bytes.ensures))) c.in-Ok.ensures.ok
 
 pub returns-in-Ok-clause-id : goal.returns-in-Ok-clause-id
 returns-in-Ok-clause-id g c = λ clean d h. c.in-Ok.ensures.id clean (bodies_of d) (hold_rows (state g.S.Store c.args.conn.now) d h)
@@ -20,4 +21,5 @@ returns-in-Ok-clause-id g c = λ clean d h. c.in-Ok.ensures.id clean (bodies_of 
 pub returns-clause-err : goal.returns-clause-err
 returns-clause-err g c =
     failed (state g.S.Store c.args.conn.now) (state g.S.Store c.insert_object.new.conn) (with_object c.args.object.now) _
-    (insert_step c.args.object.now c.as_slice.result.now c.requires c.entries-entries.ensures.object (object_bytes c.args.object.now _ (c.as_slice.ensures.value ∙ c.in_ok-bytes.ensures))) c.in-Err.ensures.err
+    (insert_step c.args.object.now c.as_slice.result.now c.requires c.entries-entries.ensures.object
+    (object_bytes c.args.object.now _ (c.as_slice.ensures.value ∙ c.in_ok-bytes.ensures))) c.in-Err.ensures.err

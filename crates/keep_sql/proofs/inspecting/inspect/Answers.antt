@@ -8,7 +8,8 @@ use Rattle.keep_sql.proofs.inspecting.inspect.Goals as goal
 
 pub returns-in-Ok-is_first-clause-sound : goal.returns-in-Ok-is_first-clause-sound
 returns-in-Ok-is_first-clause-sound g c = λ clean bad.
-    let read : c.as_slice.result.now ≡ g.D.Disk.seen c.args.files.now.log = c.as_slice.ensures.value ∙ c.in-Ok.ensures.value (both_clean _ _ clean).0 in
+    let read : c.as_slice.result.now ≡ g.D.Disk.seen c.args.files.now.log =
+    c.as_slice.ensures.value ∙ c.in-Ok.ensures.value (both_clean _ _ clean).0 in
     c.in-Ok-is_first.ensures.sound (subst IsPlainlyDamaged (sym read) bad)
 
 pub returns-in-Err-is_first-clause-cause : goal.returns-in-Err-is_first-clause-cause
@@ -23,5 +24,6 @@ returns-in-Err-is_first-clause-cause g c = λ clean.
           let lost = c.in-Err-is_first.ensures.lost (ap Err is) file len in
           subst (λ (f : OpenFault). ExcusesReading g.D.Disk c.args.files.now left f) (sym is)
           (lost.0, λ first. lost.1 (subst (λ (log : List ℕ). IsFirst (record { log = log; db = file })) (sym read) first))
-      | inr is ↦ subst (λ (f : OpenFault). ExcusesReading g.D.Disk c.args.files.now left f) (sym is) (subst IsDamaged read (c.in-Err-is_first.ensures.damaged (ap Err is)))
+      | inr is ↦ subst (λ (f : OpenFault). ExcusesReading g.D.Disk c.args.files.now left f) (sym is)
+          (subst IsDamaged read (c.in-Err-is_first.ensures.damaged (ap Err is)))
     ]

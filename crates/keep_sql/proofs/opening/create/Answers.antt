@@ -9,7 +9,9 @@ returns-in-Ok-true-clause-made g c = λ has clean.
     let token = c.new-record.result in
     let made = c.in-Ok-true.ensures.made has clean c.in-Ok-true.field-0-test in (
       made.0,
-      created token c.in_ok-bytes.ensures.fits c.as_slice.result.now (record_bytes token _ (c.as_slice.ensures.value ∙ c.in_ok-bytes.ensures.bytes)) c.new-record.ensures (state g.S.Store c.make_tables.new.conn) made.1,
+      created token c.in_ok-bytes.ensures.fits c.as_slice.result.now
+          (record_bytes token _ (c.as_slice.ensures.value ∙ c.in_ok-bytes.ensures.bytes)) c.new-record.ensures
+          (state g.S.Store c.make_tables.new.conn) made.1,
       c.new-record.ensures,
     )
 
@@ -19,14 +21,20 @@ returns-in-Ok-false-clause-same g c = λ db ready sees clean up. c.in-Ok-false.e
 pub returns-in-Ok-true-clause-crash : goal.returns-in-Ok-true-clause-crash
 returns-in-Ok-true-clause-crash g c = λ has clean left may.
     let token = c.new-record.result in
-    left_new token c.in_ok-bytes.ensures.fits c.as_slice.result.now (record_bytes token _ (c.as_slice.ensures.value ∙ c.in_ok-bytes.ensures.bytes)) c.new-record.ensures left (c.make_tables.ensures.crash has clean left may)
+    left_new token c.in_ok-bytes.ensures.fits c.as_slice.result.now
+    (record_bytes token _ (c.as_slice.ensures.value ∙ c.in_ok-bytes.ensures.bytes)) c.new-record.ensures left
+    (c.make_tables.ensures.crash has clean left may)
 
 pub returns-in-Ok-false-clause-crash : goal.returns-in-Ok-false-clause-crash
 returns-in-Ok-false-clause-crash g c = λ has clean left may.
     let token = c.new-record.result in
-    left_new token c.in_ok-bytes.ensures.fits c.as_slice.result.now (record_bytes token _ (c.as_slice.ensures.value ∙ c.in_ok-bytes.ensures.bytes)) c.new-record.ensures left (c.make_tables.ensures.crash has clean left may)
+    left_new token c.in_ok-bytes.ensures.fits c.as_slice.result.now
+    (record_bytes token _ (c.as_slice.ensures.value ∙ c.in_ok-bytes.ensures.bytes)) c.new-record.ensures left
+    (c.make_tables.ensures.crash has clean left may)
 
 pub returns-clause-crash : goal.returns-clause-crash
 returns-clause-crash g c = λ has clean left may.
     let token = c.new-record.result in
-    left_new token c.in_ok-bytes.ensures.fits c.as_slice.result.now (record_bytes token _ (c.as_slice.ensures.value ∙ c.in_ok-bytes.ensures.bytes)) c.new-record.ensures left (c.make_tables.ensures.crash has clean left may)
+    left_new token c.in_ok-bytes.ensures.fits c.as_slice.result.now
+    (record_bytes token _ (c.as_slice.ensures.value ∙ c.in_ok-bytes.ensures.bytes)) c.new-record.ensures left
+    (c.make_tables.ensures.crash has clean left may)

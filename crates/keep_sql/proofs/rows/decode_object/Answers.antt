@@ -6,7 +6,8 @@ use Rattle.keep_sql_model.proofs.Bytes.{as_stored, object_bytes, one_object, no_
 use Rattle.keep_sql.proofs.rows.decode_object.Goals as goal
 
 pub returns-then-flag-clause-ok : goal.returns-then-flag-clause-ok
-returns-then-flag-clause-ok c = (subst IsObject c.object.view_is c.object.invariant, sym c.flag.ensures ∙ c.if-flag.true, object_bytes _ _ c.in-Ok.ensures.found)
+returns-then-flag-clause-ok c =
+    (subst IsObject c.object.view_is c.object.invariant, sym c.flag.ensures ∙ c.if-flag.true, object_bytes _ _ c.in-Ok.ensures.found)
 
 pub returns-then-flag-clause-found : goal.returns-then-flag-clause-found
 returns-then-flag-clause-found c = λ o valid is. one_object o c.in-Ok.object (c.in-Ok.ensures.only o valid (as_stored o _ is))
@@ -19,4 +20,6 @@ returns-else-flag-clause-form c = λ o valid token is _.
     absurd (cc)
 
 pub returns-in-Err-clause-form : goal.returns-in-Err-clause-form
-returns-in-Err-clause-form c = λ o valid token is same. no_form c.in-Err.fault o (c.in-Err.ensures.only o valid (as_stored o _ is)) (let fault : c.in-Err.fault ≡ Form = cc in fault)
+returns-in-Err-clause-form c =
+    λ o valid token is same. no_form c.in-Err.fault o (c.in-Err.ensures.only o valid (as_stored o _ is))
+    (let fault : c.in-Err.fault ≡ Form = cc in fault)

@@ -6,7 +6,13 @@ use Rattle.keep_sql_model.proofs.Bytes.{as_old_stored, no_form, old_object_bytes
 use Rattle.keep_sql.proofs.rows.decode_old_object.Goals as goal
 
 pub returns-then-flag-clause-ok : goal.returns-then-flag-clause-ok
-returns-then-flag-clause-ok c = (subst IsObject c.object.view_is c.object.invariant, sym c.flag.ensures ∙ c.if-flag.true, c.in-Ok.ensures.found.1, old_object_bytes _ _ c.in-Ok.ensures.found.0)
+returns-then-flag-clause-ok c = (
+  subst IsObject c.object.view_is c.object.invariant,
+  sym c.flag.ensures
+      ∙ c.if-flag.true,
+  c.in-Ok.ensures.found.1,
+  old_object_bytes _ _ c.in-Ok.ensures.found.0,
+)
 
 pub returns-else-flag-clause-form : goal.returns-else-flag-clause-form
 returns-else-flag-clause-form c = λ o valid token plain is _.
@@ -16,4 +22,6 @@ returns-else-flag-clause-form c = λ o valid token plain is _.
     absurd (cc)
 
 pub returns-in-Err-clause-form : goal.returns-in-Err-clause-form
-returns-in-Err-clause-form c = λ o valid token plain is same. no_form c.in-Err.fault o (c.in-Err.ensures.only o valid plain (as_old_stored o _ is)) (let fault : c.in-Err.fault ≡ Form = cc in fault)
+returns-in-Err-clause-form c =
+    λ o valid token plain is same. no_form c.in-Err.fault o (c.in-Err.ensures.only o valid plain (as_old_stored o _ is))
+    (let fault : c.in-Err.fault ≡ Form = cc in fault)

@@ -1,10 +1,12 @@
 use Rattle.std.proofs.Common.{ap, subst, ◌∙◌, arith}
-use Rattle.pin_record.specs.Stored.{Decodes, record_old_stored}
+use Rattle.pin_record.specs.Stored.{DecodesRecord, record_old_stored}
 use Rattle.pin_record.proofs.StoredLaws.{record_old_stored-sound, record_old_stored-complete}
 use Rattle.pin_record.proofs.stored.decode_old.Goals as goal
 
 pub returns-clause-found : goal.returns-clause-found
-returns-clause-found c = record_old_stored-sound c.args.bytes.now (λ i. omega (arith, c.type_inv.bytes i)) c.decoded.result c.decoded.ensures
+returns-clause-found c = record_old_stored-sound c.args.bytes.now
+    (λ i. omega (arith, c.type_inv.bytes i)) c.decoded.result c.decoded.ensures
 
 pub returns-clause-only : goal.returns-clause-only
-returns-clause-only c = λ r is e. subst (λ found. Decodes c.decoded.result found) (ap record_old_stored e ∙ record_old_stored-complete r is) c.decoded.ensures
+returns-clause-only c = λ r is e. subst (λ found. DecodesRecord c.decoded.result found)
+    (ap record_old_stored e ∙ record_old_stored-complete r is) c.decoded.ensures

@@ -8,4 +8,6 @@ use Rattle.serve_base.proofs.searching.search_next.Goals as goal
 pub returns-then-passes_over-clause-found : goal.returns-then-passes_over-clause-found
 returns-then-passes_over-clause-found g c = λ sure k held marked.
     let passes = ap (λ w. passes_over c.args.login w c.in-Some.mark) (sym c.requires) ∙ sym c.passes_over.ensures ∙ c.if-passes_over.true in
-    found-passed c.args.login c.args.template.now (object_at k) c.args.entry.now c.args.found.now.items c.in-Some.mark c.if-entry.false passes (subst (IsMarkOf (object_at k c.args.entry.now.id)) c.in-Some.is marked)
+    found-passed c.args.login c.args.template.now
+    (object_at k) c.args.entry.now c.args.found.now.items c.in-Some.mark c.if-entry.false passes
+    (subst (IsMarkOf (object_at k c.args.entry.now.id)) c.in-Some.is marked)

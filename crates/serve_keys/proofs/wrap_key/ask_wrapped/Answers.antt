@@ -27,11 +27,17 @@ returns-clause-serves c = record {
         extractable = sym c.is_extractable.ensures ∙ c.if-not-is_extractable.false;
         trusted = sym c.lacks_trust.ensures ∙ c.if-lacks_trust.false;
       } in
-      let found : wraps v c.args.session c.args.mechanism.now (object_in c.args.wrapping_key.now) (object_in c.args.key.now) c.args.buffer_len ≡ wraps v c.args.session c.args.mechanism.now (Some w) (Some k) c.args.buffer_len =
-      ap (λ o. wraps v c.args.session c.args.mechanism.now o (object_in c.args.key.now) c.args.buffer_len) c.key_in-wrapping_key.ensures.found
+      let found : wraps v c.args.session c.args.mechanism.now (object_in c.args.wrapping_key.now)
+      (object_in c.args.key.now) c.args.buffer_len ≡ wraps v c.args.session c.args.mechanism.now (Some w) (Some k) c.args.buffer_len =
+      ap (λ o. wraps v c.args.session c.args.mechanism.now o
+      (object_in c.args.key.now) c.args.buffer_len) c.key_in-wrapping_key.ensures.found
       ∙ ap (λ o. wraps v c.args.session c.args.mechanism.now (Some w) o c.args.buffer_len) c.key_in-key.ensures.found in
-      gives-is _ (asks_within functions.WrapKey c.args.session (WrapsKey (Some c.aes_key.result) (Some value)) (length value + 8) c.args.buffer_len v) x d _ _
-      (found ∙ wraps-asks v c.args.session c.args.mechanism.now c.args.buffer_len (ap is_none s.1) c.in_ok-ok_or-2.field-0 (sym c.find_for.ensures ∙ c.in_ok-ok_or-2.ensures.ok_part) (sym c.is_empty.ensures ∙ c.if-not-is_empty.false) w k may c.aes_key.result value c.aes_key.ensures c.value_of-value.ensures.value c.value_of-value.ensures.length (sym c.is_value_length.ensures ∙ c.if-not-is_value_length.false))
+      gives-is _ (asks_within functions.WrapKey c.args.session (WrapsKey (Some c.aes_key.result) (Some value))
+      (length value + 8) c.args.buffer_len v) x d _ _
+      (found ∙ wraps-asks v c.args.session c.args.mechanism.now c.args.buffer_len (ap is_none s.1) c.in_ok-ok_or-2.field-0
+      (sym c.find_for.ensures ∙ c.in_ok-ok_or-2.ensures.ok_part)
+      (sym c.is_empty.ensures ∙ c.if-not-is_empty.false) w k may c.aes_key.result value c.aes_key.ensures
+      c.value_of-value.ensures.value c.value_of-value.ensures.length (sym c.is_value_length.ensures ∙ c.if-not-is_value_length.false))
       (rw (c.in_ok-from_slice.ensures, c.wrapped_len-wanted.ensures) at (c.in_ok-ask_within.ensures.gives x fits));
   cause = search rules;
   short = λ _. c.in_ok-ask_within.ensures.short (λ n is. rw (c.in_ok-from_slice.ensures) c.value_of-value.ensures.within);

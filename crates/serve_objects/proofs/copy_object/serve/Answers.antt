@@ -20,8 +20,11 @@ returns g c = record {
       let s = in_session _ _ c.state.result _ c.state.ensures c.in_ok-state.ensures.ok_part in
       let made = made-object _ _ c.in_ok-object.object c.in_ok-object.ensures.made in
       does-is _ _ _ k _ _ d c.add_object.new.desk c.add_object.result
-      (copy-is (view_of k d) c.args.session c.args.template.now s.0 s.1 c.args.handle c.in_ok-found.found.object found.0 c.args.random.now (ap not (sym c.flag.ensures ∙ c.if-not-flag.false)) c.in_ok-object.object (rw s.2 made.0) made.1)
-      (does-after _ _ k _ c.find.new.store _ d c.add_object.new.desk c.add_object.result (λ left may. c.find.ensures.same.crash k left h.held may) c.find.ensures.counts.steady (rw s.2 (c.add_object.ensures.serves sure k held fits)));
+      (copy-is (view_of k d) c.args.session c.args.template.now s.0 s.1 c.args.handle c.in_ok-found.found.object found.0
+      c.args.random.now (ap not (sym c.flag.ensures ∙ c.if-not-flag.false)) c.in_ok-object.object (rw s.2 made.0) made.1)
+      (does-after _ _ k _ c.find.new.store _ d c.add_object.new.desk c.add_object.result
+      (λ left may. c.find.ensures.same.crash k left h.held may) c.find.ensures.counts.steady
+      (rw s.2 (c.add_object.ensures.serves sure k held fits)));
   counts = search rules;
   cause = search rules;
   plain = c.add_object.ensures.plain;
@@ -32,5 +35,6 @@ returns g c = record {
 
 pub returns-in_err-object : goal.returns-in_err-object
 returns-in_err-object g c =
-    let plain = plain-made c.from_residual-in_err-object.result c.in_err-object.field-0.0 _ _ c.from_residual-in_err-object.ensures.1 c.in_err-object.ensures.made (fault-plain _ _ _ _) in
+    let plain = plain-made c.from_residual-in_err-object.result c.in_err-object.field-0.0 _ _
+    c.from_residual-in_err-object.ensures.1 c.in_err-object.ensures.made (fault-plain _ _ _ _) in
     search (rules, plain)

@@ -27,5 +27,6 @@ returns g c = record {
 
 pub returns-in_err-object : goal.returns-in_err-object
 returns-in_err-object g c =
-    let plain = plain-made c.from_residual-in_err-object.result c.in_err-object.field-0.0 _ _ c.from_residual-in_err-object.ensures.1 c.in_err-object.ensures (fault-plain _ _ _ _) in
+    let plain = plain-made c.from_residual-in_err-object.result c.in_err-object.field-0.0 _ _
+    c.from_residual-in_err-object.ensures.1 c.in_err-object.ensures (fault-plain _ _ _ _) in
     search (rules, plain)

@@ -18,9 +18,16 @@ returns g c = record {
       let held = has-still _ _ _ k c.find.ensures.same c.find.ensures.ids h in
       let s = in_session _ _ c.is_read_write.result _ c.is_read_write.ensures c.in_ok-read_write.ensures.ok_part in
       let writable = sym c.needs_read_write.ensures ∙ c.if-needs_read_write.false in
-      let free : IsFree o s.0.read_write = (ap (λ b. b && not s.0.read_write) (sym c.flag.ensures) ∙ ap (λ b. c.flag.result && not b) s.2 ∙ writable, ap not (sym c.flag-2.ensures ∙ c.if-not-flag.false)) in
-      does-is _ _ _ k _ _ d c.destroy.new.desk c.destroy.result (destroy-is (view_of k d) c.args.session c.args.handle s.0 o s.1 found.0 free)
-      (does-after _ _ k _ c.find.new.store _ d c.destroy.new.desk c.destroy.result (λ left may. c.find.ensures.same.crash k left h.held may) c.find.ensures.counts.steady (c.destroy.ensures.serves o sure k held fits found.1));
+      let free : IsFree o s.0.read_write = (
+        ap (λ b. b && not s.0.read_write) (sym c.flag.ensures) ∙ ap (λ b. c.flag.result && not b) s.2
+            ∙ writable,
+        ap not (sym c.flag-2.ensures ∙ c.if-not-flag.false),
+      ) in
+      does-is _ _ _ k _ _ d c.destroy.new.desk c.destroy.result
+      (destroy-is (view_of k d) c.args.session c.args.handle s.0 o s.1 found.0 free)
+      (does-after _ _ k _ c.find.new.store _ d c.destroy.new.desk c.destroy.result
+      (λ left may. c.find.ensures.same.crash k left h.held may) c.find.ensures.counts.steady
+      (c.destroy.ensures.serves o sure k held fits found.1));
   counts = search rules;
   cause = search rules;
   plain = c.destroy.ensures.plain;

@@ -15,8 +15,11 @@ returns g c = record {
       let idle = none-is c.search.result _ c.search.ensures (sym c.is_some.ensures ∙ c.if-is_some.false) in
       let is = begins-is (view_of k d) c.args.session c.args.template.now (ap is_none s.1) idle in
       rw (c.set_search.ensures, c.new.ensures) (gave-is _ _ (searches (view_of k d) c.args.session c.args.template.now) _ k _ _ _ _ is
-      (gave-quiet _ _ _ k _ _ _ _ (has-still _ _ _ k c.find_all.ensures.same c.find_all.ensures.ids h) (λ left may. c.find_all.ensures.same.crash k left h.held may) refl
-      (rw (c.give_handles.ensures.given, c.give_handles.ensures.numbers, c.in_ok-handles.ensures.items, c.deref.ensures.value) (gives-search k d c.reserve_handles.new.self c.args.session c.args.template.now c.in_ok-matches.matches.items h.sound fits c.reserve_handles.ensures.same (c.in_ok-matches.ensures.found sure k h)))));
+      (gave-quiet _ _ _ k _ _ _ _ (has-still _ _ _ k c.find_all.ensures.same c.find_all.ensures.ids h)
+      (λ left may. c.find_all.ensures.same.crash k left h.held may) refl
+      (rw (c.give_handles.ensures.given, c.give_handles.ensures.numbers, c.in_ok-handles.ensures.items, c.deref.ensures.value)
+      (gives-search k d c.reserve_handles.new.self c.args.session c.args.template.now c.in_ok-matches.matches.items h.sound fits
+      c.reserve_handles.ensures.same (c.in_ok-matches.ensures.found sure k h)))));
   counts = search rules;
   cause = search rules;
   plain = refl;

@@ -15,7 +15,8 @@ give_one-requires-clause-room c =
     omega (arith, n, room)
 
 pub give_one-requires-clause-may : goal.give_one-requires-clause-may
-give_one-requires-clause-may c = (may-more c.args.matches.now c.loop-found.found-index _ c.loop-found-test.true _ c.loop-found.invariant.may).0
+give_one-requires-clause-may c =
+    (may-more c.args.matches.now c.loop-found.found-index _ c.loop-found-test.true _ c.loop-found.invariant.may).0
 
 pub loop-found-preserved : goal.loop-found-preserved
 loop-found-preserved c =
@@ -32,6 +33,8 @@ loop-found-preserved c =
       room = rw c.give_one.ensures.given (room-more ms i _ c.loop-found-test.true t kept.room);
       free = omega (arith, n, free, len, capacity);
       may = rw c.give_one.ensures.given (may-rest _ ms i c.loop-found-test.true kept.may);
-      given = rw c.give_one.ensures.given (ap (λ h. record c.loop-found.desk { handles = h }) (given-more ms i _ c.loop-found-test.true t) ∙ kept.given);
-      numbers = rw (c.give_one.ensures.given, c.push_reserved.ensures.items, c.give_one.ensures.number) (numbers-more ms i _ c.loop-found-test.true t c.loop-found.handles.items ∙ kept.numbers);
+      given = rw c.give_one.ensures.given
+          (ap (λ h. record c.loop-found.desk { handles = h }) (given-more ms i _ c.loop-found-test.true t) ∙ kept.given);
+      numbers = rw (c.give_one.ensures.given, c.push_reserved.ensures.items, c.give_one.ensures.number)
+          (numbers-more ms i _ c.loop-found-test.true t c.loop-found.handles.items ∙ kept.numbers);
     }

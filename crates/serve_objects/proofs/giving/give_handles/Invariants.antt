@@ -11,6 +11,8 @@ invariant-loop-found l = record {
   room : HasRoomFor l.desk.handles (length (drop l.found-index l.matches));
   free : vec_len l.handles + length (drop l.found-index l.matches) ≤ vec_capacity l.handles;
   may : AllByRecursion (MayFind l.desk.sessions.login) (drop l.found-index l.matches);
-  given : record l.desk { handles = given l.desk.handles (drop l.found-index l.matches) } ≡ record l.fn.desk { handles = given l.fn.desk.handles l.matches };
-  numbers : l.handles.items ++ numbers l.desk.handles (drop l.found-index l.matches) ≡ l.fn.handles.items ++ numbers l.fn.desk.handles l.matches;
+  given : record l.desk { handles = given l.desk.handles (drop l.found-index l.matches) }
+      ≡ record l.fn.desk { handles = given l.fn.desk.handles l.matches };
+  numbers : l.handles.items ++ numbers l.desk.handles (drop l.found-index l.matches) ≡ l.fn.handles.items
+      ++ numbers l.fn.desk.handles l.matches;
 }

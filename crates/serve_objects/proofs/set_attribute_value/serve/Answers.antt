@@ -21,12 +21,16 @@ returns g c = record {
       let held = has-still _ _ _ k c.find.ensures.same c.find.ensures.ids h in
       let s = in_session _ _ c.state.result _ c.state.ensures c.in_ok-state.ensures.ok_part in
       let o = c.in_ok-found.found.object in
-      let test = ap (λ b. c.flag.result && not b) (sym c.is_read_write.ensures) ∙ sym c.needs_read_write.ensures ∙ c.if-needs_read_write.false in
+      let test = ap (λ b. c.flag.result && not b) (sym c.is_read_write.ensures) ∙ sym c.needs_read_write.ensures
+      ∙ c.if-needs_read_write.false in
       let writable = ap (λ b. b && not (is_rw c.in_ok-state.state)) (sym c.flag.ensures) ∙ test in
       let made = made-object _ _ c.in_ok-object.object c.in_ok-object.ensures.made in
       does-is _ _ _ k _ _ d c.put.new.desk c.put.result
-      (set-is (view_of k d) c.args.session c.args.template.now s.0 s.1 c.args.handle o found.0 (rw s.2 writable) (ap not (sym c.flag-2.ensures ∙ c.if-not-flag.false)) c.in_ok-object.object (rw s.2 made.0) made.1)
-      (does-after _ _ k _ c.find.new.store _ d c.put.new.desk c.put.result (λ left may. c.find.ensures.same.crash k left h.held may) c.find.ensures.counts.steady (c.put.ensures.serves o (ap not c.in_ok-object.ensures.placed.private) sure k held fits found.1));
+      (set-is (view_of k d) c.args.session c.args.template.now s.0 s.1 c.args.handle o found.0 (rw s.2 writable)
+      (ap not (sym c.flag-2.ensures ∙ c.if-not-flag.false)) c.in_ok-object.object (rw s.2 made.0) made.1)
+      (does-after _ _ k _ c.find.new.store _ d c.put.new.desk c.put.result
+      (λ left may. c.find.ensures.same.crash k left h.held may) c.find.ensures.counts.steady
+      (c.put.ensures.serves o (ap not c.in_ok-object.ensures.placed.private) sure k held fits found.1));
   counts = search rules;
   cause = search rules;
   plain = c.put.ensures.plain;
@@ -37,5 +41,6 @@ returns g c = record {
 
 pub returns-in_err-object : goal.returns-in_err-object
 returns-in_err-object g c =
-    let plain = plain-made c.from_residual-in_err-object.result c.in_err-object.field-0.0 _ _ c.from_residual-in_err-object.ensures.1 c.in_err-object.ensures.made (fault-plain _ _ _ _) in
+    let plain = plain-made c.from_residual-in_err-object.result c.in_err-object.field-0.0 _ _
+    c.from_residual-in_err-object.ensures.1 c.in_err-object.ensures.made (fault-plain _ _ _ _) in
     search (rules, plain)

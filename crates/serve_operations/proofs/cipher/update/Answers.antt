@@ -18,13 +18,19 @@ returns-clause-serves c = record {
       let d = c.args.desk.now in
       let v = view_of k d in
       let s = c.in_ok-operation.operation.now in
-      let way : operation_in (session_at d.sessions.sessions c.args.session) (place_for c.args.direction) ≡ Some (operation_of s) = under-way c.operation.result _ c.in_ok-operation.operation (rw c.place_for-place.ensures at c.operation.ensures) c.in_ok-operation.ensures.ok_part in
-      let told = rw c.as_slice.ensures at (tested s Update c.as_slice.result.now c.room_of.result c.room_of.ensures.len_range c.room_of.ensures.counter_end c.room_of.ensures.faults) in
+      let way : operation_in (session_at d.sessions.sessions c.args.session) (place_for c.args.direction) ≡ Some (operation_of s) =
+      under-way c.operation.result _ c.in_ok-operation.operation
+      (rw c.place_for-place.ensures at c.operation.ensures) c.in_ok-operation.ensures.ok_part in
+      let told = rw c.as_slice.ensures at
+      (tested s Update c.as_slice.result.now c.room_of.result c.room_of.ensures.len_range c.room_of.ensures.counter_end
+      c.room_of.ensures.faults) in
       let buffer_len : c.in-Ok.wanted ≡ wanted Update s (length c.args.input) = rw c.as_slice.ensures at c.in-Ok.ensures.room in
-      gives-is _ (asks_within (update_function c.args.direction) c.args.session (Ciphers Update (operation_of s) c.args.input) (wanted Update s (length c.args.input)) c.args.buffer_len v) k d _ _
+      gives-is _ (asks_within (update_function c.args.direction) c.args.session (Ciphers Update (operation_of s) c.args.input)
+      (wanted Update s (length c.args.input)) c.args.buffer_len v) k d _ _
       (update-asks v c.args.session c.args.direction s way c.args.input c.args.buffer_len (rw c.in-Ok.is at told))
       (rw (c.update_function.ensures, c.copied-stream.ensures, buffer_len) at (c.in_ok-ask_within.ensures.gives k fits));
   cause = search rules;
   short = λ few. c.in_ok-ask_within.ensures.short (λ n is.
-      rw c.copied-stream.ensures (update-short c.in_ok-operation.operation.now.mechanism c.in_ok-operation.operation.now.direction (length c.in_ok-operation.operation.now.taken) (length c.args.input) (buffer_len-short c.args.input c.args.buffer_len few n is)));
+      rw c.copied-stream.ensures (update-short c.in_ok-operation.operation.now.mechanism c.in_ok-operation.operation.now.direction
+      (length c.in_ok-operation.operation.now.taken) (length c.args.input) (buffer_len-short c.args.input c.args.buffer_len few n is)));
 }

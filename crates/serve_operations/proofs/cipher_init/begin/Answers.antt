@@ -13,24 +13,34 @@ use Rattle.serve_operations.proofs.cipher_init.begin.Goals as goal
 use Rattle.serve_operations.proofs.cipher_init.begin.Goals.{After-cipher_for}
 
 -- what is left to test is by the mechanism
-for-mechanism : (g : _) (c : After-cipher_for g) (x : Contents) → cipher_init c.args.direction (view_of x c.args.desk.now) c.args.session c.args.mechanism.now c.args.key ≡ begins_by c.args.direction (view_of x c.args.desk.now) c.args.session c.cipher_for.result (object_at (view_of x c.args.desk.now) c.args.key)
+for-mechanism : (g : _) (c : After-cipher_for g) (x : Contents)
+    → cipher_init c.args.direction (view_of x c.args.desk.now) c.args.session c.args.mechanism.now c.args.key
+    ≡ begins_by c.args.direction (view_of x c.args.desk.now) c.args.session c.cipher_for.result
+    (object_at (view_of x c.args.desk.now) c.args.key)
 for-mechanism g c x =
     let v = view_of x c.args.desk.now in
     let s = in_session _ _ c.state.result _ c.state.ensures c.in_ok-ok_or.ensures.ok_part in
-    ap (λ m. cipher_init c.args.direction v c.args.session m c.args.key) c.in-Some.is ∙ init-is v c.args.session c.in-Some.mechanism c.args.key (ap is_none s.1) c.args.direction c.cipher_for.result (sym c.cipher_for.ensures)
+    ap (λ m. cipher_init c.args.direction v c.args.session m c.args.key) c.in-Some.is
+    ∙ init-is v c.args.session c.in-Some.mechanism c.args.key (ap is_none s.1) c.args.direction c.cipher_for.result
+    (sym c.cipher_for.ensures)
 
 pub returns-in_err-cipher-clause-done : goal.returns-in_err-cipher-clause-done
 returns-in_err-cipher-clause-done g c =
     let d = c.args.desk.now in
     let row = c.in_err-cipher.field-0.0 in
-    done-row-first g.K.Keep.terms (λ x. Replies x) (λ v. cipher_init c.args.direction v c.args.session c.args.mechanism.now c.args.key) c.args.store.now d c.from_residual-in_err-cipher.result row c.from_residual-in_err-cipher.ensures.1
-    (λ x. for-mechanism g (goal.at.returns-in_err-cipher-clause-done g c).After-cipher_for x ∙ ap (λ r. begins_by c.args.direction (view_of x d) c.args.session r (object_at (view_of x d) c.args.key)) c.in_err-cipher.was)
+    done-row-first g.K.Keep.terms (λ x. Replies x)
+    (λ v. cipher_init c.args.direction v c.args.session c.args.mechanism.now c.args.key) c.args.store.now d
+    c.from_residual-in_err-cipher.result row c.from_residual-in_err-cipher.ensures.1
+    (λ x. for-mechanism g (goal.at.returns-in_err-cipher-clause-done g c).After-cipher_for x
+    ∙ ap (λ r. begins_by c.args.direction (view_of x d) c.args.session r (object_at (view_of x d) c.args.key)) c.in_err-cipher.was)
 
 pub returns-in_err-found-clause-done : goal.returns-in_err-found-clause-done
 returns-in_err-found-clause-done g c =
     let d = c.args.desk.now in
     let row = c.in_err-found.field-0.0 in
-    done-row g.K.Keep.terms (λ x. Replies x) (λ v. cipher_init c.args.direction v c.args.session c.args.mechanism.now c.args.key) c.args.store.now c.find.new.store d c.from_residual-in_err-found.result row c.from_residual-in_err-found.ensures.1
+    done-row g.K.Keep.terms (λ x. Replies x)
+    (λ v. cipher_init c.args.direction v c.args.session c.args.mechanism.now c.args.key) c.args.store.now c.find.new.store d
+    c.from_residual-in_err-found.result row c.from_residual-in_err-found.ensures.1
     c.find.ensures.same c.find.ensures.ids c.find.ensures.counts
     (λ sure x h fits.
     let v = view_of x d in
@@ -45,8 +55,10 @@ returns-clause-done g c =
     let d = c.args.desk.now in
     let o = c.in_ok-found.found.object in
     let cipher = c.in_ok-cipher.cipher in
-    done-read g.K.Keep.terms (λ x. Replies x) (λ v. cipher_init c.args.direction v c.args.session c.args.mechanism.now c.args.key) (λ v. by_key c.args.direction v c.args.session cipher o)
-    c.args.store.now c.find.new.store d c.begin_under.new.desk c.begin_under.result c.find.ensures.same c.find.ensures.ids c.find.ensures.counts
+    done-read g.K.Keep.terms (λ x. Replies x) (λ v. cipher_init c.args.direction v c.args.session c.args.mechanism.now c.args.key)
+    (λ v. by_key c.args.direction v c.args.session cipher o)
+    c.args.store.now c.find.new.store d c.begin_under.new.desk c.begin_under.result c.find.ensures.same c.find.ensures.ids
+    c.find.ensures.counts
     (λ v. (quiet-key c.args.direction c.args.session cipher o v).0)
     (λ v. (quiet-key c.args.direction c.args.session cipher o v).1)
     (λ v. (alone-key c.args.direction c.args.session cipher o v).leaves)

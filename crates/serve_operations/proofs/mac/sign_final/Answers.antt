@@ -18,10 +18,12 @@ returns-clause-serves c = record {
       let d = c.args.desk.now in
       let v = view_of k d in
       let a = c.in_ok-mac.mac.now in
-      let way : mac_in (session_at d.sessions.sessions c.args.session) places.Sign ≡ Some (mac_of a) = sym c.mac.ensures ∙ ap (λ r. option_map mac_of (option_copied r)) c.in_ok-mac.ensures.ok_part in
+      let way : mac_in (session_at d.sessions.sessions c.args.session) places.Sign ≡ Some (mac_of a) =
+      sym c.mac.ensures ∙ ap (λ r. option_map mac_of (option_copied r)) c.in_ok-mac.ensures.ok_part in
       gives-is _ (asks_within functions.SignFinal c.args.session (Signs (mac_of a) []) (tag_length a.mechanism) c.args.buffer_len v) k d _ _
       (final-asks v c.args.session a way c.args.buffer_len)
-      (rw (c.copied-mac.ensures, c.from_vec.ensures ∙ c.new.ensures.items, c.tag_len-wanted.ensures, c.mechanism.ensures.value) at (c.in_ok-ask_within.ensures.gives k fits));
+      (rw (c.copied-mac.ensures, c.from_vec.ensures ∙ c.new.ensures.items, c.tag_len-wanted.ensures, c.mechanism.ensures.value) at
+      (c.in_ok-ask_within.ensures.gives k fits));
   cause = search rules;
   short = search rules;
 }

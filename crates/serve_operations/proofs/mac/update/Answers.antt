@@ -16,7 +16,8 @@ returns-clause-serves c = record {
       let d = c.args.desk.now in
       let v = view_of k d in
       let a = c.in_ok-mac.mac.now in
-      let way : mac_in (session_at d.sessions.sessions c.args.session) c.args.place ≡ Some (mac_of a) = sym c.mac.ensures ∙ ap (λ r. option_map mac_of (option_copied r)) c.in_ok-mac.ensures.ok_part in
+      let way : mac_in (session_at d.sessions.sessions c.args.session) c.args.place ≡ Some (mac_of a) =
+      sym c.mac.ensures ∙ ap (λ r. option_map mac_of (option_copied r)) c.in_ok-mac.ensures.ok_part in
       gives-is _ (asks v (mac_update_function c.args.place) c.args.session (Takes c.args.place (mac_of a) c.args.input)) k d _ _
       (update-asks v c.args.session c.args.place a way c.args.input)
       (search rules);

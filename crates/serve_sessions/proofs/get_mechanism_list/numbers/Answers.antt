@@ -9,5 +9,6 @@ pub loop-mechanism-preserved : goal.loop-mechanism-preserved
 loop-mechanism-preserved c =
     rw (c.in_ok-push.ensures.ok, c.number.ensures) (
     append_assoc c.loop-mechanism.numbers _ _
-    ∙ ap (λ ms. c.loop-mechanism.numbers ++ map mech_type_number ms) (sym (drop_more listed c.loop-mechanism.mechanism-index _ c.loop-mechanism-test.true))
+    ∙ ap (λ ms. c.loop-mechanism.numbers ++ map mech_type_number ms)
+    (sym (drop_more listed c.loop-mechanism.mechanism-index _ c.loop-mechanism-test.true))
     ∙ c.loop-mechanism.invariant)

@@ -7,7 +7,8 @@ pub returns-else-commits_in_run-gt0-clause-found : goal.returns-else-commits_in_
 returns-else-commits_in_run-gt0-clause-found c = λ many it. elim it [
   | inl early ↦
       let low = commit_inside c.args.head.now c.args.log.now 0 early in
-      absurd (c.commits_in_run.ensures.none (let none = c.if-commits_in_run-gt0.false in omega (arith, none)) early (omega (arith, many, low)))
+      absurd (c.commits_in_run.ensures.none (let none = c.if-commits_in_run-gt0.false in omega (arith, none)) early
+      (omega (arith, many, low)))
   | inr later ↦
       let low = commit_inside c.args.head.now c.args.log.now 1 later in
       lt-ltb 0 _ (elim (cases_lt 0 c.commits_in_run-else-commits_in_run-gt0.result) [

@@ -13,18 +13,23 @@ pub is_signed-requires : goal.is_signed-requires
 is_signed-requires c = length-take-le 32 c.args.log.now (omega (arith, c.if-log.false))
 
 pub returns-then-size-le65536-clause-sound : goal.returns-then-size-le65536-clause-sound
-returns-then-size-le65536-clause-sound c = λ is. inl (subst (λ n. IsBroken n c.args.log.now) (c.number_at-size.ensures ∙ ap (λ (h : List _). be32 h 8) (head_is c.args.log.now)) (c.is_broken.ensures.sound is))
+returns-then-size-le65536-clause-sound c =
+    λ is. inl (subst (λ n. IsBroken n c.args.log.now)
+    (c.number_at-size.ensures ∙ ap (λ (h : List _). be32 h 8) (head_is c.args.log.now)) (c.is_broken.ensures.sound is))
 
 pub returns-then-log-ne0-clause-sound : goal.returns-then-log-ne0-clause-sound
 returns-then-log-ne0-clause-sound c = λ is. inr (record {
-  unsigned = λ signed. let h : IsTrue false = c.if-is_signed.ensures.1 (subst IsSigned (sym (head_is c.args.log.now)) signed) in absurd (cc);
+  unsigned = λ signed. let h : IsTrue false = c.if-is_signed.ensures.1 (subst IsSigned (sym (head_is c.args.log.now)) signed) in
+      absurd (cc);
   shown = c.if-log-ne0.true;
   behind = c.is_beheaded.ensures.sound is;
 })
 
 pub returns-then-size-le65536-clause-found : goal.returns-then-size-le65536-clause-found
 returns-then-size-le65536-clause-found c = λ it. elim it [
-  | inl signed ↦ c.is_broken.ensures.found (subst (λ n. IsPlainlyBroken n c.args.log.now) (sym (c.number_at-size.ensures ∙ ap (λ (h : List _). be32 h 8) (head_is c.args.log.now))) signed.2)
+  | inl signed ↦ c.is_broken.ensures.found
+      (subst (λ n. IsPlainlyBroken n c.args.log.now)
+      (sym (c.number_at-size.ensures ∙ ap (λ (h : List _). be32 h 8) (head_is c.args.log.now))) signed.2)
   | inr beheaded ↦ absurd (beheaded.unsigned (subst IsSigned (head_is c.args.log.now) (c.if-is_signed.ensures.0 refl)))
 ]
 

@@ -8,5 +8,6 @@ returns c = (
     within = search rules;
     passes = subst₂ (λ s f. IsFrame c.args.head.now s f) c.sum_ahead_of.ensures c.frame_of.ensures.value (c.is_frame.ensures.0 yes');
   },
-  λ it. c.is_frame.ensures.1 (subst₂ (λ s f. IsFrame c.args.head.now s f) (sym c.sum_ahead_of.ensures) (sym c.frame_of.ensures.value) it.passes),
+  λ it. c.is_frame.ensures.1 (subst₂ (λ s f. IsFrame c.args.head.now s f) (sym c.sum_ahead_of.ensures)
+      (sym c.frame_of.ensures.value) it.passes),
 )

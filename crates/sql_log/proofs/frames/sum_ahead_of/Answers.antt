@@ -17,4 +17,5 @@ pub returns-then-at-eq0 : goal.returns-then-at-eq0
 returns-then-at-eq0 c = c.sum_at.ensures ∙ first_sum c.args.log.now c.args.size c.args.at c.if-at-eq0.true
 
 pub returns-else-at-eq0 : goal.returns-else-at-eq0
-returns-else-at-eq0 c = c.sum_at-else-at-eq0.ensures ∙ ap (λ f. stored_sum f 16) c.frame_of.ensures.value ∙ later_sum c.args.log.now c.args.size c.args.at c.if-at-eq0.false
+returns-else-at-eq0 c = c.sum_at-else-at-eq0.ensures ∙ ap (λ f. stored_sum f 16) c.frame_of.ensures.value
+    ∙ later_sum c.args.log.now c.args.size c.args.at c.if-at-eq0.false

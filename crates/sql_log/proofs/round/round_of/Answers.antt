@@ -10,4 +10,5 @@ pub returns-then-is_signed-clause-signed : goal.returns-then-is_signed-clause-si
 returns-then-is_signed-clause-signed c = subst IsSigned (head_is c.args.log.now) (c.if-is_signed.ensures.0 refl)
 
 pub returns-else-is_signed-clause-none : goal.returns-else-is_signed-clause-none
-returns-else-is_signed-clause-none c = λ none long signed. let h : IsTrue false = c.if-is_signed.ensures.1 (subst IsSigned (sym (head_is c.args.log.now)) signed) in absurd (cc)
+returns-else-is_signed-clause-none c = λ none long signed. let h : IsTrue false =
+    c.if-is_signed.ensures.1 (subst IsSigned (sym (head_is c.args.log.now)) signed) in absurd (cc)

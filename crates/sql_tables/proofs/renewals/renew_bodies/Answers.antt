@@ -7,19 +7,24 @@ use Rattle.sql_tables.proofs.renewals.renew_bodies.Goals as goal
 
 pub returns-clause-made : goal.returns-clause-made
 returns-clause-made g c = λ b at natural clean.
-    whole_if g.S.Store c.args.conn.now c.run_all.new.conn (RanRenewals g.S.Store c.args.renewals.now c.args.bytes.now c.args.conn.now) (renewed c.args.renewals.now c.args.bytes.now b)
+    whole_if g.S.Store c.args.conn.now c.run_all.new.conn
+    (RanRenewals g.S.Store c.args.renewals.now c.args.bytes.now c.args.conn.now) (renewed c.args.renewals.now c.args.bytes.now b)
     (λ db ran. renews_is g.S.Store c.args.renewals.now c.args.conn.now db c.args.bytes.now b natural at.schema at.stores ran)
     c.run_all.result (c.run_all.ensures.all clean) c.run_all.ensures.settled (c.run_all.ensures.up clean) c.run_all.ensures.ended
 
 pub returns-clause-refused : goal.returns-clause-refused
-returns-clause-refused g c = λ db ready sees clean. refused_shows g.S.Store c.args.conn.now c.run_all.new.conn db ready sees clean c.run_all.result c.run_all.ensures.refused
+returns-clause-refused g c = λ db ready sees clean. refused_shows g.S.Store c.args.conn.now c.run_all.new.conn db ready sees clean
+    c.run_all.result c.run_all.ensures.refused
 
 pub returns-clause-same : goal.returns-clause-same
 returns-clause-same g c = λ db ready sees clean up.
-    stopped_shows (state g.S.Store c.args.conn.now) (state g.S.Store c.run_all.new.conn) db ready sees c.run_all.ensures.crash.clean clean c.run_all.result (c.run_all.ensures.none clean up) c.run_all.ensures.stopped
+    stopped_shows (state g.S.Store c.args.conn.now)
+    (state g.S.Store c.run_all.new.conn) db ready sees c.run_all.ensures.crash.clean clean c.run_all.result
+    (c.run_all.ensures.none clean up) c.run_all.ensures.stopped
 
 pub returns-clause-crash : goal.returns-clause-crash
 returns-clause-crash g c = λ b at natural clean left may.
-    whole_left g.S.Store c.args.conn.now c.run_all.new.conn (RanRenewals g.S.Store c.args.renewals.now c.args.bytes.now c.args.conn.now) (renewed c.args.renewals.now c.args.bytes.now b)
+    whole_left g.S.Store c.args.conn.now c.run_all.new.conn
+    (RanRenewals g.S.Store c.args.renewals.now c.args.bytes.now c.args.conn.now) (renewed c.args.renewals.now c.args.bytes.now b)
     (λ db ran. renews_is g.S.Store c.args.renewals.now c.args.conn.now db c.args.bytes.now b natural at.schema at.stores ran)
     c.run_all.ensures.crash clean left may

@@ -10,15 +10,19 @@ returns-in_err-write_one-clause-same_reference g c = c.write_one.ensures.same_re
 
 pub returns-in_err-write_one-clause-kept : goal.returns-in_err-write_one-clause-kept
 returns-in_err-write_one-clause-kept g c = λ clean mode.
-    stopped_keeps g.S.Store _ c.args.tx.now.conn.now c.loop-renewal.tx.conn.now c.write_one.new.tx.conn.now _ _ c.loop-renewal.invariant.1 c.write_one.ensures.survives c.write_one.ensures.runs clean mode
+    stopped_keeps g.S.Store _ c.args.tx.now.conn.now c.loop-renewal.tx.conn.now c.write_one.new.tx.conn.now _ _
+    c.loop-renewal.invariant.1 c.write_one.ensures.survives c.write_one.ensures.runs clean mode
 
 pub returns-in_err-write_one-clause-survives : goal.returns-in_err-write_one-clause-survives
-returns-in_err-write_one-clause-survives g c = nothing_left g.S.Store c.args.tx.now.conn.now c.loop-renewal.tx.conn.now c.write_one.new.tx.conn.now c.loop-renewal.invariant.1.0 c.write_one.ensures.survives
+returns-in_err-write_one-clause-survives g c =
+    nothing_left g.S.Store c.args.tx.now.conn.now c.loop-renewal.tx.conn.now c.write_one.new.tx.conn.now
+    c.loop-renewal.invariant.1.0 c.write_one.ensures.survives
 
 pub loop-renewal-preserved : goal.loop-renewal-preserved
 loop-renewal-preserved g c = (
   c.write_one.ensures.same_reference ∙ c.loop-renewal.invariant.0,
-  wrote_more g.S.Store c.args.renewals.now c.loop-renewal.renewal-index c.renewal-item.result c.args.tx.now.conn.now c.loop-renewal.tx.conn.now c.write_one.new.tx.conn.now c.in_ok-write_one.field-0 c.loop-renewal-test.true c.renewal-item.is
+  wrote_more g.S.Store c.args.renewals.now c.loop-renewal.renewal-index c.renewal-item.result c.args.tx.now.conn.now
+      c.loop-renewal.tx.conn.now c.write_one.new.tx.conn.now c.in_ok-write_one.field-0 c.loop-renewal-test.true c.renewal-item.is
       c.loop-renewal.invariant.1 c.write_one.ensures.survives c.in_ok-write_one.ensures.runs,
 )
 
@@ -26,7 +30,8 @@ pub returns-clause-same_reference : goal.returns-clause-same_reference
 returns-clause-same_reference g c = c.loop-renewal.invariant.0
 
 pub returns-clause-ran : goal.returns-clause-ran
-returns-clause-ran g c = λ clean mode. all_written g.S.Store c.args.renewals.now c.loop-renewal.renewal-index c.args.tx.now.conn.now c.loop-renewal.tx.conn.now (omega (arith, c.loop-renewal-test.false)) c.loop-renewal.invariant.1 clean mode
+returns-clause-ran g c = λ clean mode. all_written g.S.Store c.args.renewals.now c.loop-renewal.renewal-index c.args.tx.now.conn.now
+    c.loop-renewal.tx.conn.now (omega (arith, c.loop-renewal-test.false)) c.loop-renewal.invariant.1 clean mode
 
 pub returns-clause-kept : goal.returns-clause-kept
 returns-clause-kept g c = λ clean mode. (c.loop-renewal.invariant.1.1 clean mode).1

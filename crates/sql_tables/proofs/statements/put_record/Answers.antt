@@ -1,16 +1,20 @@
 use Rattle.sqlite.specs.Held.{state}
-use Rattle.sql_statements.specs.Bodies.{with_record}
+use Rattle.sql_statements.specs.Bodies.{bodies_with_record}
 use Rattle.sql_statements.proofs.Lift.{then_done, then_undone, not_sent_if, failed_if}
 use Rattle.sql_tables.proofs.statements.put_record.Goals as goal
 
 pub returns-in_err-ensure_open-clause-err : goal.returns-in_err-ensure_open-clause-err
-returns-in_err-ensure_open-clause-err g c = not_sent_if (state g.S.Store c.args.conn.now) (state g.S.Store c.ensure_open.new.conn) (with_record c.args.bytes.now) _ c.ensure_open.ensures.kept
+returns-in_err-ensure_open-clause-err g c =
+    not_sent_if (state g.S.Store c.args.conn.now) (state g.S.Store c.ensure_open.new.conn)
+    (bodies_with_record c.args.bytes.now) _ c.ensure_open.ensures.kept
 
 pub returns-in_err-set_row-clause-err : goal.returns-in_err-set_row-clause-err
 returns-in_err-set_row-clause-err g c =
-    failed_if (state g.S.Store c.args.conn.now) (state g.S.Store c.set_row.new.conn) (with_record c.args.bytes.now) _
-    (then_undone (state g.S.Store c.args.conn.now) (state g.S.Store c.ensure_open.new.conn) (state g.S.Store c.set_row.new.conn) (with_record c.args.bytes.now) c.ensure_open.ensures.kept c.in_ok-ensure_open.ensures.open c.in_err-set_row.ensures.err)
+    failed_if (state g.S.Store c.args.conn.now) (state g.S.Store c.set_row.new.conn) (bodies_with_record c.args.bytes.now) _
+    (then_undone (state g.S.Store c.args.conn.now) (state g.S.Store c.ensure_open.new.conn) (state g.S.Store c.set_row.new.conn)
+    (bodies_with_record c.args.bytes.now) c.ensure_open.ensures.kept c.in_ok-ensure_open.ensures.open c.in_err-set_row.ensures.err)
 
 pub returns-clause-ok : goal.returns-clause-ok
 returns-clause-ok g c =
-    then_done (state g.S.Store c.args.conn.now) (state g.S.Store c.ensure_open.new.conn) (state g.S.Store c.set_row.new.conn) (with_record c.args.bytes.now) c.ensure_open.ensures.kept c.in_ok-ensure_open.ensures.open c.in_ok-set_row.ensures.ok
+    then_done (state g.S.Store c.args.conn.now) (state g.S.Store c.ensure_open.new.conn) (state g.S.Store c.set_row.new.conn)
+    (bodies_with_record c.args.bytes.now) c.ensure_open.ensures.kept c.in_ok-ensure_open.ensures.open c.in_ok-set_row.ensures.ok

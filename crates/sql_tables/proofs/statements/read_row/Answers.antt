@@ -9,12 +9,14 @@ returns-in_err-ensure_open-clause-same g c = kept_stays _ _ c.ensure_open.ensure
 
 pub returns-clause-found : goal.returns-clause-found
 returns-clause-found g c = λ clean d h.
-    read_found (state g.S.Store c.args.conn.now) (state g.S.Store c.ensure_open.new.conn) (state g.S.Store c.read_by.new.conn) c.args.id c.read_by.result c.ensure_open.ensures.kept c.in_ok-ensure_open.ensures.open
+    read_found (state g.S.Store c.args.conn.now) (state g.S.Store c.ensure_open.new.conn)
+    (state g.S.Store c.read_by.new.conn) c.args.id c.read_by.result c.ensure_open.ensures.kept c.in_ok-ensure_open.ensures.open
     c.read_by.ensures.row c.read_by.ensures.survives clean d h
 
 pub returns-clause-same : goal.returns-clause-same
 returns-clause-same g c =
-    read_stays (state g.S.Store c.args.conn.now) (state g.S.Store c.ensure_open.new.conn) (state g.S.Store c.read_by.new.conn) c.args.id c.read_by.result c.ensure_open.ensures.kept c.in_ok-ensure_open.ensures.open
+    read_stays (state g.S.Store c.args.conn.now) (state g.S.Store c.ensure_open.new.conn)
+    (state g.S.Store c.read_by.new.conn) c.args.id c.read_by.result c.ensure_open.ensures.kept c.in_ok-ensure_open.ensures.open
     c.read_by.ensures.row c.read_by.ensures.survives
 
 pub returns-clause-open : goal.returns-clause-open

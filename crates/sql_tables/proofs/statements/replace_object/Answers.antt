@@ -4,13 +4,18 @@ use Rattle.sql_statements.proofs.Lift.{then_done, then_undone, not_sent_if, fail
 use Rattle.sql_tables.proofs.statements.replace_object.Goals as goal
 
 pub returns-in_err-ensure_open-clause-err : goal.returns-in_err-ensure_open-clause-err
-returns-in_err-ensure_open-clause-err g c = not_sent_if (state g.S.Store c.args.conn.now) (state g.S.Store c.ensure_open.new.conn) (with_body_at c.args.id c.args.bytes.now) _ c.ensure_open.ensures.kept
+returns-in_err-ensure_open-clause-err g c =
+    not_sent_if (state g.S.Store c.args.conn.now) (state g.S.Store c.ensure_open.new.conn)
+    (with_body_at c.args.id c.args.bytes.now) _ c.ensure_open.ensures.kept
 
 pub returns-in_err-replace_row-clause-err : goal.returns-in_err-replace_row-clause-err
 returns-in_err-replace_row-clause-err g c =
     failed_if (state g.S.Store c.args.conn.now) (state g.S.Store c.replace_row.new.conn) (with_body_at c.args.id c.args.bytes.now) _
-    (then_undone (state g.S.Store c.args.conn.now) (state g.S.Store c.ensure_open.new.conn) (state g.S.Store c.replace_row.new.conn) (with_body_at c.args.id c.args.bytes.now) c.ensure_open.ensures.kept c.in_ok-ensure_open.ensures.open c.in_err-replace_row.ensures.err)
+    (then_undone (state g.S.Store c.args.conn.now) (state g.S.Store c.ensure_open.new.conn) (state g.S.Store c.replace_row.new.conn)
+    (with_body_at c.args.id c.args.bytes.now) c.ensure_open.ensures.kept c.in_ok-ensure_open.ensures.open
+    c.in_err-replace_row.ensures.err)
 
 pub returns-clause-ok : goal.returns-clause-ok
 returns-clause-ok g c =
-    then_done (state g.S.Store c.args.conn.now) (state g.S.Store c.ensure_open.new.conn) (state g.S.Store c.replace_row.new.conn) (with_body_at c.args.id c.args.bytes.now) c.ensure_open.ensures.kept c.in_ok-ensure_open.ensures.open c.in_ok-replace_row.ensures.ok
+    then_done (state g.S.Store c.args.conn.now) (state g.S.Store c.ensure_open.new.conn) (state g.S.Store c.replace_row.new.conn)
+    (with_body_at c.args.id c.args.bytes.now) c.ensure_open.ensures.kept c.in_ok-ensure_open.ensures.open c.in_ok-replace_row.ensures.ok

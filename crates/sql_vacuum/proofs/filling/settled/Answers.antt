@@ -17,7 +17,13 @@ returns-in-Ok-clause-fresh c = λ none.
     let undone = c.into_store-store.ensures.undone in
     let kept = undone.kept early in
     let back = undone.undone up in
-    subst IsFresh (sym same) (record { sound = back.1; numbered = c.into_store-store.ensures.numbered early; clean = back.0 ∙ sym (kept.committed up); unmarked = kept.marks up })
+    subst IsFresh (sym same) (record {
+      sound = back.1;
+      numbered = c.into_store-store.ensures.numbered early;
+      clean = back.0
+          ∙ sym (kept.committed up);
+      unmarked = kept.marks up;
+    })
 
 pub returns-in-Ok-clause-trees : goal.returns-in-Ok-clause-trees
 returns-in-Ok-clause-trees c = λ none.

@@ -11,7 +11,9 @@ returns-in-Ok-clause-committed g c = λ none.
     ap (λ (v : View). v.trees) same ∙ (c.rollback.ensures.undone.undone up).0
 
 pub returns-in-Ok-clause-quiet : goal.returns-in-Ok-clause-quiet
-returns-in-Ok-clause-quiet g c = quiet_twice c.args.store.now c.rollback.new.self c.checkpoint.new.self c.rollback.ensures.quiet c.checkpoint.ensures.quiet
+returns-in-Ok-clause-quiet g c =
+    quiet_twice c.args.store.now c.rollback.new.self c.checkpoint.new.self c.rollback.ensures.quiet c.checkpoint.ensures.quiet
 
 pub returns-in-Err-clause-quiet : goal.returns-in-Err-clause-quiet
-returns-in-Err-clause-quiet g c = quiet_twice c.args.store.now c.rollback.new.self c.checkpoint.new.self c.rollback.ensures.quiet c.checkpoint.ensures.quiet
+returns-in-Err-clause-quiet g c =
+    quiet_twice c.args.store.now c.rollback.new.self c.checkpoint.new.self c.rollback.ensures.quiet c.checkpoint.ensures.quiet

@@ -11,9 +11,11 @@ plain c =
     let kept : List ℕ = c.args.kept.now in
     let piece : List ℕ = c.args.piece.now in
     let wide : length c.args.start ≡ 16 = omega arith in
-    let bytes : AreBytes (kept ++ piece) = AreBytes-append kept piece (subst AreBytes c.as_slice-front.ensures c.are_bytes.ensures) c.are_bytes-2.ensures in
+    let bytes : AreBytes (kept ++ piece) =
+    AreBytes-append kept piece (subst AreBytes c.as_slice-front.ensures c.are_bytes.ensures) c.are_bytes-2.ensures in
     let within : 16 * c.args.blocks ≤ length (kept ++ piece) = omega (arith, c.requires, length-append kept piece) in
-    cbc_plain c.args.key.now c.args.start (kept ++ piece) c.push_unchained.new.out.items c.args.blocks c.size-size.ensures.key wide bytes within
+    cbc_plain c.args.key.now c.args.start
+    (kept ++ piece) c.push_unchained.new.out.items c.args.blocks c.size-size.ensures.key wide bytes within
     (rw (c.as_slice-front.ensures, c.in_ok-out.ensures.items) at c.in_ok-push_unchained.ensures)
 
 pub returns-clause-size : goal.returns-clause-size

@@ -17,7 +17,8 @@ whole : (c : After-len-3)
     → IsWholeCounted c.args.key.now c.args.number (c.args.kept.now ++ c.args.piece.now) c.push_counted.new.out.items c.behind-rest.result
 whole c =
     whole_counted c.args.key.now c.args.number _ (c.args.kept.now ++ c.args.piece.now) c.push_counted.new.out.items c.behind-rest.result
-    c.size-size.ensures.key (count c) (rw (c.as_slice.ensures, c.in_ok-out.ensures.items) at c.in_ok-push_counted.ensures) c.behind-rest.ensures
+    c.size-size.ensures.key (count c)
+    (rw (c.as_slice.ensures, c.in_ok-out.ensures.items) at c.in_ok-push_counted.ensures) c.behind-rest.ensures
 
 pub returns-then-len-eq0-clause-size : goal.returns-then-len-eq0-clause-size
 returns-then-len-eq0-clause-size c =

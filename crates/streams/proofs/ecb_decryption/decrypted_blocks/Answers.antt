@@ -10,7 +10,8 @@ plain : (c : goal.After-are_bytes-3)
 plain c =
     let kept : List ℕ = c.args.kept.now in
     let piece : List ℕ = c.args.piece.now in
-    let bytes : AreBytes (kept ++ piece) = AreBytes-append kept piece (subst AreBytes c.as_slice-front.ensures c.are_bytes.ensures) c.are_bytes-2.ensures in
+    let bytes : AreBytes (kept ++ piece) =
+    AreBytes-append kept piece (subst AreBytes c.as_slice-front.ensures c.are_bytes.ensures) c.are_bytes-2.ensures in
     let within : 16 * c.args.blocks ≤ length (kept ++ piece) = omega (arith, c.requires, length-append kept piece) in
     ecb_plain c.args.key.now (kept ++ piece) c.push_decrypted.new.out.items c.args.blocks c.size-size.ensures.key bytes within
     (rw (c.as_slice-front.ensures, c.in_ok-out.ensures.items) at c.in_ok-push_decrypted.ensures)

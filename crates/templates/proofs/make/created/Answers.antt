@@ -12,4 +12,5 @@ unreachable-requires c =
 pub make-requires-clause-object : goal.make-requires-clause-object
 make-requires-clause-object c =
     let ok = faultless making.Create c.args.state [] c.as_slice-template.result.now (sym c.in_default.ensures) in
-    rw c.value_given.ensures (created_is_object c.args.state c.as_slice-template.result.now c.args.random.now c.in-Some-class_in.class ok (sym c.in-Some-class_in.ensures))
+    rw c.value_given.ensures (created_is_object c.args.state c.as_slice-template.result.now c.args.random.now
+    c.in-Some-class_in.class ok (sym c.in-Some-class_in.ensures))

@@ -2,14 +2,15 @@
 
 ghost use Rattle.std.specs.Prelude.{◌≡◌, [], List, IfOk};
 ghost use Rattle.hall_log.specs.Histories.{Exchange, History};
-ghost use Rattle.hall_log.specs.declared.event.AppCall.{AppCall};
+ghost use Rattle.ck_calls.specs.declared.app_call.AppCall.{AppCall};
 ghost use Rattle.hall.specs.Given.{Serves};
+ghost use Rattle.hall.specs.Terms.{token_terms};
 
 use super::gate::TurnGate;
 use super::seat::TurnSeat;
 use super::turns::Turns;
 use ck_calls::Reply;
-use hall::{HallFault, Held, hold};
+use hall::{HallFault, Held, USUAL_STACKS, hold};
 use hall_log::{Naming, Opened};
 use keep::{Keep, ListKeep};
 use pin_record::Record;
@@ -96,13 +97,21 @@ fn hold_named<
     gate: &Arc<TurnGate<R>, Global>,
 ) -> Result<Held<Token<K>, TurnSeat<R>>, (HallFault, Token<K>)>
     requires book { opened.seen.book ≡ J.book }
-    requires means { (h : History) → J.served h → Serves K.terms J.was_read token h }
-    requires all { (h : History) → Serves K.terms J.was_read token h → J.served h }
+    requires means { (h : History) → J.served h → Serves (token_terms K.terms) J.was_read token h }
+    requires all { (h : History) → Serves (token_terms K.terms) J.was_read token h → J.served h }
     requires read { (before : List Exchange) (call : AppCall) → J.was_read before call }
     requires numbers { (seats.0.number ≡ 0) × (seats.1.number ≡ 1) × (seats.2.number ≡ 2) × (seats.3.number ≡ 3) }
     requires told { (seats.0.told.items ≡ []) × (seats.1.told.items ≡ []) × (seats.2.told.items ≡ []) × (seats.3.told.items ≡ []) }
 {
-    hold::<J, K, TurnSeat<R>, TurnGate<R>, R>(rt, alloc, opened, token, seats, gate)
+    hold::<J, Token<K>, TurnSeat<R>, TurnGate<R>, R>(
+        rt,
+        alloc,
+        opened,
+        token,
+        seats,
+        gate,
+        USUAL_STACKS,
+    )
 }
 
 fn gate_in<R: Clock + Copy + Drop>(

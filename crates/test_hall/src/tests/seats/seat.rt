@@ -3,12 +3,12 @@
 ghost use Rattle.std.specs.Prelude.{◌≡◌, ◌<◌, ◌%◌, ◌∷◌, [], List, true, vec_len, vec_capacity, IfOk, IfSome, IsTrue};
 ghost use Rattle.hall.specs.SeatEvents.{heard_in, seat_app};
 ghost use Rattle.hall_log.specs.Histories.{Exchange};
-ghost use Rattle.hall_log.specs.declared.event.AppCall.{AppCall};
-ghost use Rattle.test_hall.specs.Gone.{AllGone, Notes, is_gone};
+ghost use Rattle.ck_calls.specs.declared.app_call.AppCall.{AppCall};
+ghost use Rattle.test_hall.specs.Gone.{AllGone, NotesGone, is_gone};
 
 use super::turns::{Turns, is_finish};
-use ck_calls::Reply;
-use hall::{AppCall, Seat, SeatEvent};
+use ck_calls::{AppCall, Reply};
+use hall::{Seat, SeatEvent};
 use hall_log::{Naming, Told};
 use std::alloc::Global;
 use std::collections::LinkedList;
@@ -97,7 +97,7 @@ impl<R: Clock + Drop> TurnSeat<R> {
         ensures told { self.new.told ≡ self.old.told }
         ensures own { IsTrue result → seat_app event.now % 4 ≡ self.old.number }
         ensures there { IsTrue result → ¬ IsTrue (is_gone self.old.gone.items (seat_app event.now)) }
-        ensures goes { IsTrue result → Notes self.new.gone.items event.now }
+        ensures goes { IsTrue result → NotesGone self.new.gone.items event.now }
         ensures gone { (app : _) → IsTrue (is_gone self.old.gone.items app) → IsTrue (is_gone self.new.gone.items app) }
     {
         let app = app_of(event);
@@ -120,7 +120,7 @@ impl<R: Clock + Drop> TurnSeat<R> {
         ensures gone { (app : _) → IsTrue (is_gone self.old.gone.items app) → IsTrue (is_gone self.new.gone.items app) }
         ensures own { IfSome result (λ e. seat_app e % 4 ≡ self.old.number) }
         ensures there { IfSome result (λ e. ¬ IsTrue (is_gone self.old.gone.items (seat_app e))) }
-        ensures goes { IfSome result (Notes self.new.gone.items) }
+        ensures goes { IfSome result (NotesGone self.new.gone.items) }
         ensures room { IfSome result (λ _. vec_len self.new.told < vec_capacity self.new.told) }
     {
         let event = self.next_event()?;
@@ -161,8 +161,8 @@ fn event_of(alloc: Global, app: u64, step: Step) -> Result<SeatEvent, Fail> {
         return Ok(SeatEvent::Gone { app });
     }
     let call = call_of(alloc, step)?;
-    let words = random_for(alloc, &call)?;
-    Ok(SeatEvent::Call(AppCall { app, call, words }))
+    let random = random_for(alloc, &call)?;
+    Ok(SeatEvent::Call(AppCall { app, call, random }))
 }
 
 impl<J: Naming, R: Clock + Drop> Seat<J> for TurnSeat<R> {

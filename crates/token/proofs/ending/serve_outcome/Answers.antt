@@ -32,8 +32,11 @@ returns-in-Piece g c =
     let p = place_for c.in-Piece.stream.direction in
     let o = Some (operation_of c.in-Piece.stream) in
     let reply = Output (Data c.in-Piece.output) in
-    rw (c.in-Piece.is, c.piece.ensures.reply, c.piece.ensures.left) (ends-as g.K.Keep.terms s x c.args.others.now c.args.store.now _ c.args.desk.now _ _
-    (done-at-desk g.K.Keep.terms (λ v. becomes reply (with_operation v s p o)) c.args.store.now c.args.desk.now _ reply c.requires refl (λ v. refl) (λ k fits. ciphering.gives-with k c.args.desk.now s p o reply fits) (λ few. few)))
+    rw (c.in-Piece.is, c.piece.ensures.reply, c.piece.ensures.left)
+    (ends-as g.K.Keep.terms s x c.args.others.now c.args.store.now _ c.args.desk.now _ _
+    (done-at-desk g.K.Keep.terms (λ v. becomes reply
+    (with_operation v s p o)) c.args.store.now c.args.desk.now _ reply c.requires refl (λ v. refl)
+    (λ k fits. ciphering.gives-with k c.args.desk.now s p o reply fits) (λ few. few)))
 
 pub returns-in-Rest : goal.returns-in-Rest
 returns-in-Rest g c =
@@ -41,8 +44,11 @@ returns-in-Rest g c =
     let x = out.Rest c.in-Rest.direction c.in-Rest.output in
     let p = place_for c.in-Rest.direction in
     let reply = Output (Data c.in-Rest.output) in
-    rw (c.in-Rest.is, c.rest.ensures.reply, c.rest.ensures.left) (ends-as g.K.Keep.terms s x c.args.others.now c.args.store.now _ c.args.desk.now _ _
-    (done-at-desk g.K.Keep.terms (λ v. becomes reply (with_operation v s p None)) c.args.store.now c.args.desk.now _ reply c.requires refl (λ v. refl) (λ k fits. ciphering.gives-with k c.args.desk.now s p None reply fits) (λ few. few)))
+    rw (c.in-Rest.is, c.rest.ensures.reply, c.rest.ensures.left)
+    (ends-as g.K.Keep.terms s x c.args.others.now c.args.store.now _ c.args.desk.now _ _
+    (done-at-desk g.K.Keep.terms (λ v. becomes reply
+    (with_operation v s p None)) c.args.store.now c.args.desk.now _ reply c.requires refl (λ v. refl)
+    (λ k fits. ciphering.gives-with k c.args.desk.now s p None reply fits) (λ few. few)))
 
 pub returns-in-BadPadding : goal.returns-in-BadPadding
 returns-in-BadPadding g c =
@@ -50,8 +56,11 @@ returns-in-BadPadding g c =
     let x = out.BadPadding c.in-BadPadding.direction in
     let p = place_for c.in-BadPadding.direction in
     let reply = Code rv.EncryptedDataInvalid in
-    rw (c.in-BadPadding.is, c.bad_padding.ensures.reply, c.bad_padding.ensures.left) (ends-as g.K.Keep.terms s x c.args.others.now c.args.store.now _ c.args.desk.now _ _
-    (done-at-desk g.K.Keep.terms (λ v. becomes reply (with_operation v s p None)) c.args.store.now c.args.desk.now _ reply c.requires refl (λ v. refl) (λ k fits. ciphering.gives-with k c.args.desk.now s p None reply fits) (λ few. tt)))
+    rw (c.in-BadPadding.is, c.bad_padding.ensures.reply, c.bad_padding.ensures.left)
+    (ends-as g.K.Keep.terms s x c.args.others.now c.args.store.now _ c.args.desk.now _ _
+    (done-at-desk g.K.Keep.terms (λ v. becomes reply
+    (with_operation v s p None)) c.args.store.now c.args.desk.now _ reply c.requires refl (λ v. refl)
+    (λ k fits. ciphering.gives-with k c.args.desk.now s p None reply fits) (λ few. tt)))
 
 -- ---- a message's
 
@@ -61,43 +70,59 @@ returns-in-Taken g c =
     let x = out.Taken c.in-Taken.place c.in-Taken.mac in
     let o = Some (mac_of c.in-Taken.mac) in
     let reply = Code rv.Ok in
-    rw (c.in-Taken.is, c.taken.ensures.reply, c.taken.ensures.left) (ends-as g.K.Keep.terms s x c.args.others.now c.args.store.now _ c.args.desk.now _ _
-    (done-at-desk g.K.Keep.terms (λ v. becomes reply (with_mac v s c.in-Taken.place o)) c.args.store.now c.args.desk.now _ reply c.requires refl (λ v. refl) (λ k fits. signing.gives-with k c.args.desk.now s c.in-Taken.place o reply fits) (λ few. tt)))
+    rw (c.in-Taken.is, c.taken.ensures.reply, c.taken.ensures.left)
+    (ends-as g.K.Keep.terms s x c.args.others.now c.args.store.now _ c.args.desk.now _ _
+    (done-at-desk g.K.Keep.terms (λ v. becomes reply
+    (with_mac v s c.in-Taken.place o)) c.args.store.now c.args.desk.now _ reply c.requires refl (λ v. refl)
+    (λ k fits. signing.gives-with k c.args.desk.now s c.in-Taken.place o reply fits) (λ few. tt)))
 
 pub returns-in-Signature : goal.returns-in-Signature
 returns-in-Signature g c =
     let s = c.args.session in
     let x = out.Signature c.in-Signature.signature in
     let reply = Output (Data c.in-Signature.signature) in
-    rw (c.in-Signature.is, c.signed.ensures.reply, c.signed.ensures.left) (ends-as g.K.Keep.terms s x c.args.others.now c.args.store.now _ c.args.desk.now _ _
-    (done-at-desk g.K.Keep.terms (λ v. becomes reply (with_mac v s place.Sign None)) c.args.store.now c.args.desk.now _ reply c.requires refl (λ v. refl) (λ k fits. signing.gives-with k c.args.desk.now s place.Sign None reply fits) (λ few. few)))
+    rw (c.in-Signature.is, c.signed.ensures.reply, c.signed.ensures.left)
+    (ends-as g.K.Keep.terms s x c.args.others.now c.args.store.now _ c.args.desk.now _ _
+    (done-at-desk g.K.Keep.terms (λ v. becomes reply
+    (with_mac v s place.Sign None)) c.args.store.now c.args.desk.now _ reply c.requires refl (λ v. refl)
+    (λ k fits. signing.gives-with k c.args.desk.now s place.Sign None reply fits) (λ few. few)))
 
 pub returns-in-RightSignature : goal.returns-in-RightSignature
 returns-in-RightSignature g c =
     let s = c.args.session in
     let reply = Code rv.Ok in
-    rw (c.in-RightSignature.is, c.verified.ensures.reply, c.verified.ensures.left) (ends-as g.K.Keep.terms s out.RightSignature c.args.others.now c.args.store.now _ c.args.desk.now _ _
-    (done-at-desk g.K.Keep.terms (λ v. becomes reply (with_mac v s place.Verify None)) c.args.store.now c.args.desk.now _ reply c.requires refl (λ v. refl) (λ k fits. signing.gives-with k c.args.desk.now s place.Verify None reply fits) (λ few. tt)))
+    rw (c.in-RightSignature.is, c.verified.ensures.reply, c.verified.ensures.left)
+    (ends-as g.K.Keep.terms s out.RightSignature c.args.others.now c.args.store.now _ c.args.desk.now _ _
+    (done-at-desk g.K.Keep.terms (λ v. becomes reply
+    (with_mac v s place.Verify None)) c.args.store.now c.args.desk.now _ reply c.requires refl (λ v. refl)
+    (λ k fits. signing.gives-with k c.args.desk.now s place.Verify None reply fits) (λ few. tt)))
 
 pub returns-in-WrongSignature : goal.returns-in-WrongSignature
 returns-in-WrongSignature g c =
     let s = c.args.session in
     let reply = Code rv.SignatureInvalid in
-    rw (c.in-WrongSignature.is, c.verified-in-WrongSignature.ensures.reply, c.verified-in-WrongSignature.ensures.left) (ends-as g.K.Keep.terms s out.WrongSignature c.args.others.now c.args.store.now _ c.args.desk.now _ _
-    (done-at-desk g.K.Keep.terms (λ v. becomes reply (with_mac v s place.Verify None)) c.args.store.now c.args.desk.now _ reply c.requires refl (λ v. refl) (λ k fits. signing.gives-with k c.args.desk.now s place.Verify None reply fits) (λ few. tt)))
+    rw (c.in-WrongSignature.is, c.verified-in-WrongSignature.ensures.reply, c.verified-in-WrongSignature.ensures.left)
+    (ends-as g.K.Keep.terms s out.WrongSignature c.args.others.now c.args.store.now _ c.args.desk.now _ _
+    (done-at-desk g.K.Keep.terms (λ v. becomes reply
+    (with_mac v s place.Verify None)) c.args.store.now c.args.desk.now _ reply c.requires refl (λ v. refl)
+    (λ k fits. signing.gives-with k c.args.desk.now s place.Verify None reply fits) (λ few. tt)))
 
 -- ---- a key's
 
 pub returns-in-Wrapped : goal.returns-in-Wrapped
 returns-in-Wrapped g c =
     let reply = Output (Data c.in-Wrapped.bytes) in
-    rw (c.in-Wrapped.is) (ends-as g.K.Keep.terms c.args.session (out.Wrapped c.in-Wrapped.bytes) c.args.others.now c.args.store.now _ c.args.desk.now _ _
-    (done-at-desk g.K.Keep.terms (λ v. replies v reply) c.args.store.now c.args.desk.now c.args.desk.now reply c.requires refl (λ v. refl) (λ k fits. record { says = refl; view = refl; changes = refl; fits = fits }) (λ few. few)))
+    rw (c.in-Wrapped.is) (ends-as g.K.Keep.terms c.args.session
+    (out.Wrapped c.in-Wrapped.bytes) c.args.others.now c.args.store.now _ c.args.desk.now _ _
+    (done-at-desk g.K.Keep.terms (λ v. replies v reply) c.args.store.now c.args.desk.now c.args.desk.now reply c.requires refl
+    (λ v. refl) (λ k fits. record { says = refl; view = refl; changes = refl; fits = fits }) (λ few. few)))
 
 pub returns-in-Unwrapped : goal.returns-in-Unwrapped
 returns-in-Unwrapped g c =
-    rw (c.in-Unwrapped.is) (ends-as g.K.Keep.terms c.args.session (out.Unwrapped c.in-Unwrapped.object) c.args.others.now c.args.store.now _ c.args.desk.now _ _
-    (done-over g.K.Keep.terms (λ k v. unwrapped_result v c.args.session (Unwrapped c.in-Unwrapped.object)) c.args.store.now _ c.args.desk.now _ _ c.requires c.unwrapped.ensures))
+    rw (c.in-Unwrapped.is) (ends-as g.K.Keep.terms c.args.session
+    (out.Unwrapped c.in-Unwrapped.object) c.args.others.now c.args.store.now _ c.args.desk.now _ _
+    (done-over g.K.Keep.terms (λ k v. unwrapped_result v c.args.session
+    (Unwrapped c.in-Unwrapped.object)) c.args.store.now _ c.args.desk.now _ _ c.requires c.unwrapped.ensures))
 
 -- what the login reveals is that of the pending call
 right-is : (who : UserType) (n : ℕ) (k : Contents) → right_reveal who n k ≡ reveals_login (objects_of k) who n
@@ -110,8 +135,11 @@ returns-in-RightPin g c =
     let who = c.in-RightPin.who in
     let n = c.checks.result in
     rw (c.in-RightPin.is) (ends-as g.K.Keep.terms c.args.session (out.RightPin who) c.args.others.now c.args.store.now _ d _ _
-    (done-is g.K.Keep.terms 1 (λ k v. right_pin (answered v) who (reveals_login (objects_of k) who (under_way_of c.args.others.now who))) (λ k v. right_pin (answered v) who (right_reveal who n k)) c.args.store.now _ d _ _
-    (λ k. ap (right_pin (answered (view_of k d)) who) (ap (reveals_login (objects_of k) who) (sym c.checks.ensures) ∙ sym (right-is who n k)))
+    (done-is g.K.Keep.terms 1 (λ k v. right_pin (answered v) who
+    (reveals_login (objects_of k) who (under_way_of c.args.others.now who)))
+    (λ k v. right_pin (answered v) who (right_reveal who n k)) c.args.store.now _ d _ _
+    (λ k. ap (right_pin (answered (view_of k d)) who)
+    (ap (reveals_login (objects_of k) who) (sym c.checks.ensures) ∙ sym (right-is who n k)))
     (done-over g.K.Keep.terms (λ k v. right_pin v who (right_reveal who n k)) c.args.store.now _ d _ _ c.requires c.right.ensures)))
 
 pub returns-in-PinChanged : goal.returns-in-PinChanged
@@ -121,6 +149,7 @@ returns-in-PinChanged g c =
     let made = c.in-PinChanged.verifier in
     let n = c.checks-in-PinChanged.result in
     rw (c.in-PinChanged.is) (ends-as g.K.Keep.terms c.args.session (out.PinChanged who made) c.args.others.now c.args.store.now _ d _ _
-    (done-is g.K.Keep.terms 1 (λ k v. pin_changed (answered v) who made (reveals_checks (under_way_of c.args.others.now who))) (λ k v. pin_changed (answered v) who made (reveals_checks n)) c.args.store.now _ d _ _
+    (done-is g.K.Keep.terms 1 (λ k v. pin_changed (answered v) who made (reveals_checks (under_way_of c.args.others.now who)))
+    (λ k v. pin_changed (answered v) who made (reveals_checks n)) c.args.store.now _ d _ _
     (λ k. ap (λ m. pin_changed (answered (view_of k d)) who made (reveals_checks m)) (sym c.checks-in-PinChanged.ensures))
     (done-over g.K.Keep.terms (λ k v. pin_changed v who made (reveals_checks n)) c.args.store.now _ d _ _ c.requires c.changed.ensures)))

@@ -16,4 +16,5 @@ pub returns-clause-err : goal.returns-clause-err
 returns-clause-err g c =
     let new : CachedState g.row.K.Denot = record { keep = c.insert.new.self; entries = c.self.inside.entries.entries } in
     subst (λ k. OnErr c.insert.result (Fails (cached_terms g.K.Keep.terms) k new (with_object c.args.object.now))) c.self.view_is
-    (on_err_fails g.K.Keep.terms _ new c.insert.ensures.counts.doubt c.insert.result (with_object c.args.object.now) (λ d h sure agree. agree) c.insert.ensures.err)
+    (on_err_fails g.K.Keep.terms _ new c.insert.ensures.counts.doubt c.insert.result (with_object c.args.object.now)
+    (λ d h sure agree. agree) c.insert.ensures.err)

@@ -16,13 +16,15 @@ returns-in-Some-clause-same g c =
     let new : CachedState g.row.K.Denot = record { keep = c.self.inside.keep; entries = c.recall.new.entries.entries } in
     let low : g.K.Keep.terms.doubt c.self.inside.keep ≤ g.K.Keep.terms.doubt c.self.inside.keep = omega arith in
     subst (λ k. Stays (cached_terms g.K.Keep.terms) k new) c.self.view_is
-    (stays g.K.Keep.terms _ new low (λ d h sure agree id object there. agree id object (c.recall.ensures.kept (id, object) there)) (record { held = λ d h. h; crash = λ d left h may. may }))
+    (stays g.K.Keep.terms _ new low (λ d h sure agree id object there. agree id object (c.recall.ensures.kept (id, object) there))
+    (record { held = λ d h. h; crash = λ d left h may. may }))
 
 pub returns-in_err-object-clause-same : goal.returns-in_err-object-clause-same
 returns-in_err-object-clause-same g c =
     let new : CachedState g.row.K.Denot = record { keep = c.object.new.self; entries = c.recall.new.entries.entries } in
     subst (λ k. Stays (cached_terms g.K.Keep.terms) k new) c.self.view_is
-    (stays g.K.Keep.terms _ new c.object.ensures.counts.doubt (λ d h sure agree id object there. agree id object (c.recall.ensures.kept (id, object) there)) c.object.ensures.same)
+    (stays g.K.Keep.terms _ new c.object.ensures.counts.doubt
+    (λ d h sure agree id object there. agree id object (c.recall.ensures.kept (id, object) there)) c.object.ensures.same)
 
 pub returns-clause-same : goal.returns-clause-same
 returns-clause-same g c =

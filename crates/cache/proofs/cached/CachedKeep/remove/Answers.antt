@@ -11,7 +11,8 @@ returns-in_err-remove-clause-err g c =
     let new : CachedState g.row.K.Denot = record { keep = c.remove.new.self; entries = c.self.inside.entries.entries } in
     let step = without_object c.args.id in
     subst (λ k. OnErr c.from_residual.result (Fails (cached_terms g.K.Keep.terms) k new step)) c.self.view_is
-    (on_err_fails_now g.K.Keep.terms _ new c.remove.ensures.counts.doubt c.from_residual.result step (λ d h sure agree. agree) c.in_err-remove.ensures.err)
+    (on_err_fails_now g.K.Keep.terms _ new c.remove.ensures.counts.doubt c.from_residual.result step
+    (λ d h sure agree. agree) c.in_err-remove.ensures.err)
 
 pub returns-clause-ok : goal.returns-clause-ok
 returns-clause-ok g c =

@@ -13,7 +13,8 @@ returns-in_err-reset-clause-err g c =
     let new : CachedState g.row.K.Denot = record { keep = c.reset.new.self; entries = c.self.inside.entries.entries } in
     let step = after_reset c.args.token_record in
     subst (λ k. OnErr c.from_residual.result (Fails (cached_terms g.K.Keep.terms) k new step)) c.self.view_is
-    (on_err_fails_now g.K.Keep.terms _ new c.reset.ensures.counts.doubt c.from_residual.result step (λ d h sure agree. agree) c.in_err-reset.ensures.err)
+    (on_err_fails_now g.K.Keep.terms _ new c.reset.ensures.counts.doubt c.from_residual.result step
+    (λ d h sure agree. agree) c.in_err-reset.ensures.err)
 
 pub returns-clause-ok : goal.returns-clause-ok
 returns-clause-ok g c =
@@ -21,5 +22,6 @@ returns-clause-ok g c =
     let step = after_reset c.args.token_record in
     subst (λ k. Changes (cached_terms g.K.Keep.terms) k new step) c.self.view_is
     (changes g.K.Keep.terms _ new c.reset.ensures.counts.doubt step
-    (λ d h sure agree id object there. absurd (Contains-nil (id, object) (subst (λ (x : LruCache ℕ (List Entry)). Contains x.entries (id, object)) c.clear.ensures there)))
+    (λ d h sure agree id object there. absurd
+    (Contains-nil (id, object) (subst (λ (x : LruCache ℕ (List Entry)). Contains x.entries (id, object)) c.clear.ensures there)))
     c.in_ok-reset.ensures.ok)

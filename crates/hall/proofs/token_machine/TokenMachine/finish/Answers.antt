@@ -18,8 +18,10 @@ returns-clause-spends g c = λ w opened count has.
     let steady = c.finish.ensures.counts.steady has.steady in
     let honest = g.met.K.Keep.sure _ steady in
     let next = c.finish.ensures.ids honest w s opened in
-    let one = next.1 in
-    (blames-none c.finish.result (λ is. let lacks = (c.finish.ensures.steady has.steady is w s).1 in omega (arith, lacks, room)), record { steady = steady; shows = next.0; ids = omega (arith, one, room) })
+    let one = next.1 in (
+      blames-none c.finish.result (λ is. let lacks = (c.finish.ensures.steady has.steady is w s).1 in omega (arith, lacks, room)),
+      record { steady = steady; shows = next.0; ids = omega (arith, one, room) },
+    )
 
 pub returns-clause-other : goal.returns-clause-other
 returns-clause-other g c = λ w s is.

@@ -13,5 +13,6 @@ compare_exchange-found-requires g c =
       c.self.invariant ∙ sym (ap (λ w. w.book) h),
       pen.0 ∙ (c.self.invariant ∙ sym (ap (λ w. w.book) h)),
       offer.0,
-      rw (ap (λ w. w.key) h, pen.1, offer.1, offer.3, c.of.ensures) (put_moves c.self.inside.seen.log c.args.seat c.args.event.now c.args.count c.requires.seat count),
+      rw (ap (λ w. w.key) h, pen.1, offer.1, offer.3, c.of.ensures)
+          (put_moves c.self.inside.seen.log c.args.seat c.args.event.now c.args.count c.requires.seat count),
     )

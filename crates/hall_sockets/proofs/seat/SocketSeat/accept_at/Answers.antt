@@ -5,4 +5,5 @@ pub returns-in-Ok-Some : goal.returns-in-Ok-Some
 returns-in-Ok-Some g c = then-rests g.S.Socket.given c.args.self.now c.seat_at.new.self c.begin.new.self c.seat_at.ensures c.begin.ensures
 
 pub returns-in-Err : goal.returns-in-Err
-returns-in-Err g c = then-rests g.S.Socket.given c.args.self.now c.seat_at.new.self c.not_accepted.new.self c.seat_at.ensures c.not_accepted.ensures
+returns-in-Err g c = then-rests g.S.Socket.given c.args.self.now c.seat_at.new.self c.not_accepted.new.self c.seat_at.ensures
+    c.not_accepted.ensures

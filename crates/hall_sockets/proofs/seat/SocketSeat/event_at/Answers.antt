@@ -7,14 +7,16 @@ use Rattle.hall_sockets.proofs.Staying.{calls-call, from-now, gives-after, gone-
 use Rattle.hall_sockets.proofs.seat.SocketSeat.event_at.Goals as goal
 
 pub next_call-requires-clause-may : goal.next_call-requires-clause-may
-next_call-requires-clause-may g c = from-now g.S.Socket.given (g.N.Licence.allows c.args.licence.now) c.args.self.now c.requires.may c.args.place
+next_call-requires-clause-may g c =
+    from-now g.S.Socket.given (g.N.Licence.allows c.args.licence.now) c.args.self.now c.requires.may c.args.place
 
 pub invariant_of-self : goal.invariant_of-self
 invariant_of-self g c =
     let was = c.args.self.now in
     let e = c.in-Call.ensures in
     record {
-      calls = ap calls_in c.push.ensures ∙ calls-call was.asked.items c.in-Call.call ∙ ap (λ l. l ++ c.in-Call.call ∷ []) was.calls ∙ sym e.gives.1;
+      calls = ap calls_in c.push.ensures ∙ calls-call was.asked.items c.in-Call.call ∙ ap (λ l. l ++ c.in-Call.call ∷ []) was.calls
+          ∙ sym e.gives.1;
       came = ∥∥₁_map was.came (all-came was.clients c.next_call.new.self e.still was.door);
       gone = ap gone_in c.push.ensures ∙ gone-call was.asked.items c.in-Call.call ∙ was.gone ∙ ap apps_of (sym e.past);
     }
@@ -29,7 +31,11 @@ returns-in-Call g c =
       ap (λ k. k.told.items) n.0 ∙ e.gives.2,
       n.1 ∙ c.push.ensures,
       e.gives.0,
-      (owed-as c.note.new.self.clients.places.items c.next_call.new.self.places.items c.note.new.self.answering c.args.place c.in-Call.call.app (ap (λ x. x.places.items) n.0) c.note.ensures.answering e.gives.3, e.short),
+      (
+        owed-as c.note.new.self.clients.places.items c.next_call.new.self.places.items c.note.new.self.answering c.args.place
+            c.in-Call.call.app (ap (λ x. x.places.items) n.0) c.note.ensures.answering e.gives.3,
+        e.short,
+      ),
       gone-same was.clients.past.items c.note.new.self.clients.past.items (ap (λ k. k.past.items) n.0 ∙ e.past),
       λ tied. subst (λ k. ∥ AllTied g.S.Socket.given (λ r. r) (λ w. w) k.places.items k.past.items ∥₁) (sym n.0) (∥∥₁_map tied e.tied),
     )
@@ -77,4 +83,5 @@ returns-in-Ended g c =
       gone = was.gone ∙ ap apps_of (sym e.past);
       came = ∥∥₁_map was.came (all-came was.clients c.next_call.new.self e.still was.door);
     } in
-    gives-after g.S.Socket.given was between c.end.new.self c.end.result c.end.ensures.gives (e.same.number, e.same.seed, e.past, e.gives.asked, e.gives.told, refl, λ tied. ∥∥₁_map tied e.tied)
+    gives-after g.S.Socket.given was between c.end.new.self c.end.result c.end.ensures.gives
+    (e.same.number, e.same.seed, e.past, e.gives.asked, e.gives.told, refl, λ tied. ∥∥₁_map tied e.tied)

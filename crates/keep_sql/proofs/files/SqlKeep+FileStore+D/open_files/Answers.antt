@@ -13,7 +13,13 @@ pub returns-in-Err-clause-leaves : goal.returns-in-Err-clause-leaves
 returns-in-Err-clause-leaves g c = (c.inspect.ensures.log, c.inspect.ensures.db, c.in-Err.ensures.cause)
 
 pub returns-in-Err-open_files_with-clause-leaves : goal.returns-in-Err-open_files_with-clause-leaves
-returns-in-Err-open_files_with-clause-leaves g c = (c.inspect.new.files, c.inspect.ensures.log, c.inspect.ensures.db, c.in-Err-open_files_with.ensures.unharmed, (c.in-Err-open_files_with.error, refl, c.in-Err-open_files_with.ensures.cause))
+returns-in-Err-open_files_with-clause-leaves g c = (
+  c.inspect.new.files,
+  c.inspect.ensures.log,
+  c.inspect.ensures.db,
+  c.in-Err-open_files_with.ensures.unharmed,
+  (c.in-Err-open_files_with.error, refl, c.in-Err-open_files_with.ensures.cause),
+)
 
 pub returns-then-not-is_ours-clause-leaves : goal.returns-then-not-is_ours-clause-leaves
 returns-then-not-is_ours-clause-leaves g c =
@@ -21,7 +27,8 @@ returns-then-not-is_ours-clause-leaves g c =
     let opened = c.in-Ok-open_files_with.ensures in record {
       was = c.in-Ok-open_files_with.conn;
       is_open = opened.opened;
-      finds = λ clean. let f = opened.found clean in subst (λ (i : Image). FindsIn i (file_state c.in-Ok-open_files_with.conn)) seen (record { holds = f.holds; reads = f.reads });
+      finds = λ clean. let f = opened.found clean in
+          subst (λ (i : Image). FindsIn i (file_state c.in-Ok-open_files_with.conn)) seen (record { holds = f.holds; reads = f.reads });
       leaves =
           let blank = c.if-not-is_ours.ensures.not_ours refl in
           inl (refl, refl, blank.1, λ clean first. both_ways _ blank.0 ((c.in-Ok.ensures.first (opened.found clean).honest).1 first));
@@ -32,7 +39,9 @@ returns-in-Err-settle-clause-leaves g c =
     let seen = ap₂ image c.inspect.ensures.log.seen c.inspect.ensures.db.seen in
     let opened = c.in-Ok-open_files_with.ensures in
     left_by c.args.files c.in-Ok-open_files_with.conn c.in-Err-settle.fault c.in-Err-settle.left opened.opened
-    (λ clean. let f = opened.found clean in subst (λ (i : Image). FindsIn i (file_state c.in-Ok-open_files_with.conn)) seen (record { holds = f.holds; reads = f.reads })) c.in-Err-settle.ensures.leaves
+    (λ clean. let f = opened.found clean in
+    subst (λ (i : Image). FindsIn i (file_state c.in-Ok-open_files_with.conn)) seen
+    (record { holds = f.holds; reads = f.reads })) c.in-Err-settle.ensures.leaves
 
 pub returns-in-Ok-settle-clause-opened : goal.returns-in-Ok-settle-clause-opened
 returns-in-Ok-settle-clause-opened g c =
@@ -41,7 +50,8 @@ returns-in-Ok-settle-clause-opened g c =
     let it = c.in-Ok-settle.ensures in record {
       was = c.in-Ok-open_files_with.conn;
       is_open = opened.opened;
-      finds = λ clean. let f = opened.found clean in subst (λ (i : Image). FindsIn i (file_state c.in-Ok-open_files_with.conn)) seen (record { holds = f.holds; reads = f.reads });
+      finds = λ clean. let f = opened.found clean in
+          subst (λ (i : Image). FindsIn i (file_state c.in-Ok-open_files_with.conn)) seen (record { holds = f.holds; reads = f.reads });
       first = λ clean none. (c.in-Ok.ensures.first (opened.found clean).honest).0 (c.if-not-is_ours.ensures.ours refl none);
       undamaged = λ clean. c.in-Ok.ensures.sound (opened.found clean).honest;
       sums = λ clean blank. opened.sums clean (subst (λ (i : Image). IsBlankAs true i) (sym seen) blank);

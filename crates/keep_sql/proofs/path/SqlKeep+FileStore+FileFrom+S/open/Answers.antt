@@ -21,4 +21,6 @@ returns-in-Ok-random-clause-opened g c =
     subst (λ (i : Image). IfOk c.open_files.result (OpenedFile i)) same c.open_files.ensures.opened
 
 pub returns-in-Ok-random-clause-leaves : goal.returns-in-Ok-random-clause-leaves
-returns-in-Ok-random-clause-leaves g c = if_err _ _ c.open_files.result (λ r it. inr (c.in-Ok.files, c.in-Ok.ensures.fresh.0, c.in-Ok.ensures.fresh.1, it)) c.open_files.ensures.leaves
+returns-in-Ok-random-clause-leaves g c =
+    if_err _ _ c.open_files.result
+    (λ r it. inr (c.in-Ok.files, c.in-Ok.ensures.fresh.0, c.in-Ok.ensures.fresh.1, it)) c.open_files.ensures.leaves

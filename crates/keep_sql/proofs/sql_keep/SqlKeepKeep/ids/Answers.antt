@@ -6,13 +6,23 @@ use Rattle.keep_sql.proofs.sql_keep.SqlKeepKeep.ids.Goals as goal
 
 pub returns-in-Ok-clause-same : goal.returns-in-Ok-clause-same
 returns-in-Ok-clause-same g c =
-    let it = subst (λ x. Stayed (state g.S.Store x) (state g.S.Store c.ids.new.conn)) (ap (λ (k : SqlState _). k.conn) c.self.view_is) c.in-Ok.ensures.same in
-    record { held = λ d h. (it.held d h.0, ap (λ (k : SqlState _). k.token_record) c.self.view_is ∙ h.1); crash = λ d left h may. it.crash d left h.0 may }
+    let it = subst (λ x. Stayed (state g.S.Store x) (state g.S.Store c.ids.new.conn))
+    (ap (λ (k : SqlState _). k.conn) c.self.view_is) c.in-Ok.ensures.same in
+    record {
+      held = λ d h. (it.held d h.0, ap (λ (k : SqlState _). k.token_record) c.self.view_is ∙ h.1);
+      crash = λ d left h may. it.crash d left h.0 may;
+    }
 
 pub returns-in-Err-clause-same : goal.returns-in-Err-clause-same
 returns-in-Err-clause-same g c =
-    let it = subst (λ x. Stayed (state g.S.Store x) (state g.S.Store c.ids.new.conn)) (ap (λ (k : SqlState _). k.conn) c.self.view_is) c.in-Err.ensures.same in
-    record { held = λ d h. (it.held d h.0, ap (λ (k : SqlState _). k.token_record) c.self.view_is ∙ h.1); crash = λ d left h may. it.crash d left h.0 may }
+    let it = subst (λ x. Stayed (state g.S.Store x) (state g.S.Store c.ids.new.conn))
+    (ap (λ (k : SqlState _). k.conn) c.self.view_is) c.in-Err.ensures.same in
+    record {
+      held = λ d h. (it.held d h.0, ap (λ (k : SqlState _). k.token_record) c.self.view_is ∙ h.1);
+      crash = λ d left h may. it.crash d left h.0 may;
+    }
 
 pub returns-in-Ok-clause-sound : goal.returns-in-Ok-clause-sound
-returns-in-Ok-clause-sound g c = λ clean d h. c.in-Ok.ensures.sound clean d (subst (λ x. Holds (state g.S.Store x) d) (sym (ap (λ (k : SqlState _). k.conn) c.self.view_is)) h.0)
+returns-in-Ok-clause-sound g c =
+    λ clean d h. c.in-Ok.ensures.sound clean d
+    (subst (λ x. Holds (state g.S.Store x) d) (sym (ap (λ (k : SqlState _). k.conn) c.self.view_is)) h.0)

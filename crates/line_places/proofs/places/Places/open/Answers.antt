@@ -15,12 +15,14 @@ invariant_of-self g c =
     let p = c.index.result.now in
     let t = next-at was.number was.places.items c.args.place c.in-Some.app c.in-Some.ensures.next p c.index.ensures in
     let named = c.new.ensures.app ∙ ap (λ w. w.stream) c.for_app-words.ensures ∙ t.3 in
-    let words = c.new.ensures.first ∙ c.for_app-words.ensures ∙ ap (words_for was.seed) (sym (c.new.ensures.app ∙ ap (λ w. w.stream) c.for_app-words.ensures)) in
+    let words = c.new.ensures.first ∙ c.for_app-words.ensures
+    ∙ ap (words_for was.seed) (sym (c.new.ensures.app ∙ ap (λ w. w.stream) c.for_app-words.ensures)) in
     record {
       worker = was.worker;
       count = count-set was.places.items c.args.place _ was.count;
       kept = ∥∥₁_map was.kept (λ k.
-          kept-open was.seed was.number was.places.items was.past.items was.asked.items was.told.items k c.args.place p t.0 _ t.1 c.new.result refl refl named t.2 words c.new.ensures.asked c.new.ensures.told);
+          kept-open was.seed was.number was.places.items was.past.items was.asked.items was.told.items k c.args.place p t.0 _ t.1
+          c.new.result refl refl named t.2 words c.new.ensures.asked c.new.ensures.told);
     }
 
 pub returns-clause-comes : goal.returns-clause-comes
@@ -28,7 +30,13 @@ returns-clause-comes g c f =
     let was = c.args.self.now in
     let p = c.index.result.now in
     let t = next-at was.number was.places.items c.args.place c.in-Some.app c.in-Some.ensures.next p c.index.ensures in
-    record { place = p; at = t.0; client = c.new.result; app = c.new.ensures.app ∙ ap (λ w. w.stream) c.for_app-words.ensures ∙ t.3; places = refl }
+    record {
+      place = p;
+      at = t.0;
+      client = c.new.result;
+      app = c.new.ensures.app ∙ ap (λ w. w.stream) c.for_app-words.ensures ∙ t.3;
+      places = refl;
+    }
 
 pub returns-clause-refused : goal.returns-clause-refused
 returns-clause-refused g c not =
@@ -61,5 +69,7 @@ returns-clause-tied g c = λ app next are all.
     let t = next-at was.number was.places.items c.args.place app next p c.index.ensures in
     let mine = next-at was.number was.places.items c.args.place c.in-Some.app c.in-Some.ensures.next p c.index.ensures in
     let named = c.new.ensures.app ∙ ap (λ w. w.stream) c.for_app-words.ensures ∙ mine.3 ∙ sym t.3 in
-    tied-set g.R.Source.given g.R.Source.reading g.W.Taker.writing was.places.items was.past.items all c.args.place _ (λ d here. subst (Tied g.R.Source.given g.R.Source.reading g.W.Taker.writing) (same_some c.new.result d here)
-    (new-tied g.R.Source.given g.R.Source.reading g.W.Taker.writing c.new.result c.args.reader c.args.writer app named c.new.ensures.ends c.new.ensures.fresh are))
+    tied-set g.R.Source.given g.R.Source.reading g.W.Taker.writing was.places.items was.past.items all c.args.place _
+    (λ d here. subst (Tied g.R.Source.given g.R.Source.reading g.W.Taker.writing) (same_some c.new.result d here)
+    (new-tied g.R.Source.given g.R.Source.reading g.W.Taker.writing c.new.result c.args.reader c.args.writer app named
+    c.new.ensures.ends c.new.ensures.fresh are))

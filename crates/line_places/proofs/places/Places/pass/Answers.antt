@@ -9,13 +9,15 @@ use Rattle.line_places.proofs.places.Places.pass.Goals as goal
 pub invariant_of-self : goal.invariant_of-self
 invariant_of-self g c =
     let was = c.args.self.now in
-    let n = next-some was.number was.places.items c.args.place c.next_app.result c.next_app.ensures.next c.is_none.ensures c.if-is_none.false in
+    let n = next-some was.number was.places.items c.args.place c.next_app.result c.next_app.ensures.next c.is_none.ensures
+    c.if-is_none.false in
     let p = c.index.result.now in
     let t = next-at was.number was.places.items c.args.place n.0 n.1 p c.index.ensures in
     record {
       worker = was.worker;
       count = count-set was.places.items c.args.place _ was.count;
-      kept = ∥∥₁_map was.kept (λ k. kept-pass was.seed was.number was.places.items was.past.items was.asked.items was.told.items k c.args.place p t.0 _ t.1 refl refl);
+      kept = ∥∥₁_map was.kept (λ k. kept-pass was.seed was.number was.places.items was.past.items was.asked.items was.told.items k
+          c.args.place p t.0 _ t.1 refl refl);
     }
 
 pub returns-clause-passes : goal.returns-clause-passes
@@ -28,7 +30,8 @@ returns-clause-passes g c = λ app next.
 pub returns-clause-still : goal.returns-clause-still
 returns-clause-still g c =
     let was = c.args.self.now in
-    let n = next-some was.number was.places.items c.args.place c.next_app.result c.next_app.ensures.next c.is_none.ensures c.if-is_none.false in
+    let n = next-some was.number was.places.items c.args.place c.next_app.result c.next_app.ensures.next c.is_none.ensures
+    c.if-is_none.false in
     let p = c.index.result.now in
     let t = next-at was.number was.places.items c.args.place n.0 n.1 p c.index.ensures in
     come-set was.number was.places.items c.args.place p _ t.0 (past-goes p _ refl)
@@ -37,4 +40,5 @@ pub returns-clause-others : goal.returns-clause-others
 returns-clause-others g c = λ i not. get_set_other c.args.self.now.places.items c.args.place i _ not
 
 pub returns-clause-tied : goal.returns-clause-tied
-returns-clause-tied g c = λ all. tied-set g.R.Source.given g.R.Source.reading g.W.Taker.writing c.args.self.now.places.items c.args.self.now.past.items all c.args.place _ (λ d here. nobody-tied g.R.Source.given g.R.Source.reading g.W.Taker.writing d here)
+returns-clause-tied g c = λ all. tied-set g.R.Source.given g.R.Source.reading g.W.Taker.writing c.args.self.now.places.items
+    c.args.self.now.past.items all c.args.place _ (λ d here. nobody-tied g.R.Source.given g.R.Source.reading g.W.Taker.writing d here)

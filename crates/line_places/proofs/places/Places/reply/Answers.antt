@@ -10,13 +10,16 @@ pub invariant_of-self : goal.invariant_of-self
 invariant_of-self g c =
     let was = c.args.self.now in
     let r = c.requires.owed in
-    let at = at-index was.places.items c.args.place c.index_mut.result.now (slice_get_within was.places.items c.args.place r.is.place r.is.at) c.index_mut.ensures.value in
-    let one = one-client was.places.items c.args.place r.is.place c.index_mut.result.now r.client c.in-Some.client r.is.at at r.is.client c.in-Some.is in
+    let at = at-index was.places.items c.args.place c.index_mut.result.now
+    (slice_get_within was.places.items c.args.place r.is.place r.is.at) c.index_mut.ensures.value in
+    let one = one-client was.places.items c.args.place r.is.place c.index_mut.result.now r.client c.in-Some.client r.is.at at
+    r.is.client c.in-Some.is in
     record {
       worker = was.worker;
       count = count-set was.places.items c.args.place _ was.count;
       kept = ∥∥₁_map was.kept
-          (did-reply was.seed was.number was.places.items was.past.items was.asked.items was.told.items c.args.place c.index_mut.result.now c.in-Some.client c.reply.new.self at c.in-Some.is c.reply.ensures.same
+          (did-reply was.seed was.number was.places.items was.past.items was.asked.items was.told.items c.args.place
+          c.index_mut.result.now c.in-Some.client c.reply.new.self at c.in-Some.is c.reply.ensures.same
           c.args.app c.args.reply c.push.new.self.items (ap (λ x. x.app) (sym one) ∙ r.app_is) c.reply.ensures.takes c.push.ensures);
     }
 
@@ -24,15 +27,19 @@ pub invariant_of-self-in_default : goal.invariant_of-self-in_default
 invariant_of-self-in_default g c =
     let was = c.args.self.now in
     let r = c.requires.owed in
-    let at = at-index was.places.items c.args.place c.index_mut.result.now (slice_get_within was.places.items c.args.place r.is.place r.is.at) c.index_mut.ensures.value in
-    absurd (c.in_default.not-Some r.client (client-at was.places.items c.args.place r.is.place c.index_mut.result.now r.client r.is.at at r.is.client))
+    let at = at-index was.places.items c.args.place c.index_mut.result.now
+    (slice_get_within was.places.items c.args.place r.is.place r.is.at) c.index_mut.ensures.value in
+    absurd (c.in_default.not-Some r.client
+    (client-at was.places.items c.args.place r.is.place c.index_mut.result.now r.client r.is.at at r.is.client))
 
 pub returns-in-Some-clause-still : goal.returns-in-Some-clause-still
 returns-in-Some-clause-still g c =
     let was = c.args.self.now in
     let r = c.requires.owed in
-    let at = at-index was.places.items c.args.place c.index_mut.result.now (slice_get_within was.places.items c.args.place r.is.place r.is.at) c.index_mut.ensures.value in
-    come-set was.number was.places.items c.args.place c.index_mut.result.now _ at (past-stays c.index_mut.result.now _ c.reply.new.self refl refl)
+    let at = at-index was.places.items c.args.place c.index_mut.result.now
+    (slice_get_within was.places.items c.args.place r.is.place r.is.at) c.index_mut.ensures.value in
+    come-set was.number was.places.items c.args.place c.index_mut.result.now _ at
+    (past-stays c.index_mut.result.now _ c.reply.new.self refl refl)
 
 pub returns-in-Some-clause-others : goal.returns-in-Some-clause-others
 returns-in-Some-clause-others g c =
@@ -43,33 +50,42 @@ pub returns-in-Some-clause-tied : goal.returns-in-Some-clause-tied
 returns-in-Some-clause-tied g c =
     let was = c.args.self.now in
     let r = c.requires.owed in
-    let at = at-index was.places.items c.args.place c.index_mut.result.now (slice_get_within was.places.items c.args.place r.is.place r.is.at) c.index_mut.ensures.value in
-    λ all. tied-sent g.R.Source.given g.R.Source.reading g.W.Taker.writing was.places.items was.past.items c.args.place c.index_mut.result.now c.in-Some.client c.reply.new.self at c.in-Some.is c.reply.ensures.same.0 all _ c.reply.ensures.sent
+    let at = at-index was.places.items c.args.place c.index_mut.result.now
+    (slice_get_within was.places.items c.args.place r.is.place r.is.at) c.index_mut.ensures.value in
+    λ all. tied-sent g.R.Source.given g.R.Source.reading g.W.Taker.writing was.places.items was.past.items c.args.place
+    c.index_mut.result.now c.in-Some.client c.reply.new.self at c.in-Some.is c.reply.ensures.same.0 all _ c.reply.ensures.sent
 
 pub returns-in-Some-clause-sent : goal.returns-in-Some-clause-sent
 returns-in-Some-clause-sent g c =
     let was = c.args.self.now in
     let r = c.requires.owed in
-    let at = at-index was.places.items c.args.place c.index_mut.result.now (slice_get_within was.places.items c.args.place r.is.place r.is.at) c.index_mut.ensures.value in
-    sent-at g.R.Source.given g.R.Source.reading g.W.Taker.writing was.places.items was.past.items c.args.place c.index_mut.result.now c.in-Some.client c.reply.new.self at c.in-Some.is _ c.reply.ensures.sent
+    let at = at-index was.places.items c.args.place c.index_mut.result.now
+    (slice_get_within was.places.items c.args.place r.is.place r.is.at) c.index_mut.ensures.value in
+    sent-at g.R.Source.given g.R.Source.reading g.W.Taker.writing was.places.items was.past.items c.args.place
+    c.index_mut.result.now c.in-Some.client c.reply.new.self at c.in-Some.is _ c.reply.ensures.sent
 
 pub reply-requires-clause-may : goal.reply-requires-clause-may
 reply-requires-clause-may g c =
     let was = c.args.self.now in
     let r = c.requires.owed in
-    let at = at-index was.places.items c.args.place c.index_mut.result.now (slice_get_within was.places.items c.args.place r.is.place r.is.at) c.index_mut.ensures.value in
+    let at = at-index was.places.items c.args.place c.index_mut.result.now
+    (slice_get_within was.places.items c.args.place r.is.place r.is.at) c.index_mut.ensures.value in
     c.requires.may c.in-Some.client (record { place = c.index_mut.result.now; at = at; client = c.in-Some.is })
 
 pub returns-clause-sent : goal.returns-clause-sent
 returns-clause-sent g c =
     let was = c.args.self.now in
     let r = c.requires.owed in
-    let at = at-index was.places.items c.args.place c.index_mut.result.now (slice_get_within was.places.items c.args.place r.is.place r.is.at) c.index_mut.ensures.value in
-    absurd (c.in_default.not-Some r.client (client-at was.places.items c.args.place r.is.place c.index_mut.result.now r.client r.is.at at r.is.client))
+    let at = at-index was.places.items c.args.place c.index_mut.result.now
+    (slice_get_within was.places.items c.args.place r.is.place r.is.at) c.index_mut.ensures.value in
+    absurd (c.in_default.not-Some r.client
+    (client-at was.places.items c.args.place r.is.place c.index_mut.result.now r.client r.is.at at r.is.client))
 
 pub returns-clause-tied : goal.returns-clause-tied
 returns-clause-tied g c =
     let was = c.args.self.now in
     let r = c.requires.owed in
-    let at = at-index was.places.items c.args.place c.index_mut.result.now (slice_get_within was.places.items c.args.place r.is.place r.is.at) c.index_mut.ensures.value in
-    absurd (c.in_default.not-Some r.client (client-at was.places.items c.args.place r.is.place c.index_mut.result.now r.client r.is.at at r.is.client))
+    let at = at-index was.places.items c.args.place c.index_mut.result.now
+    (slice_get_within was.places.items c.args.place r.is.place r.is.at) c.index_mut.ensures.value in
+    absurd (c.in_default.not-Some r.client
+    (client-at was.places.items c.args.place r.is.place c.index_mut.result.now r.client r.is.at at r.is.client))

@@ -22,7 +22,8 @@ invariant_of-self c =
       chain = chain_further taken bytes _ c.requires.some before full is s.key s.chain s.last _ _ h.chain (block ∙ h.last)
           c.chained_on-chain.ensures c.chained_on-self-inside.ensures;
       last = last_further taken bytes _ c.requires.some before full is _
-          (ap (λ b. take (length rest) (b ++ drop (length rest) s.last)) c.copy_from_slice.ensures.after ∙ take_at rest _ (length rest) refl ∙ behind);
+          (ap (λ b. take (length rest) (b ++ drop (length rest) s.last)) c.copy_from_slice.ensures.after
+          ∙ take_at rest _ (length rest) refl ∙ behind);
       size = size_further taken bytes _ c.requires.some before full is rest behind;
       fits = fits_further taken bytes _ c.requires.some before full is rest behind;
     }

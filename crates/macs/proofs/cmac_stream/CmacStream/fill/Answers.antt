@@ -14,7 +14,8 @@ invariant_of-self c =
     let is = c.push.ensures in
     record {
       chain = chain_filled taken bytes _ room is s.key s.chain h.chain;
-      last = last_filled taken bytes _ room is _ _ h.last (written s.last bytes _ s.last_len (s.last_len + length bytes) len refl c.copy_from_slice.ensures.after);
+      last = last_filled taken bytes _ room is _ _ h.last
+          (written s.last bytes _ s.last_len (s.last_len + length bytes) len refl c.copy_from_slice.ensures.after);
       size = size_filled taken bytes _ room is s.last_len h.size;
       fits = omega arith;
     }

@@ -7,5 +7,8 @@ use Rattle.reserve.proofs.reserved.ReservedKeep.insert.Goals as goal
 pub returns-in-Ok-clause-ok : goal.returns-in-Ok-clause-ok
 returns-in-Ok-clause-ok g c =
     let was = c.self.inside in
-    let new : ReservedState g.row.K.Denot g.row.R.Denot = record { keep = c.insert.new.self; room = was.room; failed = was.failed; tried = was.tried } in
-    once g.K.Keep.terms c.args.self.now new was.keep (ap (λ (k : ReservedState g.row.K.Denot g.row.R.Denot). k.keep) c.self.view_is ∙ c.admit.ensures.keep) (with_object c.args.object.now) c.in-Ok.ensures.ok
+    let new : ReservedState g.row.K.Denot g.row.R.Denot =
+    record { keep = c.insert.new.self; room = was.room; failed = was.failed; tried = was.tried } in
+    once g.K.Keep.terms c.args.self.now new was.keep
+    (ap (λ (k : ReservedState g.row.K.Denot g.row.R.Denot). k.keep) c.self.view_is ∙ c.admit.ensures.keep)
+    (with_object c.args.object.now) c.in-Ok.ensures.ok

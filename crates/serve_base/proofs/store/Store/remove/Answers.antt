@@ -7,13 +7,16 @@ pub returns-in_err-remove-clause-leaves_or : goal.returns-in_err-remove-clause-l
 returns-in_err-remove-clause-leaves_or g c = λ k h.
     rw (← c.self.view_is) (
     let t = rw (← c.self.view_is) at h in
-    let p : LeavesOr g.K.Keep.terms (record { keep = c.self.inside.keep; listed = c.self.inside.listed.items }) (record { keep = c.remove.new.self; listed = c.self.inside.listed.items }) (without_object c.args.id k) = (λ d may. c.in_err-remove.ensures.err.crash k d t.held may) in
+    let p : LeavesOr g.K.Keep.terms (record { keep = c.self.inside.keep; listed = c.self.inside.listed.items })
+    (record { keep = c.remove.new.self; listed = c.self.inside.listed.items }) (without_object c.args.id k) =
+    (λ d may. c.in_err-remove.ensures.err.crash k d t.held may) in
     on_err c.from_residual.result p)
 
 pub returns-clause-has : goal.returns-clause-has
 returns-clause-has g c = λ k h.
     let t = rw (← c.self.view_is) at h in
-    has-removed _ _ _ k c.remove.ensures.counts.doubt c.args.id t (c.in_ok-remove.ensures.ok.held k t.held) (c.remove_id.ensures (has-rising _ _ k t))
+    has-removed _ _ _ k c.remove.ensures.counts.doubt c.args.id t (c.in_ok-remove.ensures.ok.held k t.held)
+    (c.remove_id.ensures (has-rising _ _ k t))
 
 pub returns-clause-leaves : goal.returns-clause-leaves
 returns-clause-leaves g c = λ k h left may.

@@ -8,7 +8,9 @@ pub returns-in_err-set_record-clause-leaves_or : goal.returns-in_err-set_record-
 returns-in_err-set_record-clause-leaves_or g c = λ k h.
     rw (← c.self.view_is) (
     let t = rw (← c.self.view_is) at h in
-    let p : LeavesOr g.K.Keep.terms (record { keep = c.self.inside.keep; listed = c.self.inside.listed.items }) (record { keep = c.set_record.new.self; listed = c.self.inside.listed.items }) (with_record c.args.token_record k) = (λ d may. c.in_err-set_record.ensures.err.crash k d t.held may) in
+    let p : LeavesOr g.K.Keep.terms (record { keep = c.self.inside.keep; listed = c.self.inside.listed.items })
+    (record { keep = c.set_record.new.self; listed = c.self.inside.listed.items }) (with_record c.args.token_record k) =
+    (λ d may. c.in_err-set_record.ensures.err.crash k d t.held may) in
     on_err c.from_residual.result p)
 
 pub returns-clause-has : goal.returns-clause-has

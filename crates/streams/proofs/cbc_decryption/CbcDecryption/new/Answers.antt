@@ -10,7 +10,8 @@ invariant_of-result c =
     let start = sym (c.push.ensures ∙ ap (λ b. b ++ c.args.iv) c.new-start.ensures) in
     record {
       held = c.requires;
-      given = cbc_begun_back c.args.key _ _ _ c.args.iv c.args.held start c.new.ensures.taken c.new.ensures.given c.size-size.ensures.key (subst IsBlock start iv);
+      given = cbc_begun_back c.args.key _ _ _ c.args.iv c.args.held start c.new.ensures.taken c.new.ensures.given
+          c.size-size.ensures.key (subst IsBlock start iv);
       chain = begun_chain_back c.args.key _ _ _ c.args.iv c.args.held start c.new.ensures.taken c.new.ensures.given;
       kept = begun_held c.args.held _ _ c.new.ensures.kept c.new.ensures.taken;
     }

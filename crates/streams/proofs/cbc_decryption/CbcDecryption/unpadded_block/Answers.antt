@@ -15,8 +15,10 @@ returns-in_default-clause-bad_pad c = λ _ x bytes e.
     let x_is = c.xor_blocks-last.ensures in
     let one : length s.passed.kept ≡ 16 = omega (arith, c.len.ensures.value, c.if-len-ne-BLOCK_SIZE.false) in
     c.in_default.ensures.none refl (drop (16 * blocks_done s.held s.passed.taken.bytes) x)
-    (ended_none s.key s.iv.bytes s.passed.given.bytes s.passed.taken.bytes s.chain s.passed.kept c.decipher.result c.xor_blocks-last.result c.block.result s.held
-    h.given h.chain h.kept one c.block.ensures c.decipher.ensures.back x_is.value c.decipher.ensures.blocks.1.size x_is.blocks.1.size x_is.blocks.2.size
+    (ended_none s.key s.iv.bytes s.passed.given.bytes s.passed.taken.bytes s.chain s.passed.kept c.decipher.result
+    c.xor_blocks-last.result c.block.result s.held
+    h.given h.chain h.kept one c.block.ensures c.decipher.ensures.back x_is.value c.decipher.ensures.blocks.1.size
+    x_is.blocks.1.size x_is.blocks.2.size
     x_is.blocks.2.bytes x bytes
     ((λ t. cbc_pad_encrypted (c.self.view_is t).key (c.self.view_is t).iv x) ∙ e ∙ sym (ap (λ f. f.taken) c.self.view_is)))
 
@@ -26,9 +28,12 @@ returns-clause-value c =
     let h = c.self.invariant in
     let x_is = c.xor_blocks-last.ensures in
     let one : length s.passed.kept ≡ 16 = omega (arith, c.len.ensures.value, c.if-len-ne-BLOCK_SIZE.false) in
-    let out = c.in_ok-extend_from_slice.ensures.items ∙ ap (λ l. l ++ take c.in-Some.len c.xor_blocks-last.result) c.in_ok-out.ensures.items in
-    let all = ended_value s.key s.iv.bytes s.passed.given.bytes s.passed.taken.bytes s.chain s.passed.kept c.decipher.result c.xor_blocks-last.result c.block.result s.held
-    h.given h.chain h.kept one c.block.ensures c.decipher.ensures.back x_is.value c.decipher.ensures.blocks.1.size x_is.blocks.1.size x_is.blocks.2.size
+    let out = c.in_ok-extend_from_slice.ensures.items
+    ∙ ap (λ l. l ++ take c.in-Some.len c.xor_blocks-last.result) c.in_ok-out.ensures.items in
+    let all = ended_value s.key s.iv.bytes s.passed.given.bytes s.passed.taken.bytes s.chain s.passed.kept c.decipher.result
+    c.xor_blocks-last.result c.block.result s.held
+    h.given h.chain h.kept one c.block.ensures c.decipher.ensures.back x_is.value c.decipher.ensures.blocks.1.size
+    x_is.blocks.1.size x_is.blocks.2.size
     (take c.in-Some.len c.xor_blocks-last.result) c.in-Some.ensures.found in
     (λ t. cbc_pad_encrypted (sym c.self.view_is t).key (sym c.self.view_is t).iv ((sym c.self.view_is t).given ++ out t))
     ∙ all ∙ ap (λ f. f.taken) c.self.view_is
@@ -42,7 +47,8 @@ returns-clause-only c = λ x bytes e.
     let last = c.xor_blocks-last.result in
     let out = c.in_ok-extend_from_slice.ensures.items ∙ ap (λ l. l ++ take c.in-Some.len last) c.in_ok-out.ensures.items in
     ended_only s.key s.iv.bytes s.passed.given.bytes s.passed.taken.bytes s.chain s.passed.kept c.decipher.result last c.block.result s.held
-    h.given h.chain h.kept one c.block.ensures c.decipher.ensures.back x_is.value c.decipher.ensures.blocks.1.size x_is.blocks.1.size x_is.blocks.2.size
+    h.given h.chain h.kept one c.block.ensures c.decipher.ensures.back x_is.value c.decipher.ensures.blocks.1.size
+    x_is.blocks.1.size x_is.blocks.2.size
     (take c.in-Some.len last) c.in-Some.ensures.found (All-take (λ b. b < 256) c.in-Some.len last x_is.blocks.2.bytes) x bytes
     ((λ t. cbc_pad_encrypted (c.self.view_is t).key (c.self.view_is t).iv x) ∙ e ∙ sym (ap (λ f. f.taken) c.self.view_is))
     ∙ (λ t. (c.self.view_is t).given ++ sym out t)
@@ -54,7 +60,8 @@ returns-clause-size c =
     let one : length s.passed.kept ≡ 16 = omega (arith, c.len.ensures.value, c.if-len-ne-BLOCK_SIZE.false) in
     let last = c.xor_blocks-last.result in
     let out = ap length (c.in_ok-extend_from_slice.ensures.items ∙ ap (λ l. l ++ take c.in-Some.len last) c.in_ok-out.ensures.items) in
-    let size = waiting-held s.held s.passed.taken.bytes s.passed.given.bytes s.passed.kept h.given.size h.kept ∙ ap (λ f. length f.taken - length f.given) c.self.view_is in
+    let size = waiting-held s.held s.passed.taken.bytes s.passed.given.bytes s.passed.kept h.given.size h.kept
+    ∙ ap (λ f. length f.taken - length f.given) c.self.view_is in
     let whole = c.xor_blocks-last.ensures.blocks.2.size in
     omega (arith, one, out, size, whole, length-take c.in-Some.len last)
 
@@ -65,4 +72,5 @@ returns-clause-bytes c =
     let last = c.xor_blocks-last.result in
     let out = c.in_ok-extend_from_slice.ensures.items ∙ ap (λ l. l ++ take c.in-Some.len last) c.in_ok-out.ensures.items in
     subst AreBytes (λ t. (c.self.view_is t).given ++ sym out t)
-    (All-append (λ b. b < 256) s.passed.given.bytes (take c.in-Some.len last) h.given.bytes (All-take (λ b. b < 256) c.in-Some.len last c.xor_blocks-last.ensures.blocks.2.bytes))
+    (All-append (λ b. b < 256) s.passed.given.bytes (take c.in-Some.len last) h.given.bytes
+    (All-take (λ b. b < 256) c.in-Some.len last c.xor_blocks-last.ensures.blocks.2.bytes))

@@ -13,7 +13,11 @@ invariant_of-self c =
     let all = c.advance.ensures.given ∙ ap (λ x. s.passed.given.bytes ++ x) c.deref.ensures.value in
     record {
       held = h.held;
-      given = cbc_further_back s.key s.iv.bytes s.passed.given.bytes s.passed.taken.bytes c.args.piece.now s.chain s.passed.kept c.in_ok-out.out.items _ _ s.held _ _ _ h.held h.given h.chain h.kept len total refl c.advance.ensures.taken all r.size r.back r.bytes;
-      chain = chain_further s.key s.iv.bytes s.passed.given.bytes s.passed.taken.bytes c.args.piece.now s.chain s.passed.kept c.in_ok-out.out.items _ _ s.held _ _ _ h.held h.given h.chain h.kept len total refl c.advance.ensures.taken all _ r.chain;
-      kept = kept_held s.held s.passed.taken.bytes c.args.piece.now s.passed.kept _ _ _ _ h.held h.kept len total refl c.advance.ensures.taken _ c.advance.ensures.kept;
+      given = cbc_further_back s.key s.iv.bytes s.passed.given.bytes s.passed.taken.bytes c.args.piece.now s.chain s.passed.kept
+          c.in_ok-out.out.items _ _ s.held _ _ _ h.held h.given h.chain h.kept len total refl c.advance.ensures.taken all r.size
+          r.back r.bytes;
+      chain = chain_further s.key s.iv.bytes s.passed.given.bytes s.passed.taken.bytes c.args.piece.now s.chain s.passed.kept
+          c.in_ok-out.out.items _ _ s.held _ _ _ h.held h.given h.chain h.kept len total refl c.advance.ensures.taken all _ r.chain;
+      kept = kept_held s.held s.passed.taken.bytes c.args.piece.now s.passed.kept _ _ _ _ h.held h.kept len total refl
+          c.advance.ensures.taken _ c.advance.ensures.kept;
     }

@@ -13,7 +13,8 @@ returns-clause-value c =
     let block = c.encipher.ensures.value ∙ ap (encrypted_block s.key) c.xor_blocks.ensures.value in
     let out = c.in_ok-extend_from_slice.ensures.items ∙ ap (λ l. l ++ c.encipher.result) c.in_ok-out.ensures.items in
     (λ t. (sym c.self.view_is t).given ++ out t)
-    ∙ padded_end s.key s.iv.bytes s.passed.taken.bytes s.passed.given.bytes s.chain s.passed.kept c.filled_block-last.result c.encipher.result _ h.given h.chain h.kept count last block
+    ∙ padded_end s.key s.iv.bytes s.passed.taken.bytes s.passed.given.bytes s.chain s.passed.kept c.filled_block-last.result
+    c.encipher.result _ h.given h.chain h.kept count last block
     ∙ ap (λ f. cbc_pad_encrypted f.key f.iv f.taken) c.self.view_is
 
 pub returns-clause-size : goal.returns-clause-size

@@ -11,8 +11,11 @@ invariant_of-self c =
     let len = c.len.ensures.value in
     let all = c.advance.ensures.given ∙ ap (λ x. s.passed.given.bytes ++ x) c.deref.ensures.value in
     record {
-      given = cbc_further s.key s.iv.bytes s.passed.taken.bytes c.args.piece.now s.chain s.passed.kept _ _ c.len.result h.chain h.kept len refl c.advance.ensures.taken
+      given = cbc_further s.key s.iv.bytes s.passed.taken.bytes c.args.piece.now s.chain s.passed.kept _ _ c.len.result h.chain
+          h.kept len refl c.advance.ensures.taken
           s.passed.given.bytes _ _ h.given r.size r.out all;
-      chain = chain_after s.key s.iv.bytes s.passed.taken.bytes c.args.piece.now s.chain s.passed.kept _ _ c.len.result h.chain h.kept len refl c.advance.ensures.taken _ r.chain;
-      kept = kept_after s.passed.taken.bytes c.args.piece.now s.passed.kept _ _ c.len.result h.kept len refl c.advance.ensures.taken _ c.advance.ensures.kept;
+      chain = chain_after s.key s.iv.bytes s.passed.taken.bytes c.args.piece.now s.chain s.passed.kept _ _ c.len.result h.chain
+          h.kept len refl c.advance.ensures.taken _ r.chain;
+      kept = kept_after s.passed.taken.bytes c.args.piece.now s.passed.kept _ _ c.len.result h.kept len refl c.advance.ensures.taken
+          _ c.advance.ensures.kept;
     }

@@ -10,7 +10,9 @@ invariant_of-self c =
     let r = c.in_ok-out.ensures in
     let all = c.advance.ensures.given ∙ ap (λ x. s.passed.given.bytes ++ x) c.deref.ensures.value in
     record {
-      given = ecb_further_back s.key s.passed.given.bytes s.passed.taken.bytes c.args.piece.now s.passed.kept c.in_ok-out.out.items _ _ _ c.len.result h.kept c.len.ensures.value refl
+      given = ecb_further_back s.key s.passed.given.bytes s.passed.taken.bytes c.args.piece.now s.passed.kept c.in_ok-out.out.items
+          _ _ _ c.len.result h.kept c.len.ensures.value refl
           c.advance.ensures.taken all r.size h.given r.back r.bytes;
-      kept = kept_after s.passed.taken.bytes c.args.piece.now s.passed.kept _ _ c.len.result h.kept c.len.ensures.value refl c.advance.ensures.taken _ c.advance.ensures.kept;
+      kept = kept_after s.passed.taken.bytes c.args.piece.now s.passed.kept _ _ c.len.result h.kept c.len.ensures.value refl
+          c.advance.ensures.taken _ c.advance.ensures.kept;
     }

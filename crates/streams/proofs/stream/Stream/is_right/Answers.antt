@@ -15,7 +15,8 @@ returns-in-EcbEncrypt-clause-right c =
 
 pub returns-in-EcbDecrypt-clause-right : goal.returns-in-EcbDecrypt-clause-right
 returns-in-EcbDecrypt-clause-right c =
-    subst IsRight (ap streamed (sym c.in-EcbDecrypt.is) ∙ c.self.view_is) (ecb_right_back c.in-EcbDecrypt.stream c.gives-in-EcbDecrypt.ensures)
+    subst IsRight (ap streamed (sym c.in-EcbDecrypt.is) ∙ c.self.view_is)
+    (ecb_right_back c.in-EcbDecrypt.stream c.gives-in-EcbDecrypt.ensures)
 
 pub returns-in-CbcEncrypt-clause-right : goal.returns-in-CbcEncrypt-clause-right
 returns-in-CbcEncrypt-clause-right c =
@@ -28,7 +29,8 @@ returns-in-CbcDecrypt-clause-right c =
 
 pub returns-in-CbcPadEncrypt-clause-right : goal.returns-in-CbcPadEncrypt-clause-right
 returns-in-CbcPadEncrypt-clause-right c =
-    subst IsRight (ap streamed (sym c.in-CbcPadEncrypt.is) ∙ c.self.view_is) (cbc_pad_right c.in-CbcPadEncrypt.stream c.gives-in-CbcPadEncrypt.ensures)
+    subst IsRight (ap streamed (sym c.in-CbcPadEncrypt.is) ∙ c.self.view_is)
+    (cbc_pad_right c.in-CbcPadEncrypt.stream c.gives-in-CbcPadEncrypt.ensures)
 
 pub returns-in-CbcPadDecrypt-clause-right : goal.returns-in-CbcPadDecrypt-clause-right
 returns-in-CbcPadDecrypt-clause-right c =
@@ -37,11 +39,13 @@ returns-in-CbcPadDecrypt-clause-right c =
 
 pub returns-in-CtrEncrypt-clause-right : goal.returns-in-CtrEncrypt-clause-right
 returns-in-CtrEncrypt-clause-right c =
-    subst IsRight (ap streamed (sym c.in-CtrEncrypt.is) ∙ c.self.view_is) (ctr_right c.in-CtrEncrypt.stream c.gives-in-CtrEncrypt.ensures.key)
+    subst IsRight (ap streamed (sym c.in-CtrEncrypt.is) ∙ c.self.view_is)
+    (ctr_right c.in-CtrEncrypt.stream c.gives-in-CtrEncrypt.ensures.key)
 
 pub returns-in-CtrDecrypt-clause-right : goal.returns-in-CtrDecrypt-clause-right
 returns-in-CtrDecrypt-clause-right c =
-    subst IsRight (ap streamed (sym c.in-CtrDecrypt.is) ∙ c.self.view_is) (ctr_right_back c.in-CtrDecrypt.stream c.gives-in-CtrDecrypt.ensures.key)
+    subst IsRight (ap streamed (sym c.in-CtrDecrypt.is) ∙ c.self.view_is)
+    (ctr_right_back c.in-CtrDecrypt.stream c.gives-in-CtrDecrypt.ensures.key)
 
 pub returns-in-EcbEncrypt-clause-value : goal.returns-in-EcbEncrypt-clause-value
 returns-in-EcbEncrypt-clause-value c =
@@ -65,7 +69,9 @@ pub returns-in-CbcDecrypt-clause-value : goal.returns-in-CbcDecrypt-clause-value
 returns-in-CbcDecrypt-clause-value c =
     let f = c.in-CbcDecrypt.stream in
     subst (λ (s : Streamed). output_so_far s ≡ s.given) (ap streamed (sym c.in-CbcDecrypt.is) ∙ c.self.view_is)
-    (so_far_back (Cbc f.iv) f.key f.taken f.given (cbc_right_back f (rw c.in-CbcDecrypt.is at c.self.invariant.held) c.gives-in-CbcDecrypt.ensures) c.gives-in-CbcDecrypt.ensures.bytes)
+    (so_far_back (Cbc f.iv) f.key f.taken f.given
+    (cbc_right_back f (rw c.in-CbcDecrypt.is at c.self.invariant.held) c.gives-in-CbcDecrypt.ensures)
+    c.gives-in-CbcDecrypt.ensures.bytes)
 
 pub returns-in-CbcPadEncrypt-clause-value : goal.returns-in-CbcPadEncrypt-clause-value
 returns-in-CbcPadEncrypt-clause-value c =
@@ -77,7 +83,9 @@ pub returns-in-CbcPadDecrypt-clause-value : goal.returns-in-CbcPadDecrypt-clause
 returns-in-CbcPadDecrypt-clause-value c =
     let f = c.in-CbcPadDecrypt.stream in
     subst (λ (s : Streamed). output_so_far s ≡ s.given) (ap streamed (sym c.in-CbcPadDecrypt.is) ∙ c.self.view_is)
-    (so_far_back (CbcPad f.iv) f.key f.taken f.given (cbc_pad_right_back f (rw c.in-CbcPadDecrypt.is at c.self.invariant.held) c.gives-in-CbcPadDecrypt.ensures) c.gives-in-CbcPadDecrypt.ensures.bytes)
+    (so_far_back (CbcPad f.iv) f.key f.taken f.given
+    (cbc_pad_right_back f (rw c.in-CbcPadDecrypt.is at c.self.invariant.held) c.gives-in-CbcPadDecrypt.ensures)
+    c.gives-in-CbcPadDecrypt.ensures.bytes)
 
 pub returns-in-CtrEncrypt-clause-value : goal.returns-in-CtrEncrypt-clause-value
 returns-in-CtrEncrypt-clause-value c =
@@ -89,4 +97,5 @@ pub returns-in-CtrDecrypt-clause-value : goal.returns-in-CtrDecrypt-clause-value
 returns-in-CtrDecrypt-clause-value c =
     let f = c.in-CtrDecrypt.stream in
     subst (λ (s : Streamed). output_so_far s ≡ s.given) (ap streamed (sym c.in-CtrDecrypt.is) ∙ c.self.view_is)
-    (so_far_back (Ctr f.bits f.start) f.key f.taken (ctr_output f) (ctr_right_back f c.gives-in-CtrDecrypt.ensures.key) c.gives-in-CtrDecrypt.ensures.bytes)
+    (so_far_back (Ctr f.bits f.start) f.key f.taken (ctr_output f)
+    (ctr_right_back f c.gives-in-CtrDecrypt.ensures.key) c.gives-in-CtrDecrypt.ensures.bytes)

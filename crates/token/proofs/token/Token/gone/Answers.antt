@@ -2,7 +2,10 @@ use Rattle.model_runs.proofs.Resulted.{next-gone, shows-gone}
 use Rattle.token.proofs.token.Token.gone.Goals as goal
 
 pub returns-clause-world : goal.returns-clause-world
-returns-clause-world g c = λ w s. rw c.retain_others.ensures (shows-gone g.K.Keep.terms _ _ c.leave.new.desks.entries _ c.args.app w c.leave.ensures.own c.leave.ensures.others (rw (← c.self.view_is) at s))
+returns-clause-world g c = λ w s. rw c.retain_others.ensures
+    (shows-gone g.K.Keep.terms _ _ c.leave.new.desks.entries _ c.args.app w c.leave.ensures.own c.leave.ensures.others
+    (rw (← c.self.view_is) at s))
 
 pub returns-clause-ids : goal.returns-clause-ids
-returns-clause-ids g c = rw (c.retain_others.ensures, ← c.self.view_is) (λ w s. next-gone g.K.Keep.terms _ _ c.leave.new.desks.entries _ c.args.app w c.leave.ensures.own c.leave.ensures.others s)
+returns-clause-ids g c = rw (c.retain_others.ensures, ← c.self.view_is)
+    (λ w s. next-gone g.K.Keep.terms _ _ c.leave.new.desks.entries _ c.args.app w c.leave.ensures.own c.leave.ensures.others s)

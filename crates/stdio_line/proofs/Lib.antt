@@ -1,0 +1,4 @@
+pub mod Moving
+pub mod Leading
+pub mod Serving
+pub mod Going
