@@ -67,7 +67,8 @@ def numbers(path, prefix):
 
 
 def definitions():
-    functions = numbers("crates/ck_calls/specs/Functions.antt", "function")
+    found = re.findall(r"^row_of functions\.(\w+) = \w+ (\d+) ", text("crates/ck_calls/specs/Rows.antt"), re.M)
+    functions = {plain(name): int(number) for name, number in found}
     kinds = {of: numbers("crates/ck_types/specs/Numbers.antt", of) for of in ("rv", "attr_type", "mech_type", "object_class", "key_type")}
     return functions, kinds
 

@@ -7,7 +7,7 @@ use Rattle.std.proofs.lemmas.List.Concat.{flat_map-cons}
 use Rattle.ck_types.specs.declared.constants.TheConstants.{MAX_ENTRIES}
 use Rattle.ck_types.specs.declared.rv.Rv.{Rv}
 use Rattle.ck_types.specs.declared.rv.Rv.TheVariants as rv
-use Rattle.ck_types.specs.Format.{number64, pair}
+use Rattle.ck_types.specs.Format.{number64, byte_string, pair}
 use Rattle.ck_calls.specs.declared.function.Function.{Function}
 use Rattle.ck_calls.specs.declared.function.Function.TheVariants as functions
 use Rattle.ck_calls.specs.declared.call.Call.{Call}
@@ -17,11 +17,10 @@ use Rattle.ck_calls.specs.declared.reply.Output.TheVariants.{Length, Data}
 use Rattle.ck_calls.specs.declared.reply.Reply.{Reply}
 use Rattle.ck_calls.specs.declared.reply.Reply.TheVariants as replies
 use Rattle.ck_calls.specs.Functions.{function_number}
-use Rattle.ck_calls.specs.Fields.{token_info_counts, HasLength, encode_value, attribute_value}
+use Rattle.ck_calls.specs.Fields.{buffer_len, token_info_counts, HasLength, encode_value, attribute_value}
 use Rattle.wire.specs.declared.fault.WireFault.{WireFault}
 use Rattle.wire.specs.declared.fault.WireFault.TheVariants as faults
 use Rattle.wire.specs.Messages.{most, HasFrame}
-use Rattle.wire.specs.Requests.{data_fields}
 use Rattle.wire.specs.Replies.{reply_payload, Fits-reply, IsWithinLimits, HasReplyFrame}
 use Rattle.line.specs.Turns.{refusal_of}
 use Rattle.serve_base.specs.Short.{IsCodeOfValues, IsShortValue, IsShort, IsShortData, IsShortCall}
@@ -29,7 +28,8 @@ use Rattle.serve_base.specs.Short.{IsCodeOfValues, IsShortValue, IsShort, IsShor
 -- ---- calls
 
 short-data : (function : Function) (session : ℕ) (input : List ℕ) (room : Option ℕ)
-    → length (to_be_bytes w16 (function_number function) ++ data_fields.encode (session, (input, room))) ≤ most → IsShortData input room
+    → length (to_be_bytes w16 (function_number function) ++ (pair number64 (pair byte_string buffer_len)).encode (session, (input, room)))
+    ≤ most → IsShortData input room
 short-data function session input None h = tt
 short-data function session input (Some room) h = omega (arith, h, length-append input (1 ∷ to_be_bytes w64 room))
 

@@ -39,7 +39,7 @@ use Rattle.model_views.specs.Changes.{Stays, recorded}
 use Rattle.model_views.specs.Answering.{Said, Replies, Asks, Answer, Reveal, mask_said, noted, noted_by, shown, mask_reveal, refuses, refuses_by, answered, is_closed, pin_checked_in}
 use Rattle.model_answers.specs.Cipher.{ciphered}
 use Rattle.model_answers.specs.CipherInit.{place_for}
-use Rattle.model_answers.specs.Mac.{taken, signed, verified}
+use Rattle.model_answers.specs.Mac.{mac_taken, signed, verified}
 use Rattle.model_answers.specs.WrapKey.{wrapped_result}
 use Rattle.model_session_answers.specs.Login.{login_result}
 use Rattle.model_session_answers.specs.InitPin.{init_pin_result}
@@ -212,7 +212,7 @@ blind-outcome : (v : View) (q : Question) (t : Task) (x : TaskResult) (r : Revea
 blind-outcome v q (Ciphers part o input) x r =
     ap shown (unmasked-ciphered (mask v) q.session (place_for o.direction) part (mask_operation o) input x)
     ∙ blind-ciphered v q.session (place_for o.direction) part o input x
-blind-outcome v q (Takes p o input) x r = ap shown (unmasked (λ y. taken (mask v) q.session p (mask_mac o) input y) (λ k. refl) x)
+blind-outcome v q (Takes p o input) x r = ap shown (unmasked (λ y. mac_taken (mask v) q.session p (mask_mac o) input y) (λ k. refl) x)
     ∙ blind-taken v q.session p o input x
 blind-outcome v q (Signs o input) x r = ap shown (unmasked (λ y. signed (mask v) q.session y) (λ k. refl) x) ∙ blind-signed v q.session x
 blind-outcome v q (Verifies o input signature) x r = ap shown (unmasked (λ y. verified (mask v) q.session y) (λ k. refl) x)

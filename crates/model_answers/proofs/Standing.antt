@@ -60,14 +60,14 @@ use Rattle.model_answers.specs.CopyObject.{copy_row, copy_object}
 use Rattle.model_answers.specs.DestroyObject.{destroy_row, destroyed}
 use Rattle.model_answers.specs.GetObjectSize.{object_size}
 use Rattle.model_answers.specs.GetAttributeValue.{attributes_told}
-use Rattle.model_answers.specs.SetAttributeValue.{puts, set_row, set_attribute_value}
+use Rattle.model_answers.specs.SetAttributeValue.{puts_object, set_row, set_attribute_value}
 use Rattle.model_answers.specs.FindObjectsInit.{find_init_row, searches}
 use Rattle.model_answers.specs.FindObjects.{search_row, answered_at_once, gives_found}
 use Rattle.model_answers.specs.GenerateKey.{generation_at, generate_row, generate_key}
-use Rattle.model_answers.specs.CipherInit.{place_for, init_function, cipher_in, init_row, init_says, begins, cipher_init}
+use Rattle.model_answers.specs.CipherInit.{place_for, init_function, cipher_in, init_row, init_says, cipher_begins, cipher_init}
 use Rattle.model_answers.specs.Cipher.{operation_or, cipher_row, cipher_says, cipher, single_function, update_function, final_function, ciphered}
 use Rattle.model_answers.specs.MacInit.{mac_init_function, mac_mechanism_in, mac_init_row, mac_init_says, mac_begins, mac_init}
-use Rattle.model_answers.specs.Mac.{mac_or, mac_row, mac_update_function, mac_update, signature_length, sign_row, sign_says, signs, verify_row, verify_says, verifies, taken, signed, verified}
+use Rattle.model_answers.specs.Mac.{mac_or, mac_row, mac_update_function, mac_update, signature_length, sign_row, sign_says, signs, verify_row, verify_says, verifies, mac_taken, signed, verified}
 use Rattle.model_answers.specs.WrapKey.{wrapped_len, wrap_row, wrap_says, wraps, wrapped_result}
 use Rattle.model_answers.specs.UnwrapKey.{key_ahead, unwrap_row, unwrap_says, unwraps, may_add, unwrapped_result}
 use Rattle.model_answers.specs.Answers.{answer, answer_to, answer_outcome, answer_question, answer_result}
@@ -107,7 +107,7 @@ destroyed-told : (v : View) (handle : ℕ) (index : Option ℕ) → is_refused (
 destroyed-told v handle None = refl
 destroyed-told v handle (Some index) = refl
 
-puts-told : (v : View) (handle : ℕ) (o : List Entry) (index : Option ℕ) → is_refused (puts v handle o index).says ≡ false
+puts-told : (v : View) (handle : ℕ) (o : List Entry) (index : Option ℕ) → is_refused (puts_object v handle o index).says ≡ false
 puts-told v handle o None = refl
 puts-told v handle o (Some index) = refl
 
@@ -143,7 +143,7 @@ module _ (v ended : View) (s : ℕ) where
       let fault = template_fault making.Set (state_in v s) (unwrap_or original []) template in
       let o = made_by fault (object_made making.Set (unwrap_or original []) template [] []) in
       let index = index_of v.tokens handle in
-      refusal-checked_by function.SetAttributeValue (set_row v s original fault) (makes_says v fault) (puts v handle o index)
+      refusal-checked_by function.SetAttributeValue (set_row v s original fault) (makes_says v fault) (puts_object v handle o index)
       (alone-makes fault)
       (no-refusal (puts-told v handle o index))
 
@@ -187,7 +187,7 @@ module _ (v ended : View) (s : ℕ) where
 
   alone-cipher_init : (d : Direction) (m : Option Mechanism) (key : ℕ) → Alone v ended (cipher_init d v s m key)
   alone-cipher_init d m key =
-      let a = begins d v s (unwrap_or (cipher_in m) Ecb) (unwrap_or (object_at v key) []) in
+      let a = cipher_begins d v s (unwrap_or (cipher_in m) Ecb) (unwrap_or (object_at v key) []) in
       refusal-checked_by (init_function d) (init_row d v s m (object_at v key)) (init_says d v s) a (alone-cipher_inits d) (no-refusal refl)
 
   alone-mac_inits : (p : MacPlace) (row : Condition) → Alone v ended (mac_init_says p v s row)
@@ -379,9 +379,9 @@ module _ (v : View) (old : Question) (r : Reveal) where
   fails-ciphered Update o input x = left (Ciphers Update o input) (ciphered v session (place_for o.direction) Update o input x) refl refl
   fails-ciphered Last o input x = left (Ciphers Last o input) (ciphered v session (place_for o.direction) Last o input x) refl refl
 
-  fails-taken : (p : MacPlace) (o : MacOperation) (input : List ℕ) (x : TaskResult) → Fails (Takes p o input) (taken v session p o input x)
-  fails-taken p o input Taken = no-refusal {a = taken v session p o input Taken} refl
-  fails-taken p o input x = left (Takes p o input) (taken v session p o input x) refl refl
+  fails-taken : (p : MacPlace) (o : MacOperation) (input : List ℕ) (x : TaskResult) → Fails (Takes p o input) (mac_taken v session p o input x)
+  fails-taken p o input Taken = no-refusal {a = mac_taken v session p o input Taken} refl
+  fails-taken p o input x = left (Takes p o input) (mac_taken v session p o input x) refl refl
 
   fails-wrapped : (key value : Option (List ℕ)) (x : TaskResult) → Fails (WrapsKey key value) (wrapped_result (answered v) x)
   fails-wrapped key value (Output bytes) = no-refusal {a = wrapped_result (answered v) (Output bytes)} refl

@@ -39,7 +39,7 @@ use Rattle.model_answers.specs.FindObjects.{find_objects, find_objects_final}
 use Rattle.model_answers.specs.CipherInit.{place_for, cipher_init}
 use Rattle.model_answers.specs.Cipher.{cipher_single, cipher_update, cipher_final, ciphered}
 use Rattle.model_answers.specs.MacInit.{mac_init}
-use Rattle.model_answers.specs.Mac.{sign, sign_final, verify, verify_final, mac_update, taken, signed, verified}
+use Rattle.model_answers.specs.Mac.{sign, sign_final, verify, verify_final, mac_update, mac_taken, signed, verified}
 use Rattle.model_answers.specs.WrapKey.{wrap_key, wrapped_result}
 use Rattle.model_answers.specs.UnwrapKey.{unwrap_key, unwrapped_result}
 
@@ -95,7 +95,7 @@ answer v call random reveal = if is_closed v then refuses_by v Busy else noted c
 -- the answer to the result of the pending call, by its task
 abbrev pub answer_outcome : View → Question → Task → TaskResult → Reveal → Answer
 answer_outcome v q (Ciphers part o input) outcome r = ciphered v q.session (place_for o.direction) part o input outcome
-answer_outcome v q (Takes p o input) outcome r = taken v q.session p o input outcome
+answer_outcome v q (Takes p o input) outcome r = mac_taken v q.session p o input outcome
 answer_outcome v q (Signs o input) outcome r = signed v q.session outcome
 answer_outcome v q (Verifies o input signature) outcome r = verified v q.session outcome
 answer_outcome v q (WrapsKey key value) outcome r = wrapped_result (answered v) outcome

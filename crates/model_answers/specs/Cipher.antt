@@ -19,7 +19,7 @@ use Rattle.ops.specs.Operations.{started, operation_further, text_of, operation_
 use Rattle.model_views.specs.TaskResults.{TaskResult, Output, BadPadding}
 use Rattle.model_views.specs.Views.{Ciphers}
 use Rattle.model_views.specs.Calls.{Reply, Condition, Operation, View, Answer, replies, refuses_by, becomes, asks, answered, session_of, with_operation, checked_by}
-use Rattle.model_answers.specs.CipherInit.{place_for, ends}
+use Rattle.model_answers.specs.CipherInit.{place_for, cipher_ends}
 
 -- ---- the calls of each direction
 
@@ -49,8 +49,8 @@ abbrev pub has_taken : Operation → Bool
 has_taken o = not (length o.taken == 0)
 
 -- the data can't be all, or has no counters
-abbrev pub refused : Operation → Part → List ℕ → Bool
-refused o part input = refuses_length part (text_of o) (length input)
+abbrev pub cipher_refused : Operation → Part → List ℕ → Bool
+cipher_refused o part input = refuses_length part (text_of o) (length input)
 
 abbrev pub cipher_row : Direction → View → ℕ → Option Operation → Part → List ℕ → Option ℕ → Condition → Bool
 cipher_row d v s o part input buffer_len NoSession = is_none (session_of v s)
@@ -58,8 +58,8 @@ cipher_row d v s o part input buffer_len NoOperation = is_none o
 cipher_row d v s o part input buffer_len DataTaken = has_taken (operation_or o)
 cipher_row d v s o part input buffer_len CounterEnd = ends_counters (text_of (operation_or o)) input
 cipher_row d v s o part input buffer_len DataLength =
-    ends_counters (text_of (operation_or o)) input || (not (is_decrypt d) && refused (operation_or o) part input)
-cipher_row d v s o part input buffer_len EncryptedDataLength = is_decrypt d && refused (operation_or o) part input
+    ends_counters (text_of (operation_or o)) input || (not (is_decrypt d) && cipher_refused (operation_or o) part input)
+cipher_row d v s o part input buffer_len EncryptedDataLength = is_decrypt d && cipher_refused (operation_or o) part input
 cipher_row d v s o part input buffer_len NoBuffer = is_none buffer_len
 cipher_row d v s o part input buffer_len SmallBuffer =
     nat_lt (unwrap_or buffer_len 0) (wanted part (text_of (operation_or o)) (length input))
@@ -67,10 +67,10 @@ cipher_row d v s o part input buffer_len _ = false
 
 -- wrong data ends the operation; where the output buffer is too short, the length that is needed is returned
 abbrev pub cipher_says : View → ℕ → Place → ℕ → Condition → Answer
-cipher_says v s place length DataTaken = ends v s place DataTaken
-cipher_says v s place length CounterEnd = ends v s place CounterEnd
-cipher_says v s place length DataLength = ends v s place DataLength
-cipher_says v s place length EncryptedDataLength = ends v s place EncryptedDataLength
+cipher_says v s place length DataTaken = cipher_ends v s place DataTaken
+cipher_says v s place length CounterEnd = cipher_ends v s place CounterEnd
+cipher_says v s place length DataLength = cipher_ends v s place DataLength
+cipher_says v s place length EncryptedDataLength = cipher_ends v s place EncryptedDataLength
 cipher_says v s place length NoBuffer = replies v (replied.Output (output.Length length))
 cipher_says v s place length SmallBuffer = replies v (replied.BufferTooSmall length)
 cipher_says v s place length row = refuses_by v row

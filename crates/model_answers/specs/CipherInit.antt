@@ -95,21 +95,21 @@ init_row d v s m key KeyNotPermitted = not (flag_at key (permission d))
 init_row d v s m key _ = false
 
 -- the operation at a place ends with a code, if there is one
-abbrev pub ends : View → ℕ → Place → Condition → Answer
-ends v s place row = becomes (Code (code_of Ok row)) (with_operation v s place None)
+abbrev pub cipher_ends : View → ℕ → Place → Condition → Answer
+cipher_ends v s place row = becomes (Code (code_of Ok row)) (with_operation v s place None)
 
 -- without a mechanism the operation of the session ends
 abbrev pub init_says : Direction → View → ℕ → Condition → Answer
-init_says d v s NoMechanism = ends v s (place_for d) NoMechanism
+init_says d v s NoMechanism = cipher_ends v s (place_for d) NoMechanism
 init_says d v s row = refuses_by v row
 
 -- an operation with a copy of the key
-abbrev pub begins : Direction → View → ℕ → CipherMechanism → List Entry → Answer
-begins d v s mechanism key = becomes (Code Ok) (with_operation v s (place_for d) (Some (started mechanism d (attribute_of key attr.Value))))
+abbrev pub cipher_begins : Direction → View → ℕ → CipherMechanism → List Entry → Answer
+cipher_begins d v s mechanism key = becomes (Code Ok) (with_operation v s (place_for d) (Some (started mechanism d (attribute_of key attr.Value))))
 
 abbrev pub begins_under : Direction → View → ℕ → Option Mechanism → Option (List Entry) → Answer
 begins_under d v s m key = checked_by (init_function d) (init_row d v s m key) (init_says d v s)
-    (begins d v s (unwrap_or (cipher_in m) Ecb) (unwrap_or key []))
+    (cipher_begins d v s (unwrap_or (cipher_in m) Ecb) (unwrap_or key []))
 
 abbrev pub cipher_init : Direction → View → ℕ → Option Mechanism → ℕ → Answer
 cipher_init d v s m key = begins_under d v s m (object_at v key)

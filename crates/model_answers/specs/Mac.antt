@@ -96,9 +96,9 @@ mac_update p v s input = takes p v s (mac_in (session_of v s) p) input
 -- ---- the results
 
 -- a part leaves the operation that has taken it, and the last data none
-abbrev pub taken : View → ℕ → MacPlace → MacOperation → List ℕ → TaskResult → Answer
-taken v s p o input Taken = becomes (replied.Code Ok) (with_mac (answered v) s p (Some (mac_further o input)))
-taken v s p o input _ = becomes (replied.Code FunctionFailed) (with_mac (answered v) s p None)
+abbrev pub mac_taken : View → ℕ → MacPlace → MacOperation → List ℕ → TaskResult → Answer
+mac_taken v s p o input Taken = becomes (replied.Code Ok) (with_mac (answered v) s p (Some (mac_further o input)))
+mac_taken v s p o input _ = becomes (replied.Code FunctionFailed) (with_mac (answered v) s p None)
 
 abbrev pub signed_reply : TaskResult → Reply
 signed_reply (Output bytes) = replied.Output (output.Data bytes)

@@ -18,9 +18,9 @@ rewritten_own es handle o = updated_where (λ e. e.handle == handle) (λ e. reco
 
 -- The changed object stands in the place of the session object under the handle, or of the token object at an
 -- index. Its handle stays.
-abbrev pub puts : View → ℕ → List Entry → Option ℕ → Answer
-puts v handle o None = becomes (Code Ok) (record v { own = rewritten_own v.own handle o })
-puts v handle o (Some index) =
+abbrev pub puts_object : View → ℕ → List Entry → Option ℕ → Answer
+puts_object v handle o None = becomes (Code Ok) (record v { own = rewritten_own v.own handle o })
+puts_object v handle o (Some index) =
     record { says = Replies (Code Ok); view = record v { tokens = rewritten v.tokens index o }; change = Replace index o }
 
 abbrev pub set_row : View → ℕ → Option (List Entry) → Option Rv → Condition → Bool
@@ -31,14 +31,14 @@ set_row v s original fault NotModifiable = not (flag_at original attr.Modifiable
 set_row v s original fault TemplateRefused = is_some fault
 set_row v s original fault _ = false
 
-abbrev pub sets : View → ℕ → ℕ → Option (List Entry) → Option Rv → List Entry → Answer
-sets v s handle original fault o =
-    checked_by SetAttributeValue (set_row v s original fault) (makes_says v fault) (puts v handle o (index_of v.tokens handle))
+abbrev pub sets_attributes : View → ℕ → ℕ → Option (List Entry) → Option Rv → List Entry → Answer
+sets_attributes v s handle original fault o =
+    checked_by SetAttributeValue (set_row v s original fault) (makes_says v fault) (puts_object v handle o (index_of v.tokens handle))
 
 abbrev pub sets_in : View → ℕ → ℕ → Option (List Entry) → List Entry → Answer
 sets_in v s handle original template =
     let fault = template_fault Set (state_in v s) (unwrap_or original []) template in
-    sets v s handle original fault (made_by fault (object_made Set (unwrap_or original []) template [] []))
+    sets_attributes v s handle original fault (made_by fault (object_made Set (unwrap_or original []) template [] []))
 
 abbrev pub set_attribute_value : View → ℕ → ℕ → List Entry → Answer
 set_attribute_value v s handle template = sets_in v s handle (object_at v handle) template

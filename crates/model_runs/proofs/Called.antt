@@ -21,7 +21,7 @@ use Rattle.model_answers.specs.Answers.{answer}
 use Rattle.model_views.specs.Refusals.{resource_error_in, refusal}
 use Rattle.model_worlds.specs.Worlds.{World, answer_at, checks_of, list_change, called, reveal_by_call, reveal_to_call, says_called, stepped}
 use Rattle.serve_base.specs.Short.{IsShortSaid}
-use Rattle.serve_base.specs.Shown.{view_of, objects_of, said_of, ChangesContents}
+use Rattle.serve_base.specs.Shown.{view_of, objects_of, said_of, ChangesContents, IsFor}
 use Rattle.model_runs.specs.Applications.{desk_at, checks_after, are_others_in_session, told_as, Depicts, Shows, ShowsAfter}
 use Rattle.model_runs.proofs.Seats.{seated-is}
 use Rattle.serve_base.specs.Stores.{StoreState, LacksId, ServesAnswer}
@@ -155,3 +155,8 @@ pub short-called : (r : Result Out Fault) → IfOk r (λ out. IsShortSaid (said_
 short-called (Ok out) short = short
 short-called (Err Memory) short = tt
 short-called (Err Device) short = tt
+
+-- a job is the application's, and a fault is none
+pub for-called : (app : ℕ) (r : Result Out Fault) → IfOk r (IsFor app) → IsFor app (told_as r)
+for-called app (Ok out) is = is
+for-called app (Err fault) is = tt

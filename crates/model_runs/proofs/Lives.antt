@@ -1,6 +1,6 @@
 -- What a crash leaves of the tries of a PIN.
 use Rattle.std.proofs.Common.{◌≡◌, ℕ, ◌+◌, ◌≤◌, Bool, true, false, cond, not, List, [], ◌∷◌, ◌++◌, length, Option, Some, None, inl, inr, refl, sym, ◌∙◌, ap, subst, arith}
-use Rattle.std.specs.Prelude.{◌==◌, ◌&&◌, ◌⊎◌}
+use Rattle.std.specs.Prelude.{◌==◌, ◌&&◌}
 use Rattle.std.specs.List.{AllByRecursion}
 use Rattle.std.proofs.lemmas.Bool.{cases_Bool}
 use Rattle.std.specs.Global.{Vec}
@@ -11,7 +11,7 @@ use Rattle.keep.specs.Contents.{Contents}
 use Rattle.lists.proofs.IndexLemmas.{append_nil}
 use Rattle.pin_record.specs.Records.{TokenRecord, charged, is_initialized, tries_limit, tries_of}
 use Rattle.pin_record.specs.Charges.{Charges, Event as PinEvent, Begins, EndsRight, EndsOtherwise, SetsPin, Initializes, Restarts, charged_checks as checks_in, with_checks, with_stored, is_same_user, is_under_way, without, may_begin, has_no_user_check, spent_after, spent, happens as pin_happens, after as pin_after}
-use Rattle.model_views.specs.TaskResults.{TaskResult, Output, BadPadding, Taken, Unwrapped, BadWrapping, Right, Wrong, Made}
+use Rattle.model_views.specs.TaskResults.{TaskResult, Right, Made}
 use Rattle.model_views.specs.Views.{View, Task, Ciphers, Takes, Signs, Verifies, WrapsKey, UnwrapsKey, ChecksPin, MakesPin, ChangesPin, InitsToken, ResetsToken, Question}
 use Rattle.model_views.specs.Changes.{Change, Stays, recorded}
 use Rattle.model_views.specs.Answering.{Reveal, pin_checked_by, pin_checked_in}
@@ -20,7 +20,7 @@ use Rattle.model_session_answers.specs.InitToken.{is_in_use, may_init}
 use Rattle.model_answers.proofs.Proper.{unasking-result}
 use Rattle.model_worlds.specs.declared.event.Event.{Event}
 use Rattle.model_worlds.specs.declared.event.Event.TheVariants.{Call, Finish, Gone}
-use Rattle.model_worlds.specs.Worlds.{World, Move, Goes, Refuses, event_of, checking, checks_of, without_checks, value_of, reveal_to_task, answer_at, finished, finish_refused, goes, refused, happens, after}
+use Rattle.model_worlds.specs.Worlds.{World, Move, Goes, Refuses, checking, checks_of, without_checks, value_of, reveal_to_task, answer_at, finished, finish_refused, goes, refused, happens, after}
 use Rattle.model_worlds.specs.Tries.{charges_of, pending_check, begins, ends, is_right, sets_new, sets_changed, inits, resets, sets, events_of_result, events_of, IsSoundWorld}
 use Rattle.model_worlds.proofs.Tries.{charges-happen, sound-happen, sound-start}
 use Rattle.model_runs.specs.Applications.{opening}

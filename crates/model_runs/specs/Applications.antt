@@ -138,13 +138,17 @@ moved event None = Goes event
 moved event (Some fault) = Refuses event fault
 
 -- what an application gets: a refusal in place of an answer
-abbrev pub told_as : Result Out Fault → Out
-told_as (Ok out) = out
-told_as (Err fault) = OutReply (refusal fault)
+abbrev pub or_fault_code : {A : Type 0} → (Reply → A) → Result A Fault → A
+or_fault_code of_reply (Ok value) = value
+or_fault_code of_reply (Err fault) = of_reply (refusal fault)
 
+-- of a call
+abbrev pub told_as : Result Out Fault → Out
+told_as result = or_fault_code OutReply result
+
+-- and of the result of a job
 abbrev pub told_result : Result Reply Fault → Reply
-told_result (Ok reply) = reply
-told_result (Err fault) = refusal fault
+told_result result = or_fault_code (λ reply. reply) result
 
 -- which of both it was follows from what is returned, since the codes of a resource error have no other cause
 abbrev pub move_of : Event → Out → Move

@@ -1,6 +1,6 @@
 -- The lives of a token: a crash ends each, and the next one begins with the record that was left. How many checks of a PIN failed
 -- over all of them.
-use Rattle.std.specs.Prelude.{◌≡◌, ℕ, ◌+◌, length, List, [], ◌∷◌, Option, Some, None}
+use Rattle.std.specs.Prelude.{◌≡◌, ℕ, ◌+◌, length, List, [], ◌∷◌, Some, None}
 use Rattle.ck_types.specs.declared.user_type.UserType.{UserType}
 use Rattle.pin_record.specs.Charges.{spent}
 use Rattle.pin_record.specs.Records.{TokenRecord}

@@ -51,16 +51,7 @@ sessions-twice ss = map-twice mask_session ss session-twice
 
 task-twice : (t : Task) → mask_task (mask_task t) ≡ mask_task t
 task-twice (Ciphers part operation input) = refl
-task-twice (Takes place operation input) = refl
-task-twice (Signs operation input) = refl
-task-twice (Verifies operation input signature) = refl
-task-twice (WrapsKey key value) = refl
-task-twice (UnwrapsKey key wrapped state template random) = refl
-task-twice (ChecksPin who verifier pin) = refl
-task-twice (MakesPin pin salt) = refl
-task-twice (ChangesPin who verifier pin new_pin salt) = refl
-task-twice (InitsToken label pin salt) = refl
-task-twice (ResetsToken label verifier pin) = refl
+task-twice _ = refl
 
 question-masked : (q : Question) → mask_question (mask_question q) ≡ mask_question q
 question-masked q = let f : Task

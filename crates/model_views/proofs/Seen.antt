@@ -64,11 +64,7 @@ altered : (v : View) (change : Change)
     → mask (seen change v) ≡ record
     (mask v) { token_record = mask_record (seen change v).token_record; tokens = map mask_token_object (seen change v).tokens }
 altered v Stays = refl
-altered v (Insert o) = refl
-altered v (Replace index o) = refl
-altered v (Remove index) = refl
-altered v (Records r) = refl
-altered v (Resets r) = refl
+altered v _ = refl
 
 same_shared-Decides : (v : View) (change : Change) → Decides (same_shared (mask v) (mask (seen change v))) (mask v ≡ mask (seen change v))
 same_shared-Decides v change =

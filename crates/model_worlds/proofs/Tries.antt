@@ -30,11 +30,7 @@ use Rattle.model_worlds.proofs.UnderWay.{by-own, by-other, checking-begun, over-
 recorded-in_list : (s : List Entry → Bool) (os : List (List Entry)) (change : Change) (r : TokenRecord)
     → recorded (in_list s os change) r ≡ recorded change r
 recorded-in_list s os Stays r = refl
-recorded-in_list s os (Insert o) r = refl
-recorded-in_list s os (Replace index o) r = refl
-recorded-in_list s os (Remove index) r = refl
-recorded-in_list s os (Records new) r = refl
-recorded-in_list s os (Resets new) r = refl
+recorded-in_list s os _ r = refl
 
 seen-record : (s : List Entry → Bool) (os : List (List Entry)) (change : Change) (v : View)
     → (seen (as_seen s os change) v).token_record ≡ recorded change v.token_record
@@ -56,19 +52,11 @@ seen-record s os (Resets new) v = refl
 
 pub seen-question : (change : Change) (v : View) → (seen change v).question ≡ v.question
 seen-question Stays v = refl
-seen-question (Insert o) v = refl
-seen-question (Replace index o) v = refl
-seen-question (Remove index) v = refl
-seen-question (Records r) v = refl
-seen-question (Resets r) v = refl
+seen-question _ v = refl
 
 seen-sessions : (change : Change) (v : View) → (seen change v).sessions ≡ v.sessions
 seen-sessions Stays v = refl
-seen-sessions (Insert o) v = refl
-seen-sessions (Replace index o) v = refl
-seen-sessions (Remove index) v = refl
-seen-sessions (Records r) v = refl
-seen-sessions (Resets r) v = refl
+seen-sessions _ v = refl
 
 -- ---- charges
 

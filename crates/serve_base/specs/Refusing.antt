@@ -1,5 +1,6 @@
 -- What a call does whose refusals are an Err: nothing has changed then.
 use Rattle.std.specs.Prelude.{◌≡◌, ◌⊎◌, ℕ, true, None, Result, Ok, Err, IsErrOf, IfErr, IfOk}
+use Rattle.ck_types.specs.declared.rv.Rv.{Rv}
 use Rattle.ck_types.specs.declared.rv.Rv.TheVariants as rv
 use Rattle.ck_calls.specs.declared.reply.Reply.{Reply}
 use Rattle.ck_calls.specs.declared.reply.Reply.TheVariants.{Code}
@@ -136,11 +137,20 @@ IsDone terms writes f old new before result desk = IsDoneAs terms Replies writes
 
 -- ---- as it is returned
 
+-- The code of a refusal. An allocation failure and a failed keeper are faults, since no answer has their code.
+abbrev pub refusal_code : Refusal → Result Rv Fault
+refusal_code (refusals.Condition row) = Ok (code_of rv.Ok row)
+refusal_code (refusals.Code code) = Ok code
+refusal_code refusals.Memory = Err faults.Memory
+refusal_code refusals.Device = Err faults.Device
+
+-- and what holds a reply with it
+abbrev pub with_code : {A : Type 0} → (Reply → A) → Result Rv Fault → Result A Fault
+with_code of_reply (Ok code) = Ok (of_reply (Code code))
+with_code of_reply (Err fault) = Err fault
+
 abbrev pub refused_as : Refusal → Result Out Fault
-refused_as (refusals.Condition row) = Ok (OutReply (Code (code_of rv.Ok row)))
-refused_as (refusals.Code code) = Ok (OutReply (Code code))
-refused_as refusals.Memory = Err faults.Memory
-refused_as refusals.Device = Err faults.Device
+refused_as refusal = with_code OutReply (refusal_code refusal)
 
 abbrev pub settled : {T : Type 0} → (T → Out) → Result T Refusal → Result Out Fault
 settled as_out (Ok out) = Ok (as_out out)

@@ -1,8 +1,10 @@
 -- A keeper with the list that the token has of its objects, and what the token refines by it.
-use Rattle.std.specs.Prelude.{◌≡◌, ◌⊎◌, ◌≤◌, List, Option, Some, Result, Ok, Err, IsErrOf}
+use Rattle.std.specs.Prelude.{◌≡◌, ◌⊎◌, ◌≤◌, List, OnErr, OnOk, Option, Some, Result, Ok, Err, IsErrOf}
 use Rattle.ck_types.specs.declared.user_type.UserType.{UserType}
 use Rattle.keep.specs.Contents.{Contents, greatest_id, ids_of, IsSound}
-use Rattle.keep.specs.Keeping.{Terms}
+use Rattle.keep.specs.Keeping.{Counted, HasCause, Terms}
+use Rattle.keep.specs.declared.keep.KeepFault.{KeepFault}
+use Rattle.keep.specs.declared.keep.KeepFault.TheVariants.{Device}
 use Rattle.desk.specs.Desks.{DeskState, SameDesk}
 use Rattle.model_views.specs.Views.{View, sees}
 use Rattle.model_views.specs.Changes.{Change, Stays, Insert, in_list}
@@ -57,6 +59,20 @@ module _ {K : Type 0} (terms : Terms K) where
   abbrev pub LeavesTried : Change → StoreState K → StoreState K → Contents → Type 0
   LeavesTried change old new c = (left : Option Contents) → terms.may_leave new.keep left → terms.may_leave old.keep left
       ⊎ ((d : Contents) × (left ≡ Some d) × ChangesContents change c d)
+
+-- What a write leaves, beside what the store holds with Ok. The change is of contents. A steady keeper is refused by `Device`
+-- only where `may_fail` says.
+pub record Wrote {K T : Type 0} (terms : Terms K) (change : Contents → Contents) (may_fail : Type 0) (old new : StoreState K)
+    (result : Result T KeepFault) : Type 0 where
+  -- With Ok a crash leaves the changed contents alone.
+  pub leaves : (c : Contents) → StoreHas terms old c → OnOk result (LeavesAlone terms new (change c))
+  -- With an Err the store holds what it held, and a crash leaves what it could leave before, or the changed contents.
+  pub same : (c : Contents) → StoreHas terms old c → OnErr result (StoreHas terms new c)
+  pub leaves_or : (c : Contents) → StoreHas terms old c → OnErr result (LeavesOr terms old new (change c))
+  pub steady : terms.is_steady old.keep → IsErrOf result Device → may_fail
+  -- One write is tried at most, and each failure is counted.
+  pub counts : Counted terms old.keep new.keep 0 1
+  pub cause : HasCause (terms.failures old.keep) (terms.failures new.keep) result
 
 -- ---- ids that are used up
 

@@ -6,6 +6,7 @@ ghost use Rattle.keep.specs.Contents.{Contents, IsTokenObject};
 ghost use Rattle.keep.specs.Keeping.{Counted, HasCause, Stays};
 ghost use Rattle.keep.specs.declared.keep.KeepFault.TheVariants.{Device};
 ghost use Rattle.desk.specs.Desks.{own_at};
+ghost use Rattle.guard.specs.Access.{is_user_in};
 ghost use Rattle.model_views.specs.Views.{sees};
 ghost use Rattle.serve_base.specs.Shown.{Fits};
 ghost use Rattle.serve_base.specs.Stores.{StoreHas, SameIds};
@@ -13,9 +14,8 @@ ghost use Rattle.serve_base.specs.Found.{IsFound, IsOwn};
 
 use crate::store::Store;
 use attrs::Object;
-use ck_types::{SessionState, UserType};
+use ck_types::{AttrType, UserType};
 use desk::Desk;
-use guard::visible;
 use keep::{Keep, KeepFault};
 use std::alloc::{AllocError, Global};
 
@@ -26,15 +26,18 @@ pub struct Found {
     pub object: Object,
 }
 
+/// Whether one who is logged in so sees private objects (PKCS #11 v3.1, 4.4, CKA_PRIVATE).
+pub(crate) fn sees_private(login: Option<UserType>) -> bool
+    ensures { result ≡ is_user_in login }
+{
+    matches!(login, Some(UserType::User))
+}
+
 /// Whether an application sees a token object, by who is logged in.
 pub(crate) fn sees(login: Option<UserType>, object: &Object) -> bool
     ensures { result ≡ sees login object.now }
 {
-    match login {
-        None => visible(SessionState::RwPublic, object),
-        Some(UserType::User) => visible(SessionState::RwUser, object),
-        Some(UserType::So) => visible(SessionState::RwSo, object),
-    }
+    !object.flag(AttrType::Private) || sees_private(login)
 }
 
 /// A copy of the session object under a handle.

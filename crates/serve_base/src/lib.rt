@@ -37,6 +37,7 @@
 
 mod adding;
 mod asking;
+mod caller;
 mod finding;
 mod keys;
 mod listed;
@@ -47,9 +48,10 @@ mod store;
 
 pub use adding::add_object;
 pub use asking::{ask, ask_within, new_job, random_block};
+pub use caller::Caller;
 pub use finding::{Found, find};
 pub use keys::{aes_key, is_aes, is_of_type, is_secret_key, operation_key};
-pub use out::Out;
-pub use refusal::{Refusal, settle, settle_asking};
+pub use out::{Out, Returned};
+pub use refusal::{Refusal, settle};
 pub use searching::Match;
 pub use store::Store;

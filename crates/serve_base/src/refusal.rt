@@ -1,11 +1,10 @@
 //! Why a call is refused. Nothing has changed then.
 
 ghost use Rattle.std.specs.Prelude.{◌≡◌};
-ghost use Rattle.serve_base.specs.declared.out.Out.TheVariants.{Reply as OutReply};
 ghost use Rattle.serve_base.specs.declared.refusal.Refusal.TheVariants as refusals;
-ghost use Rattle.serve_base.specs.Refusing.{of_fault, of_make_fault, refused_as, settled};
+ghost use Rattle.serve_base.specs.Refusing.{of_fault, of_make_fault, refusal_code, settled};
 
-use crate::out::Out;
+use crate::out::{Out, Returned};
 use ck_calls::Reply;
 use ck_types::Rv;
 use keep::KeepFault;
@@ -65,34 +64,26 @@ impl From<MakeFault> for Refusal {
     }
 }
 
-/// What a call that only replies returns: its reply, or the code of its refusal. An allocation failure and a failed keeper
-/// are faults, since no answer has their code.
-pub fn settle(outcome: Result<Reply, Refusal>) -> Result<Out, Fault>
-    ensures { result ≡ settled OutReply outcome }
-{
-    match outcome {
-        Ok(reply) => Ok(Out::Reply(reply)),
-        Err(refusal) => refuse(refusal),
+impl Refusal {
+    /// The code that a refused call returns. An allocation failure and a failed keeper are faults, since no answer has their code.
+    pub fn code(self) -> Result<Rv, Fault>
+        ensures { result ≡ refusal_code self }
+    {
+        match self {
+            Refusal::Condition(row) => Ok(row.code(Rv::Ok)),
+            Refusal::Code(code) => Ok(code),
+            Refusal::Memory => Err(Fault::Memory),
+            Refusal::Device => Err(Fault::Device),
+        }
     }
 }
 
-/// What a call returns that may return a job.
-pub fn settle_asking(outcome: Result<Out, Refusal>) -> Result<Out, Fault>
-    ensures { result ≡ settled (λ out. out) outcome }
+/// What a call returns, where its refusals are replies with their codes. `T` is a reply, or of a call that may ask for a job `Out`.
+pub fn settle<T: Returned>(outcome: Result<T, Refusal>) -> Result<Out, Fault>
+    ensures { result ≡ settled T.as_out outcome }
 {
     match outcome {
-        Ok(out) => Ok(out),
-        Err(refusal) => refuse(refusal),
-    }
-}
-
-fn refuse(refusal: Refusal) -> Result<Out, Fault>
-    ensures { result ≡ refused_as refusal }
-{
-    match refusal {
-        Refusal::Condition(row) => Ok(Out::Reply(Reply::Code(row.code(Rv::Ok)))),
-        Refusal::Code(code) => Ok(Out::Reply(Reply::Code(code))),
-        Refusal::Memory => Err(Fault::Memory),
-        Refusal::Device => Err(Fault::Device),
+        Ok(value) => Ok(value.into_out()),
+        Err(refusal) => Ok(Out::Reply(Reply::Code(refusal.code()?))),
     }
 }

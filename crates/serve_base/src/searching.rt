@@ -6,11 +6,10 @@ ghost use Rattle.keep.specs.Contents.{Contents, object_at};
 ghost use Rattle.keep.specs.Keeping.{Counted, HasCause, Stays};
 ghost use Rattle.keep.specs.declared.keep.KeepFault.TheVariants.{Device};
 ghost use Rattle.find.specs.Marks.{wanted_of};
-ghost use Rattle.guard.specs.Access.{is_user_in};
 ghost use Rattle.serve_base.specs.Listing.{AreMarks, IsMarkOf, all_ids, listed_ids};
 ghost use Rattle.serve_base.specs.Searching.{found_at, found_in, found_of, passes_over, MayFind};
 
-use crate::finding::sees;
+use crate::finding::{sees, sees_private};
 use crate::listed::Listed;
 use attrs::Object;
 use ck_types::{AttrType, Template, UserType};
@@ -100,13 +99,6 @@ fn passes_over(login: Option<UserType>, wanted: &Wanted, mark: &Mark) -> bool
     ensures { result ≡ passes_over login wanted.now mark.now }
 {
     (mark.is_private() && !sees_private(login)) || wanted.excludes(mark)
-}
-
-/// Whether one who is logged in so sees private objects (PKCS #11 v3.1, 4.4, CKA_PRIVATE).
-fn sees_private(login: Option<UserType>) -> bool
-    ensures { result ≡ is_user_in login }
-{
-    matches!(login, Some(UserType::User))
 }
 
 /// Adds a token object to what was found, where it is seen and the template finds it.

@@ -1,12 +1,12 @@
 //! The keeper, with a list of its objects in the order of their creation: their ids, and their marks.
 
-ghost use Rattle.std.specs.Prelude.{◌≡◌, ◌≢◌, ◌+◌, ◌++◌, ◌≤◌, None, Option, IfOk, IfErr, IsErrOf, OnOk, OnErr, IfSome};
+ghost use Rattle.std.specs.Prelude.{◌≡◌, ◌≢◌, ◌+◌, ◌++◌, ◌≤◌, None, Option, IfOk, IfErr, IsErrOf, OnOk, IfSome};
 ghost use Rattle.std.specs.List.{AllByRecursion};
 ghost use Rattle.keep.specs.Contents.{Contents, IsTokenObject, after_reset, greatest_id, object_at, with_object, with_record, with_replacement, without_object};
 ghost use Rattle.keep.specs.Keeping.{Stays, HasCause, Counted};
 ghost use Rattle.keep.specs.declared.keep.KeepFault.TheVariants.{Device};
 ghost use Rattle.serve_base.specs.Searching.{kept_found, MayFind};
-ghost use Rattle.serve_base.specs.Stores.{StoreHas, LeavesAlone, LeavesOr, SameIds};
+ghost use Rattle.serve_base.specs.Stores.{StoreHas, SameIds, Wrote};
 
 use crate::listed::{Listed, has_id, list_unread, remove_id, set_mark, take_out_many};
 use crate::searching::{Match, search_kept};
@@ -82,12 +82,8 @@ impl<K: Keep> Store<K> {
     /// Replaces the record. The objects stay.
     pub fn set_record(&mut self, token_record: Record) -> Result<(), KeepFault>
         ensures has { (c : Contents) → StoreHas K.terms self.old c → OnOk result (StoreHas K.terms self.new (with_record token_record c)) }
-        ensures leaves { (c : Contents) → StoreHas K.terms self.old c → OnOk result (LeavesAlone K.terms self.new (with_record token_record c)) }
-        ensures same { (c : Contents) → StoreHas K.terms self.old c → OnErr result (StoreHas K.terms self.new c) }
-        ensures leaves_or { (c : Contents) → StoreHas K.terms self.old c → OnErr result (LeavesOr K.terms self.old self.new (with_record token_record c)) }
-        ensures steady { K.terms.is_steady self.old.keep → IsErrOf result Device → ⊥ }
-        ensures counts { Counted K.terms self.old.keep self.new.keep 0 1 }
-        ensures cause { HasCause (K.terms.failures self.old.keep) (K.terms.failures self.new.keep) result }
+        ensures wrote { Wrote K.terms (with_record token_record)
+            ⊥ self.old self.new result }
     {
         self.keep.set_record(token_record)?;
         Ok(())
@@ -96,12 +92,8 @@ impl<K: Keep> Store<K> {
     /// Removes all objects and replaces the record, as one change. Ids are counted on.
     pub fn reset(&mut self, token_record: Record) -> Result<(), KeepFault>
         ensures has { (c : Contents) → StoreHas K.terms self.old c → OnOk result (StoreHas K.terms self.new (after_reset token_record c)) }
-        ensures leaves { (c : Contents) → StoreHas K.terms self.old c → OnOk result (LeavesAlone K.terms self.new (after_reset token_record c)) }
-        ensures same { (c : Contents) → StoreHas K.terms self.old c → OnErr result (StoreHas K.terms self.new c) }
-        ensures leaves_or { (c : Contents) → StoreHas K.terms self.old c → OnErr result (LeavesOr K.terms self.old self.new (after_reset token_record c)) }
-        ensures steady { K.terms.is_steady self.old.keep → IsErrOf result Device → ⊥ }
-        ensures counts { Counted K.terms self.old.keep self.new.keep 0 1 }
-        ensures cause { HasCause (K.terms.failures self.old.keep) (K.terms.failures self.new.keep) result }
+        ensures wrote { Wrote K.terms (after_reset token_record)
+            ⊥ self.old self.new result }
     {
         self.keep.reset(token_record)?;
         self.listed.clear();
@@ -161,12 +153,8 @@ impl<K: Keep> Store<K> {
         ensures id { K.terms.doubt self.new.keep ≡ 0 → (c : Contents) → StoreHas K.terms self.old c → IfOk result (λ id. id ≡ c.last_id + 1) }
         ensures has { K.terms.doubt self.new.keep ≡ 0 → (c : Contents) → StoreHas K.terms self.old c
             → OnOk result (StoreHas K.terms self.new (with_object object.now c)) }
-        ensures leaves { (c : Contents) → StoreHas K.terms self.old c → OnOk result (LeavesAlone K.terms self.new (with_object object.now c)) }
-        ensures same { (c : Contents) → StoreHas K.terms self.old c → OnErr result (StoreHas K.terms self.new c) }
-        ensures leaves_or { (c : Contents) → StoreHas K.terms self.old c → OnErr result (LeavesOr K.terms self.old self.new (with_object object.now c)) }
-        ensures steady { K.terms.is_steady self.old.keep → IsErrOf result Device → (c : Contents) → StoreHas K.terms self.old c → greatest_id ≤ c.last_id }
-        ensures counts { Counted K.terms self.old.keep self.new.keep 0 1 }
-        ensures cause { HasCause (K.terms.failures self.old.keep) (K.terms.failures self.new.keep) result }
+        ensures wrote { Wrote K.terms (with_object object.now)
+            ((c : Contents) → StoreHas K.terms self.old c → greatest_id ≤ c.last_id) self.old self.new result }
     {
         take_out_many(&mut self.listed, &mut self.removed);
         self.listed.reserve(1)?;
@@ -183,13 +171,8 @@ impl<K: Keep> Store<K> {
     pub fn replace(&mut self, id: u64, object: &Object) -> Result<(), KeepFault>
         requires { IsTokenObject object.now }
         ensures has { (c : Contents) → StoreHas K.terms self.old c → OnOk result (StoreHas K.terms self.new (with_replacement id object.now c)) }
-        ensures leaves { (c : Contents) → StoreHas K.terms self.old c → OnOk result (LeavesAlone K.terms self.new (with_replacement id object.now c)) }
-        ensures same { (c : Contents) → StoreHas K.terms self.old c → OnErr result (StoreHas K.terms self.new c) }
-        ensures leaves_or { (c : Contents) → StoreHas K.terms self.old c
-            → OnErr result (LeavesOr K.terms self.old self.new (with_replacement id object.now c)) }
-        ensures steady { K.terms.is_steady self.old.keep → IsErrOf result Device → (c : Contents) → StoreHas K.terms self.old c → object_at c id ≡ None }
-        ensures counts { Counted K.terms self.old.keep self.new.keep 0 1 }
-        ensures cause { HasCause (K.terms.failures self.old.keep) (K.terms.failures self.new.keep) result }
+        ensures wrote { Wrote K.terms (with_replacement id object.now)
+            ((c : Contents) → StoreHas K.terms self.old c → object_at c id ≡ None) self.old self.new result }
     {
         self.keep.replace(id, object)?;
         set_mark(&mut self.listed, id, Mark::of(object));
@@ -199,12 +182,8 @@ impl<K: Keep> Store<K> {
     /// Removes the object under an id.
     pub fn remove(&mut self, id: u64) -> Result<(), KeepFault>
         ensures has { (c : Contents) → StoreHas K.terms self.old c → OnOk result (StoreHas K.terms self.new (without_object id c)) }
-        ensures leaves { (c : Contents) → StoreHas K.terms self.old c → OnOk result (LeavesAlone K.terms self.new (without_object id c)) }
-        ensures same { (c : Contents) → StoreHas K.terms self.old c → OnErr result (StoreHas K.terms self.new c) }
-        ensures leaves_or { (c : Contents) → StoreHas K.terms self.old c → OnErr result (LeavesOr K.terms self.old self.new (without_object id c)) }
-        ensures steady { K.terms.is_steady self.old.keep → IsErrOf result Device → (c : Contents) → StoreHas K.terms self.old c → object_at c id ≡ None }
-        ensures counts { Counted K.terms self.old.keep self.new.keep 0 1 }
-        ensures cause { HasCause (K.terms.failures self.old.keep) (K.terms.failures self.new.keep) result }
+        ensures wrote { Wrote K.terms (without_object id)
+            ((c : Contents) → StoreHas K.terms self.old c → object_at c id ≡ None) self.old self.new result }
     {
         self.keep.remove(id)?;
         remove_id(&mut self.listed, id);

@@ -24,50 +24,51 @@ use lists::NUMBER_LIMIT;
 use mech::Work;
 use precede::Condition;
 use serve_base::{
-    Found, Out, Refusal, Store, add_object, aes_key, ask, find, is_aes, random_block,
+    Caller, Found, Out, Refusal, Store, add_object, aes_key, ask, find, is_aes, random_block,
 };
-use std::alloc::Global;
 use templates::{unwrap_fault, unwraps_private_key, unwraps_token_key};
+
+/// A wrapped key, and what unwraps it.
+#[derive(Drop)]
+pub struct Wrapped {
+    pub mechanism: Mechanism,
+    pub unwrapping_key: u64,
+    pub bytes: Bytes,
+}
 
 /// C_UnwrapKey (PKCS #11 v3.1, 5.18).
 /// Codes: the checks of C_UnwrapKey (`precede`), and those of the template. Returns a job for the key that a template makes of the value
 /// which is wrapped in the bytes, under an unwrapping key. The call's random bytes make its CKA_UNIQUE_ID. The call is pending then.
 pub fn serve<K: Keep>(
-    alloc: Global,
-    app: u64,
+    caller: Caller,
     desk: &mut Desk,
     store: &mut Store<K>,
     session: u64,
-    mechanism: Mechanism,
-    unwrapping_key: u64,
-    wrapped_key: Bytes,
+    wrapped: Wrapped,
     template: Template,
     random: &[u8],
 ) -> Result<Out, Refusal>
     requires below { desk.old.next_question < 2 ^ 63 }
     requires random { length random.now ≡ 16 }
     ensures done { IsDoneAs K.terms said_of 0
-        (λ c v. unwrap_key v session mechanism unwrapping_key wrapped_key template random.now) store.old store.new desk.old result desk.new }
-    ensures asker { IfOk result (IsFor app) }
+        (λ c v. unwrap_key v session wrapped.mechanism wrapped.unwrapping_key wrapped.bytes template random.now)
+        store.old store.new desk.old result desk.new }
+    ensures asker { IfOk result (IsFor caller.app) }
 {
-    let key = find(alloc, desk, store, unwrapping_key)?;
+    let Wrapped {
+        mechanism,
+        unwrapping_key,
+        bytes,
+    } = wrapped;
+    let key = find(caller.alloc, desk, store, unwrapping_key)?;
     ask_unwrapped(
-        alloc,
-        app,
-        desk,
-        session,
-        &mechanism,
-        &key,
-        wrapped_key,
-        template,
-        random,
+        caller, desk, session, &mechanism, &key, bytes, template, random,
     )
 }
 
 /// Returns the job of the unwrapping under what was found, where the checks of the call's table pass.
 fn ask_unwrapped(
-    alloc: Global,
-    app: u64,
+    caller: Caller,
     desk: &mut Desk,
     session: u64,
     mechanism: &Mechanism,
@@ -81,7 +82,7 @@ fn ask_unwrapped(
     ensures serves { AtDesk said_of
         (λ v. unwraps v session mechanism.now (object_in key.now) wrapped_key template random.now (state_in v session)
         (template_fault (templates_call.Unwrap (length wrapped_key - 8)) (state_in v session) [] template)) desk.old result desk.new }
-    ensures asker { IfOk result (IsFor app) }
+    ensures asker { IfOk result (IsFor caller.app) }
 {
     let state = desk.state(session).ok_or(Condition::NoSession)?;
     let _ = find_for(Purpose::Wrapping, mechanism.mech_type).ok_or(Condition::WrongMechanism)?;
@@ -102,8 +103,7 @@ fn ask_unwrapped(
         return Err(Refusal::Condition(Condition::WrappedLength));
     }
     ask_for_key(
-        alloc,
-        app,
+        caller,
         desk,
         session,
         state,
@@ -132,8 +132,7 @@ fn fault_of(state: SessionState, template: &Template, wrapped_len: usize) -> Opt
 /// Returns the job for the key of a template. The template must make one, and a session in this state must be allowed to have
 /// it. The limit of session objects must not be reached.
 fn ask_for_key(
-    alloc: Global,
-    app: u64,
+    caller: Caller,
     desk: &mut Desk,
     session: u64,
     state: SessionState,
@@ -146,7 +145,7 @@ fn ask_for_key(
     requires random { length random.now ≡ 16 }
     requires wrapped { is_wrapped_length (length wrapped) ≡ true }
     ensures serves { AtDesk said_of (λ v. asks_for_key v session state key wrapped template random.now) desk.old result desk.new }
-    ensures asker { IfOk result (IsFor app) }
+    ensures asker { IfOk result (IsFor caller.app) }
 {
     if let Some(code) = fault_of(state, &template, wrapped.len()) {
         return Err(Refusal::Code(code));
@@ -168,7 +167,14 @@ fn ask_for_key(
         template,
         random: random_block(random),
     };
-    Ok(Out::Ask(ask(alloc, app, desk, Function::UnwrapKey, session, work)?))
+    Ok(Out::Ask(ask(
+        caller.alloc,
+        caller.app,
+        desk,
+        Function::UnwrapKey,
+        session,
+        work,
+    )?))
 }
 
 /// The outcome of C_UnwrapKey: adds the key that was made of the unwrapped value, and returns its handle.

@@ -25,7 +25,7 @@ use desk::Desk;
 use keep::{Keep, KeepFault};
 use mech::Work;
 use precede::Condition;
-use serve_base::{Found, Out, Refusal, Store, aes_key, ask_within, find, is_aes};
+use serve_base::{Caller, Found, Out, Refusal, Store, aes_key, ask_within, find, is_aes};
 use std::alloc::Global;
 
 /// How many bytes a wrapped key is longer than its value.
@@ -35,8 +35,7 @@ const WRAPPING_BYTES: u64 = 8;
 /// Codes: the checks of C_WrapKey (`precede`). Returns a job for the wrapping of a key's value under a wrapping key. Without a buffer it
 /// returns the wrapping's length, in bytes; with a short one `CKR_BUFFER_TOO_SMALL`. With the job the call is pending.
 pub fn serve<K: Keep>(
-    alloc: Global,
-    app: u64,
+    caller: Caller,
     desk: &mut Desk,
     store: &mut Store<K>,
     session: u64,
@@ -47,12 +46,11 @@ pub fn serve<K: Keep>(
 ) -> Result<Out, Refusal>
     requires { desk.old.next_question < 2 ^ 63 }
     ensures done { IsDoneAs K.terms said_of 0 (λ c v. wrap_key v session mechanism wrapping_key key buffer_len) store.old store.new desk.old result desk.new }
-    ensures asker { IfOk result (IsFor app) }
+    ensures asker { IfOk result (IsFor caller.app) }
 {
-    let (wrapping_key, key) = find_both(alloc, desk, store, wrapping_key, key)?;
+    let (wrapping_key, key) = find_both(caller.alloc, desk, store, wrapping_key, key)?;
     ask_wrapped(
-        alloc,
-        app,
+        caller,
         desk,
         session,
         &mechanism,
@@ -85,8 +83,7 @@ fn find_both<K: Keep>(
 
 /// Returns the job of the wrapping of what was found, where the checks of the call's table pass.
 fn ask_wrapped(
-    alloc: Global,
-    app: u64,
+    caller: Caller,
     desk: &mut Desk,
     session: u64,
     mechanism: &Mechanism,
@@ -96,7 +93,7 @@ fn ask_wrapped(
 ) -> Result<Out, Refusal>
     requires { desk.old.next_question < 2 ^ 63 }
     ensures serves { AtDesk said_of (λ v. wraps v session mechanism.now (object_in wrapping_key.now) (object_in key.now) buffer_len) desk.old result desk.new }
-    ensures asker { IfOk result (IsFor app) }
+    ensures asker { IfOk result (IsFor caller.app) }
 {
     let _ = desk.state(session).ok_or(Condition::NoSession)?;
     let _ = find_for(Purpose::Wrapping, mechanism.mech_type).ok_or(Condition::WrongMechanism)?;
@@ -130,11 +127,11 @@ fn ask_wrapped(
     let wanted = wrapped_len(value);
     let work = Work::Wrap {
         key: aes_key(wrapping_key),
-        value: Bytes::from_slice(alloc, value)?,
+        value: Bytes::from_slice(caller.alloc, value)?,
     };
     Ok(ask_within(
-        alloc,
-        app,
+        caller.alloc,
+        caller.app,
         desk,
         Function::WrapKey,
         session,

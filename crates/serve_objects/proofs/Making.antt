@@ -1,9 +1,8 @@
 -- What is answered where a template makes an object.
-use Rattle.std.proofs.Common.{◌≡◌, ℕ, false, not, List, [], Option, Some, None, Ok, refl, sym}
+use Rattle.std.proofs.Common.{◌≡◌, ℕ, false, not, List, [], Some, None, refl}
 use Rattle.std.specs.Prelude.{◌&&◌}
 use Rattle.ck_types.specs.declared.entry.Entry.{Entry}
 use Rattle.ck_types.specs.declared.attr_type.AttrType.TheVariants as attr
-use Rattle.ck_types.specs.declared.rv.Rv.{Rv}
 use Rattle.ck_types.specs.declared.session_state.SessionState.{SessionState}
 use Rattle.attrs.specs.Objects.{flag}
 use Rattle.guard.specs.Access.{is_rw}
@@ -17,7 +16,7 @@ use Rattle.model_views.specs.Views.{View}
 use Rattle.model_views.specs.Answering.{session_of, object_at, index_of}
 use Rattle.model_answers.specs.CreateObject.{create_object}
 use Rattle.model_answers.specs.CopyObject.{copy_object}
-use Rattle.model_answers.specs.SetAttributeValue.{puts, set_attribute_value}
+use Rattle.model_answers.specs.SetAttributeValue.{puts_object, set_attribute_value}
 use Rattle.model_answers.specs.CreateObject.{adds_where}
 
 -- ---- the answers
@@ -40,5 +39,5 @@ module _ (v : View) (session : ℕ) (template : List Entry) (s : Session Operati
 
     module _ (writable : (flag o attr.Token && not (is_rw state)) ≡ false) (modifiable : not (flag o attr.Modifiable) ≡ false) where
       pub set-is : (made : List Entry) → template_fault Set state o template ≡ None → object_made Set o template [] [] ≡ made
-          → set_attribute_value v session handle template ≡ puts v handle made (index_of v.tokens handle)
+          → set_attribute_value v session handle template ≡ puts_object v handle made (index_of v.tokens handle)
       set-is made fault is = rw (there, found, writable, modifiable, fault, is) refl

@@ -15,7 +15,7 @@ use Rattle.lists.specs.Indexes.{first_index, kept_index, seen_index}
 use Rattle.model_views.specs.Views.{SessionObject, View, sees}
 use Rattle.model_views.specs.Changes.{Stays, Replace, seen as seen_after, replaced_at as replaced_seen}
 use Rattle.model_views.specs.Answering.{Replies, index_of}
-use Rattle.model_answers.specs.SetAttributeValue.{rewritten_own, puts}
+use Rattle.model_answers.specs.SetAttributeValue.{rewritten_own, puts_object}
 use Rattle.serve_base.specs.Shown.{sees_kept, session_object, view_of, rekept, IsAsPublic, ChangesContents, Fits, GivesAnswer}
 use Rattle.serve_base.specs.Found.{IsObjectAt}
 use Rattle.lists.proofs.ListLemmas.{find-filter_none, index-none, kept-hidden, kept-seen, kept_index-map}
@@ -117,7 +117,7 @@ own-put (e ∷ es) handle o = step (e.handle == handle) (own-put es handle o) wh
 
 module _ (c : Contents) (d : DeskState) (next handle : ℕ) (table : IsHandleTable next d.handles.entries) (old o : List Entry) where
   pub gives-put : (id : ℕ) → is_public o ≡ is_public old → IsObjectAt c d handle old (Some id) → IsSound c → Fits c d.handles.entries
-      → GivesAnswer (puts (view_of c d) handle o (index_of (view_of c d).tokens handle)) d.sessions.login c (Replies (Code Ok))
+      → GivesAnswer (puts_object (view_of c d) handle o (index_of (view_of c d).tokens handle)) d.sessions.login c (Replies (Code Ok))
       (with_replacement id o c) d
   gives-put id public at sound fits =
       let p = index-kept c d next handle table old id at in
@@ -141,7 +141,7 @@ module _ (c : Contents) (d : DeskState) (next handle : ℕ) (table : IsHandleTab
       })
 
   pub gives-put_own : IsObjectAt c d handle old None → Fits c d.handles.entries
-      → GivesAnswer (puts (view_of c d) handle o (index_of (view_of c d).tokens handle)) d.sessions.login c (Replies (Code Ok)) c
+      → GivesAnswer (puts_object (view_of c d) handle o (index_of (view_of c d).tokens handle)) d.sessions.login c (Replies (Code Ok)) c
       (record d { own = replaced_own d.own handle o })
   gives-put_own at fits =
       let f : List SessionObject → View = λ os. record (view_of c d) { own = os } in
@@ -152,5 +152,5 @@ module _ (c : Contents) (d : DeskState) (next handle : ℕ) (table : IsHandleTab
         fits = fits;
       })
 
-  pub stays-own : IsObjectAt c d handle old None → (puts (view_of c d) handle o (index_of (view_of c d).tokens handle)).change ≡ Stays
+  pub stays-own : IsObjectAt c d handle old None → (puts_object (view_of c d) handle o (index_of (view_of c d).tokens handle)).change ≡ Stays
   stays-own at = rw at refl

@@ -1,20 +1,13 @@
 //! C_DestroyObject (PKCS #11 v3.1, 5.7.3).
 
-ghost use Rattle.std.specs.Prelude.{◌≡◌, ◌⊎◌, true, List, IfErr, IfOk, IsErrOf};
+ghost use Rattle.std.specs.Prelude.{List};
 ghost use Rattle.ck_types.specs.declared.entry.Entry.{Entry};
-ghost use Rattle.desk.specs.Desks.{SameDesk};
 ghost use Rattle.handles.specs.Handles.{IsHandleTable};
-ghost use Rattle.keep.specs.Contents.{Contents};
-ghost use Rattle.keep.specs.Keeping.{Counted, Rises};
-ghost use Rattle.model_views.specs.Answering.{Replies, index_of};
-ghost use Rattle.model_views.specs.Refusals.{is_refusal};
+ghost use Rattle.model_views.specs.Answering.{index_of};
 ghost use Rattle.model_answers.specs.DestroyObject.{destroy_object, destroyed};
-ghost use Rattle.serve_base.specs.declared.refusal.Refusal.TheVariants.{Device};
 ghost use Rattle.serve_base.specs.Found.{IsObjectAt};
-ghost use Rattle.serve_base.specs.Refusing.{CallDoes, EndsNone, IsDone, IsPlain};
-ghost use Rattle.serve_base.specs.Short.{IsShort};
-ghost use Rattle.serve_base.specs.Shown.{Fits, ShowsSame, view_of};
-ghost use Rattle.serve_base.specs.Stores.{StoreHas};
+ghost use Rattle.serve_base.specs.Refusing.{IsDone};
+ghost use Rattle.serve_objects.specs.Doing.{IsDoneWhere};
 
 use ck_calls::Reply;
 use ck_types::{AttrType, Rv};
@@ -55,16 +48,8 @@ fn destroy<K: Keep>(
     id: Option<u64>,
 ) -> Result<Reply, Refusal>
     requires { IsHandleTable desk.old.handles.next_number desk.old.handles.entries }
-    ensures serves { (object : List Entry) → K.terms.doubt store.new.keep ≡ 0 → (c : Contents) → StoreHas K.terms store.old c
-        → Fits c desk.old.handles.entries → IsObjectAt c desk.old handle object id
-        → CallDoes K.terms (destroyed (view_of c desk.old) handle (index_of (view_of c desk.old).tokens handle)) c
-        store.old store.new desk.old result desk.new }
-    ensures counts { Counted K.terms store.old.keep store.new.keep 0 1 }
-    ensures cause { IsErrOf result Device → Rises (K.terms.failures store.old.keep) (K.terms.failures store.new.keep) }
-    ensures plain { IsPlain result }
-    ensures stays { IfErr result (λ refusal. SameDesk desk.old desk.new) }
-    ensures refused { IfOk result (λ reply. is_refusal reply ≡ true → ShowsSame desk.old desk.new ⊎ EndsNone (Replies reply)) }
-    ensures short { IfOk result (λ reply. IsShort reply) }
+    ensures { IsDoneWhere (λ c. (object : List Entry) × IsObjectAt c desk.old handle object id) K.terms 1
+        (λ v. destroyed v handle (index_of v.tokens handle)) store.old store.new desk.old result desk.new }
 {
     match id {
         Some(id) => {

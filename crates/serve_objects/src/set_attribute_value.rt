@@ -1,21 +1,15 @@
 //! C_SetAttributeValue (PKCS #11 v3.1, 5.7.6).
 
-ghost use Rattle.std.specs.Prelude.{◌≡◌, ◌⊎◌, true, List, IfSome, IfErr, IfOk, IsErrOf};
+ghost use Rattle.std.specs.Prelude.{◌≡◌, List, IfSome};
 ghost use Rattle.ck_types.specs.declared.entry.Entry.{Entry};
 ghost use Rattle.guard.specs.Access.{is_public};
-ghost use Rattle.desk.specs.Desks.{SameDesk};
 ghost use Rattle.handles.specs.Handles.{IsHandleTable};
-ghost use Rattle.keep.specs.Contents.{Contents, IsTokenObject};
-ghost use Rattle.keep.specs.Keeping.{Counted, Rises};
-ghost use Rattle.model_views.specs.Answering.{Replies, index_of};
-ghost use Rattle.model_views.specs.Refusals.{is_refusal};
-ghost use Rattle.model_answers.specs.SetAttributeValue.{puts, set_attribute_value};
-ghost use Rattle.serve_base.specs.declared.refusal.Refusal.TheVariants.{Device};
+ghost use Rattle.keep.specs.Contents.{IsTokenObject};
+ghost use Rattle.model_views.specs.Answering.{index_of};
+ghost use Rattle.model_answers.specs.SetAttributeValue.{puts_object, set_attribute_value};
 ghost use Rattle.serve_base.specs.Found.{IsObjectAt};
-ghost use Rattle.serve_base.specs.Refusing.{CallDoes, EndsNone, IsDone, IsPlain};
-ghost use Rattle.serve_base.specs.Short.{IsShort};
-ghost use Rattle.serve_base.specs.Shown.{Fits, ShowsSame, view_of};
-ghost use Rattle.serve_base.specs.Stores.{StoreHas};
+ghost use Rattle.serve_base.specs.Refusing.{IsDone};
+ghost use Rattle.serve_objects.specs.Doing.{IsDoneWhere};
 
 use attrs::Object;
 use ck_calls::Reply;
@@ -62,16 +56,8 @@ fn put<K: Keep>(
 ) -> Result<Reply, Refusal>
     requires table { IsHandleTable desk.old.handles.next_number desk.old.handles.entries }
     requires token { IfSome id (λ i. IsTokenObject object) }
-    ensures serves { (old : List Entry) → is_public object ≡ is_public old → K.terms.doubt store.new.keep ≡ 0 → (c : Contents)
-        → StoreHas K.terms store.old c → Fits c desk.old.handles.entries → IsObjectAt c desk.old handle old id
-        → CallDoes K.terms (puts (view_of c desk.old) handle object (index_of (view_of c desk.old).tokens handle)) c
-        store.old store.new desk.old result desk.new }
-    ensures counts { Counted K.terms store.old.keep store.new.keep 0 1 }
-    ensures cause { IsErrOf result Device → Rises (K.terms.failures store.old.keep) (K.terms.failures store.new.keep) }
-    ensures plain { IsPlain result }
-    ensures stays { IfErr result (λ refusal. SameDesk desk.old desk.new) }
-    ensures refused { IfOk result (λ reply. is_refusal reply ≡ true → ShowsSame desk.old desk.new ⊎ EndsNone (Replies reply)) }
-    ensures short { IfOk result (λ reply. IsShort reply) }
+    ensures { IsDoneWhere (λ c. (old : List Entry) × (is_public object ≡ is_public old) × IsObjectAt c desk.old handle old id) K.terms 1
+        (λ v. puts_object v handle object (index_of v.tokens handle)) store.old store.new desk.old result desk.new }
 {
     match id {
         Some(id) => {

@@ -18,7 +18,7 @@ use Rattle.model_views.specs.Answering.{Answer, refuses_by, session_of, object_a
 use Rattle.model_views.specs.Checked.{is_aes}
 use Rattle.model_views.specs.Refusals.{resource_error_in}
 use Rattle.model_views.proofs.Refused.{OnRefusal, no-refusal, refusal-if, refusal-row}
-use Rattle.model_answers.specs.CipherInit.{begins, permission, place_for, cipher_at, with_parameter, cipher_init}
+use Rattle.model_answers.specs.CipherInit.{cipher_begins, permission, place_for, cipher_at, with_parameter, cipher_init}
 use Rattle.serve_operations.specs.CipherBeginning.{by_key, cipher_by, cipher_of, cipher_for}
 
 -- ---- the answer
@@ -85,4 +85,4 @@ pub alone-key : (d : Direction) (session : ℕ) (cipher : Cipher) (o : List Entr
 alone-key d session cipher o v =
     refusal-if (not (is_secret_key (class_of o))) (refusal-row v NoKey refl) (
     refusal-if (not (is_aes (key_type_of o))) (refusal-row v WrongKeyType refl) (
-    refusal-if (not (flag o (permission d))) (refusal-row v KeyNotPermitted refl) (no-refusal {a = begins d v session cipher o} refl)))
+    refusal-if (not (flag o (permission d))) (refusal-row v KeyNotPermitted refl) (no-refusal {a = cipher_begins d v session cipher o} refl)))

@@ -24,7 +24,7 @@ use Rattle.ops.specs.declared.place.Place.{Place}
 use Rattle.ops.specs.Operations.{Operation, Operations, operation_in, operation_of, placed_in, table_with_operation as in_sessions}
 use Rattle.model_views.specs.Views.{View, Ciphers}
 use Rattle.model_views.specs.Answering.{Said, Replies, Answer, becomes, session_of, with_operation}
-use Rattle.model_answers.specs.CipherInit.{place_for, ends}
+use Rattle.model_answers.specs.CipherInit.{place_for, cipher_ends}
 use Rattle.model_answers.specs.Cipher.{single_function, update_function, final_function, has_taken, cipher_single, cipher_update, cipher_final}
 use Rattle.serve_base.specs.declared.out.Out.TheVariants.{Reply as OutReply}
 use Rattle.serve_base.specs.Refusing.{AtDeskIf}
@@ -98,19 +98,19 @@ module _ (v : View) (session : ℕ) (d : Direction) (s : Streamed)
 
   module _ (input : List ℕ) (buffer_len : Option ℕ) (fresh : has_taken (operation_of s) ≡ false) where
     pub single-refused : (fault : ModeFault) → IsTested (Some fault) s Last input
-        → cipher_single d v session input buffer_len ≡ ends v session (place_for d) (refused_row d fault)
+        → cipher_single d v session input buffer_len ≡ cipher_ends v session (place_for d) (refused_row d fault)
     single-refused fault told = elim told [
       | inl odd ↦ rw odd.0 (at-length d under_way odd.1 odd.2)
       | inr over ↦ rw over.0 (at-counters d under_way over.1)
     ] where
       at-length : (d : Direction) → operation_in (session_of v session) (place_for d) ≡ Some (operation_of s)
           → ends_counters s input ≡ false → refuses_length Last s (length input) ≡ true
-          → cipher_single d v session input buffer_len ≡ ends v session (place_for d) (refused_row d LenRange)
+          → cipher_single d v session input buffer_len ≡ cipher_ends v session (place_for d) (refused_row d LenRange)
       at-length Encrypt is counted odd = rw (there, is, fresh, counted, odd) refl
       at-length Decrypt is counted odd = rw (there, is, fresh, counted, odd) refl
 
       at-counters : (d : Direction) → operation_in (session_of v session) (place_for d) ≡ Some (operation_of s)
-          → ends_counters s input ≡ true → cipher_single d v session input buffer_len ≡ ends v session (place_for d) DataLength
+          → ends_counters s input ≡ true → cipher_single d v session input buffer_len ≡ cipher_ends v session (place_for d) DataLength
       at-counters Encrypt is over = rw (there, is, fresh, over) refl
       at-counters Decrypt is over = rw (there, is, fresh, over) refl
 
@@ -137,19 +137,19 @@ module _ (v : View) (session : ℕ) (d : Direction) (s : Streamed)
 
   module _ (buffer_len : Option ℕ) where
     pub final-refused : (fault : ModeFault) → IsTested (Some fault) s Last []
-        → cipher_final d v session buffer_len ≡ ends v session (place_for d) (refused_row d fault)
+        → cipher_final d v session buffer_len ≡ cipher_ends v session (place_for d) (refused_row d fault)
     final-refused fault told = elim told [
       | inl odd ↦ rw odd.0 (at-length d under_way odd.1 odd.2)
       | inr over ↦ rw over.0 (at-counters d under_way over.1)
     ] where
       at-length : (d : Direction) → operation_in (session_of v session) (place_for d) ≡ Some (operation_of s)
           → ends_counters s [] ≡ false → refuses_length Last s 0 ≡ true
-          → cipher_final d v session buffer_len ≡ ends v session (place_for d) (refused_row d LenRange)
+          → cipher_final d v session buffer_len ≡ cipher_ends v session (place_for d) (refused_row d LenRange)
       at-length Encrypt is counted odd = rw (there, is, counted, odd) refl
       at-length Decrypt is counted odd = rw (there, is, counted, odd) refl
 
       at-counters : (d : Direction) → operation_in (session_of v session) (place_for d) ≡ Some (operation_of s)
-          → ends_counters s [] ≡ true → cipher_final d v session buffer_len ≡ ends v session (place_for d) DataLength
+          → ends_counters s [] ≡ true → cipher_final d v session buffer_len ≡ cipher_ends v session (place_for d) DataLength
       at-counters Encrypt is over = rw (there, is, over) refl
       at-counters Decrypt is over = rw (there, is, over) refl
 
@@ -170,11 +170,11 @@ gives-is a b c d d' said is gives = subst (λ x. GivesAnswer x d.sessions.login 
 
 -- a call that ends its operation for a check of its table that fails
 pub ended-for : (given : Type 0) (f : View → Answer) (d : DeskState) (session : ℕ) (place : Place) (row : Condition)
-    → ((c : Contents) → f (view_of c d) ≡ ends (view_of c d) session place row)
+    → ((c : Contents) → f (view_of c d) ≡ cipher_ends (view_of c d) session place row)
     → AtDeskIf given said_of f d (Ok (OutReply (Code (code_of rv.Ok row))))
     (record d { sessions = in_sessions d.sessions session place None })
 ended-for given f d session place row is = record {
-  serves = λ c fits. gives-is _ (ends (view_of c d) session place row) c d _ _ (is c)
+  serves = λ c fits. gives-is _ (cipher_ends (view_of c d) session place row) c d _ _ (is c)
       (gives-with c d session place None (Code (code_of rv.Ok row)) fits);
   cause = search rules;
   short = search rules;

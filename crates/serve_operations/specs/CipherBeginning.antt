@@ -14,7 +14,7 @@ use Rattle.ops.specs.Operations.{Operations, operation_in}
 use Rattle.model_views.specs.Views.{View}
 use Rattle.model_views.specs.Answering.{Answer, unless}
 use Rattle.model_views.specs.Checked.{is_aes}
-use Rattle.model_answers.specs.CipherInit.{permission, place_for, cipher_at, with_parameter, begins}
+use Rattle.model_answers.specs.CipherInit.{permission, place_for, cipher_at, with_parameter, cipher_begins}
 
 -- ---- the mechanism with its parameter
 
@@ -34,4 +34,4 @@ cipher_for d s m = if is_some (operation_in s (place_for d)) then Err OperationA
 abbrev pub by_key : Direction → View → ℕ → Cipher → List Entry → Answer
 by_key d v session mechanism o =
     unless v ((NoKey, not (is_secret_key (class_of o))) ∷ (WrongKeyType, not (is_aes (key_type_of o)))
-    ∷ (KeyNotPermitted, not (flag o (permission d))) ∷ []) (begins d v session mechanism o)
+    ∷ (KeyNotPermitted, not (flag o (permission d))) ∷ []) (cipher_begins d v session mechanism o)

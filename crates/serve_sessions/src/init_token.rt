@@ -18,15 +18,13 @@ use keep::Keep;
 use mech::Work;
 use pin_record::{Record, Verifier, end_check};
 use precede::Condition;
-use serve_base::{Out, Refusal, Store, ask, random_block};
-use std::alloc::Global;
+use serve_base::{Caller, Out, Refusal, Store, ask, random_block};
 
 /// C_InitToken (PKCS #11 v3.1, 5.5).
 /// Codes: the checks of C_InitToken (`precede`). Returns a job for a check of the SO's PIN, which is charged before it. Where the token
 /// isn't initialised, the job is for the verifier of this PIN, with the call's random bytes as its salt. The call is pending then.
 pub fn serve<K: Keep>(
-    alloc: Global,
-    app: u64,
+    caller: Caller,
     desk: &mut Desk,
     store: &mut Store<K>,
     slot: u64,
@@ -42,7 +40,7 @@ pub fn serve<K: Keep>(
       under_way = None;
       others_have_sessions = Some others_have_sessions;
     })) store.old store.new desk.old result desk.new }
-    ensures asker { IfOk result (IsFor app) }
+    ensures asker { IfOk result (IsFor caller.app) }
 {
     if slot != SLOT {
         return Err(Refusal::Condition(Condition::NoSlot));
@@ -58,7 +56,7 @@ pub fn serve<K: Keep>(
         }
         let salt = random_block(random);
         let work = Work::InitToken { label, pin, salt };
-        return Ok(Out::Ask(ask(alloc, app, desk, Function::InitToken, 0, work)?));
+        return Ok(Out::Ask(ask(caller.alloc, caller.app, desk, Function::InitToken, 0, work)?));
     };
     if record.is_locked(UserType::So) {
         return Err(Refusal::Condition(Condition::PinLocked));
@@ -69,8 +67,7 @@ pub fn serve<K: Keep>(
         pin,
     };
     ask_charged(
-        alloc,
-        app,
+        caller,
         desk,
         store,
         record,

@@ -20,7 +20,7 @@ use keep::Keep;
 use mech::Work;
 use pin_record::{Record, end_check};
 use precede::Condition;
-use serve_base::{Out, Refusal, Store};
+use serve_base::{Caller, Out, Refusal, Store};
 use std::alloc::Global;
 
 /// The user of a `CK_USER_TYPE`.
@@ -96,8 +96,7 @@ pub fn serve<K: Keep>(
     }
     let work = Work::CheckPin { who, verifier, pin };
     ask_charged(
-        alloc,
-        app,
+        Caller { alloc, app },
         desk,
         store,
         record,

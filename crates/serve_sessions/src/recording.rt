@@ -18,8 +18,7 @@ use desk::Desk;
 use keep::Keep;
 use mech::Work;
 use pin_record::{Record, begin_check};
-use serve_base::{Out, Refusal, Store, new_job};
-use std::alloc::Global;
+use serve_base::{Caller, Out, Refusal, Store, new_job};
 
 /// Whether a new PIN has 4 to 64 bytes.
 pub(crate) fn is_pin_length(pin: &[u8]) -> bool
@@ -31,8 +30,7 @@ pub(crate) fn is_pin_length(pin: &[u8]) -> bool
 /// Returns a job for a check of a PIN. The charge is stored before the call is pending. The job is allocated before both, so
 /// an allocation failure charges no try.
 pub(crate) fn ask_charged<K: Keep>(
-    alloc: Global,
-    app: u64,
+    caller: Caller,
     desk: &mut Desk,
     store: &mut Store<K>,
     record: Record,
@@ -47,9 +45,9 @@ pub(crate) fn ask_charged<K: Keep>(
     requires unlocked { tries_of «record» who < tries_limit }
     ensures done { IsDoneIf (IsShortTask (task_of work)) EndsNone K.terms said_of 1
         (λ c v. asks_charged «record» v function session (task_of work) who) store.old store.new desk.old result desk.new }
-    ensures asker { IfOk result (IsFor app) }
+    ensures asker { IfOk result (IsFor caller.app) }
 {
-    let job = new_job(alloc, app, desk, function, session, work)?;
+    let job = new_job(caller.alloc, caller.app, desk, function, session, work)?;
     store.set_record(begin_check(record, who))?;
     desk.ask(&job);
     Ok(Out::Ask(job))

@@ -14,7 +14,7 @@ use keep::Keep;
 use mech::Work;
 use pin_record::{Verifier, end_check};
 use precede::Condition;
-use serve_base::{Out, Refusal, Store, random_block};
+use serve_base::{Caller, Out, Refusal, Store, random_block};
 use std::alloc::Global;
 
 /// Whose PIN is changed: that of who is logged in, and the user's where nobody is.
@@ -67,8 +67,7 @@ pub fn serve<K: Keep>(
         salt,
     };
     ask_charged(
-        alloc,
-        app,
+        Caller { alloc, app },
         desk,
         store,
         record,

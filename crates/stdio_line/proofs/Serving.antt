@@ -24,7 +24,7 @@ use Rattle.line.specs.State.{Connected, output}
 use Rattle.line.specs.Asking.{Gave, Took}
 use Rattle.line.specs.Connecting.{IsNoCall, refusal_frame, Advances, Gives, Tail, Waits, Why, Halts, AtEnd, ReadsTo, WritesTo, Comes, ReplyComes, Omits, SendsBy, Tells, SendsTo, Sends}
 use Rattle.stdio_line.specs.Lines.{Leads}
-use Rattle.stdio_line.specs.Serve.{AreFrames, IsCutOff, LacksLast, IsWritten, counted, EndsBy, ReadsBy, WritesBy, Serves}
+use Rattle.stdio_line.specs.Serve.{AreFrames, IsCutOff, LacksLast, IsWritten, counted_calls, EndsBy, ReadsBy, WritesBy, Serves}
 use Rattle.stdio_line.specs.Parts.{IsFresh, line_outcome, fault_at, block_at, Ends}
 use Rattle.line.proofs.Lines.{gave-none, gave-then, took-none, took-then, all-append}
 use Rattle.watched.proofs.Noting.{unfailing-none, unfailing-then, failed-after, settles-none, settles-then, settles-unfailing}
@@ -427,7 +427,7 @@ module _ {K : Type 0} (terms : Terms K) (app : ℕ) (old : TokenState K) (first 
           finish_end result front ends reads writes = finish h.mid h.refused h.more result words_end read_end front ends reads writes
 
           counts_end : (count : ℕ) → count ≡ min b.answered (2 ^ 64 - 1)
-              → count ≡ counted 0 (length (p.so_far.payloads ++ h.refused.payloads))
+              → count ≡ counted_calls 0 (length (p.so_far.payloads ++ h.refused.payloads))
           counts_end count is = omega (
             arith,
             is,

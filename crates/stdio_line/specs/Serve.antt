@@ -53,12 +53,12 @@ IsWritten (Err faults.Memory) written said = AreFrames written said ⊎ LacksLas
 -- ---- why a line ended
 
 -- how many replies were counted; at its greatest value the count stays
-abbrev pub counted : ℕ → ℕ → ℕ
-counted old more = min (old + more) (2 ^ 64 - 1)
+abbrev pub counted_calls : ℕ → ℕ → ℕ
+counted_calls old more = min (old + more) (2 ^ 64 - 1)
 
 -- by what was left of the stream, and what the reader has left
 abbrev pub EndsBy : Result ℕ LineFault → List (List ℕ) → List ℕ → Reading → Type 0
-EndsBy (Ok n) payloads rest reading = (rest ≡ []) × IsAtEnd reading.left × (n ≡ counted 0 (length payloads))
+EndsBy (Ok n) payloads rest reading = (rest ≡ []) × IsAtEnd reading.left × (n ≡ counted_calls 0 (length payloads))
 EndsBy (Err faults.Read) payloads rest reading = IsPartial rest
 EndsBy (Err faults.Write) payloads rest reading = Unit {0}
 EndsBy (Err faults.TooLong) payloads rest reading = IsTooLong rest

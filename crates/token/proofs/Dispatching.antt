@@ -1,5 +1,5 @@
 -- Which definition answers a call, and what it returns.
-use Rattle.std.proofs.Common.{◌≡◌, ◌⊎◌, inl, inr, ◌∙◌, ℕ, ◌^◌, ◌≤◌, arith, Bool, true, false, cond, List, length, Option, Some, None, Result, Ok, Err, refl, sym, ap, subst}
+use Rattle.std.proofs.Common.{◌≡◌, ◌⊎◌, inl, inr, ℕ, ◌^◌, ◌≤◌, arith, Bool, true, false, cond, List, length, Option, Some, None, Result, Ok, Err, refl, sym, ap, subst}
 use Rattle.std.specs.Prelude.{is_some, ◌||◌, nat_le, IfErr, IfOk}
 use Rattle.std.specs.Option.{option_map}
 use Rattle.std.proofs.lemmas.Bool.{cond_both, leb-true}
@@ -31,7 +31,7 @@ use Rattle.serve_base.specs.declared.refusal.Refusal.{Refusal}
 use Rattle.serve_base.specs.declared.refusal.Refusal.TheVariants as refusals
 use Rattle.serve_base.specs.Refusing.{AtDeskIf, EndsNone, GivesAnyway, IsDoneIf, IsServedIf, settled}
 use Rattle.serve_base.specs.Short.{IsShortCall}
-use Rattle.serve_base.specs.Shown.{objects_of, question_of, said_of, view_of, Fits, GivesAnswer, IsFor, ShowsSame}
+use Rattle.serve_base.specs.Shown.{objects_of, question_of, said_of, view_of, GivesAnswer, IsFor, ShowsSame}
 use Rattle.serve_base.specs.Stores.{StoreState, LacksId, LeavesChange, LeavesTried, ServesAnswer}
 use Rattle.serve_base.proofs.Plain.{plain-at-desk, some-fits, stays-at-desk}
 use Rattle.serve_base.proofs.Refusals.{serves-at-desk}

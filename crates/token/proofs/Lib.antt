@@ -5,3 +5,4 @@ pub mod Dispatching
 pub mod Refused
 pub mod Memory
 pub mod States
+pub mod Finished

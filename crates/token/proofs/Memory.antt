@@ -14,7 +14,7 @@ use Rattle.model_views.specs.declared.fault.Fault.{Fault}
 use Rattle.model_views.specs.declared.fault.Fault.TheVariants as faults
 use Rattle.model_views.specs.Views.{View, sees}
 use Rattle.model_views.specs.Changes.{Change, Stays, in_list}
-use Rattle.model_views.specs.Answering.{Answer, Reveal, noted, replies, refuses_by}
+use Rattle.model_views.specs.Answering.{Answer, Reveal, noted, replies}
 use Rattle.model_views.specs.Refusals.{is_refused, resource_error_in}
 use Rattle.model_session_answers.specs.OpenSession.{is_slot}
 use Rattle.model_session_answers.specs.Mechanisms.{mechanism_info_row}
@@ -22,7 +22,7 @@ use Rattle.model_answers.specs.Answers.{answer, answer_to}
 use Rattle.model_runs.specs.Applications.{told_as}
 use Rattle.model_runs.proofs.Steps.{fits-empty}
 use Rattle.serve_base.specs.declared.out.Out.{Out}
-use Rattle.serve_base.specs.declared.out.Out.TheVariants.{Reply as OutReply, Ask}
+use Rattle.serve_base.specs.declared.out.Out.TheVariants.{Reply as OutReply}
 use Rattle.serve_base.specs.declared.refusal.Refusal.{Refusal}
 use Rattle.serve_base.specs.declared.refusal.Refusal.TheVariants as refusals
 use Rattle.serve_base.specs.Refusing.{GivesAnyway, IsServedIf, settled}

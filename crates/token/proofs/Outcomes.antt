@@ -7,7 +7,6 @@ use Rattle.ck_types.specs.declared.user_type.UserType.{UserType}
 use Rattle.ck_types.specs.declared.user_type.UserType.TheVariants.{So, User}
 use Rattle.ck_calls.specs.declared.reply.Output.TheVariants.{Data}
 use Rattle.ck_calls.specs.declared.reply.Reply.TheVariants.{Code, Output}
-use Rattle.aes_modes.specs.declared.direction.Direction.{Direction}
 use Rattle.macs.specs.Authentication.{longer}
 use Rattle.macs.specs.Tags.{tag_of}
 use Rattle.pin_record.specs.Verifiers.{accepts, verifier_for, new_rounds}
@@ -38,16 +37,7 @@ use Rattle.serve_base.specs.Shown.{task_of}
 -- what the work gives is the task's value
 pub work-value : (w : Work) → told_of (outcome_of w) ≡ value_of (task_of w)
 work-value (Cipher stream part input) = refl
-work-value (Take place mac input) = refl
-work-value (Sign mac input) = refl
-work-value (Verify mac input signature) = refl
-work-value (Wrap key value) = refl
-work-value (Unwrap key wrapped state template random) = refl
-work-value (CheckPin who verifier pin) = refl
-work-value (MakePin pin salt) = refl
-work-value (ChangePin who verifier pin new_pin salt) = refl
-work-value (InitToken label pin salt) = refl
-work-value (ResetToken label verifier pin) = refl
+work-value _ = refl
 
 -- ---- the answers
 

@@ -1,5 +1,5 @@
 -- What a refusal leaves of an application's desk, whatever is kept.
-use Rattle.std.proofs.Common.{◌≡◌, ◌⊎◌, inl, inr, ℕ, List, true, Option, Some, Result, Ok, Err, refl, sym, ◌∙◌, ap, subst}
+use Rattle.std.proofs.Common.{◌≡◌, ◌⊎◌, inl, inr, ℕ, List, true, Some, Result, Ok, Err, refl, sym, ◌∙◌, ap, subst}
 use Rattle.std.specs.Prelude.{IfErr, IfOk}
 use Rattle.std.specs.Option.{option_map}
 use Rattle.ck_calls.specs.declared.call.Call.{Call}
@@ -8,7 +8,7 @@ use Rattle.mech.specs.declared.job.Job.{Job}
 use Rattle.pin_record.specs.Records.{TokenRecord}
 use Rattle.desk.specs.Desks.{DeskState, SameDesk, over}
 use Rattle.model_views.specs.declared.fault.Fault.{Fault}
-use Rattle.model_views.specs.Views.{View, Question, Task, Ciphers, Takes, Signs, Verifies}
+use Rattle.model_views.specs.Views.{View, Task, Ciphers, Takes, Signs, Verifies}
 use Rattle.model_views.specs.Answering.{Answer, Replies, Reveal, answered}
 use Rattle.model_views.specs.Refusals.{is_refusal, is_refused}
 use Rattle.model_answers.specs.Answers.{answer}
@@ -19,7 +19,7 @@ use Rattle.serve_base.specs.declared.out.Out.{Out}
 use Rattle.keep.specs.Keeping.{Terms}
 use Rattle.serve_base.specs.Refusing.{GivesAnyway}
 use Rattle.serve_base.specs.Stores.{StoreState, Served}
-use Rattle.serve_base.specs.Shown.{question_of, said_of, view_of, Fits, ShowsSame}
+use Rattle.serve_base.specs.Shown.{question_of, said_of, view_of, ShowsSame}
 use Rattle.token.specs.Dispatching.{DeskStands}
 use Rattle.model_runs.specs.Applications.{StandsAtDesk, StandsOverDesk, answer_to_job, asked_by_job, by_job, told_as, told_result}
 

@@ -1,11 +1,8 @@
 -- The result of a pending call at its desk, by what the other applications have in progress.
 use Rattle.std.specs.Prelude.{◌≡◌, ℕ, ◌≤◌, Result, Ok, Err, length}
-use Rattle.ck_types.specs.declared.rv.Rv.TheVariants as rv
 use Rattle.ck_types.specs.declared.user_type.UserType.{UserType}
 use Rattle.ck_types.specs.declared.user_type.UserType.TheVariants.{So, User}
 use Rattle.ck_calls.specs.declared.reply.Reply.{Reply}
-use Rattle.ck_calls.specs.declared.reply.Reply.TheVariants.{Code}
-use Rattle.precede.specs.Condition.{code_of}
 use Rattle.keep.specs.Contents.{Contents}
 use Rattle.keep.specs.Keeping.{Terms}
 use Rattle.mech.specs.declared.outcome.Outcome.{Outcome}
@@ -14,15 +11,13 @@ use Rattle.mech.specs.Rooms.{given_of}
 use Rattle.mech.specs.Works.{outcome_of}
 use Rattle.desk.specs.Desks.{DeskState}
 use Rattle.model_views.specs.declared.fault.Fault.{Fault}
-use Rattle.model_views.specs.declared.fault.Fault.TheVariants as faults
 use Rattle.model_worlds.specs.WorkResults.{told_of}
 use Rattle.model_views.specs.Views.{Question, View}
 use Rattle.model_views.specs.Answering.{Answer, Replies}
 use Rattle.model_answers.specs.Answers.{answer_outcome}
 use Rattle.model_worlds.specs.Worlds.{reveal_by_outcome}
 use Rattle.serve_base.specs.declared.refusal.Refusal.{Refusal}
-use Rattle.serve_base.specs.declared.refusal.Refusal.TheVariants as refusals
-use Rattle.serve_base.specs.Refusing.{GivesAnyway, IsDoneIf}
+use Rattle.serve_base.specs.Refusing.{GivesAnyway, IsDoneIf, with_code, refusal_code}
 use Rattle.serve_base.specs.Short.{most_data}
 use Rattle.serve_base.specs.Shown.{objects_of, task_of}
 use Rattle.serve_base.specs.Stores.{StoreState}
@@ -56,7 +51,4 @@ OutcomeEndsBy terms session outcome others old new before result desk =
 -- what is returned for it
 abbrev pub settled_reply : Result Reply Refusal → Result Reply Fault
 settled_reply (Ok reply) = Ok reply
-settled_reply (Err (refusals.Condition row)) = Ok (Code (code_of rv.Ok row))
-settled_reply (Err (refusals.Code code)) = Ok (Code code)
-settled_reply (Err refusals.Memory) = Err faults.Memory
-settled_reply (Err refusals.Device) = Err faults.Device
+settled_reply (Err refusal) = with_code (λ reply. reply) (refusal_code refusal)

@@ -111,9 +111,6 @@ fn settle_reply(outcome: Result<Reply, Refusal>) -> Result<Reply, Fault>
 {
     match outcome {
         Ok(reply) => Ok(reply),
-        Err(Refusal::Condition(row)) => Ok(Reply::Code(row.code(Rv::Ok))),
-        Err(Refusal::Code(code)) => Ok(Reply::Code(code)),
-        Err(Refusal::Memory) => Err(Fault::Memory),
-        Err(Refusal::Device) => Err(Fault::Device),
+        Err(refusal) => Ok(Reply::Code(refusal.code()?)),
     }
 }

@@ -19,7 +19,8 @@ use keep::Keep;
 use model_views::Fault;
 use ops::MacPlace;
 use precede::Condition;
-use serve_base::{Out, Store, settle, settle_asking};
+use serve_base::{Caller, Out, Store, settle};
+use serve_keys::unwrap_key::Wrapped;
 use serve_keys::{generate_key, generate_random, unwrap_key, wrap_key};
 use serve_objects::{
     copy_object, create_object, destroy_object, find_objects, find_objects_init,
@@ -117,9 +118,8 @@ fn dispatch<K: Keep>(
         Call::GetMechanismInfo { slot, mechanism } => {
             settle(get_mechanism_info::serve(slot, mechanism))
         }
-        Call::InitToken { slot, pin, label } => settle_asking(init_token::serve(
-            alloc,
-            app,
+        Call::InitToken { slot, pin, label } => settle(init_token::serve(
+            Caller { alloc, app },
             desk,
             store,
             slot,
@@ -129,15 +129,13 @@ fn dispatch<K: Keep>(
             others_have_sessions,
         )),
         Call::InitPin { session, pin } => {
-            settle_asking(init_pin::serve(alloc, app, desk, session, pin, random))
+            settle(init_pin::serve(alloc, app, desk, session, pin, random))
         }
         Call::SetPin {
             session,
             old_pin,
             new_pin,
-        } => settle_asking(set_pin::serve(
-            alloc, app, desk, store, session, old_pin, new_pin, random,
-        )),
+        } => settle(set_pin::serve(alloc, app, desk, store, session, old_pin, new_pin, random)),
         // Session management (5.6), where `serve` has not answered already.
         Call::OpenSession { .. }
         | Call::CloseSession { .. }
@@ -147,7 +145,7 @@ fn dispatch<K: Keep>(
             session,
             user_type,
             pin,
-        } => settle_asking(login::serve(alloc, app, desk, store, session, user_type, pin)),
+        } => settle(login::serve(alloc, app, desk, store, session, user_type, pin)),
         Call::Logout { session } => settle(logout::serve(desk, session)),
         // Object management (5.7).
         Call::CreateObject { session, template } => settle(create_object::serve(
@@ -199,7 +197,7 @@ fn dispatch<K: Keep>(
             session,
             data,
             buffer_len,
-        } => settle_asking(cipher::single(
+        } => settle(cipher::single(
             alloc,
             app,
             desk,
@@ -212,7 +210,7 @@ fn dispatch<K: Keep>(
             session,
             part,
             buffer_len,
-        } => settle_asking(cipher::update(
+        } => settle(cipher::update(
             alloc,
             app,
             desk,
@@ -224,9 +222,7 @@ fn dispatch<K: Keep>(
         Call::EncryptFinal {
             session,
             buffer_len,
-        } => {
-            settle_asking(cipher::last(alloc, app, desk, Direction::Encrypt, session, buffer_len))
-        }
+        } => { settle(cipher::last(alloc, app, desk, Direction::Encrypt, session, buffer_len)) }
         // Decryption (5.10).
         Call::DecryptInit {
             session,
@@ -245,7 +241,7 @@ fn dispatch<K: Keep>(
             session,
             encrypted_data,
             buffer_len,
-        } => settle_asking(cipher::single(
+        } => settle(cipher::single(
             alloc,
             app,
             desk,
@@ -258,7 +254,7 @@ fn dispatch<K: Keep>(
             session,
             encrypted_part,
             buffer_len,
-        } => settle_asking(cipher::update(
+        } => settle(cipher::update(
             alloc,
             app,
             desk,
@@ -270,9 +266,7 @@ fn dispatch<K: Keep>(
         Call::DecryptFinal {
             session,
             buffer_len,
-        } => {
-            settle_asking(cipher::last(alloc, app, desk, Direction::Decrypt, session, buffer_len))
-        }
+        } => { settle(cipher::last(alloc, app, desk, Direction::Decrypt, session, buffer_len)) }
         // Signing and MACing (5.13).
         Call::SignInit {
             session,
@@ -283,14 +277,14 @@ fn dispatch<K: Keep>(
             session,
             data,
             buffer_len,
-        } => settle_asking(mac::sign(alloc, app, desk, session, data, buffer_len)),
+        } => settle(mac::sign(alloc, app, desk, session, data, buffer_len)),
         Call::SignUpdate { session, part } => {
-            settle_asking(mac::update(alloc, app, desk, MacPlace::Sign, session, part))
+            settle(mac::update(alloc, app, desk, MacPlace::Sign, session, part))
         }
         Call::SignFinal {
             session,
             buffer_len,
-        } => { settle_asking(mac::sign_final(alloc, app, desk, session, buffer_len)) }
+        } => { settle(mac::sign_final(alloc, app, desk, session, buffer_len)) }
         // Verifying signatures and MACs (5.15).
         Call::VerifyInit {
             session,
@@ -309,12 +303,12 @@ fn dispatch<K: Keep>(
             session,
             data,
             signature,
-        } => settle_asking(mac::verify(alloc, app, desk, session, data, signature)),
+        } => settle(mac::verify(alloc, app, desk, session, data, signature)),
         Call::VerifyUpdate { session, part } => {
-            settle_asking(mac::update(alloc, app, desk, MacPlace::Verify, session, part))
+            settle(mac::update(alloc, app, desk, MacPlace::Verify, session, part))
         }
         Call::VerifyFinal { session, signature } => {
-            settle_asking(mac::verify_final(alloc, app, desk, session, signature))
+            settle(mac::verify_final(alloc, app, desk, session, signature))
         }
         // Key management (5.18), and random numbers (5.19).
         Call::GenerateKey {
@@ -328,9 +322,8 @@ fn dispatch<K: Keep>(
             wrapping_key,
             key,
             buffer_len,
-        } => settle_asking(wrap_key::serve(
-            alloc,
-            app,
+        } => settle(wrap_key::serve(
+            Caller { alloc, app },
             desk,
             store,
             session,
@@ -345,15 +338,16 @@ fn dispatch<K: Keep>(
             unwrapping_key,
             wrapped_key,
             template,
-        } => settle_asking(unwrap_key::serve(
-            alloc,
-            app,
+        } => settle(unwrap_key::serve(
+            Caller { alloc, app },
             desk,
             store,
             session,
-            mechanism,
-            unwrapping_key,
-            wrapped_key,
+            Wrapped {
+                mechanism,
+                unwrapping_key,
+                bytes: wrapped_key,
+            },
             template,
             random,
         )),

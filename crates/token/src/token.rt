@@ -1,6 +1,6 @@
 //! The token: one event at a time.
 
-ghost use Rattle.std.specs.Prelude.{◌≡◌, ◌≢◌, ◌⊎◌, ◌∷◌, ◌++◌, [], ℕ, ◌<◌, ◌≤◌, ◌==◌, ◌&&◌, true, not, All, IfErr, IfOk, IsErrOf, IsSome, None, OnErr, OnOk, Option, count_by, length, map, option_map, option_to_list, reverse, vec_capacity, vec_len};
+ghost use Rattle.std.specs.Prelude.{◌≡◌, ◌≢◌, ◌⊎◌, ◌++◌, [], ℕ, ◌<◌, ◌≤◌, ◌==◌, ◌&&◌, true, not, All, IfErr, IfOk, IsErrOf, IsSome, None, OnErr, OnOk, Option, count_by, length, map, option_to_list, reverse, vec_capacity, vec_len};
 ghost use Rattle.std.specs.List.{position};
 ghost use Rattle.std.specs.BTreeMap.{get};
 ghost use Rattle.std.specs.Ordering.{nat_cmp};
@@ -15,22 +15,22 @@ ghost use Rattle.pin_record.specs.Records.{tries_limit, tries_of};
 ghost use Rattle.keep.specs.Keeping.{Counted, Rises, Stays};
 ghost use Rattle.keep.specs.declared.keep.KeepFault.TheVariants as keep_faults;
 ghost use Rattle.model_worlds.specs.declared.event.Event.TheVariants.{Finish, Gone};
-ghost use Rattle.serve_base.specs.declared.out.Out.TheVariants.{Reply as OutReply};
 ghost use Rattle.model_worlds.specs.Events.{HasRandom};
 ghost use Rattle.model_views.specs.declared.fault.Fault.TheVariants.{Device};
 ghost use Rattle.model_views.specs.Answering.{pin_checked_in};
 ghost use Rattle.model_answers.specs.Answers.{answer};
-ghost use Rattle.model_views.specs.Refusals.{is_refusal, is_refused, resource_error_in, refusal, resource_error};
-ghost use Rattle.model_worlds.specs.Worlds.{World, called, list_change, checks_of, goes, happens, is_init_token, others_checking, reply_to, reveal_by_call, says_called, without_checks};
+ghost use Rattle.model_views.specs.Refusals.{resource_error_in};
+ghost use Rattle.model_worlds.specs.Worlds.{World, called, checks_of, goes, is_init_token, others_checking, reveal_by_call, without_checks};
 ghost use Rattle.model_worlds.specs.Tries.{IsSoundWorld};
-ghost use Rattle.serve_base.specs.Shown.{IsFor, IsReply, RepliesAtOnce, question_of, said_of, task_of};
-ghost use Rattle.serve_base.specs.Short.{IsShort, IsShortCall, IsShortSaid, IsShortTask};
+ghost use Rattle.serve_base.specs.Shown.{IsFor, IsReply, RepliesAtOnce, said_of};
+ghost use Rattle.serve_base.specs.Short.{IsShortCall, IsShortSaid};
 ghost use Rattle.token.specs.Dispatching.{DeskStands};
 ghost use Rattle.token.specs.Memory.{takes_no_memory};
-ghost use Rattle.model_runs.specs.Applications.{Finishes, HasJobs, reveal_by_job, checks_after, has_session_at, are_others_in_session, HasNumbers, IsOpen, IsOther, TakesJob, answer_by, desk_at, is_answer, move_of, opening, told_as, told_result, Shows, ShowsAfter, StandsAtDesk, StandsOverDesk};
+ghost use Rattle.token.specs.Turns.{TokenCalled, TokenFinished};
+ghost use Rattle.model_runs.specs.Applications.{Finishes, HasJobs, reveal_by_job, checks_after, has_session_at, are_others_in_session, TakesJob, desk_at, is_answer, opening, or_fault_code, Shows, ShowsAfter};
 ghost use Rattle.serve_base.specs.Refusing.{IsServedIf};
-ghost use Rattle.serve_base.specs.Stores.{FailsForIds, LacksId, Served};
-ghost use Rattle.model_runs.specs.Runs.{AccountsFor, RunAdvances, BlamesForIds, HasIds, IsRun, IsStep, IsTakenBy, Lasting, LeavesBy, LeftBy, MayLeave, blames, call_change};
+ghost use Rattle.serve_base.specs.Stores.{FailsForIds, Served};
+ghost use Rattle.model_runs.specs.Runs.{AccountsFor, RunAdvances, BlamesForIds, HasIds, IsRun, IsStep, MayLeave, blames};
 
 use crate::ending::{Others, finish_at};
 use crate::no_memory::takes_no_memory;
@@ -43,7 +43,7 @@ use keep::{Keep, KeepFault};
 use mech::{Done, Job, Work};
 use model_views::Fault;
 use model_worlds::{Check, Event};
-use serve_base::{Out, Store};
+use serve_base::{Out, Returned, Store};
 use std::alloc::{AllocError, Global};
 use std::collections::BTreeMap;
 use std::marker::Model;
@@ -104,41 +104,10 @@ impl<K: Keep> Token<K> {
     /// `CKR_HOST_MEMORY`, where the keeper failed `CKR_DEVICE_ERROR`; then nothing has changed.
     pub fn call(&mut self, alloc: Global, app: u64, call: Call, random: &[u8]) -> Out
         requires { length random.now ≡ random_bytes call }
-        // The token refines the world after the call.
-        ensures world { K.terms.doubt self.new.store.keep ≡ 0 → (w : World) → Shows K.terms self.old w
-            → Shows K.terms self.new (called w app call random.now (resource_error_in (said_of result))) }
-        // What is returned is the answer to what the application sees, or a resource error.
-        ensures says { K.terms.doubt self.new.store.keep ≡ 0 → (w : World) → Shows K.terms self.old w
-            → said_of result ≡ says_called w app call random.now (resource_error_in (said_of result)) }
-        // A job is the application's.
-        ensures asker { IsFor app result }
-        // A crash leaves the change of the call alone, or after a refusal what it could leave before, or the change.
-        ensures leaves { K.terms.doubt self.new.store.keep ≡ 0 → (w : World) → Shows K.terms self.old w → (l : Option Lasting)
-            → MayLeave K.terms self.new l
-            → LeavesBy (MayLeave K.terms self.old) (call_change w app call random.now) (called w app call random.now None)
-            (resource_error_in (said_of result)) l }
-        // At most one write is tried.
-        ensures counts { Counted K.terms self.old.store.keep self.new.store.keep 0 1 }
-        // CKR_DEVICE_ERROR comes only where a failure of the keeper was counted.
-        ensures cause { result ≡ OutReply (Code DeviceError) → Rises (K.terms.failures self.old.store.keep) (K.terms.failures self.new.store.keep) }
-        // Over a steady keeper it comes only to a call that adds a token object, where every id was given.
-        ensures steady { K.terms.is_steady self.old.store.keep → result ≡ OutReply (Code DeviceError) → (w : World)
-            → (s : Shows K.terms self.old w) → LacksId (call_change w app call random.now) s.contents }
-        // One id is given at most.
-        ensures ids { K.terms.doubt self.new.store.keep ≡ 0 → (w : World) → (s : Shows K.terms self.old w)
-            → ShowsAfter K.terms s.contents 1 self.new (called w app call random.now (resource_error_in (said_of result))) }
-        // Of the other applications nothing changes, nor where it is refused of this one, but capacities.
-        ensures others { (b : ℕ) → b ≢ app → SameDesk (desk_at self.old.desks b) (desk_at self.new.desks b) }
-        ensures stays { IsSome (resource_error_in (said_of result)) → SameDesk (desk_at self.old.desks app) (desk_at self.new.desks app) }
-        // A refusal leaves what the application has, but for an operation that it ends, whatever is kept, and store faithful or not.
-        ensures refused { is_refused (said_of result) ≡ true → StandsAtDesk call (desk_at self.old.desks app) (desk_at self.new.desks app) }
-        // A call that takes no memory is never answered CKR_HOST_MEMORY.
-        ensures small { takes_no_memory call ≡ true → result ≢ OutReply (Code HostMemory) }
-        // A call with data that fits into a frame returns something as short, or a job for it.
-        ensures short { IsShortCall call → IsShortSaid (said_of result) }
+        ensures { TokenCalled K.terms self.old app call random.now result self.new }
     {
         self.store.on_behalf_of(app);
-        told_as(serve_app(
+        or_fault_code(serve_app(
             alloc,
             app,
             &mut self.desks,
@@ -153,46 +122,13 @@ impl<K: Keep> Token<K> {
     /// call, returns `CKR_FUNCTION_FAILED` and changes nothing. Where an allocation failed, in the job too, the reply is
     /// `CKR_HOST_MEMORY`; the call is pending no more.
     pub fn finish(&mut self, _alloc: Global, app: u64, done: Done) -> Reply
-        // The token refines the world after the result.
-        ensures world { K.terms.doubt self.new.store.keep ≡ 0 → (w : World) → Shows K.terms self.old w → IsOpen w app done.job.value
-            → Shows K.terms self.new (happens w (move_of (Finish app) (OutReply result))) }
-        // What is returned is the answer to the result of the pending call, or a resource error.
-        ensures told { K.terms.doubt self.new.store.keep ≡ 0 → (w : World) → Shows K.terms self.old w → IsOpen w app done.job.value
-            → reply_to w (move_of (Finish app) (OutReply result)) ≡ (app, result) ∷ [] }
-        // A result that has the pending call's numbers is taken by its own value, whatever job it is of.
-        ensures taken { K.terms.doubt self.new.store.keep ≡ 0 → (w : World) → Shows K.terms self.old w
-            → HasNumbers (w.views app).question app done.job.value
-            → IsTakenBy (Shows K.terms self.new) (MayLeave K.terms self.old) (MayLeave K.terms self.new) w app done.job.value result }
-        // That of no pending call changes nothing, store faithful or not.
-        ensures other { IsOther (option_map question_of (desk_at self.old.desks app).question) app done.job.value
-            → (result ≡ Code FunctionFailed) × (self.new ≡ self.old) }
-        // A crash leaves the change of the result alone, or after a refusal what it could leave before, or the change.
-        ensures leaves { K.terms.doubt self.new.store.keep ≡ 0 → (w : World) → Shows K.terms self.old w → IsOpen w app done.job.value
-            → (l : Option Lasting) → MayLeave K.terms self.new l → LeftBy (MayLeave K.terms self.old) w (move_of (Finish app) (OutReply result)) l }
-        // At most one write is tried.
-        ensures counts { Counted K.terms self.old.store.keep self.new.store.keep 0 1 }
-        // CKR_DEVICE_ERROR comes only where a failure of the keeper was counted.
-        ensures cause { result ≡ Code DeviceError → Rises (K.terms.failures self.old.store.keep) (K.terms.failures self.new.store.keep) }
-        // Over a steady keeper it comes only to a result that adds a token object, where every id was given.
-        ensures steady { K.terms.is_steady self.old.store.keep → result ≡ Code DeviceError → (w : World) → (s : Shows K.terms self.old w)
-            → LacksId (list_change w app (answer_by w app done.job.value)) s.contents }
-        // One id is given at most.
-        ensures ids { K.terms.doubt self.new.store.keep ≡ 0 → (w : World) → (s : Shows K.terms self.old w) → IsOpen w app done.job.value
-            → ShowsAfter K.terms s.contents 1 self.new (happens w (move_of (Finish app) (OutReply result))) }
-        // Of the other applications nothing changes, nor where it is refused of this one, but its pending call and capacities.
-        ensures others { (b : ℕ) → b ≢ app → desk_at self.new.desks b ≡ desk_at self.old.desks b }
-        ensures stays { IsSome (resource_error result) → SameDesk (over (desk_at self.old.desks app)) (desk_at self.new.desks app) }
-        // A refused result leaves what the application has, but for its pending call and an operation that it ends.
-        ensures refused { HasNumbers (option_map question_of (desk_at self.old.desks app).question) app done.job.value
-            → is_refusal result ≡ true → StandsOverDesk done.job.value (desk_at self.old.desks app) (desk_at self.new.desks app) }
-        // What is returned for a short job is short.
-        ensures short { IsShortTask (task_of done.job.value.work.value) → IsShort result }
+        ensures { TokenFinished K.terms self.old app done.job.value result self.new }
     {
         if !is_pending_job(&self.desks, app, &done) {
             return Reply::Code(Rv::FunctionFailed);
         }
         self.store.on_behalf_of(app);
-        let reply = told_result(finish_app(
+        let reply = or_fault_code(finish_app(
             &mut self.desks,
             &mut self.store,
             &self.checks,
@@ -327,33 +263,14 @@ impl<K: Keep> Token<K> {
     }
 }
 
-/// What an application gets of its call.
-fn told_as(outcome: Result<Out, Fault>) -> Out
-    ensures { result ≡ told_as outcome }
+/// What an application gets: what is returned, or the code of the fault.
+fn or_fault_code<T: Returned>(outcome: Result<T, Fault>) -> T
+    ensures { result ≡ or_fault_code T.of_reply outcome }
 {
     match outcome {
-        Ok(out) => out,
-        Err(fault) => Out::Reply(refusal(fault)),
-    }
-}
-
-/// What an application gets of its result.
-fn told_result(outcome: Result<Reply, Fault>) -> Reply
-    ensures { result ≡ told_result outcome }
-{
-    match outcome {
-        Ok(reply) => reply,
-        Err(fault) => refusal(fault),
-    }
-}
-
-/// What an application gets where its event was refused.
-fn refusal(fault: Fault) -> Reply
-    ensures { result ≡ refusal fault }
-{
-    match fault {
-        Fault::Memory => Reply::Code(Rv::HostMemory),
-        Fault::Device => Reply::Code(Rv::DeviceError),
+        Ok(value) => value,
+        Err(Fault::Memory) => T::of_reply(Reply::Code(Rv::HostMemory)),
+        Err(Fault::Device) => T::of_reply(Reply::Code(Rv::DeviceError)),
     }
 }
 

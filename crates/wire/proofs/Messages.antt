@@ -25,46 +25,7 @@ first_two bytes n fits long e =
 
 below_16 : (f : Function) → function_number f < 2 ^ 16
 below_16 functions.GetTokenInfo = omega arith
-below_16 functions.GetMechanismList = omega arith
-below_16 functions.GetMechanismInfo = omega arith
-below_16 functions.InitToken = omega arith
-below_16 functions.InitPin = omega arith
-below_16 functions.SetPin = omega arith
-below_16 functions.OpenSession = omega arith
-below_16 functions.CloseSession = omega arith
-below_16 functions.CloseAllSessions = omega arith
-below_16 functions.GetSessionInfo = omega arith
-below_16 functions.Login = omega arith
-below_16 functions.Logout = omega arith
-below_16 functions.CreateObject = omega arith
-below_16 functions.CopyObject = omega arith
-below_16 functions.DestroyObject = omega arith
-below_16 functions.GetObjectSize = omega arith
-below_16 functions.GetAttributeValue = omega arith
-below_16 functions.SetAttributeValue = omega arith
-below_16 functions.FindObjectsInit = omega arith
-below_16 functions.FindObjects = omega arith
-below_16 functions.FindObjectsFinal = omega arith
-below_16 functions.EncryptInit = omega arith
-below_16 functions.Encrypt = omega arith
-below_16 functions.EncryptUpdate = omega arith
-below_16 functions.EncryptFinal = omega arith
-below_16 functions.DecryptInit = omega arith
-below_16 functions.Decrypt = omega arith
-below_16 functions.DecryptUpdate = omega arith
-below_16 functions.DecryptFinal = omega arith
-below_16 functions.SignInit = omega arith
-below_16 functions.Sign = omega arith
-below_16 functions.SignUpdate = omega arith
-below_16 functions.SignFinal = omega arith
-below_16 functions.VerifyInit = omega arith
-below_16 functions.Verify = omega arith
-below_16 functions.VerifyUpdate = omega arith
-below_16 functions.VerifyFinal = omega arith
-below_16 functions.GenerateKey = omega arith
-below_16 functions.WrapKey = omega arith
-below_16 functions.UnwrapKey = omega arith
-below_16 functions.GenerateRandom = omega arith
+below_16 _ = omega arith
 
 pub or_malformed-ok : {X : Type 0} (o : Option X) (x : X) → or_malformed o ≡ Ok x → o ≡ Some x
 or_malformed-ok (Some y) x e = let same : y ≡ x = cc in ap Some same

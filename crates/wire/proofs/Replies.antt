@@ -18,10 +18,12 @@ use Rattle.ck_calls.specs.Fields.{token_info, token_info_canonical, mechanism_in
 use Rattle.ck_calls.specs.Functions.{function_at}
 use Rattle.wire.specs.declared.fault.WireFault.{WireFault}
 use Rattle.wire.specs.declared.fault.WireFault.TheVariants as faults
-use Rattle.wire.specs.declared.shape.Shape.{Shape}
-use Rattle.wire.specs.declared.shape.Shape.TheVariants as shapes
+use Rattle.ck_calls.specs.declared.shape.Shape.{Shape}
+use Rattle.ck_calls.specs.declared.shape.Shape.TheVariants as shapes
 use Rattle.wire.specs.Messages.{most, Reads, or_malformed}
-use Rattle.wire.specs.Replies.{shape_of, carries, reply_payload, Fits-reply, HasShape, IsReplyAt, too_small, decode_carried, decode_after, decode_reply, reply_said, reply_in}
+use Rattle.ck_calls.specs.Rows.{shape_of}
+use Rattle.ck_calls.specs.Shapes.{carries}
+use Rattle.wire.specs.Replies.{reply_payload, Fits-reply, HasShape, IsReplyAt, too_small, decode_carried, decode_after, decode_reply, reply_said, reply_in}
 use Rattle.wire.proofs.Requests.{function_at-number, function_at-again}
 use Rattle.wire.proofs.Messages.{or_malformed-ok, unless_fault}
 

@@ -1,7 +1,7 @@
 -- Replies as bytes. The form is this project's: a return code in 64 bits, and fields where the function
 -- has some with that code. The payload of a reply does not name the function, so it is read by the
 -- function of its call.
-use Rattle.std.specs.Prelude.{◌≡◌, ℕ, ◌<◌, ◌≤◌, ◌^◌, List, length, Option, Some, None, Result, Err, Bool, true, false, nat_lt, ◌==◌, ◌||◌, if◌then◌else◌}
+use Rattle.std.specs.Prelude.{◌≡◌, ℕ, ◌<◌, ◌≤◌, ◌^◌, List, length, Option, Some, None, Result, Err, true, false, nat_lt, ◌==◌, if◌then◌else◌}
 use Rattle.std.specs.List.{AllByRecursion}
 use Rattle.ck_types.specs.declared.constants.TheConstants.{MAX_ENTRIES}
 use Rattle.ck_types.specs.declared.rv.Rv.{Rv}
@@ -10,7 +10,6 @@ use Rattle.ck_types.specs.Numbers.{rv_number}
 use Rattle.ck_types.specs.Numbered.{return_code}
 use Rattle.ck_types.specs.Format.{◌>>=◌, number64, byte_string, pair, whole}
 use Rattle.ck_calls.specs.declared.function.Function.{Function}
-use Rattle.ck_calls.specs.declared.function.Function.TheVariants as functions
 use Rattle.ck_calls.specs.declared.reply.Output.{Output}
 use Rattle.ck_calls.specs.declared.reply.Output.TheVariants.{Length, Data}
 use Rattle.ck_calls.specs.declared.reply.Reply.{Reply}
@@ -19,62 +18,11 @@ use Rattle.ck_calls.specs.Fields.{token_info, mechanism_info, session_info, numb
 use Rattle.ck_calls.specs.Functions.{function_number, function_at}
 use Rattle.wire.specs.declared.fault.WireFault.{WireFault}
 use Rattle.wire.specs.declared.fault.WireFault.TheVariants as faults
-use Rattle.wire.specs.declared.shape.Shape.{Shape}
-use Rattle.wire.specs.declared.shape.Shape.TheVariants as shapes
+use Rattle.ck_calls.specs.declared.shape.Shape.{Shape}
+use Rattle.ck_calls.specs.declared.shape.Shape.TheVariants as shapes
+use Rattle.ck_calls.specs.Shapes.{carries}
+use Rattle.ck_calls.specs.Rows.{shape_of}
 use Rattle.wire.specs.Messages.{most, or_malformed}
-
--- what the replies to a function carry
-abbrev pub shape_of : Function → Shape
-shape_of functions.GetTokenInfo = shapes.TokenInfo
-shape_of functions.GetMechanismList = shapes.MechanismList
-shape_of functions.GetMechanismInfo = shapes.MechanismInfo
-shape_of functions.InitToken = shapes.Code
-shape_of functions.InitPin = shapes.Code
-shape_of functions.SetPin = shapes.Code
-shape_of functions.OpenSession = shapes.Session
-shape_of functions.CloseSession = shapes.Code
-shape_of functions.CloseAllSessions = shapes.Code
-shape_of functions.GetSessionInfo = shapes.SessionInfo
-shape_of functions.Login = shapes.Code
-shape_of functions.Logout = shapes.Code
-shape_of functions.CreateObject = shapes.Object
-shape_of functions.CopyObject = shapes.Object
-shape_of functions.DestroyObject = shapes.Code
-shape_of functions.GetObjectSize = shapes.ObjectSize
-shape_of functions.GetAttributeValue = shapes.AttributeValues
-shape_of functions.SetAttributeValue = shapes.Code
-shape_of functions.FindObjectsInit = shapes.Code
-shape_of functions.FindObjects = shapes.Objects
-shape_of functions.FindObjectsFinal = shapes.Code
-shape_of functions.EncryptInit = shapes.Code
-shape_of functions.Encrypt = shapes.Output
-shape_of functions.EncryptUpdate = shapes.Output
-shape_of functions.EncryptFinal = shapes.Output
-shape_of functions.DecryptInit = shapes.Code
-shape_of functions.Decrypt = shapes.Output
-shape_of functions.DecryptUpdate = shapes.Output
-shape_of functions.DecryptFinal = shapes.Output
-shape_of functions.SignInit = shapes.Code
-shape_of functions.Sign = shapes.Output
-shape_of functions.SignUpdate = shapes.Code
-shape_of functions.SignFinal = shapes.Output
-shape_of functions.VerifyInit = shapes.Code
-shape_of functions.Verify = shapes.Code
-shape_of functions.VerifyUpdate = shapes.Code
-shape_of functions.VerifyFinal = shapes.Code
-shape_of functions.GenerateKey = shapes.Object
-shape_of functions.WrapKey = shapes.Output
-shape_of functions.UnwrapKey = shapes.Object
-shape_of functions.GenerateRandom = shapes.Random
-
--- whether a reply of a shape carries fields with a code
-abbrev pub carries : Shape → Rv → Bool
-carries shapes.Code code = false
-carries shapes.Output code = (rv_number code == rv_number rv.Ok) || (rv_number code == rv_number rv.BufferTooSmall)
-carries shapes.AttributeValues code =
-    (rv_number code == rv_number rv.Ok) || ((rv_number code == rv_number rv.AttributeSensitive)
-    || ((rv_number code == rv_number rv.AttributeTypeInvalid) || (rv_number code == rv_number rv.BufferTooSmall)))
-carries shape code = rv_number code == rv_number rv.Ok
 
 -- the payload of a reply
 abbrev pub reply_payload : Reply → List ℕ

@@ -8,7 +8,7 @@ ghost use Rattle.wire.specs.Messages.{capped};
 ghost use Rattle.wire.specs.Replies.{reply_payload};
 ghost use Rattle.wire.specs.Requests.{encode_fields};
 
-use ck_calls::{AttributeQuery, AttributeValue, Call, Mechanism, Output, Reply};
+use ck_calls::{AttributeQuery, AttributeValue, Call, Mechanism, Output, Reply, with_calls};
 use ck_types::{Bytes, Entry, Items};
 
 /// A value whose encoding would have a length, also where it has none. A sum stays at the greatest
@@ -132,138 +132,26 @@ fn len_5<A: EncodedLen, B: EncodedLen, C: EncodedLen, D: EncodedLen, E: EncodedL
     len_2(a, b).saturating_add(len_3(c, d, e))
 }
 
+macro_rules! len_each {
+    ($a:ident) => { $a.encoded_len() };
+    ($a:ident, $b:ident) => { len_2($a, $b) };
+    ($a:ident, $b:ident, $c:ident) => { len_3($a, $b, $c) };
+    ($a:ident, $b:ident, $c:ident, $d:ident, $e:ident) => { len_5($a, $b, $c, $d, $e) };
+}
+
+macro_rules! len_match {
+    (($call:ident) $([$name:ident $n:literal { $($field:ident: $type:ty),+ } $($rest:tt)*])+) => {
+        match $call {
+            $(Call::$name { $($field),+ } => len_each!($($field),+),)+
+        }
+    };
+}
+
 /// How many bytes the fields of a call have, or would have.
 pub(crate) fn fields_len(call: &Call) -> usize
     ensures { result ≡ capped (length (encode_fields call.now)) }
 {
-    match call {
-        Call::GetTokenInfo { slot } => slot.encoded_len(),
-        Call::GetMechanismList { slot } => slot.encoded_len(),
-        Call::GetMechanismInfo { slot, mechanism } => len_2(slot, mechanism),
-        Call::InitToken { slot, pin, label } => len_3(slot, pin, label),
-        Call::InitPin { session, pin } => len_2(session, pin),
-        Call::SetPin {
-            session,
-            old_pin,
-            new_pin,
-        } => len_3(session, old_pin, new_pin),
-        Call::OpenSession { slot, flags } => len_2(slot, flags),
-        Call::CloseSession { session } => session.encoded_len(),
-        Call::CloseAllSessions { slot } => slot.encoded_len(),
-        Call::GetSessionInfo { session } => session.encoded_len(),
-        Call::Login {
-            session,
-            user_type,
-            pin,
-        } => len_3(session, user_type, pin),
-        Call::Logout { session } => session.encoded_len(),
-        Call::CreateObject { session, template } => len_2(session, template),
-        Call::CopyObject {
-            session,
-            object,
-            template,
-        } => len_3(session, object, template),
-        Call::DestroyObject { session, object } => len_2(session, object),
-        Call::GetObjectSize { session, object } => len_2(session, object),
-        Call::GetAttributeValue {
-            session,
-            object,
-            query,
-        } => len_3(session, object, query),
-        Call::SetAttributeValue {
-            session,
-            object,
-            template,
-        } => len_3(session, object, template),
-        Call::FindObjectsInit { session, template } => len_2(session, template),
-        Call::FindObjects { session, max_count } => len_2(session, max_count),
-        Call::FindObjectsFinal { session } => session.encoded_len(),
-        Call::EncryptInit {
-            session,
-            mechanism,
-            key,
-        } => len_3(session, mechanism, key),
-        Call::Encrypt {
-            session,
-            data,
-            buffer_len,
-        } => len_3(session, data, buffer_len),
-        Call::EncryptUpdate {
-            session,
-            part,
-            buffer_len,
-        } => len_3(session, part, buffer_len),
-        Call::EncryptFinal {
-            session,
-            buffer_len,
-        } => len_2(session, buffer_len),
-        Call::DecryptInit {
-            session,
-            mechanism,
-            key,
-        } => len_3(session, mechanism, key),
-        Call::Decrypt {
-            session,
-            encrypted_data,
-            buffer_len,
-        } => len_3(session, encrypted_data, buffer_len),
-        Call::DecryptUpdate {
-            session,
-            encrypted_part,
-            buffer_len,
-        } => len_3(session, encrypted_part, buffer_len),
-        Call::DecryptFinal {
-            session,
-            buffer_len,
-        } => len_2(session, buffer_len),
-        Call::SignInit {
-            session,
-            mechanism,
-            key,
-        } => len_3(session, mechanism, key),
-        Call::Sign {
-            session,
-            data,
-            buffer_len,
-        } => len_3(session, data, buffer_len),
-        Call::SignUpdate { session, part } => len_2(session, part),
-        Call::SignFinal {
-            session,
-            buffer_len,
-        } => len_2(session, buffer_len),
-        Call::VerifyInit {
-            session,
-            mechanism,
-            key,
-        } => len_3(session, mechanism, key),
-        Call::Verify {
-            session,
-            data,
-            signature,
-        } => len_3(session, data, signature),
-        Call::VerifyUpdate { session, part } => len_2(session, part),
-        Call::VerifyFinal { session, signature } => len_2(session, signature),
-        Call::GenerateKey {
-            session,
-            mechanism,
-            template,
-        } => len_3(session, mechanism, template),
-        Call::WrapKey {
-            session,
-            mechanism,
-            wrapping_key,
-            key,
-            buffer_len,
-        } => len_5(session, mechanism, wrapping_key, key, buffer_len),
-        Call::UnwrapKey {
-            session,
-            mechanism,
-            unwrapping_key,
-            wrapped_key,
-            template,
-        } => len_5(session, mechanism, unwrapping_key, wrapped_key, template),
-        Call::GenerateRandom { session, len } => len_2(session, len),
-    }
+    with_calls!(len_match!(call))
 }
 
 /// How many bytes the payload of a reply has, or would have.

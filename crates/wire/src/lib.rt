@@ -23,7 +23,6 @@ mod frame;
 mod length;
 mod reply;
 mod request;
-mod shape;
 mod stream;
 
 pub use call::{read_call, write_call};

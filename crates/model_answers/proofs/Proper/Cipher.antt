@@ -15,8 +15,8 @@ use Rattle.model_views.specs.TaskResults.{TaskResult, Output, BadPadding}
 use Rattle.model_views.specs.Views.{Ciphers}
 use Rattle.model_views.specs.Refusals.{resource_error}
 use Rattle.model_views.specs.Answering.{asks, answered, with_operation}
-use Rattle.model_answers.specs.CipherInit.{ends, place_for}
-use Rattle.model_answers.specs.Cipher.{further_by, single_function, update_function, final_function, operation_or, refused, cipher_row, cipher_says, ciphers, cipher, cipher_single, cipher_update, cipher_final, ciphered_reply, operation_after, ciphered}
+use Rattle.model_answers.specs.CipherInit.{cipher_ends, place_for}
+use Rattle.model_answers.specs.Cipher.{further_by, single_function, update_function, final_function, operation_or, cipher_refused, cipher_row, cipher_says, ciphers, cipher, cipher_single, cipher_update, cipher_final, ciphered_reply, operation_after, ciphered}
 use Rattle.model_answers.proofs.Proper.CipherInit.{with_operation-mask, operation-mask, blind-ends}
 use Rattle.model_views.proofs.Checks.{Condition, View, mask, shown, replies, session_of, tokens-twice, own-twice, sessions-twice, record-twice, IsProper, IsFair, blind-reply, blind-becomes, fair, blind-row, fair-row, blind-checked_by, fair-checked_by, row-session}
 
@@ -28,7 +28,7 @@ wanted-mask (Some o) Update n = refl
 wanted-mask (Some o) Last n = refl
 
 -- and so is what is refused
-refused-mask : (o : Operation) (part : Part) (input : List ℕ) → refused (mask_operation o) part input ≡ refused o part input
+refused-mask : (o : Operation) (part : Part) (input : List ℕ) → cipher_refused (mask_operation o) part input ≡ cipher_refused o part input
 refused-mask o Update input = refl
 refused-mask o Last input = refl
 
@@ -74,10 +74,10 @@ module _ (d : Direction) (v : View) (s : ℕ) (part : Part) (input : List ℕ) w
       (row-mask o buffer_len) (blind-says n) (blind-asks f o))
 
   fair-says : (n : ℕ) (row : Condition) → IsFair true v (cipher_says v s place n row)
-  fair-says n DataTaken = fair v {a = ends v s place DataTaken} refl refl refl refl refl
-  fair-says n CounterEnd = fair v {a = ends v s place CounterEnd} refl refl refl refl refl
-  fair-says n DataLength = fair v {a = ends v s place DataLength} refl refl refl refl refl
-  fair-says n EncryptedDataLength = fair v {a = ends v s place EncryptedDataLength} refl refl refl refl refl
+  fair-says n DataTaken = fair v {a = cipher_ends v s place DataTaken} refl refl refl refl refl
+  fair-says n CounterEnd = fair v {a = cipher_ends v s place CounterEnd} refl refl refl refl refl
+  fair-says n DataLength = fair v {a = cipher_ends v s place DataLength} refl refl refl refl refl
+  fair-says n EncryptedDataLength = fair v {a = cipher_ends v s place EncryptedDataLength} refl refl refl refl refl
   fair-says n NoBuffer = fair v {a = replies v (replied.Output (output.Length n))} refl refl refl refl refl
   fair-says n SmallBuffer = fair v {a = replies v (replied.BufferTooSmall n)} refl refl refl refl refl
   fair-says n row = fair-row v row

@@ -23,7 +23,7 @@ use Rattle.model_views.specs.Views.{mask_operations, mask_sessions}
 use Rattle.model_views.specs.Answering.{with_operation}
 use Rattle.model_views.specs.Checked.{flag_at}
 use Rattle.model_views.specs.Checked.{is_aes}
-use Rattle.model_answers.specs.CipherInit.{permission, place_for, init_function, ends, cipher_in, init_row, init_says, begins, begins_under, cipher_init}
+use Rattle.model_answers.specs.CipherInit.{permission, place_for, init_function, cipher_ends, cipher_in, init_row, init_says, cipher_begins, begins_under, cipher_init}
 use Rattle.model_views.proofs.Masks.{operation-twice, mac-twice, busy-mask}
 use Rattle.model_views.proofs.Checks.{Entry, mask_object, Condition, View, mask, mask_session, shown, session_of, object_at, tokens-twice, own-twice, question-twice, record-twice, mask-twice, session-mask, object-mask, IsProper, IsFair, blind-becomes, fair, blind-row, fair-row, blind-checked_by, fair-checked_by, row-session, none-masked, flag-masked}
 
@@ -64,7 +64,7 @@ operation-mask v s place = ap (λ x. operation_in x place) (session-mask v s) �
   of (Some x) places.Encrypt = refl
   of (Some x) places.Decrypt = refl
 
-pub blind-ends : (v : View) (s : ℕ) (place : Place) (row : Condition) → shown (ends (mask v) s place row) ≡ shown (ends v s place row)
+pub blind-ends : (v : View) (s : ℕ) (place : Place) (row : Condition) → shown (cipher_ends (mask v) s place row) ≡ shown (cipher_ends v s place row)
 blind-ends v s place row = blind-becomes (Code (code_of Ok row)) (with_operation (mask v) s place None)
     (with_operation v s place None) (with_operation-mask v s place None None refl)
 
@@ -103,7 +103,7 @@ module _ (d : Direction) (v : View) (s : ℕ) where
   blind-says NoMechanism = blind-ends v s (place_for d) NoMechanism
   blind-says row = blind-row v row
 
-  blind-begins : (mechanism : Cipher) (x y : List Entry) → shown (begins d (mask v) s mechanism x) ≡ shown (begins d v s mechanism y)
+  blind-begins : (mechanism : Cipher) (x y : List Entry) → shown (cipher_begins d (mask v) s mechanism x) ≡ shown (cipher_begins d v s mechanism y)
   blind-begins mechanism x y =
       let p : Option Operation = Some (started mechanism d (attribute_of x attr.Value)) in
       let q : Option Operation = Some (started mechanism d (attribute_of y attr.Value)) in
@@ -115,12 +115,12 @@ module _ (d : Direction) (v : View) (s : ℕ) where
   blind-under m o =
       let mechanism : Cipher = unwrap_or (cipher_in m) Ecb in
       blind-checked_by (init_function d) (init_row d (mask v) s m (option_map mask_object o)) (init_row d v s m o)
-      (init_says d (mask v) s) (init_says d v s) (begins d (mask v) s mechanism (unwrap_or (option_map mask_object o) []))
-      (begins d v s mechanism (unwrap_or o []))
+      (init_says d (mask v) s) (init_says d v s) (cipher_begins d (mask v) s mechanism (unwrap_or (option_map mask_object o) []))
+      (cipher_begins d v s mechanism (unwrap_or o []))
       (row-mask m o) blind-says (blind-begins mechanism (unwrap_or (option_map mask_object o) []) (unwrap_or o []))
 
   fair-says : (row : Condition) → IsFair true v (init_says d v s row)
-  fair-says NoMechanism = fair v {a = ends v s (place_for d) NoMechanism} refl refl refl refl refl
+  fair-says NoMechanism = fair v {a = cipher_ends v s (place_for d) NoMechanism} refl refl refl refl refl
   fair-says row = fair-row v row
 
 pub proper-cipher_init : (d : Direction) (s : ℕ) (mechanism : Option Mechanism) (key : ℕ)
@@ -128,7 +128,7 @@ pub proper-cipher_init : (d : Direction) (s : ℕ) (mechanism : Option Mechanism
 proper-cipher_init d s m key = record {
   blind = λ v r. ap (λ o. shown (begins_under d (mask v) s m o)) (object-mask v key) ∙ blind-under d v s m (object_at v key);
   fair = λ v r.
-      let a = begins d v s (unwrap_or (cipher_in m) Ecb) (unwrap_or (object_at v key) []) in
+      let a = cipher_begins d v s (unwrap_or (cipher_in m) Ecb) (unwrap_or (object_at v key) []) in
       fair-checked_by (init_function d) v (init_row d v s m (object_at v key)) (init_says d v s) a (fair-says d v s)
       (fair v {a = a} refl refl refl refl refl);
 }

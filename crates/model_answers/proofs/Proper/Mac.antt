@@ -17,7 +17,7 @@ use Rattle.model_views.specs.Refusals.{resource_error}
 use Rattle.model_views.specs.Answering.{asks, answered, refuses_by, with_mac}
 use Rattle.model_views.proofs.Blind.{blind-asks}
 use Rattle.model_answers.specs.MacInit.{mac_ends}
-use Rattle.model_answers.specs.Mac.{mac_update_function, mac_or, signature_length, mac_row, sign_row, verify_row, sign_says, verify_says, signs, verifies, takes, sign, sign_final, verify, verify_final, mac_update, taken, signed_reply, signed, verified_reply, verified}
+use Rattle.model_answers.specs.Mac.{mac_update_function, mac_or, signature_length, mac_row, sign_row, verify_row, sign_says, verify_says, signs, verifies, takes, sign, sign_final, verify, verify_final, mac_update, mac_taken, signed_reply, signed, verified_reply, verified}
 use Rattle.model_session_answers.proofs.Over.{IsOver}
 use Rattle.model_answers.proofs.Proper.MacInit.{with_mac-mask, mac-mask, blind-mac_ends}
 use Rattle.model_views.proofs.Checks.{Condition, View, mask, shown, replies, session_of, IsProper, IsFair, blind-reply, blind-becomes, fair, blind-row, fair-row, blind-checked_by, fair-checked_by, row-session}
@@ -152,7 +152,7 @@ proper-mac_update p s input = record {
 -- ---- the results
 
 pub blind-taken : (v : View) (s : ℕ) (p : MacPlace) (o : MacOperation) (input : List ℕ) (outcome : TaskResult)
-    → shown (taken (mask v) s p (mask_mac o) input outcome) ≡ shown (taken v s p o input outcome)
+    → shown (mac_taken (mask v) s p (mask_mac o) input outcome) ≡ shown (mac_taken v s p o input outcome)
 blind-taken v s p o input Taken =
     let x = Some (mac_further (mask_mac o) input) in
     let y = Some (mac_further o input) in
@@ -171,7 +171,7 @@ blind-verified v s outcome = blind-becomes (verified_reply outcome) (with_mac (a
     (with_mac (answered v) s place.Verify None) (with_mac-mask (answered v) s place.Verify None None refl)
 
 pub over-taken : (v : View) (s : ℕ) (p : MacPlace) (o : MacOperation) (input : List ℕ) (outcome : TaskResult)
-    → IsOver v (taken v s p o input outcome)
+    → IsOver v (mac_taken v s p o input outcome)
 over-taken v s p o input Taken = record { plain = refl; unasking = refl; over = refl; shows = refl }
 over-taken v s p o input _ = record { plain = refl; unasking = refl; over = refl; shows = refl }
 
@@ -191,6 +191,6 @@ pub over-verified : (v : View) (s : ℕ) (outcome : TaskResult) → IsOver v (ve
 over-verified v s outcome = record { plain = plain-verified outcome; unasking = refl; over = refl; shows = refl }
 
 pub still-taken : (v : View) (s : ℕ) (p : MacPlace) (o : MacOperation) (input : List ℕ) (outcome : TaskResult)
-    → (taken v s p o input outcome).change ≡ Stays
+    → (mac_taken v s p o input outcome).change ≡ Stays
 still-taken v s p o input Taken = refl
 still-taken v s p o input _ = refl

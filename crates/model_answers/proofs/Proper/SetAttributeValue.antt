@@ -17,7 +17,7 @@ use Rattle.model_views.specs.Views.{TokenObject, SessionObject}
 use Rattle.model_views.specs.Changes.{rewritten}
 use Rattle.model_views.specs.Checked.{state_in, made_by}
 use Rattle.model_answers.specs.CreateObject.{makes_says}
-use Rattle.model_answers.specs.SetAttributeValue.{rewritten_own, puts, set_row, sets, sets_in, set_attribute_value}
+use Rattle.model_answers.specs.SetAttributeValue.{rewritten_own, puts_object, set_row, sets_attributes, sets_in, set_attribute_value}
 use Rattle.model_answers.proofs.Templates.{fault-plain}
 use Rattle.model_answers.proofs.Proper.CreateObject.{makes-told, makes-fair}
 use Rattle.model_views.proofs.Checks.{Entry, mask_object, Condition, View, mask, mask_token_object, mask_session_object, shown, object_at, index_of, tokens-twice, own-twice, sessions-twice, question-twice, record-twice, object-mask, index-mask, IsProper, IsFair, fair, blind-checked_by, fair-checked_by, row-session, none-masked, flag-masked, state-mask}
@@ -56,7 +56,7 @@ module _ (x y : List Entry) (same : mask_object x ≡ mask_object y) where
         ap (λ o. f o (map mask_session_object (rewritten_own (map mask_session_object es) handle x))) (mask-mask e.object)
         ∙ ap (f (mask_object e.object)) rest
 
-  blind-puts : (v : View) (handle : ℕ) (index : Option ℕ) → shown (puts (mask v) handle x index) ≡ shown (puts v handle y index)
+  blind-puts : (v : View) (handle : ℕ) (index : Option ℕ) → shown (puts_object (mask v) handle x index) ≡ shown (puts_object v handle y index)
   blind-puts v handle None =
       rw (
         tokens-twice v.tokens,
@@ -93,31 +93,31 @@ same-set state o template (Some code) is = refl
 same-set state o template None is = made-mask Set refl state o template [] is
 
 blind-with : (v : View) (s handle : ℕ) (o : Option (List Entry)) (fault : Option Rv) (x y : List Entry)
-    → mask_object x ≡ mask_object y → shown (sets (mask v) s handle (option_map mask_object o) fault x) ≡ shown (sets v s handle o fault y)
+    → mask_object x ≡ mask_object y → shown (sets_attributes (mask v) s handle (option_map mask_object o) fault x) ≡ shown (sets_attributes v s handle o fault y)
 blind-with v s handle o fault x y same =
     blind-checked_by SetAttributeValue (set_row (mask v) s (option_map mask_object o) fault) (set_row v s o fault)
-    (makes_says (mask v) fault) (makes_says v fault) (puts (mask v) handle x (index_of (mask v).tokens handle))
-    (puts v handle y (index_of v.tokens handle))
+    (makes_says (mask v) fault) (makes_says v fault) (puts_object (mask v) handle x (index_of (mask v).tokens handle))
+    (puts_object v handle y (index_of v.tokens handle))
     (set-mask v s o fault) (makes-told v fault)
-    (ap (λ p. shown (puts (mask v) handle x p)) (index-mask v handle) ∙ blind-puts x y same v handle (index_of v.tokens handle))
+    (ap (λ p. shown (puts_object (mask v) handle x p)) (index-mask v handle) ∙ blind-puts x y same v handle (index_of v.tokens handle))
 
 blind-sets : (template : List Entry) (v : View) (s handle : ℕ) (o : Option (List Entry))
     → shown (sets_in (mask v) s handle (option_map mask_object o) template) ≡ shown (sets_in v s handle o template)
 blind-sets template v s handle None =
-    ap (λ state. let f = template_fault Set state [] template in shown (sets (mask v) s handle None f (set_of f [] template)))
+    ap (λ state. let f = template_fault Set state [] template in shown (sets_attributes (mask v) s handle None f (set_of f [] template)))
     (state-mask v s)
     ∙ (let f = template_fault Set (state_in v s) [] template in
     blind-with v s handle None f (set_of f [] template) (set_of f [] template) refl)
 blind-sets template v s handle (Some o) =
     let m = mask_object o in
     let f = template_fault Set (state_in v s) o template in
-    ap (λ state. let g = template_fault Set state m template in shown (sets (mask v) s handle (Some m) g (set_of g m template)))
+    ap (λ state. let g = template_fault Set state m template in shown (sets_attributes (mask v) s handle (Some m) g (set_of g m template)))
     (state-mask v s)
-    ∙ ap (λ g. shown (sets (mask v) s handle (Some m) g (set_of g m template))) (fault-mask Set refl (state_in v s) o template)
+    ∙ ap (λ g. shown (sets_attributes (mask v) s handle (Some m) g (set_of g m template))) (fault-mask Set refl (state_in v s) o template)
     ∙ blind-with v s handle (Some o) f (set_of f m template) (set_of f o template) (same-set (state_in v s) o template f refl)
 
-fair-puts : (v : View) (handle : ℕ) (o : List Entry) (index : Option ℕ) → IsFair false v (puts v handle o index)
-fair-puts v handle o None = fair v {a = puts v handle o None} refl refl refl refl refl
+fair-puts : (v : View) (handle : ℕ) (o : List Entry) (index : Option ℕ) → IsFair false v (puts_object v handle o index)
+fair-puts v handle o None = fair v {a = puts_object v handle o None} refl refl refl refl refl
 fair-puts v handle o (Some index) =
     record { plain = refl; still = λ q. absurd (false≢true q); asks = refl; shows = refl; charges = refl; seats = λ k. cc }
 
@@ -125,7 +125,7 @@ fair-sets : (template : List Entry) (v : View) (s handle : ℕ) (o : Option (Lis
 fair-sets template v s handle o =
     let f = template_fault Set (state_in v s) (unwrap_or o []) template in
     let x = set_of f (unwrap_or o []) template in
-    fair-checked_by SetAttributeValue v (set_row v s o f) (makes_says v f) (puts v handle x (index_of v.tokens handle))
+    fair-checked_by SetAttributeValue v (set_row v s o f) (makes_says v f) (puts_object v handle x (index_of v.tokens handle))
     (makes-fair v f (fault-plain Set (state_in v s) (unwrap_or o []) template)) (fair-puts v handle x (index_of v.tokens handle))
 
 pub proper-set_attribute_value : (s handle : ℕ) (template : List Entry) → IsProper (λ v r. set_attribute_value v s handle template) false

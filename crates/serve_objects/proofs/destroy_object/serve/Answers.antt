@@ -1,4 +1,4 @@
-use Rattle.std.proofs.Common.{◌≡◌, rules, not, arith, false, refl, sym, ◌∙◌, ap, subst}
+use Rattle.std.proofs.Common.{◌≡◌, rules, not, arith, sym, ◌∙◌, ap, subst}
 use Rattle.std.specs.Prelude.{◌&&◌}
 use Rattle.serve_base.specs.Found.{IsFound}
 use Rattle.serve_base.specs.Shown.{view_of}
@@ -27,7 +27,7 @@ returns g c = record {
       (destroy-is (view_of k d) c.args.session c.args.handle s.0 o s.1 found.0 free)
       (does-after _ _ k _ c.find.new.store _ d c.destroy.new.desk c.destroy.result
       (λ left may. c.find.ensures.same.crash k left h.held may) c.find.ensures.counts.steady
-      (c.destroy.ensures.serves o sure k held fits found.1));
+      (c.destroy.ensures.serves sure k held fits (o, found.1)));
   counts = search rules;
   cause = search rules;
   plain = c.destroy.ensures.plain;

@@ -1,4 +1,4 @@
-use Rattle.std.proofs.Common.{◌≡◌, rules, not, arith, false, refl, sym, ◌∙◌, ap, subst}
+use Rattle.std.proofs.Common.{◌≡◌, rules, not, arith, sym, ◌∙◌, ap, subst}
 use Rattle.std.specs.Prelude.{◌&&◌}
 use Rattle.guard.specs.Access.{is_rw}
 use Rattle.serve_base.specs.Found.{IsFound}
@@ -30,7 +30,7 @@ returns g c = record {
       (ap not (sym c.flag-2.ensures ∙ c.if-not-flag.false)) c.in_ok-object.object (rw s.2 made.0) made.1)
       (does-after _ _ k _ c.find.new.store _ d c.put.new.desk c.put.result
       (λ left may. c.find.ensures.same.crash k left h.held may) c.find.ensures.counts.steady
-      (c.put.ensures.serves o (ap not c.in_ok-object.ensures.placed.private) sure k held fits found.1));
+      (c.put.ensures.serves sure k held fits (o, ap not c.in_ok-object.ensures.placed.private, found.1)));
   counts = search rules;
   cause = search rules;
   plain = c.put.ensures.plain;

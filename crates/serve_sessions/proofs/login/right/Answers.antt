@@ -36,7 +36,7 @@ returns g c = record {
       let ended : c.end_check-ended.result ≡ with_tries c.get_record-record.result c.args.who c.args.under_way = search rules in
       let may : may_log_in (view_of k d) c.args.who ≡ true = sym (c.may_log_in.ensures.value k) ∙ c.if-not-may_log_in.false in
       rw c.login.ensures (gave-change _ _ _ k _ _ _ _ (with_record (with_tries k.token_record c.args.who c.args.under_way) k)
-      (rw (ended, same) at (c.in_ok-set_record.ensures.has k h)) (rw (ended, same) at (c.in_ok-set_record.ensures.leaves k h))
+      (rw (ended, same) at (c.in_ok-set_record.ensures.has k h)) (rw (ended, same) at (c.in_ok-set_record.ensures.wrote.leaves k h))
       (gives-logged-in k d c.args.under_way c.args.who (rw same at charged) may
       (c.may_log_in.ensures.public c.if-not-may_log_in.false) c.may_log_in.ensures.discreet fits));
   counts = search rules;

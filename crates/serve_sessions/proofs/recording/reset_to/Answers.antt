@@ -12,9 +12,9 @@ pub returns : goal.returns
 returns g c = record {
   serves = λ sure k h fits.
       let r = c.args.«record» in
-      gave-change _ _ _ k _ _ _ _ (after_reset r k) (c.in_ok-reset.ensures.has k h) (c.in_ok-reset.ensures.leaves k h)
+      gave-change _ _ _ k _ _ _ _ (after_reset r k) (c.in_ok-reset.ensures.has k h) (c.in_ok-reset.ensures.wrote.leaves k h)
       (gives-reset k c.args.desk.now r fits);
-  counts = c.reset.ensures.counts;
+  counts = c.reset.ensures.wrote.counts;
   cause = search rules;
   plain = refl;
   stays = tt;
@@ -29,11 +29,11 @@ returns-in_err-reset g c = record {
       let d = c.args.desk.now in
       let a = resets r (view_of k d) in
       does-refused _ a k _ _ d d c.from_residual.result (fault-of c.from_residual.result _ c.from_residual.ensures.1)
-      (λ device steady. absurd (c.reset.ensures.steady steady
-      (device-of c.in_err-reset.field-0.0 c.in_err-reset.was c.reset.ensures.cause c.from_residual.result
+      (λ device steady. absurd (c.reset.ensures.wrote.steady steady
+      (device-of c.in_err-reset.field-0.0 c.in_err-reset.was c.reset.ensures.wrote.cause c.from_residual.result
       c.from_residual.ensures.1 device)))
-      (refused-reset _ a k _ _ d r refl (c.in_err-reset.ensures.same k h) (c.in_err-reset.ensures.leaves_or k h));
-  counts = c.reset.ensures.counts;
+      (refused-reset _ a k _ _ d r refl (c.in_err-reset.ensures.wrote.same k h) (c.in_err-reset.ensures.wrote.leaves_or k h));
+  counts = c.reset.ensures.wrote.counts;
   cause = search rules;
   plain = plain-fault c.from_residual.result (fault-of c.from_residual.result _ c.from_residual.ensures.1);
   stays = search rules;

@@ -12,7 +12,7 @@ pub returns : goal.returns
 returns g c = record {
   serves = λ sure k h fits.
       let r = c.args.«record» in
-      gave-change _ _ _ k _ _ _ _ (with_record r k) (c.in_ok-set_record.ensures.has k h) (c.in_ok-set_record.ensures.leaves k h)
+      gave-change _ _ _ k _ _ _ _ (with_record r k) (c.in_ok-set_record.ensures.has k h) (c.in_ok-set_record.ensures.wrote.leaves k h)
       (gives-stored k c.args.desk.now r c.args.code fits);
   counts = search rules;
   cause = search rules;
@@ -29,10 +29,10 @@ returns-in_err-set_record g c = record {
       let d = c.args.desk.now in
       let a = codes_with c.args.code r (view_of k d) in
       does-refused _ a k _ _ d d c.from_residual.result (fault-of c.from_residual.result _ c.from_residual.ensures.1)
-      (λ device steady. absurd (c.set_record.ensures.steady steady
-      (device-of c.in_err-set_record.field-0.0 c.in_err-set_record.was c.set_record.ensures.cause c.from_residual.result
+      (λ device steady. absurd (c.set_record.ensures.wrote.steady steady
+      (device-of c.in_err-set_record.field-0.0 c.in_err-set_record.was c.set_record.ensures.wrote.cause c.from_residual.result
       c.from_residual.ensures.1 device)))
-      (refused-recorded _ a k _ _ d r refl (c.in_err-set_record.ensures.same k h) (c.in_err-set_record.ensures.leaves_or k h));
+      (refused-recorded _ a k _ _ d r refl (c.in_err-set_record.ensures.wrote.same k h) (c.in_err-set_record.ensures.wrote.leaves_or k h));
   counts = search rules;
   cause = search rules;
   plain = plain-fault c.from_residual.result (fault-of c.from_residual.result _ c.from_residual.ensures.1);

@@ -1,4 +1,4 @@
-use Rattle.std.proofs.Common.{◌≡◌, ℕ, Some, None, refl, sym, ◌∙◌, ap, true, false}
+use Rattle.std.proofs.Common.{◌≡◌, ℕ, Some, None, refl, sym, ◌∙◌, ap}
 use Rattle.ck_types.specs.declared.rv.Rv.TheVariants as rv
 use Rattle.ck_types.specs.declared.user_type.UserType.{UserType}
 use Rattle.ck_types.specs.declared.user_type.UserType.TheVariants.{So, User}
@@ -20,7 +20,7 @@ use Rattle.serve_sessions.specs.Recording.{right_reveal}
 use Rattle.serve_operations.proofs.Ciphering as ciphering
 use Rattle.serve_operations.proofs.Signing as signing
 use Rattle.token.specs.Endings.{under_way_of}
-use Rattle.token.proofs.Endings.{ends-as, done-at-desk, done-code, done-is, done-over}
+use Rattle.token.proofs.Endings.{ends-as, done-at-desk, done-is, done-over}
 use Rattle.token.proofs.ending.serve_outcome.Goals as goal
 
 -- ---- a cipher's

@@ -93,7 +93,7 @@ unfolding answer_to
 returns-in-Encrypt-clause-served g c =
     call-asking g.K.Keep.terms c.args.app c.args.others_have_sessions c.args.call
     (call.Encrypt c.in-Encrypt.session c.in-Encrypt.data c.in-Encrypt.buffer_len) c.args.random.now c.in-Encrypt.is c.args.store.now
-    c.args.desk.now _ c.single.result c.settle_asking-in-Encrypt.result refl c.settle_asking-in-Encrypt.ensures
+    c.args.desk.now _ c.single.result c.settle-in-Encrypt.result refl c.settle-in-Encrypt.ensures
     c.single.ensures.asker c.single.ensures.serves
 
 pub returns-in-EncryptUpdate-clause-served : goal.returns-in-EncryptUpdate-clause-served
@@ -101,16 +101,16 @@ unfolding answer_to
 returns-in-EncryptUpdate-clause-served g c =
     call-asking g.K.Keep.terms c.args.app c.args.others_have_sessions c.args.call
     (call.EncryptUpdate c.in-EncryptUpdate.session c.in-EncryptUpdate.part c.in-EncryptUpdate.buffer_len) c.args.random.now
-    c.in-EncryptUpdate.is c.args.store.now c.args.desk.now _ c.update.result c.settle_asking-in-EncryptUpdate.result refl
-    c.settle_asking-in-EncryptUpdate.ensures c.update.ensures.asker c.update.ensures.serves
+    c.in-EncryptUpdate.is c.args.store.now c.args.desk.now _ c.update.result c.settle-in-EncryptUpdate.result refl
+    c.settle-in-EncryptUpdate.ensures c.update.ensures.asker c.update.ensures.serves
 
 pub returns-in-EncryptFinal-clause-served : goal.returns-in-EncryptFinal-clause-served
 unfolding answer_to
 returns-in-EncryptFinal-clause-served g c =
     call-asking g.K.Keep.terms c.args.app c.args.others_have_sessions c.args.call
     (call.EncryptFinal c.in-EncryptFinal.session c.in-EncryptFinal.buffer_len) c.args.random.now c.in-EncryptFinal.is
-    c.args.store.now c.args.desk.now _ c.last.result c.settle_asking-in-EncryptFinal.result refl
-    c.settle_asking-in-EncryptFinal.ensures c.last.ensures.asker c.last.ensures.serves
+    c.args.store.now c.args.desk.now _ c.last.result c.settle-in-EncryptFinal.result refl
+    c.settle-in-EncryptFinal.ensures c.last.ensures.asker c.last.ensures.serves
 
 pub returns-in-DecryptInit-clause-served : goal.returns-in-DecryptInit-clause-served
 unfolding answer_to
@@ -125,8 +125,8 @@ unfolding answer_to
 returns-in-Decrypt-clause-served g c =
     call-asking g.K.Keep.terms c.args.app c.args.others_have_sessions c.args.call
     (call.Decrypt c.in-Decrypt.session c.in-Decrypt.encrypted_data c.in-Decrypt.buffer_len) c.args.random.now c.in-Decrypt.is
-    c.args.store.now c.args.desk.now _ c.single-in-Decrypt.result c.settle_asking-in-Decrypt.result refl
-    c.settle_asking-in-Decrypt.ensures c.single-in-Decrypt.ensures.asker c.single-in-Decrypt.ensures.serves
+    c.args.store.now c.args.desk.now _ c.single-in-Decrypt.result c.settle-in-Decrypt.result refl
+    c.settle-in-Decrypt.ensures c.single-in-Decrypt.ensures.asker c.single-in-Decrypt.ensures.serves
 
 pub returns-in-DecryptUpdate-clause-served : goal.returns-in-DecryptUpdate-clause-served
 unfolding answer_to
@@ -134,7 +134,7 @@ returns-in-DecryptUpdate-clause-served g c =
     call-asking g.K.Keep.terms c.args.app c.args.others_have_sessions c.args.call
     (call.DecryptUpdate c.in-DecryptUpdate.session c.in-DecryptUpdate.encrypted_part c.in-DecryptUpdate.buffer_len)
     c.args.random.now c.in-DecryptUpdate.is c.args.store.now c.args.desk.now _ c.update-in-DecryptUpdate.result
-    c.settle_asking-in-DecryptUpdate.result refl c.settle_asking-in-DecryptUpdate.ensures c.update-in-DecryptUpdate.ensures.asker
+    c.settle-in-DecryptUpdate.result refl c.settle-in-DecryptUpdate.ensures c.update-in-DecryptUpdate.ensures.asker
     c.update-in-DecryptUpdate.ensures.serves
 
 pub returns-in-DecryptFinal-clause-served : goal.returns-in-DecryptFinal-clause-served
@@ -142,8 +142,8 @@ unfolding answer_to
 returns-in-DecryptFinal-clause-served g c =
     call-asking g.K.Keep.terms c.args.app c.args.others_have_sessions c.args.call
     (call.DecryptFinal c.in-DecryptFinal.session c.in-DecryptFinal.buffer_len) c.args.random.now c.in-DecryptFinal.is
-    c.args.store.now c.args.desk.now _ c.last-in-DecryptFinal.result c.settle_asking-in-DecryptFinal.result refl
-    c.settle_asking-in-DecryptFinal.ensures c.last-in-DecryptFinal.ensures.asker c.last-in-DecryptFinal.ensures.serves
+    c.args.store.now c.args.desk.now _ c.last-in-DecryptFinal.result c.settle-in-DecryptFinal.result refl
+    c.settle-in-DecryptFinal.ensures c.last-in-DecryptFinal.ensures.asker c.last-in-DecryptFinal.ensures.serves
 
 pub returns-in-GetTokenInfo-clause-served : goal.returns-in-GetTokenInfo-clause-served
 unfolding answer_to
@@ -157,7 +157,8 @@ unfolding answer_to
 returns-in-InitToken-clause-served g c =
     call-asked g.K.Keep.terms c.args.app c.args.others_have_sessions c.args.call
     (call.InitToken c.in-InitToken.slot c.in-InitToken.pin c.in-InitToken.label) c.args.random.now c.in-InitToken.is 1
-    (omega arith) c.args.store.now _ c.args.desk.now _ c.serve-in-InitToken.result c.settle_asking.result c.settle_asking.ensures
+    (omega arith) c.args.store.now _ c.args.desk.now _ c.serve-in-InitToken.result c.settle-in-InitToken.result
+    c.settle-in-InitToken.ensures
     c.serve-in-InitToken.ensures.asker c.serve-in-InitToken.ensures.done g.met.K.Keep.sure
 
 pub returns-in-InitPin-clause-served : goal.returns-in-InitPin-clause-served
@@ -165,8 +166,8 @@ unfolding answer_to
 returns-in-InitPin-clause-served g c =
     call-unchecked g.K.Keep.terms c.args.app c.args.others_have_sessions c.args.call
     (call.InitPin c.in-InitPin.session c.in-InitPin.pin) c.args.random.now c.in-InitPin.is c.args.store.now c.args.desk.now _
-    c.serve-in-InitPin.result c.settle_asking-in-InitPin.result
-    (λ v. still-init_pin v c.in-InitPin.session c.in-InitPin.pin c.args.random.now) c.settle_asking-in-InitPin.ensures
+    c.serve-in-InitPin.result c.settle-in-InitPin.result
+    (λ v. still-init_pin v c.in-InitPin.session c.in-InitPin.pin c.args.random.now) c.settle-in-InitPin.ensures
     c.serve-in-InitPin.ensures.asker c.serve-in-InitPin.ensures.serves
 
 pub returns-in-SetPin-clause-served : goal.returns-in-SetPin-clause-served
@@ -174,16 +175,16 @@ unfolding answer_to
 returns-in-SetPin-clause-served g c =
     call-asked g.K.Keep.terms c.args.app c.args.others_have_sessions c.args.call
     (call.SetPin c.in-SetPin.session c.in-SetPin.old_pin c.in-SetPin.new_pin) c.args.random.now c.in-SetPin.is 1
-    (omega arith) c.args.store.now _ c.args.desk.now _ c.serve-in-SetPin.result c.settle_asking-in-SetPin.result
-    c.settle_asking-in-SetPin.ensures c.serve-in-SetPin.ensures.asker c.serve-in-SetPin.ensures.done g.met.K.Keep.sure
+    (omega arith) c.args.store.now _ c.args.desk.now _ c.serve-in-SetPin.result c.settle-in-SetPin.result
+    c.settle-in-SetPin.ensures c.serve-in-SetPin.ensures.asker c.serve-in-SetPin.ensures.done g.met.K.Keep.sure
 
 pub returns-in-Login-clause-served : goal.returns-in-Login-clause-served
 unfolding answer_to
 returns-in-Login-clause-served g c =
     call-asked g.K.Keep.terms c.args.app c.args.others_have_sessions c.args.call
     (call.Login c.in-Login.session c.in-Login.user_type c.in-Login.pin) c.args.random.now c.in-Login.is 1
-    (omega arith) c.args.store.now _ c.args.desk.now _ c.serve-in-Login.result c.settle_asking-in-Login.result
-    c.settle_asking-in-Login.ensures c.serve-in-Login.ensures.asker c.serve-in-Login.ensures.done g.met.K.Keep.sure
+    (omega arith) c.args.store.now _ c.args.desk.now _ c.serve-in-Login.result c.settle-in-Login.result
+    c.settle-in-Login.ensures c.serve-in-Login.ensures.asker c.serve-in-Login.ensures.done g.met.K.Keep.sure
 
 pub returns-in-Logout-clause-served : goal.returns-in-Logout-clause-served
 unfolding answer_to
@@ -252,7 +253,7 @@ unfolding answer_to
 returns-in-Sign-clause-served g c =
     call-asking g.K.Keep.terms c.args.app c.args.others_have_sessions c.args.call
     (call.Sign c.in-Sign.session c.in-Sign.data c.in-Sign.buffer_len) c.args.random.now c.in-Sign.is c.args.store.now
-    c.args.desk.now _ c.sign.result c.settle_asking-in-Sign.result refl c.settle_asking-in-Sign.ensures c.sign.ensures.asker
+    c.args.desk.now _ c.sign.result c.settle-in-Sign.result refl c.settle-in-Sign.ensures c.sign.ensures.asker
     c.sign.ensures.serves
 
 pub returns-in-SignUpdate-clause-served : goal.returns-in-SignUpdate-clause-served
@@ -260,7 +261,7 @@ unfolding answer_to
 returns-in-SignUpdate-clause-served g c =
     call-asking g.K.Keep.terms c.args.app c.args.others_have_sessions c.args.call
     (call.SignUpdate c.in-SignUpdate.session c.in-SignUpdate.part) c.args.random.now c.in-SignUpdate.is c.args.store.now
-    c.args.desk.now _ c.update-in-SignUpdate.result c.settle_asking-in-SignUpdate.result refl c.settle_asking-in-SignUpdate.ensures
+    c.args.desk.now _ c.update-in-SignUpdate.result c.settle-in-SignUpdate.result refl c.settle-in-SignUpdate.ensures
     c.update-in-SignUpdate.ensures.asker c.update-in-SignUpdate.ensures.serves
 
 pub returns-in-SignFinal-clause-served : goal.returns-in-SignFinal-clause-served
@@ -268,7 +269,7 @@ unfolding answer_to
 returns-in-SignFinal-clause-served g c =
     call-asking g.K.Keep.terms c.args.app c.args.others_have_sessions c.args.call
     (call.SignFinal c.in-SignFinal.session c.in-SignFinal.buffer_len) c.args.random.now c.in-SignFinal.is c.args.store.now
-    c.args.desk.now _ c.sign_final.result c.settle_asking-in-SignFinal.result refl c.settle_asking-in-SignFinal.ensures
+    c.args.desk.now _ c.sign_final.result c.settle-in-SignFinal.result refl c.settle-in-SignFinal.ensures
     c.sign_final.ensures.asker c.sign_final.ensures.serves
 
 pub returns-in-Verify-clause-served : goal.returns-in-Verify-clause-served
@@ -276,7 +277,7 @@ unfolding answer_to
 returns-in-Verify-clause-served g c =
     call-asking g.K.Keep.terms c.args.app c.args.others_have_sessions c.args.call
     (call.Verify c.in-Verify.session c.in-Verify.data c.in-Verify.signature) c.args.random.now c.in-Verify.is c.args.store.now
-    c.args.desk.now _ c.verify.result c.settle_asking-in-Verify.result refl c.settle_asking-in-Verify.ensures c.verify.ensures.asker
+    c.args.desk.now _ c.verify.result c.settle-in-Verify.result refl c.settle-in-Verify.ensures c.verify.ensures.asker
     c.verify.ensures.serves
 
 pub returns-in-VerifyUpdate-clause-served : goal.returns-in-VerifyUpdate-clause-served
@@ -284,15 +285,15 @@ unfolding answer_to
 returns-in-VerifyUpdate-clause-served g c =
     call-asking g.K.Keep.terms c.args.app c.args.others_have_sessions c.args.call
     (call.VerifyUpdate c.in-VerifyUpdate.session c.in-VerifyUpdate.part) c.args.random.now c.in-VerifyUpdate.is c.args.store.now
-    c.args.desk.now _ c.update-in-VerifyUpdate.result c.settle_asking-in-VerifyUpdate.result refl
-    c.settle_asking-in-VerifyUpdate.ensures c.update-in-VerifyUpdate.ensures.asker c.update-in-VerifyUpdate.ensures.serves
+    c.args.desk.now _ c.update-in-VerifyUpdate.result c.settle-in-VerifyUpdate.result refl
+    c.settle-in-VerifyUpdate.ensures c.update-in-VerifyUpdate.ensures.asker c.update-in-VerifyUpdate.ensures.serves
 
 pub returns-in-VerifyFinal-clause-served : goal.returns-in-VerifyFinal-clause-served
 unfolding answer_to
 returns-in-VerifyFinal-clause-served g c =
     call-asking g.K.Keep.terms c.args.app c.args.others_have_sessions c.args.call
     (call.VerifyFinal c.in-VerifyFinal.session c.in-VerifyFinal.signature) c.args.random.now c.in-VerifyFinal.is c.args.store.now
-    c.args.desk.now _ c.verify_final.result c.settle_asking-in-VerifyFinal.result refl c.settle_asking-in-VerifyFinal.ensures
+    c.args.desk.now _ c.verify_final.result c.settle-in-VerifyFinal.result refl c.settle-in-VerifyFinal.ensures
     c.verify_final.ensures.asker c.verify_final.ensures.serves
 
 pub returns-in-WrapKey-clause-served : goal.returns-in-WrapKey-clause-served
@@ -301,8 +302,8 @@ returns-in-WrapKey-clause-served g c =
     call-asked g.K.Keep.terms c.args.app c.args.others_have_sessions c.args.call
     (call.WrapKey c.in-WrapKey.session c.in-WrapKey.mechanism c.in-WrapKey.wrapping_key c.in-WrapKey.key c.in-WrapKey.buffer_len)
     c.args.random.now c.in-WrapKey.is 0
-    (omega arith) c.args.store.now _ c.args.desk.now _ c.serve-in-WrapKey.result c.settle_asking-in-WrapKey.result
-    c.settle_asking-in-WrapKey.ensures c.serve-in-WrapKey.ensures.asker c.serve-in-WrapKey.ensures.done g.met.K.Keep.sure
+    (omega arith) c.args.store.now _ c.args.desk.now _ c.serve-in-WrapKey.result c.settle-in-WrapKey.result
+    c.settle-in-WrapKey.ensures c.serve-in-WrapKey.ensures.asker c.serve-in-WrapKey.ensures.done g.met.K.Keep.sure
 
 pub returns-in-UnwrapKey-clause-served : goal.returns-in-UnwrapKey-clause-served
 unfolding answer_to
@@ -310,8 +311,8 @@ returns-in-UnwrapKey-clause-served g c =
     call-asked g.K.Keep.terms c.args.app c.args.others_have_sessions c.args.call
     (call.UnwrapKey c.in-UnwrapKey.session c.in-UnwrapKey.mechanism c.in-UnwrapKey.unwrapping_key c.in-UnwrapKey.wrapped_key
     c.in-UnwrapKey.template) c.args.random.now c.in-UnwrapKey.is 0
-    (omega arith) c.args.store.now _ c.args.desk.now _ c.serve-in-UnwrapKey.result c.settle_asking-in-UnwrapKey.result
-    c.settle_asking-in-UnwrapKey.ensures c.serve-in-UnwrapKey.ensures.asker c.serve-in-UnwrapKey.ensures.done g.met.K.Keep.sure
+    (omega arith) c.args.store.now _ c.args.desk.now _ c.serve-in-UnwrapKey.result c.settle-in-UnwrapKey.result
+    c.settle-in-UnwrapKey.ensures c.serve-in-UnwrapKey.ensures.asker c.serve-in-UnwrapKey.ensures.done g.met.K.Keep.sure
 
 -- ---- the calls that take no memory
 
@@ -354,43 +355,43 @@ returns-in-VerifyInit-clause-small g c =
 
 pub returns-in-Encrypt-clause-small : goal.returns-in-Encrypt-clause-small
 returns-in-Encrypt-clause-small g c =
-    λ small. asked-at-once c.single.result c.settle_asking-in-Encrypt.result c.settle_asking-in-Encrypt.ensures
+    λ small. asked-at-once c.single.result c.settle-in-Encrypt.result c.settle-in-Encrypt.ensures
     (c.single.ensures.small (none-is c.in-Encrypt.buffer_len (ap takes_no_memory (sym c.in-Encrypt.is) ∙ small)))
 
 pub returns-in-EncryptUpdate-clause-small : goal.returns-in-EncryptUpdate-clause-small
 returns-in-EncryptUpdate-clause-small g c =
-    λ small. asked-at-once c.update.result c.settle_asking-in-EncryptUpdate.result c.settle_asking-in-EncryptUpdate.ensures
+    λ small. asked-at-once c.update.result c.settle-in-EncryptUpdate.result c.settle-in-EncryptUpdate.ensures
     (c.update.ensures.small (none-is c.in-EncryptUpdate.buffer_len (ap takes_no_memory (sym c.in-EncryptUpdate.is) ∙ small)))
 
 pub returns-in-EncryptFinal-clause-small : goal.returns-in-EncryptFinal-clause-small
 returns-in-EncryptFinal-clause-small g c =
-    λ small. asked-at-once c.last.result c.settle_asking-in-EncryptFinal.result c.settle_asking-in-EncryptFinal.ensures
+    λ small. asked-at-once c.last.result c.settle-in-EncryptFinal.result c.settle-in-EncryptFinal.ensures
     (c.last.ensures.small (none-is c.in-EncryptFinal.buffer_len (ap takes_no_memory (sym c.in-EncryptFinal.is) ∙ small)))
 
 pub returns-in-Decrypt-clause-small : goal.returns-in-Decrypt-clause-small
 returns-in-Decrypt-clause-small g c =
-    λ small. asked-at-once c.single-in-Decrypt.result c.settle_asking-in-Decrypt.result c.settle_asking-in-Decrypt.ensures
+    λ small. asked-at-once c.single-in-Decrypt.result c.settle-in-Decrypt.result c.settle-in-Decrypt.ensures
     (c.single-in-Decrypt.ensures.small (none-is c.in-Decrypt.buffer_len (ap takes_no_memory (sym c.in-Decrypt.is) ∙ small)))
 
 pub returns-in-DecryptUpdate-clause-small : goal.returns-in-DecryptUpdate-clause-small
 returns-in-DecryptUpdate-clause-small g c =
-    λ small. asked-at-once c.update-in-DecryptUpdate.result c.settle_asking-in-DecryptUpdate.result
-    c.settle_asking-in-DecryptUpdate.ensures
+    λ small. asked-at-once c.update-in-DecryptUpdate.result c.settle-in-DecryptUpdate.result
+    c.settle-in-DecryptUpdate.ensures
     (c.update-in-DecryptUpdate.ensures.small
     (none-is c.in-DecryptUpdate.buffer_len (ap takes_no_memory (sym c.in-DecryptUpdate.is) ∙ small)))
 
 pub returns-in-DecryptFinal-clause-small : goal.returns-in-DecryptFinal-clause-small
 returns-in-DecryptFinal-clause-small g c =
-    λ small. asked-at-once c.last-in-DecryptFinal.result c.settle_asking-in-DecryptFinal.result
-    c.settle_asking-in-DecryptFinal.ensures
+    λ small. asked-at-once c.last-in-DecryptFinal.result c.settle-in-DecryptFinal.result
+    c.settle-in-DecryptFinal.ensures
     (c.last-in-DecryptFinal.ensures.small (none-is c.in-DecryptFinal.buffer_len (ap takes_no_memory (sym c.in-DecryptFinal.is) ∙ small)))
 
 pub returns-in-Sign-clause-small : goal.returns-in-Sign-clause-small
 returns-in-Sign-clause-small g c =
-    λ small. asked-at-once c.sign.result c.settle_asking-in-Sign.result c.settle_asking-in-Sign.ensures
+    λ small. asked-at-once c.sign.result c.settle-in-Sign.result c.settle-in-Sign.ensures
     (c.sign.ensures.small (none-is c.in-Sign.buffer_len (ap takes_no_memory (sym c.in-Sign.is) ∙ small)))
 
 pub returns-in-SignFinal-clause-small : goal.returns-in-SignFinal-clause-small
 returns-in-SignFinal-clause-small g c =
-    λ small. asked-at-once c.sign_final.result c.settle_asking-in-SignFinal.result c.settle_asking-in-SignFinal.ensures
+    λ small. asked-at-once c.sign_final.result c.settle-in-SignFinal.result c.settle-in-SignFinal.ensures
     (c.sign_final.ensures.small (none-is c.in-SignFinal.buffer_len (ap takes_no_memory (sym c.in-SignFinal.is) ∙ small)))

@@ -3,7 +3,6 @@ use Rattle.std.specs.Prelude.{IfOk}
 use Rattle.desk.specs.Desks.{SameDesk}
 use Rattle.model_answers.specs.Answers.{answer}
 use Rattle.model_worlds.specs.Worlds.{reveal_by_call}
-use Rattle.serve_base.specs.Shown.{said_of}
 use Rattle.model_runs.specs.Applications.{desk_at}
 use Rattle.token.proofs.Refused.{served-failed, served-from, stands-from}
 use Rattle.token.proofs.token.serve_seated.Goals as goal

@@ -1,20 +1,34 @@
-use Rattle.std.proofs.Common.{◌∙◌, ap, ◌++◌, ◌∷◌, [], false, Some, arith}
+use Rattle.std.proofs.Common.{rules, ◌∙◌, ap, ◌++◌, ◌∷◌, [], false, Some, arith}
 use Rattle.find.specs.Marks.{mark_of}
 use Rattle.serve_base.proofs.Storing.{has-failed, has-inserted, has-taken, on_err}
 use Rattle.serve_base.proofs.store.Store.insert.Goals as goal
 
-pub returns-in_err-reserve-clause-same : goal.returns-in_err-reserve-clause-same
-returns-in_err-reserve-clause-same g c = λ k h.
-    let t = has-taken _ c.self.inside.keep c.self.inside.listed.items c.take_out_many.new.listed.items k c.take_out_many.ensures
-    (rw (← c.self.view_is) at h) in
-    on_err c.from_residual.result (has-failed _ _ _ k (omega arith) t t.held c.reserve.ensures.items)
+pub returns-in_err-reserve-clause-wrote : goal.returns-in_err-reserve-clause-wrote
+returns-in_err-reserve-clause-wrote g c = record {
+  leaves = search rules;
+  same = λ k h.
+      let t = has-taken _ c.self.inside.keep c.self.inside.listed.items c.take_out_many.new.listed.items k c.take_out_many.ensures
+      (rw (← c.self.view_is) at h) in
+      on_err c.from_residual.result (has-failed _ _ _ k (omega arith) t t.held c.reserve.ensures.items);
+  leaves_or = search rules;
+  steady = search rules;
+  counts = search rules;
+  cause = search rules;
+}
 
-pub returns-in_err-id-clause-same : goal.returns-in_err-id-clause-same
-returns-in_err-id-clause-same g c = λ k h.
-    let t = has-taken _ c.self.inside.keep c.self.inside.listed.items c.take_out_many.new.listed.items k c.take_out_many.ensures
-    (rw (← c.self.view_is) at h) in
-    on_err c.from_residual-in_err-id.result
-    (has-failed _ _ _ k c.insert.ensures.counts.doubt t (c.in_err-id.ensures.err.held k t.held) c.reserve.ensures.items)
+pub returns-in_err-id-clause-wrote : goal.returns-in_err-id-clause-wrote
+returns-in_err-id-clause-wrote g c = record {
+  leaves = search rules;
+  same = λ k h.
+      let t = has-taken _ c.self.inside.keep c.self.inside.listed.items c.take_out_many.new.listed.items k c.take_out_many.ensures
+      (rw (← c.self.view_is) at h) in
+      on_err c.from_residual-in_err-id.result
+      (has-failed _ _ _ k c.insert.ensures.counts.doubt t (c.in_err-id.ensures.err.held k t.held) c.reserve.ensures.items);
+  leaves_or = search rules;
+  steady = search rules;
+  counts = search rules;
+  cause = search rules;
+}
 
 pub returns-clause-has : goal.returns-clause-has
 returns-clause-has g c = λ sure k h.
@@ -27,7 +41,14 @@ returns-clause-has g c = λ sure k h.
     ∷ []) c.of.ensures.value ∙ ap
     (λ xs. xs ++ record { id = c.in_ok-id.id; mark = Some (mark_of c.args.object.now); removed = false } ∷ []) c.reserve.ensures.items)
 
-pub returns-clause-leaves : goal.returns-clause-leaves
-returns-clause-leaves g c = λ k h left may.
-    let t = rw (← c.self.view_is) at h in
-    c.in_ok-id.ensures.ok.crash k left t.held may
+pub returns-clause-wrote : goal.returns-clause-wrote
+returns-clause-wrote g c = record {
+  leaves = λ k h left may.
+      let t = rw (← c.self.view_is) at h in
+      c.in_ok-id.ensures.ok.crash k left t.held may;
+  same = search rules;
+  leaves_or = search rules;
+  steady = search rules;
+  counts = search rules;
+  cause = search rules;
+}

@@ -1,4 +1,3 @@
-use Rattle.std.proofs.Common.{arith}
 use Rattle.model_runs.proofs.Resulted.{shows-opening, no-jobs, sound-new}
 use Rattle.token.proofs.States.{shows-at-first}
 use Rattle.token.proofs.token.Token.new.Goals as goal
