@@ -59,7 +59,7 @@ fn with_number(check: Half, t: u64) -> Half
 pub(crate) fn is_key(key: &Key)
     ensures { IsKey key.now }
 {
-    let _size = key.size();
+    let _size = key.size(); // brings its clause
 }
 
 /// Step `t` of wrapping, over A and the `n` registers behind it (RFC 3394, 2.2.1, step 2).

@@ -42,5 +42,5 @@ pub fn xor_number(block: Block, number: u128) -> u128
 pub(crate) fn is_key(key: &Key)
     ensures { IsKey key.now }
 {
-    let _size = key.size();
+    let _size = key.size(); // brings its clause
 }

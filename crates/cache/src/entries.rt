@@ -39,7 +39,6 @@ pub(crate) fn remember(entries: &mut LruCache<u64, Object>, id: u64, object: &Ob
 pub(crate) fn forget(entries: &mut LruCache<u64, Object>, id: u64)
     ensures { (e : Kept) → Contains entries.new.entries e → Contains entries.old.entries e × (e.0 ≢ id) }
 {
-    // by its contract each id is there once
-    let _len = entries.len();
+    let _len = entries.len(); // brings its clause: each id is there once
     let _ = entries.pop(&id);
 }

@@ -36,7 +36,7 @@ impl LastKey {
         if !same_bytes(self.value.as_slice(), value) {
             return None;
         }
-        let _size = self.key.size();
+        let _size = self.key.size(); // brings its clause
         Some(self.key.copied())
     }
 }

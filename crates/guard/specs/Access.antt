@@ -1,6 +1,6 @@
 -- The access table: which sessions see an object, and which may write it (PKCS #11 v3.1, 3.3, 4.4 and
 -- 5.6; the SO sees public objects alone).
-use Rattle.std.specs.Prelude.{Bool, true, false, ◌&&◌, ◌||◌, not, List, Option}
+use Rattle.std.specs.Prelude.{Bool, true, false, ◌||◌, not, List, Option}
 use Rattle.ck_types.specs.declared.entry.Entry.{Entry}
 use Rattle.ck_types.specs.declared.attr_type.AttrType.TheVariants as attr
 use Rattle.ck_types.specs.declared.session_state.SessionState.{SessionState}
@@ -31,11 +31,5 @@ is_rw RwSo = true
 abbrev pub is_public : List Entry → Bool
 is_public es = not (flag es attr.Private)
 
-abbrev pub is_session_object : List Entry → Bool
-is_session_object es = not (flag es attr.Token)
-
 abbrev pub is_visible : SessionState → List Entry → Bool
 is_visible state es = is_public es || is_user state
-
-abbrev pub is_writable : SessionState → List Entry → Bool
-is_writable state es = is_visible state es && (is_session_object es || is_rw state)

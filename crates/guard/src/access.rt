@@ -2,7 +2,7 @@
 
 ghost use Rattle.std.specs.Prelude.{◌≡◌, ◌&&◌, not};
 ghost use Rattle.attrs.specs.Masking.{mask};
-ghost use Rattle.guard.specs.Access.{is_rw, is_user, is_visible, is_writable};
+ghost use Rattle.guard.specs.Access.{is_rw, is_user, is_visible};
 
 use attrs::Object;
 use ck_types::{AttrType, SessionState};
@@ -40,12 +40,4 @@ pub fn visible(state: SessionState, object: &Object) -> bool
     ensures on_mask { result ≡ is_visible state (mask object.now) }
 {
     is_user(state) || !object.flag(AttrType::Private)
-}
-
-/// Whether a session in a state may change the object or destroy it (PKCS #11 v3.1, 4.4, CKA_TOKEN).
-pub fn writable(state: SessionState, object: &Object) -> bool
-    ensures access { result ≡ is_writable state object.now }
-    ensures on_mask { result ≡ is_writable state (mask object.now) }
-{
-    visible(state, object) && !needs_read_write(is_read_write(state), object.flag(AttrType::Token))
 }

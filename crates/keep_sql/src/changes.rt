@@ -77,7 +77,7 @@ pub(crate) fn insert<S: Alter>(
     ensures limit { IfOk result (λ id. id ≤ greatest_id) }
     ensures open { IsErrOf result Damaged → ⊥ }
 {
-    let _entries = object.entries();
+    let _entries = object.entries(); // brings its clause
     let bytes = attrs::encode(alloc, object)?;
     match insert_object(conn, bytes.as_slice()) {
         Ok(id) => Ok(id),
@@ -100,7 +100,7 @@ pub(crate) fn replace<S: Alter>(
     ensures there { HasCleanDisk (state S.Store conn.new) → (c : Contents) → Holds (state S.Store conn.old) c → OnOk result (IsSome (object_at c id)) }
     ensures open { IsErrOf result Damaged → ⊥ }
 {
-    let _entries = object.entries();
+    let _entries = object.entries(); // brings its clause
     let bytes = attrs::encode(alloc, object)?;
     match read_row(conn, id) {
         Err(error) => Err(refused(cause, error)),

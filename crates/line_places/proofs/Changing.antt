@@ -12,7 +12,7 @@ use Rattle.line.specs.Words.{words_for}
 use Rattle.line_places.specs.declared.client.Client.{Client}
 use Rattle.line_places.specs.declared.place.Place.{Place}
 use Rattle.line_places.specs.Keeping.{app_at, calls_of, IsAmong, IsClientAt, IsLife, WasAt, PlacesKeep}
-use Rattle.line_places.proofs.Keeping.{same_place, same_some, get_set, get_same, get_other, one_place, same_or, among-snoc, among-more, among-last}
+use Rattle.line_places.proofs.Keeping.{still_before, same_place, same_some, get_set, get_same, get_other, one_place, same_or, among-snoc, among-more, among-last}
 
 -- ---- applications of a worker
 
@@ -29,28 +29,6 @@ module _ {R W : Type 0} (seed : List ℕ) (s : ℕ) (places : List (Place R W)) 
 
   same_length : length (set places j p') ≡ length places
   same_length = length-set places j p'
-
-  -- the turn of a client that is there no more is still before that of its place
-  still_before : p.turn ≤ p'.turn → (d : Client R W) → WasAt s places d → WasAt s (set places j p') d
-  still_before le d w = ⊎_elim
-      (λ (e : w.j ≡ j). record {
-        j = j;
-        t = w.t;
-        place = p';
-        at = here;
-        later = let x : w.place.turn ≡ p.turn = ap (λ (q : Place R W). q.turn) (one_place places j w.j p w.place at w.at e) in
-            omega (arith, w.later, x, le);
-        app = w.app ∙ ap (λ (z : ℕ × ℕ). app_at s z.0 z.1 w.t) (λ i. (sym same_length i, e i));
-      })
-      (λ (n : w.j ≢ j). record {
-        j = w.j;
-        t = w.t;
-        place = w.place;
-        at = get_other places j w.j p' w.place n w.at;
-        later = w.later;
-        app = w.app ∙ ap (λ n. app_at s n w.j w.t) (sym same_length);
-      })
-      (same_or w.j j)
 
   now_else : (i : ℕ) (q : Place R W) (d : Client R W) → slice_get places i ≡ Some q → q.client ≡ Some d
       → (d.app ≡ app_at s (length (set places j p')) i q.turn) × (q.turn < 2 ^ 55)
@@ -105,7 +83,7 @@ module _ {R W : Type 0} (seed : List ℕ) (s : ℕ) (places : List (Place R W)) 
           ))
           (λ (y : (i ≢ j) × (slice_get places i ≡ Some q)). now_else i q d y.1 client')
           (get_set places j i p' q at');
-      before = λ d among. still_before (omega (arith, turn)) d (k.before d among);
+      before = λ d among. still_before s places j p p' at (omega (arith, turn)) d (k.before d among);
       words = whose_then (λ d. d.first.value ≡ words_for seed d.app) words k.words;
       parts = whose_then (λ d. (calls_of d.app asked ≡ d.asked.items) × (of d.app told ≡ d.told.items))
           (empty.0 ∙ sym no_call, empty.1 ∙ sym no_reply) k.parts;
@@ -147,7 +125,7 @@ module _ {R W : Type 0} (seed : List ℕ) (s : ℕ) (places : List (Place R W)) 
           (λ (y : (i ≢ j) × (slice_get places i ≡ Some q)). now_else i q d y.1 client')
           (get_set places j i p' q at');
       before = λ d among. ⊎_elim
-          (λ (x : IsAmong d past). still_before (omega (arith, turn)) d (k.before d x))
+          (λ (x : IsAmong d past). still_before s places j p p' at (omega (arith, turn)) d (k.before d x))
           (λ (x : d ≡ c). record {
             j = j;
             t = p.turn;
@@ -189,7 +167,7 @@ module _ {R W : Type 0} (seed : List ℕ) (s : ℕ) (places : List (Place R W)) 
           (λ (y : (i ≡ j) × (p' ≡ q)). absurd (no_one p' q d none' y.1 client'))
           (λ (y : (i ≢ j) × (slice_get places i ≡ Some q)). now_else i q d y.1 client')
           (get_set places j i p' q at');
-      before = λ d among. still_before (omega (arith, turn)) d (k.before d among);
+      before = λ d among. still_before s places j p p' at (omega (arith, turn)) d (k.before d among);
       words = λ d life. k.words d (lived d life);
       parts = λ d life. k.parts d (lived d life);
       others = λ a without. k.others a (λ d life. without d (lives d life));

@@ -1,5 +1,5 @@
 -- One client of a worker changes, and what is kept of all of them.
-use Rattle.std.proofs.Common.{◌≡◌, ◌≢◌, ℕ, zero, suc, ◌+◌, ◌*◌, ◌<◌, ◌/◌, ◌%◌, ◌⊎◌, inl, inr, ⊎_elim, List, [], ◌∷◌, ◌++◌, length, map, set, sym, refl, ap, ◌∙◌, subst, append-nil, arith, Some, None}
+use Rattle.std.proofs.Common.{◌≡◌, ◌≢◌, ℕ, zero, suc, ◌+◌, ◌*◌, ◌<◌, ◌≤◌, ◌/◌, ◌%◌, ◌⊎◌, inl, inr, ⊎_elim, List, [], ◌∷◌, ◌++◌, length, map, set, sym, refl, ap, ◌∙◌, subst, append-nil, arith, Some, None}
 use Rattle.std.specs.List.{slice_get}
 use Rattle.std.proofs.lemmas.List.{map-append, length-set}
 use Rattle.std.proofs.lemmas.Option.{slice_get_within}
@@ -84,6 +84,32 @@ same_or zero (suc b) = inr (λ e. omega (arith, e))
 same_or (suc a) zero = inr (λ e. omega (arith, e))
 same_or (suc a) (suc b) = ⊎_elim (λ (e : a ≡ b). inl (ap suc e)) (λ (n : a ≢ b). inr (λ e. n (omega (arith, e)))) (same_or a b)
 
+-- the turn of a client that is there no more is still before that of its place
+module _ {R W : Type 0} (s : ℕ) (places : List (Place R W)) (j : ℕ) (p p' : Place R W) (at : slice_get places j ≡ Some p) where
+  as_long : length (set places j p') ≡ length places
+  as_long = length-set places j p'
+
+  pub still_before : p.turn ≤ p'.turn → (d : Client R W) → WasAt s places d → WasAt s (set places j p') d
+  still_before le d w = ⊎_elim
+      (λ (e : w.j ≡ j). record {
+        j = j;
+        t = w.t;
+        place = p';
+        at = get_same places j p' p at;
+        later = let x : w.place.turn ≡ p.turn = ap (λ (q : Place R W). q.turn) (one_place places j w.j p w.place at w.at e) in
+            omega (arith, w.later, x, le);
+        app = w.app ∙ ap (λ (z : ℕ × ℕ). app_at s z.0 z.1 w.t) (λ i. (sym as_long i, e i));
+      })
+      (λ (n : w.j ≢ j). record {
+        j = w.j;
+        t = w.t;
+        place = w.place;
+        at = get_other places j w.j p' w.place n w.at;
+        later = w.later;
+        app = w.app ∙ ap (λ n. app_at s n w.j w.t) (sym as_long);
+      })
+      (same_or w.j j)
+
 module _ {R W : Type 0} where
   pub among-snoc : (c d : Client R W) (past : List (Client R W)) → IsAmong c (past ++ d ∷ []) → IsAmong c past ⊎ (c ≡ d)
   among-snoc c d [] h = ⊎_elim (λ (e : c ≡ d). inr e) (λ x. absurd x) h
@@ -166,7 +192,7 @@ module _ {R W : Type 0} where
             (λ (y : (i ≢ j) × (slice_get places i ≡ Some q)). let was = k.now i q d y.1 client' in
             (was.0 ∙ ap (λ n. app_at s n i q.turn) (sym same_length), was.1))
             (get_set places j i p' q at');
-        before = λ d among. moved d (k.before d among);
+        before = λ d among. still_before s places j p p' at (omega (arith, turn)) d (k.before d among);
         words = whose (λ d. d.first.value ≡ words_for seed d.app)
             (first ∙ k.words c (inr (j, record { place = p; at = at; client = is })) ∙ ap (words_for seed) (sym app))
             (λ d life not. k.words d life);
@@ -178,27 +204,6 @@ module _ {R W : Type 0} where
             let was = k.others a (λ d life. still a none mine d life) in
             (o.0 ∙ was.0, o.1 ∙ was.1);
       } where
-        moved : (d : Client R W) → WasAt s places d → WasAt s (set places j p') d
-        moved d w = ⊎_elim
-            (λ (e : w.j ≡ j). record {
-              j = j;
-              t = w.t;
-              place = p';
-              at = here;
-              later = let x : w.place.turn ≡ p.turn = ap (λ (q : Place R W). q.turn) (one_place places j w.j p w.place at w.at e) in
-                  omega (arith, w.later, x, turn);
-              app = w.app ∙ ap (λ (z : ℕ × ℕ). app_at s z.0 z.1 w.t) (λ i. (sym same_length i, e i));
-            })
-            (λ (n : w.j ≢ j). record {
-              j = w.j;
-              t = w.t;
-              place = w.place;
-              at = get_other places j w.j p' w.place n w.at;
-              later = w.later;
-              app = w.app ∙ ap (λ n. app_at s n w.j w.t) (sym same_length);
-            })
-            (same_or w.j j)
-
         still : (a : ℕ) → ((d : Client R W) → IsLife (set places j p') past d → d.app ≢ a) → a ≢ c.app → (d : Client R W)
             → IsLife places past d → d.app ≢ a
         still a none mine d life = ⊎_elim (λ (x : IsAmong d past). none d (inl x))

@@ -64,7 +64,7 @@ impl CmacStream {
     pub(crate) fn is_keyed(&self)
         ensures { IsKey self.now.key }
     {
-        let _size = self.key.size();
+        let _size = self.key.size(); // brings its clause
     }
 
     /// Adds one more part to the message.

@@ -1,5 +1,5 @@
 -- What work returns.
-use Rattle.std.specs.Prelude.{ℕ, List, [], length, Option, Some, None, if◌then◌else◌}
+use Rattle.std.specs.Prelude.{ℕ, Bool, true, false, List, [], length, Option, Some, None, if◌then◌else◌}
 use Rattle.std.specs.Str.{bytes_eq}
 use Rattle.ck_types.specs.declared.entry.Entry.{Entry}
 use Rattle.aes_kw.specs.KeyWrap.{wrapped}
@@ -39,3 +39,24 @@ outcome_of (ChangePin who verifier pin new_pin salt) =
     if accepts verifier pin then PinChanged who (verifier_for new_pin salt new_rounds) else WrongPin
 outcome_of (InitToken label pin salt) = TokenMade label (verifier_for pin salt new_rounds)
 outcome_of (ResetToken label verifier pin) = if accepts verifier pin then TokenReset label else WrongPin
+
+-- ---- PINs
+
+-- work on a PIN
+abbrev pub is_pin_work : Work → Bool
+is_pin_work (CheckPin who verifier pin) = true
+is_pin_work (MakePin pin salt) = true
+is_pin_work (ChangePin who verifier pin new_pin salt) = true
+is_pin_work (InitToken label pin salt) = true
+is_pin_work (ResetToken label verifier pin) = true
+is_pin_work _ = false
+
+-- and what it returns
+abbrev pub is_pin_outcome : Outcome → Bool
+is_pin_outcome WrongPin = true
+is_pin_outcome (RightPin who) = true
+is_pin_outcome (PinMade verifier) = true
+is_pin_outcome (PinChanged who verifier) = true
+is_pin_outcome (TokenMade label verifier) = true
+is_pin_outcome (TokenReset label) = true
+is_pin_outcome _ = false

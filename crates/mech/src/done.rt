@@ -8,7 +8,7 @@ ghost use Rattle.mech.specs.declared.job_cell.JobCell.TheVariants.{Empty as Empt
 ghost use Rattle.mech.specs.Endings.{ended_as};
 ghost use Rattle.mech.specs.Rooms.{HasRoom};
 ghost use Rattle.mech.specs.Runnable.{is_runnable};
-ghost use Rattle.mech.specs.Works.{outcome_of};
+ghost use Rattle.mech.specs.Works.{is_pin_work, outcome_of};
 
 use crate::job::Job;
 use crate::job_cell::JobCell;
@@ -62,6 +62,17 @@ impl Done {
         ensures { result ≡ self.now.job.value.function }
     {
         self.function
+    }
+
+    /// Whether the work was on a PIN (C_InitToken, C_InitPIN, C_SetPIN and C_Login, PKCS #11 v3.1, 5.5 and 5.6).
+    pub fn was_on_pin(&self) -> bool
+        ensures { result ≡ is_pin_work self.now.job.value.work.value }
+    {
+        match &*self.cell {
+            JobCell::Outcome(outcome) => outcome.is_of_pin(),
+            JobCell::Work(work) => work.is_on_pin(),
+            JobCell::Empty => unreachable!(),
+        }
     }
 
     /// What the work returned, or because an allocation failed the work as it was.

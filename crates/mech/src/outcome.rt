@@ -1,5 +1,8 @@
 //! What work returns.
 
+ghost use Rattle.std.specs.Prelude.{◌≡◌};
+ghost use Rattle.mech.specs.Works.{is_pin_outcome};
+
 use aes_modes::Direction;
 use attrs::Object;
 use ck_types::{Bytes, Label, UserType};
@@ -42,4 +45,21 @@ pub enum Outcome {
     TokenMade { label: Label, verifier: Verifier },
     /// The SO's PIN is right, and the token's label (C_InitToken, PKCS #11 v3.1, 5.5).
     TokenReset { label: Label },
+}
+
+impl Outcome {
+    /// Whether work on a PIN returns it.
+    pub(crate) fn is_of_pin(&self) -> bool
+        ensures { result ≡ is_pin_outcome self.now }
+    {
+        matches!(
+            self,
+            Outcome::WrongPin
+                | Outcome::RightPin(_)
+                | Outcome::PinMade(_)
+                | Outcome::PinChanged { .. }
+                | Outcome::TokenMade { .. }
+                | Outcome::TokenReset { .. }
+        )
+    }
 }

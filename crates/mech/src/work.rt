@@ -1,5 +1,8 @@
 //! What is to be done.
 
+ghost use Rattle.std.specs.Prelude.{◌≡◌};
+ghost use Rattle.mech.specs.Works.{is_pin_work};
+
 use aes_vector::Key;
 use ck_types::{Bytes, Label, SessionState, Template, UserType};
 use macs::Mac;
@@ -84,4 +87,20 @@ pub enum Work {
         verifier: Verifier,
         pin: Bytes,
     },
+}
+
+impl Work {
+    /// Whether it is work on a PIN.
+    pub(crate) fn is_on_pin(&self) -> bool
+        ensures { result ≡ is_pin_work self.now }
+    {
+        matches!(
+            self,
+            Work::CheckPin { .. }
+                | Work::MakePin { .. }
+                | Work::ChangePin { .. }
+                | Work::InitToken { .. }
+                | Work::ResetToken { .. }
+        )
+    }
 }

@@ -9,6 +9,7 @@ mod FindObjectsInit
 mod CipherInit
 mod Cipher
 mod MacInit
+mod OperationInit
 mod Mac
 pub mod WrapKey
 pub mod UnwrapKey
@@ -22,6 +23,7 @@ use Rattle.ck_calls.specs.declared.reply.Reply.TheVariants.{Code, ObjectSize}
 use Rattle.ck_calls.specs.Functions.{function_of}
 use Rattle.aes_modes.specs.declared.direction.Direction.TheVariants.{Encrypt, Decrypt}
 use Rattle.ops.specs.declared.place.Place.{Place}
+use Rattle.ops.specs.declared.place.Kind.TheVariants as kind
 use Rattle.ops.specs.declared.place.MacPlace.TheVariants as mac_place
 use Rattle.model_views.specs.TaskResults.{TaskResult, Output, BadPadding, Taken, Unwrapped, BadWrapping, Right, Wrong, Made, mask_outcome}
 use Rattle.precede.specs.declared.condition.Condition.TheVariants.{Busy}
@@ -72,10 +74,9 @@ use Rattle.model_views.proofs.Checks.{proper-reads}
 use Rattle.model_answers.proofs.Proper.SetAttributeValue.{proper-set_attribute_value}
 use Rattle.model_answers.proofs.Proper.FindObjects.{proper-find_objects, proper-find_objects_final}
 use Rattle.model_answers.proofs.Proper.FindObjectsInit.{proper-find_objects_init}
-use Rattle.model_answers.proofs.Proper.CipherInit.{proper-cipher_init}
-use Rattle.model_answers.proofs.Proper.Cipher.{proper-single, proper-update, proper-final, blind-ciphered, plain-ciphered}
-use Rattle.model_answers.proofs.Proper.MacInit.{proper-mac_init}
-use Rattle.model_answers.proofs.Proper.Mac.{proper-sign, proper-sign_final, proper-verify, proper-verify_final, proper-mac_update, blind-taken, blind-signed, blind-verified, over-taken, over-signed, over-verified, still-taken}
+use Rattle.model_answers.proofs.Proper.OperationInit.{proper-operation_init}
+use Rattle.model_answers.proofs.Proper.Cipher.{proper-update, proper-last, blind-ciphered, plain-ciphered}
+use Rattle.model_answers.proofs.Proper.Mac.{proper-sign, proper-verify, proper-mac_update, blind-taken, blind-signed, blind-verified, over-taken, over-signed, over-verified, still-taken}
 use Rattle.model_answers.proofs.Proper.WrapKey.{proper-wrap_key, blind-wrapped, over-wrapped, still-wrapped}
 use Rattle.model_answers.proofs.Proper.UnwrapKey.{proper-unwrap_key, blind-unwrapped, over-unwrapped, record-unwrapped}
 
@@ -105,22 +106,22 @@ proper-answer_to (call.SetAttributeValue session object template) random = prope
 proper-answer_to (call.FindObjectsInit session template) random = proper-find_objects_init session template
 proper-answer_to (call.FindObjects session max_count) random = proper-find_objects session max_count
 proper-answer_to (call.FindObjectsFinal session) random = proper-find_objects_final session
-proper-answer_to (call.EncryptInit session mechanism key) random = proper-cipher_init Encrypt session mechanism key
-proper-answer_to (call.Encrypt session input buffer_len) random = proper-single Encrypt session input buffer_len
+proper-answer_to (call.EncryptInit session mechanism key) random = proper-operation_init (kind.Cipher Encrypt) session mechanism key
+proper-answer_to (call.Encrypt session input buffer_len) random = proper-last Encrypt session (Some input) buffer_len
 proper-answer_to (call.EncryptUpdate session input buffer_len) random = proper-update Encrypt session input buffer_len
-proper-answer_to (call.EncryptFinal session buffer_len) random = proper-final Encrypt session buffer_len
-proper-answer_to (call.DecryptInit session mechanism key) random = proper-cipher_init Decrypt session mechanism key
-proper-answer_to (call.Decrypt session input buffer_len) random = proper-single Decrypt session input buffer_len
+proper-answer_to (call.EncryptFinal session buffer_len) random = proper-last Encrypt session None buffer_len
+proper-answer_to (call.DecryptInit session mechanism key) random = proper-operation_init (kind.Cipher Decrypt) session mechanism key
+proper-answer_to (call.Decrypt session input buffer_len) random = proper-last Decrypt session (Some input) buffer_len
 proper-answer_to (call.DecryptUpdate session input buffer_len) random = proper-update Decrypt session input buffer_len
-proper-answer_to (call.DecryptFinal session buffer_len) random = proper-final Decrypt session buffer_len
-proper-answer_to (call.SignInit session mechanism key) random = proper-mac_init mac_place.Sign session mechanism key
-proper-answer_to (call.Sign session input buffer_len) random = proper-sign session input buffer_len
+proper-answer_to (call.DecryptFinal session buffer_len) random = proper-last Decrypt session None buffer_len
+proper-answer_to (call.SignInit session mechanism key) random = proper-operation_init (kind.Mac mac_place.Sign) session mechanism key
+proper-answer_to (call.Sign session input buffer_len) random = proper-sign session (Some input) buffer_len
 proper-answer_to (call.SignUpdate session input) random = proper-mac_update mac_place.Sign session input
-proper-answer_to (call.SignFinal session buffer_len) random = proper-sign_final session buffer_len
-proper-answer_to (call.VerifyInit session mechanism key) random = proper-mac_init mac_place.Verify session mechanism key
-proper-answer_to (call.Verify session input signature) random = proper-verify session input signature
+proper-answer_to (call.SignFinal session buffer_len) random = proper-sign session None buffer_len
+proper-answer_to (call.VerifyInit session mechanism key) random = proper-operation_init (kind.Mac mac_place.Verify) session mechanism key
+proper-answer_to (call.Verify session input signature) random = proper-verify session (Some input) signature
 proper-answer_to (call.VerifyUpdate session input) random = proper-mac_update mac_place.Verify session input
-proper-answer_to (call.VerifyFinal session signature) random = proper-verify_final session signature
+proper-answer_to (call.VerifyFinal session signature) random = proper-verify session None signature
 proper-answer_to (call.GenerateKey session mechanism template) random = proper-generate_key session mechanism template random
 proper-answer_to (call.WrapKey session mechanism wrapping_key key buffer_len) random =
     proper-wrap_key session mechanism wrapping_key key buffer_len

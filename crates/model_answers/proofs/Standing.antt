@@ -4,6 +4,7 @@ use Rattle.std.specs.Option.{unwrap_or}
 use Rattle.ck_types.specs.declared.entry.Entry.{Entry}
 use Rattle.ck_types.specs.declared.attr_type.AttrType.TheVariants as attr
 use Rattle.ck_types.specs.declared.mech_type.MechType.TheVariants.{AesEcb, AesKeyGen}
+use Rattle.ck_types.specs.declared.mech_type.MechType.{MechType}
 use Rattle.ck_types.specs.declared.rv.Rv.{Rv}
 use Rattle.ck_types.specs.declared.rv.Rv.TheVariants.{Ok, FunctionFailed, PinIncorrect, SessionExists, WrappedKeyInvalid}
 use Rattle.ck_types.specs.declared.session_state.SessionState.{SessionState}
@@ -19,11 +20,9 @@ use Rattle.ck_mechanisms.specs.Table.{listed_numbers, mechanism_at, info_of}
 use Rattle.attrs.specs.Objects.{attribute_of, flag}
 use Rattle.aes_modes.specs.declared.direction.Direction.{Direction}
 use Rattle.aes_modes.specs.declared.direction.Direction.TheVariants.{Encrypt, Decrypt}
-use Rattle.streams.specs.declared.mechanism.Mechanism.TheVariants.{Ecb}
 use Rattle.streams.specs.declared.part.Part.{Part}
 use Rattle.streams.specs.declared.part.Part.TheVariants.{Update, Last}
 use Rattle.streams.specs.Lengths.{wanted}
-use Rattle.macs.specs.declared.mechanism.Mechanism.TheVariants.{AesCmac}
 use Rattle.templates.specs.declared.making.Making.TheVariants as making
 use Rattle.templates.specs.Faults.{template_fault}
 use Rattle.templates.specs.Made.{object_made, given_value, generated_value}
@@ -34,6 +33,8 @@ use Rattle.precede.specs.declared.condition.Condition.TheVariants.{Busy, NoMecha
 use Rattle.precede.specs.Condition.{code_of}
 use Rattle.precede.specs.Table.{write}
 use Rattle.ops.specs.declared.place.MacPlace.{MacPlace}
+use Rattle.ops.specs.declared.place.Kind.{Kind}
+use Rattle.ops.specs.declared.place.Kind.TheVariants.{Cipher, Mac}
 use Rattle.ops.specs.declared.place.MacPlace.TheVariants as mac_place
 use Rattle.ops.specs.Operations.{Operation, MacOperation, text_of, operation_in, mac_in, search_in, with_search}
 use Rattle.model_views.specs.TaskResults.{TaskResult, Output, Taken, Unwrapped, BadWrapping, Right, Wrong, Made}
@@ -64,9 +65,9 @@ use Rattle.model_answers.specs.SetAttributeValue.{puts_object, set_row, set_attr
 use Rattle.model_answers.specs.FindObjectsInit.{find_init_row, searches}
 use Rattle.model_answers.specs.FindObjects.{search_row, answered_at_once, gives_found}
 use Rattle.model_answers.specs.GenerateKey.{generation_at, generate_row, generate_key}
-use Rattle.model_answers.specs.CipherInit.{place_for, init_function, cipher_in, init_row, init_says, cipher_begins, cipher_init}
-use Rattle.model_answers.specs.Cipher.{operation_or, cipher_row, cipher_says, cipher, single_function, update_function, final_function, ciphered}
-use Rattle.model_answers.specs.MacInit.{mac_init_function, mac_mechanism_in, mac_init_row, mac_init_says, mac_begins, mac_init}
+use Rattle.model_answers.specs.CipherInit.{place_for}
+use Rattle.model_answers.specs.Cipher.{operation_or, cipher_row, cipher_says, cipher, update_function, last_function, ciphered}
+use Rattle.model_answers.specs.OperationInit.{init_function, type_in, parameter_in, init_row, init_says, operation_begins, operation_init}
 use Rattle.model_answers.specs.Mac.{mac_or, mac_row, mac_update_function, mac_update, signature_length, sign_row, sign_says, signs, verify_row, verify_says, verifies, mac_taken, signed, verified}
 use Rattle.model_answers.specs.WrapKey.{wrapped_len, wrap_row, wrap_says, wraps, wrapped_result}
 use Rattle.model_answers.specs.UnwrapKey.{key_ahead, unwrap_row, unwrap_says, unwraps, may_add, unwrapped_result}
@@ -181,24 +182,23 @@ module _ (v ended : View) (s : ℕ) where
       (alone-wraps n) (no-refusal refl)
 
   -- without a mechanism an operation ends, which is no refusal
-  alone-cipher_inits : (d : Direction) (row : Condition) → Alone v ended (init_says d v s row)
-  alone-cipher_inits d NoMechanism = no-refusal {a = init_says d v s NoMechanism} refl
-  alone-cipher_inits d row = refusal-row v row (inl refl, refl)
+  alone-inits : (kind : Kind) (row : Condition) → Alone v ended (init_says kind v s row)
+  alone-inits (Cipher d) NoMechanism = no-refusal {a = init_says (Cipher d) v s NoMechanism} refl
+  alone-inits (Mac p) NoMechanism = no-refusal {a = init_says (Mac p) v s NoMechanism} refl
+  alone-inits kind row = refusal-row v row (inl refl, refl)
 
-  alone-cipher_init : (d : Direction) (m : Option Mechanism) (key : ℕ) → Alone v ended (cipher_init d v s m key)
-  alone-cipher_init d m key =
-      let a = cipher_begins d v s (unwrap_or (cipher_in m) Ecb) (unwrap_or (object_at v key) []) in
-      refusal-checked_by (init_function d) (init_row d v s m (object_at v key)) (init_says d v s) a (alone-cipher_inits d) (no-refusal refl)
+  alone-begins : (kind : Kind) (mechanism : MechType) (parameter : List ℕ) (key : List Entry)
+      → Alone v ended (operation_begins kind v s mechanism parameter key)
+  alone-begins (Cipher d) mechanism parameter key = no-refusal {a = operation_begins (Cipher d) v s mechanism parameter key} refl
+  alone-begins (Mac p) mechanism parameter key = no-refusal {a = operation_begins (Mac p) v s mechanism parameter key} refl
 
-  alone-mac_inits : (p : MacPlace) (row : Condition) → Alone v ended (mac_init_says p v s row)
-  alone-mac_inits p NoMechanism = no-refusal {a = mac_init_says p v s NoMechanism} refl
-  alone-mac_inits p row = refusal-row v row (inl refl, refl)
-
-  alone-mac_init : (p : MacPlace) (m : Option Mechanism) (key : ℕ) → Alone v ended (mac_init p v s m key)
-  alone-mac_init p m key =
-      let a = mac_begins p v s (unwrap_or (mac_mechanism_in m) AesCmac) (unwrap_or (object_at v key) []) in
-      refusal-checked_by (mac_init_function p) (mac_init_row p v s m (object_at v key)) (mac_init_says p v s) a (alone-mac_inits p)
-      (no-refusal refl)
+  alone-init : (kind : Kind) (m : Option Mechanism) (key : ℕ) → Alone v ended (operation_init kind v s m key)
+  alone-init kind m key =
+      let mechanism = unwrap_or (type_in kind m) AesEcb in
+      let o = unwrap_or (object_at v key) [] in
+      refusal-checked_by (init_function kind) (init_row kind v s m (object_at v key)) (init_says kind v s)
+      (operation_begins kind v s mechanism (parameter_in m) o) (alone-inits kind)
+      (alone-begins kind mechanism (parameter_in m) o)
 
   -- a part of a message is taken, and no refusal ends its operation
   alone-mac_update : (p : MacPlace) (input : List ℕ) → Alone v ended (mac_update p v s input)
@@ -306,25 +306,25 @@ alone-answer_to v (call.FindObjects session max_count) random r =
 alone-answer_to v (call.FindObjectsFinal session) random r =
     alone-checked function.FindObjectsFinal (search_row v session)
     (becomes (reply.Code Ok) (record v { sessions = with_search v.sessions session None })) refl
-alone-answer_to v (call.EncryptInit session mechanism key) random r = alone-cipher_init v v session Encrypt mechanism key
+alone-answer_to v (call.EncryptInit session mechanism key) random r = alone-init v v session (Cipher Encrypt) mechanism key
 alone-answer_to v (call.Encrypt session input buffer_len) random r =
-    alone-cipher v session (single_function Encrypt) Encrypt Last input buffer_len
+    alone-cipher v session (last_function Encrypt (Some input)) Encrypt Last input buffer_len
 alone-answer_to v (call.EncryptUpdate session input buffer_len) random r =
     alone-cipher v session (update_function Encrypt) Encrypt Update input buffer_len
 alone-answer_to v (call.EncryptFinal session buffer_len) random r =
-    alone-cipher v session (final_function Encrypt) Encrypt Last [] buffer_len
-alone-answer_to v (call.DecryptInit session mechanism key) random r = alone-cipher_init v v session Decrypt mechanism key
+    alone-cipher v session (last_function Encrypt None) Encrypt Last [] buffer_len
+alone-answer_to v (call.DecryptInit session mechanism key) random r = alone-init v v session (Cipher Decrypt) mechanism key
 alone-answer_to v (call.Decrypt session input buffer_len) random r =
-    alone-cipher v session (single_function Decrypt) Decrypt Last input buffer_len
+    alone-cipher v session (last_function Decrypt (Some input)) Decrypt Last input buffer_len
 alone-answer_to v (call.DecryptUpdate session input buffer_len) random r =
     alone-cipher v session (update_function Decrypt) Decrypt Update input buffer_len
 alone-answer_to v (call.DecryptFinal session buffer_len) random r =
-    alone-cipher v session (final_function Decrypt) Decrypt Last [] buffer_len
-alone-answer_to v (call.SignInit session mechanism key) random r = alone-mac_init v v session mac_place.Sign mechanism key
+    alone-cipher v session (last_function Decrypt None) Decrypt Last [] buffer_len
+alone-answer_to v (call.SignInit session mechanism key) random r = alone-init v v session (Mac mac_place.Sign) mechanism key
 alone-answer_to v (call.Sign session input buffer_len) random r = alone-sign v session function.Sign input buffer_len
 alone-answer_to v (call.SignUpdate session input) random r = alone-mac_update v v session mac_place.Sign input
 alone-answer_to v (call.SignFinal session buffer_len) random r = alone-sign v session function.SignFinal [] buffer_len
-alone-answer_to v (call.VerifyInit session mechanism key) random r = alone-mac_init v v session mac_place.Verify mechanism key
+alone-answer_to v (call.VerifyInit session mechanism key) random r = alone-init v v session (Mac mac_place.Verify) mechanism key
 alone-answer_to v (call.Verify session input signature) random r = alone-verify v session function.Verify input signature
 alone-answer_to v (call.VerifyUpdate session input) random r = alone-mac_update v v session mac_place.Verify input
 alone-answer_to v (call.VerifyFinal session signature) random r = alone-verify v session function.VerifyFinal [] signature

@@ -1,21 +1,16 @@
 -- What each call returns to an application, from its view alone: one definition for each call.
 use Rattle.std.specs.Prelude.{◌&&◌, not, ℕ, Bool, true, false, List, if◌then◌else◌, Option, Some, None}
-use Rattle.ck_types.specs.declared.rv.Rv.TheVariants.{FunctionFailed}
 use Rattle.ck_calls.specs.declared.call.Call.{Call}
 use Rattle.ck_calls.specs.declared.call.Call.TheVariants as call
 use Rattle.ck_calls.specs.declared.function.Function.{Function}
 use Rattle.ck_calls.specs.declared.function.Function.TheVariants as function
 use Rattle.aes_modes.specs.declared.direction.Direction.TheVariants.{Encrypt, Decrypt}
 use Rattle.precede.specs.declared.condition.Condition.TheVariants.{Busy}
-use Rattle.ops.specs.declared.place.Place.TheVariants as place
 use Rattle.model_views.specs.TaskResults.{TaskResult}
-use Rattle.ops.specs.declared.place.Place.{Place}
-use Rattle.ops.specs.declared.place.MacPlace.{MacPlace}
+use Rattle.ops.specs.declared.place.Kind.TheVariants as kind
 use Rattle.ops.specs.declared.place.MacPlace.TheVariants as mac_place
-use Rattle.ops.specs.Operations.{Operation, MacOperation}
-use Rattle.streams.specs.declared.part.Part.{Part}
 use Rattle.model_views.specs.Views.{View, Question, Task, Ciphers, Takes, Signs, Verifies, WrapsKey, UnwrapsKey, ChecksPin, MakesPin, ChangesPin, InitsToken, ResetsToken}
-use Rattle.model_views.specs.Answering.{Answer, Reveal, refuses, refuses_by, noted, answered, is_closed}
+use Rattle.model_views.specs.Answering.{Answer, Reveal, refuses_by, noted, answered, is_closed}
 use Rattle.model_session_answers.specs.GetTokenInfo.{get_token_info}
 use Rattle.model_session_answers.specs.Mechanisms.{get_mechanism_list, get_mechanism_info}
 use Rattle.model_answers.specs.GenerateKey.{generate_key}
@@ -36,10 +31,10 @@ use Rattle.model_answers.specs.GetAttributeValue.{get_attribute_value}
 use Rattle.model_answers.specs.SetAttributeValue.{set_attribute_value}
 use Rattle.model_answers.specs.FindObjectsInit.{find_objects_init}
 use Rattle.model_answers.specs.FindObjects.{find_objects, find_objects_final}
-use Rattle.model_answers.specs.CipherInit.{place_for, cipher_init}
-use Rattle.model_answers.specs.Cipher.{cipher_single, cipher_update, cipher_final, ciphered}
-use Rattle.model_answers.specs.MacInit.{mac_init}
-use Rattle.model_answers.specs.Mac.{sign, sign_final, verify, verify_final, mac_update, mac_taken, signed, verified}
+use Rattle.model_answers.specs.OperationInit.{operation_init}
+use Rattle.model_answers.specs.CipherInit.{place_for}
+use Rattle.model_answers.specs.Cipher.{cipher_last, cipher_update, ciphered}
+use Rattle.model_answers.specs.Mac.{sign, verify, mac_update, mac_taken, signed, verified}
 use Rattle.model_answers.specs.WrapKey.{wrap_key, wrapped_result}
 use Rattle.model_answers.specs.UnwrapKey.{unwrap_key, unwrapped_result}
 
@@ -66,22 +61,22 @@ answer_to v (call.SetAttributeValue session object template) random reveal = set
 answer_to v (call.FindObjectsInit session template) random reveal = find_objects_init v session template
 answer_to v (call.FindObjects session max_count) random reveal = find_objects v session max_count
 answer_to v (call.FindObjectsFinal session) random reveal = find_objects_final v session
-answer_to v (call.EncryptInit session mechanism key) random reveal = cipher_init Encrypt v session mechanism key
-answer_to v (call.Encrypt session input buffer_len) random reveal = cipher_single Encrypt v session input buffer_len
+answer_to v (call.EncryptInit session mechanism key) random reveal = operation_init (kind.Cipher Encrypt) v session mechanism key
+answer_to v (call.Encrypt session input buffer_len) random reveal = cipher_last Encrypt v session (Some input) buffer_len
 answer_to v (call.EncryptUpdate session input buffer_len) random reveal = cipher_update Encrypt v session input buffer_len
-answer_to v (call.EncryptFinal session buffer_len) random reveal = cipher_final Encrypt v session buffer_len
-answer_to v (call.DecryptInit session mechanism key) random reveal = cipher_init Decrypt v session mechanism key
-answer_to v (call.Decrypt session input buffer_len) random reveal = cipher_single Decrypt v session input buffer_len
+answer_to v (call.EncryptFinal session buffer_len) random reveal = cipher_last Encrypt v session None buffer_len
+answer_to v (call.DecryptInit session mechanism key) random reveal = operation_init (kind.Cipher Decrypt) v session mechanism key
+answer_to v (call.Decrypt session input buffer_len) random reveal = cipher_last Decrypt v session (Some input) buffer_len
 answer_to v (call.DecryptUpdate session input buffer_len) random reveal = cipher_update Decrypt v session input buffer_len
-answer_to v (call.DecryptFinal session buffer_len) random reveal = cipher_final Decrypt v session buffer_len
-answer_to v (call.SignInit session mechanism key) random reveal = mac_init mac_place.Sign v session mechanism key
-answer_to v (call.Sign session input buffer_len) random reveal = sign v session input buffer_len
+answer_to v (call.DecryptFinal session buffer_len) random reveal = cipher_last Decrypt v session None buffer_len
+answer_to v (call.SignInit session mechanism key) random reveal = operation_init (kind.Mac mac_place.Sign) v session mechanism key
+answer_to v (call.Sign session input buffer_len) random reveal = sign v session (Some input) buffer_len
 answer_to v (call.SignUpdate session input) random reveal = mac_update mac_place.Sign v session input
-answer_to v (call.SignFinal session buffer_len) random reveal = sign_final v session buffer_len
-answer_to v (call.VerifyInit session mechanism key) random reveal = mac_init mac_place.Verify v session mechanism key
-answer_to v (call.Verify session input signature) random reveal = verify v session input signature
+answer_to v (call.SignFinal session buffer_len) random reveal = sign v session None buffer_len
+answer_to v (call.VerifyInit session mechanism key) random reveal = operation_init (kind.Mac mac_place.Verify) v session mechanism key
+answer_to v (call.Verify session input signature) random reveal = verify v session (Some input) signature
 answer_to v (call.VerifyUpdate session input) random reveal = mac_update mac_place.Verify v session input
-answer_to v (call.VerifyFinal session signature) random reveal = verify_final v session signature
+answer_to v (call.VerifyFinal session signature) random reveal = verify v session None signature
 answer_to v (call.GenerateKey session mechanism template) random reveal = generate_key v session mechanism template random
 answer_to v (call.WrapKey session mechanism wrapping_key key buffer_len) random reveal =
     wrap_key v session mechanism wrapping_key key buffer_len

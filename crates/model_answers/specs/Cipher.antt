@@ -23,17 +23,16 @@ use Rattle.model_answers.specs.CipherInit.{place_for, cipher_ends}
 
 -- ---- the calls of each direction
 
-abbrev pub single_function : Direction → Function
-single_function Encrypt = functions.Encrypt
-single_function Decrypt = functions.Decrypt
-
 abbrev pub update_function : Direction → Function
 update_function Encrypt = functions.EncryptUpdate
 update_function Decrypt = functions.DecryptUpdate
 
-abbrev pub final_function : Direction → Function
-final_function Encrypt = functions.EncryptFinal
-final_function Decrypt = functions.DecryptFinal
+-- a call that ends the operation, with all of its data, or with none where its data came before
+abbrev pub last_function : Direction → Option (List ℕ) → Function
+last_function Encrypt (Some input) = functions.Encrypt
+last_function Encrypt None = functions.EncryptFinal
+last_function Decrypt (Some input) = functions.Decrypt
+last_function Decrypt None = functions.DecryptFinal
 
 -- ---- the conditions
 
@@ -86,15 +85,12 @@ ciphers function d part v s o input buffer_len =
 abbrev pub cipher : Function → Direction → Part → View → ℕ → List ℕ → Option ℕ → Answer
 cipher function d part v s input buffer_len = ciphers function d part v s (operation_in (session_of v s) (place_for d)) input buffer_len
 
--- all data at once, a part, and the end
-abbrev pub cipher_single : Direction → View → ℕ → List ℕ → Option ℕ → Answer
-cipher_single d v s input buffer_len = cipher (single_function d) d Last v s input buffer_len
-
+-- a part, and the last data
 abbrev pub cipher_update : Direction → View → ℕ → List ℕ → Option ℕ → Answer
 cipher_update d v s input buffer_len = cipher (update_function d) d Update v s input buffer_len
 
-abbrev pub cipher_final : Direction → View → ℕ → Option ℕ → Answer
-cipher_final d v s buffer_len = cipher (final_function d) d Last v s [] buffer_len
+abbrev pub cipher_last : Direction → View → ℕ → Option (List ℕ) → Option ℕ → Answer
+cipher_last d v s all buffer_len = cipher (last_function d all) d Last v s (unwrap_or all []) buffer_len
 
 -- ---- the result
 

@@ -9,6 +9,7 @@ pub mod FindObjects
 pub mod CipherInit
 pub mod Cipher
 pub mod MacInit
+pub mod OperationInit
 pub mod Mac
 pub mod GenerateKey
 pub mod WrapKey

@@ -23,6 +23,15 @@ abbrev pub mac_update_function : MacPlace → Function
 mac_update_function place.Sign = functions.SignUpdate
 mac_update_function place.Verify = functions.VerifyUpdate
 
+-- a call that ends the operation, with all of its data, or with none where its data came before
+abbrev pub sign_function : Option (List ℕ) → Function
+sign_function (Some input) = functions.Sign
+sign_function None = functions.SignFinal
+
+abbrev pub verify_function : Option (List ℕ) → Function
+verify_function (Some input) = functions.Verify
+verify_function None = functions.VerifyFinal
+
 -- ---- the conditions
 
 -- the operation that is in progress
@@ -77,18 +86,12 @@ verifies function v s o input signature =
 abbrev pub takes : MacPlace → View → ℕ → Option MacOperation → List ℕ → Answer
 takes p v s o input = checked (mac_update_function p) (mac_row v s o) v (asks v (mac_update_function p) s (Takes p (mac_or o) input))
 
--- all data at once, a part, and the end
-abbrev pub sign : View → ℕ → List ℕ → Option ℕ → Answer
-sign v s input buffer_len = signs functions.Sign v s (mac_in (session_of v s) place.Sign) input buffer_len
+-- the last data, and a part
+abbrev pub sign : View → ℕ → Option (List ℕ) → Option ℕ → Answer
+sign v s all buffer_len = signs (sign_function all) v s (mac_in (session_of v s) place.Sign) (unwrap_or all []) buffer_len
 
-abbrev pub sign_final : View → ℕ → Option ℕ → Answer
-sign_final v s buffer_len = signs functions.SignFinal v s (mac_in (session_of v s) place.Sign) [] buffer_len
-
-abbrev pub verify : View → ℕ → List ℕ → List ℕ → Answer
-verify v s input signature = verifies functions.Verify v s (mac_in (session_of v s) place.Verify) input signature
-
-abbrev pub verify_final : View → ℕ → List ℕ → Answer
-verify_final v s signature = verifies functions.VerifyFinal v s (mac_in (session_of v s) place.Verify) [] signature
+abbrev pub verify : View → ℕ → Option (List ℕ) → List ℕ → Answer
+verify v s all signature = verifies (verify_function all) v s (mac_in (session_of v s) place.Verify) (unwrap_or all []) signature
 
 abbrev pub mac_update : MacPlace → View → ℕ → List ℕ → Answer
 mac_update p v s input = takes p v s (mac_in (session_of v s) p) input

@@ -11,7 +11,7 @@ use Rattle.templates.specs.Faults.{template_fault}
 use Rattle.precede.specs.declared.condition.Condition.TheVariants.{NoSession, WrongMechanism, WrongParameter, NoUnwrappingKey, WrongUnwrappingKeyType, KeyNotPermitted, WrappedLength, TemplateRefused, WrappedLengthOfType}
 use Rattle.model_views.specs.TaskResults.{TaskResult, Unwrapped, BadWrapping}
 use Rattle.model_views.specs.Views.{UnwrapsKey}
-use Rattle.model_views.specs.Calls.{Rv, Entry, SessionState, attribute_of, key_type_of, Condition, View, Answer, refuses, refuses_by, asks, answered, session_of, object_at, checked_by, state_in, flag_at, is_aes, refuses_template}
+use Rattle.model_views.specs.Calls.{Rv, Entry, SessionState, attribute_of, key_type_of, Condition, View, Answer, refuses, refuses_by, asks, session_of, object_at, checked_by, state_in, flag_at, is_aes, refuses_template}
 use Rattle.model_answers.specs.CreateObject.{makes_row, adds_where}
 use Rattle.model_answers.specs.WrapKey.{wrapping_at, is_no_key}
 

@@ -15,7 +15,7 @@ use Rattle.mech.specs.Wrappings.{is_value_length}
 use Rattle.precede.specs.declared.condition.Condition.TheVariants.{NoSession, WrongMechanism, WrongParameter, NoWrappingKey, NoKey, WrongWrappingKeyType, KeyNotPermitted, KeyUnextractable, KeyNotWrappable, KeyLength, NoBuffer, SmallBuffer}
 use Rattle.model_views.specs.TaskResults.{TaskResult, Output}
 use Rattle.model_views.specs.Views.{WrapsKey}
-use Rattle.model_views.specs.Calls.{Entry, attribute_of, class_of, key_type_of, Condition, View, Answer, replies, refuses, refuses_by, asks, answered, session_of, object_at, checked_by, flag_at, is_aes}
+use Rattle.model_views.specs.Calls.{Entry, attribute_of, class_of, key_type_of, Condition, View, Answer, replies, refuses, refuses_by, asks, session_of, object_at, checked_by, flag_at, is_aes}
 use Rattle.model_answers.specs.GetObjectSize.{value_len}
 
 -- the mechanism that wraps and unwraps, which has no parameter

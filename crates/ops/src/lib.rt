@@ -12,6 +12,6 @@ mod place;
 mod places;
 mod search;
 
-pub use place::{MacPlace, Place};
+pub use place::{Kind, MacPlace, Place};
 pub use places::Places;
 pub use search::Search;

@@ -94,50 +94,115 @@ pub(crate) fn serve<R: Threads + Wait + Clock + Copy + Send + Drop + 'static, O:
             "a core dump of this process would have its memory: /proc/self/coredump_filter cannot be written";
         note(errors, served.level, Level::Warn, &text);
     }
-    if served.store == IN_MEMORY {
-        serve_memory(rt, threads, &served, output, errors)
-    } else {
-        let keep = open_private(rt, &served, errors)?;
-        Ok(close_store(serve_file(rt, threads, keep, &served, output, errors)?)?)
-    }
+    let mut daemon = Daemon {
+        rt: *rt,
+        threads,
+        served,
+        output,
+        errors,
+    };
+    let ended = daemon.serve();
+    drop(daemon);
+    ended
 }
 
-/// Serves a new token in memory.
-fn serve_memory<R: Threads + Wait + Clock + Copy + Send + Drop + 'static, O: Write, E: Write>(
-    rt: &HostRuntime,
+/// A daemon that is to serve: by what, as the command line asks, and where it reports.
+#[derive(Drop)]
+struct Daemon<'s, 'o, 'e, R, O, E> {
+    rt: HostRuntime,
+    /// A handle on which the seats' threads are started.
     threads: R,
-    served: &Served<'_>,
-    output: &mut O,
-    errors: &mut E,
-) -> Result<(), Fault> {
-    let log = Journal::new(rt.stderr(), served.level);
-    let keep = ListKeep::new(rt.alloc(), Record::new());
-    let keep = with_reports(keep, log, served)?;
-    match serve_over(rt, threads, keep, served, output, errors) {
-        Ok(_) => Ok(()),
-        Err(fault) => Err(fault),
-    }
+    served: Served<'s>,
+    output: &'o mut O,
+    errors: &'e mut E,
 }
 
-/// Serves a token over a keeper of a file, behind what reports, limits and remembers, and returns the keeper at a clean end.
-fn serve_file<
-    K: Explains,
-    R: Threads + Wait + Clock + Copy + Send + Drop + 'static,
-    O: Write,
-    E: Write,
->(
-    rt: &HostRuntime,
-    threads: R,
-    keep: K,
-    served: &Served<'_>,
-    output: &mut O,
-    errors: &mut E,
-) -> Result<K, Fault> {
-    let log = Journal::new(rt.stderr(), served.level);
-    let room = room_beside(rt, served.store, served.level)?;
-    let keep = with_reports(Reserved::new(keep, room), log, served)?;
-    let keep = serve_limited(rt, threads, keep, served, output, errors)?;
-    Ok(keep.into_keep().into_keep())
+impl<R: Threads + Wait + Clock + Copy + Send + Drop + 'static, O: Write, E: Write> Daemon<
+    '_,
+    '_,
+    '_,
+    R,
+    O,
+    E,
+> {
+    /// Serves the token that the command line names.
+    fn serve(&mut self) -> Result<(), Fault> {
+        if self.served.store == IN_MEMORY {
+            self.in_memory()
+        } else {
+            self.in_file()
+        }
+    }
+
+    /// Serves the token of a file.
+    fn in_file(&mut self) -> Result<(), Fault> {
+        let keep = open_private(&self.rt, &self.served, self.errors)?;
+        Ok(close_store(self.on_file(keep)?)?)
+    }
+
+    /// Serves a new token in memory.
+    fn in_memory(&mut self) -> Result<(), Fault> {
+        let log = Journal::new(self.rt.stderr(), self.served.level);
+        let keep = ListKeep::new(self.rt.alloc(), Record::new());
+        let keep = with_reports(keep, log, &self.served)?;
+        match self.over(keep) {
+            Ok(_) => Ok(()),
+            Err(fault) => Err(fault),
+        }
+    }
+
+    /// Serves a token over a keeper of a file, behind what reports, limits and remembers, and returns the keeper at a clean end.
+    fn on_file<K: Explains>(&mut self, keep: K) -> Result<K, Fault> {
+        let log = Journal::new(self.rt.stderr(), self.served.level);
+        let room = room_beside(&self.rt, self.served.store, self.served.level)?;
+        let keep = with_reports(Reserved::new(keep, room), log, &self.served)?;
+        let keep = self.limited(keep)?;
+        Ok(keep.into_keep().into_keep())
+    }
+
+    /// Serves a token over a keeper with a limit of objects and a cache, and returns the keeper at a clean end.
+    fn limited<K: Keep>(&mut self, keep: K) -> Result<K, Fault> {
+        let keep = with_limit(self.rt.alloc(), keep, &self.served)?;
+        let keep = self.cached(keep)?;
+        Ok(keep.into_keep())
+    }
+
+    /// Serves a token over a keeper behind a cache, and returns the keeper at a clean end.
+    fn cached<K: Keep>(&mut self, keep: K) -> Result<K, Fault> {
+        let capacity = NonZeroUsize::new(CAPACITY).ok_or(Failure::Memory)?;
+        match Cached::new(self.rt.alloc(), keep, capacity) {
+            Ok(keep) => {
+                let keep = self.over(keep)?;
+                Ok(keep.into_keep())
+            }
+            Err((fault, _)) => Err(fault.into()),
+        }
+    }
+
+    /// Serves a token over a keeper, and returns the keeper at a clean end.
+    fn over<K: Keep>(&mut self, keep: K) -> Result<K, Fault> {
+        let alloc = self.rt.alloc();
+        let token = token_over(alloc, keep)?;
+        let Ok(gate) = Arc::new(alloc, OpenGate) else {
+            return Err(Failure::Memory.into());
+        };
+        let seats = ready_seats(&self.rt, &self.served, self.output)?;
+        say_ready(&self.served, self.errors);
+        let watching = Watching::start(self.threads, alloc, monitor_of(&self.rt, &self.served)?)?;
+        let held = hold_sockets(self.threads, alloc, token, seats, &gate);
+        watching.end(&self.threads);
+        self.served.manager.tell("STOPPING=1\n");
+        match held {
+            Ok(held) => {
+                seats_ended(&held.seats, &self.served)?;
+                Ok(held.token.into_keep())
+            }
+            Err((fault, token)) => {
+                drop(token);
+                Err(fault.into())
+            }
+        }
+    }
 }
 
 /// Opens the store, and keeps it from other users.
@@ -294,86 +359,6 @@ fn token_over<K: Keep>(alloc: Global, keep: K) -> Result<Token<K>, Fault> {
     match Token::new(alloc, keep) {
         Ok(token) => Ok(token),
         Err((fault, _)) => Err(fault.into()),
-    }
-}
-
-/// Serves a token over a keeper with a limit of objects and a cache, and returns the keeper at a clean end.
-fn serve_limited<
-    K: Keep,
-    R: Threads + Wait + Clock + Copy + Send + Drop + 'static,
-    O: Write,
-    E: Write,
->(
-    rt: &HostRuntime,
-    threads: R,
-    keep: K,
-    served: &Served<'_>,
-    output: &mut O,
-    errors: &mut E,
-) -> Result<K, Fault> {
-    let keep = with_limit(rt.alloc(), keep, served)?;
-    let keep = serve_cached(rt, threads, keep, served, output, errors)?;
-    Ok(keep.into_keep())
-}
-
-/// Serves a token over a keeper behind a cache, and returns the keeper at a clean end.
-fn serve_cached<
-    K: Keep,
-    R: Threads + Wait + Clock + Copy + Send + Drop + 'static,
-    O: Write,
-    E: Write,
->(
-    rt: &HostRuntime,
-    threads: R,
-    keep: K,
-    served: &Served<'_>,
-    output: &mut O,
-    errors: &mut E,
-) -> Result<K, Fault> {
-    let capacity = NonZeroUsize::new(CAPACITY).ok_or(Failure::Memory)?;
-    match Cached::new(rt.alloc(), keep, capacity) {
-        Ok(keep) => {
-            let keep = serve_over(rt, threads, keep, served, output, errors)?;
-            Ok(keep.into_keep())
-        }
-        Err((fault, _)) => Err(fault.into()),
-    }
-}
-
-/// Serves a token over a keeper, and returns the keeper at a clean end.
-fn serve_over<
-    K: Keep,
-    R: Threads + Wait + Clock + Copy + Send + Drop + 'static,
-    O: Write,
-    E: Write,
->(
-    rt: &HostRuntime,
-    threads: R,
-    keep: K,
-    served: &Served<'_>,
-    output: &mut O,
-    errors: &mut E,
-) -> Result<K, Fault> {
-    let alloc = rt.alloc();
-    let token = token_over(alloc, keep)?;
-    let Ok(gate) = Arc::new(alloc, OpenGate) else {
-        return Err(Failure::Memory.into());
-    };
-    let seats = ready_seats(rt, served, output)?;
-    say_ready(served, errors);
-    let watching = Watching::start(threads, alloc, monitor_of(rt, served)?)?;
-    let held = hold_sockets(threads, alloc, token, seats, &gate);
-    watching.end(&threads);
-    served.manager.tell("STOPPING=1\n");
-    match held {
-        Ok(held) => {
-            seats_ended(&held.seats, served)?;
-            Ok(held.token.into_keep())
-        }
-        Err((fault, token)) => {
-            drop(token);
-            Err(fault.into())
-        }
     }
 }
 

@@ -48,7 +48,7 @@ pub fn aes_key(object: &Object) -> Key
     requires aes { is_aes (key_type_of object.now) ≡ true }
     ensures { attribute_of object.now attr.Value ≡ Some result }
 {
-    let _entries = object.entries();
+    let _entries = object.entries(); // brings its clause
     match Key::new(object.value()) {
         Some(key) => key,
         None => unreachable!(),
@@ -62,7 +62,7 @@ pub fn operation_key(alloc: Global, desk: &mut Desk, object: &Object) -> Key
     ensures key { attribute_of object.now attr.Value ≡ Some result }
     ensures same { desk.new ≡ desk.old }
 {
-    let _entries = object.entries();
+    let _entries = object.entries(); // brings its clause
     match desk.key_of(alloc, object.value()) {
         Some(key) => key,
         None => unreachable!(),

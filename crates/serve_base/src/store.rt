@@ -82,8 +82,7 @@ impl<K: Keep> Store<K> {
     /// Replaces the record. The objects stay.
     pub fn set_record(&mut self, token_record: Record) -> Result<(), KeepFault>
         ensures has { (c : Contents) → StoreHas K.terms self.old c → OnOk result (StoreHas K.terms self.new (with_record token_record c)) }
-        ensures wrote { Wrote K.terms (with_record token_record)
-            ⊥ self.old self.new result }
+        ensures wrote { Wrote K.terms (with_record token_record) ⊥ self.old self.new result }
     {
         self.keep.set_record(token_record)?;
         Ok(())
@@ -92,8 +91,7 @@ impl<K: Keep> Store<K> {
     /// Removes all objects and replaces the record, as one change. Ids are counted on.
     pub fn reset(&mut self, token_record: Record) -> Result<(), KeepFault>
         ensures has { (c : Contents) → StoreHas K.terms self.old c → OnOk result (StoreHas K.terms self.new (after_reset token_record c)) }
-        ensures wrote { Wrote K.terms (after_reset token_record)
-            ⊥ self.old self.new result }
+        ensures wrote { Wrote K.terms (after_reset token_record) ⊥ self.old self.new result }
     {
         self.keep.reset(token_record)?;
         self.listed.clear();

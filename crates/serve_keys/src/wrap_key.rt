@@ -169,7 +169,7 @@ fn value_of(key: &Object) -> &[u8]
     ensures length { value_len key.now ≡ length result.now }
     ensures within { length result.now ≤ 1024 }
 {
-    let _entries = key.entries();
+    let _entries = key.entries(); // brings its clause
     key.value()
 }
 

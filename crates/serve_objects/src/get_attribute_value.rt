@@ -40,7 +40,7 @@ fn tell(alloc: Global, object: &Object, query: &[AttributeQuery]) -> Result<Repl
     ensures told { IfOk result (λ reply. reply ≡ attributes_told object.now query.now) }
     ensures short { IfOk result (λ reply. length query.now ≤ MAX_ENTRIES → IsShort reply) }
 {
-    let _entries = object.entries();
+    let _entries = object.entries(); // brings its clause
     let mut code = Rv::Ok;
     let mut values = Items::new(alloc);
     for asked in query {

@@ -34,6 +34,6 @@ fn size_of(object: &Object) -> u64
     ensures stored { result ≡ length (stored_form object.now) }
     ensures told { result ≡ object_size object.now }
 {
-    let _entries = object.entries();
+    let _entries = object.entries(); // brings its clause
     size(object) as u64
 }

@@ -1,10 +1,8 @@
 -- The operations of a session that encrypt and decrypt.
-use Rattle.std.proofs.Common.{◌≡◌, rules, ℕ, Bool, true, false, List, [], length, Option, Some, None, Bor, Result, Ok, Err, inl, inr, ◌⊎◌, refl, sym, ◌∙◌, ap, subst}
-use Rattle.std.specs.Prelude.{is_none, option_map, IsErrOf, IfErr, ◌↔◌}
-use Rattle.std.specs.Option.{option_copied}
-use Rattle.ck_types.specs.declared.rv.Rv.TheVariants as rv
+use Rattle.std.proofs.Common.{◌≡◌, ℕ, Bool, true, false, List, [], length, Option, Some, None, Bor, Result, Ok, Err, inl, inr, ◌⊎◌, refl, sym, ◌∙◌, ap}
+use Rattle.std.specs.Prelude.{is_none, is_some, ◌&&◌, option_map, IsErrOf, IfErr, ◌↔◌}
+use Rattle.std.specs.Option.{option_copied, unwrap_or}
 use Rattle.ck_calls.specs.declared.reply.Reply.{Reply}
-use Rattle.ck_calls.specs.declared.reply.Reply.TheVariants.{Code}
 use Rattle.aes_modes.specs.declared.direction.Direction.{Direction}
 use Rattle.aes_modes.specs.declared.direction.Direction.TheVariants.{Encrypt, Decrypt}
 use Rattle.aes_modes.specs.declared.fault.ModeFault.{ModeFault}
@@ -13,22 +11,20 @@ use Rattle.streams.specs.declared.part.Part.{Part}
 use Rattle.streams.specs.declared.part.Part.TheVariants.{Update, Last}
 use Rattle.streams.specs.Lengths.{wanted, refuses_length, ends_counters}
 use Rattle.streams.specs.Streamed.{Streamed}
-use Rattle.precede.specs.Condition.{code_of}
-use Rattle.precede.specs.declared.condition.Condition.{Condition}
-use Rattle.precede.specs.declared.condition.Condition.TheVariants.{DataLength}
+use Rattle.precede.specs.declared.condition.Condition.TheVariants.{CounterEnd, DataLength, DataTaken}
 use Rattle.keep.specs.Contents.{Contents}
 use Rattle.sessions.specs.declared.Session.{Session}
 use Rattle.sessions.specs.Sessions.{session_at}
 use Rattle.desk.specs.Desks.{DeskState}
+use Rattle.ops.specs.declared.place.Kind.TheVariants.{Cipher}
 use Rattle.ops.specs.declared.place.Place.{Place}
 use Rattle.ops.specs.Operations.{Operation, Operations, operation_in, operation_of, placed_in, table_with_operation as in_sessions}
 use Rattle.model_views.specs.Views.{View, Ciphers}
-use Rattle.model_views.specs.Answering.{Said, Replies, Answer, becomes, session_of, with_operation}
-use Rattle.model_answers.specs.CipherInit.{place_for, cipher_ends}
-use Rattle.model_answers.specs.Cipher.{single_function, update_function, final_function, has_taken, cipher_single, cipher_update, cipher_final}
-use Rattle.serve_base.specs.declared.out.Out.TheVariants.{Reply as OutReply}
-use Rattle.serve_base.specs.Refusing.{AtDeskIf}
-use Rattle.serve_base.specs.Shown.{said_of, view_of, Fits, GivesAnswer}
+use Rattle.model_views.specs.Answering.{Replies, becomes, session_of, with_operation}
+use Rattle.model_answers.specs.CipherInit.{place_for}
+use Rattle.model_answers.specs.Cipher.{update_function, last_function, has_taken, cipher_update, cipher_last}
+use Rattle.model_answers.specs.OperationInit.{operation_ends}
+use Rattle.serve_base.specs.Shown.{view_of, Fits, GivesAnswer}
 use Rattle.serve_base.specs.Asking.{asks_within}
 use Rattle.serve_operations.specs.Steps.{refused_row}
 
@@ -96,35 +92,68 @@ module _ (v : View) (session : ℕ) (d : Direction) (s : Streamed)
   there : is_none (session_of v session) ≡ false
   there = in_session-at (session_of v session) (place_for d) (operation_of s) under_way
 
-  module _ (input : List ℕ) (buffer_len : Option ℕ) (fresh : has_taken (operation_of s) ≡ false) where
-    pub single-refused : (fault : ModeFault) → IsTested (Some fault) s Last input
-        → cipher_single d v session input buffer_len ≡ cipher_ends v session (place_for d) (refused_row d fault)
-    single-refused fault told = elim told [
-      | inl odd ↦ rw odd.0 (at-length d under_way odd.1 odd.2)
-      | inr over ↦ rw over.0 (at-counters d under_way over.1)
-    ] where
-      at-length : (d : Direction) → operation_in (session_of v session) (place_for d) ≡ Some (operation_of s)
-          → ends_counters s input ≡ false → refuses_length Last s (length input) ≡ true
-          → cipher_single d v session input buffer_len ≡ cipher_ends v session (place_for d) (refused_row d LenRange)
-      at-length Encrypt is counted odd = rw (there, is, fresh, counted, odd) refl
-      at-length Decrypt is counted odd = rw (there, is, fresh, counted, odd) refl
+  module _ (all : Option (List ℕ)) (buffer_len : Option ℕ) where
+    pub last-late : (is_some all && has_taken (operation_of s)) ≡ true
+        → cipher_last d v session all buffer_len ≡ operation_ends (Cipher d) v session DataTaken
+    last-late late = at d all under_way late where
+      at : (d : Direction) (all : Option (List ℕ)) → operation_in (session_of v session) (place_for d) ≡ Some (operation_of s)
+          → (is_some all && has_taken (operation_of s)) ≡ true
+          → cipher_last d v session all buffer_len ≡ operation_ends (Cipher d) v session DataTaken
+      at d None is late = let k : false ≡ true = late in cc
+      at Encrypt (Some input) is late = rw (there, is, late) refl
+      at Decrypt (Some input) is late = rw (there, is, late) refl
 
-      at-counters : (d : Direction) → operation_in (session_of v session) (place_for d) ≡ Some (operation_of s)
-          → ends_counters s input ≡ true → cipher_single d v session input buffer_len ≡ cipher_ends v session (place_for d) DataLength
-      at-counters Encrypt is over = rw (there, is, fresh, over) refl
-      at-counters Decrypt is over = rw (there, is, fresh, over) refl
+    module _ (fresh : (is_some all && has_taken (operation_of s)) ≡ false) where
+      pub last-refused : (fault : ModeFault) → IsTested (Some fault) s Last (unwrap_or all [])
+          → cipher_last d v session all buffer_len ≡ operation_ends (Cipher d) v session (refused_row d fault)
+      last-refused fault told = elim told [
+        | inl odd ↦ rw odd.0 (at-length d all under_way fresh odd.1 odd.2)
+        | inr over ↦ rw over.0 (at-counters d all under_way fresh over.1)
+      ] where
+        at-length : (d : Direction) (all : Option (List ℕ))
+            → operation_in (session_of v session) (place_for d) ≡ Some (operation_of s)
+            → (is_some all && has_taken (operation_of s)) ≡ false → ends_counters s (unwrap_or all []) ≡ false
+            → refuses_length Last s (length (unwrap_or all [])) ≡ true
+            → cipher_last d v session all buffer_len ≡ operation_ends (Cipher d) v session (refused_row d LenRange)
+        at-length Encrypt None is fresh counted odd = rw (there, is, counted, odd) refl
+        at-length Decrypt None is fresh counted odd = rw (there, is, counted, odd) refl
+        at-length Encrypt (Some input) is fresh counted odd = rw (there, is, fresh, counted, odd) refl
+        at-length Decrypt (Some input) is fresh counted odd = rw (there, is, fresh, counted, odd) refl
 
-    pub single-asks : IsTested None s Last input
-        → cipher_single d v session input buffer_len
-        ≡ asks_within (single_function d) session (Ciphers Last (operation_of s) input) (wanted Last s (length input)) buffer_len v
-    single-asks told = at d under_way where
-      at : (d : Direction) → operation_in (session_of v session) (place_for d) ≡ Some (operation_of s)
-          → cipher_single d v session input buffer_len
-          ≡ asks_within (single_function d) session (Ciphers Last (operation_of s) input) (wanted Last s (length input)) buffer_len v
-      at Encrypt is = rw (there, is, fresh, told.0, told.1) refl
-      at Decrypt is = rw (there, is, fresh, told.0, told.1) refl
+        at-counters : (d : Direction) (all : Option (List ℕ))
+            → operation_in (session_of v session) (place_for d) ≡ Some (operation_of s)
+            → (is_some all && has_taken (operation_of s)) ≡ false → ends_counters s (unwrap_or all []) ≡ true
+            → cipher_last d v session all buffer_len ≡ operation_ends (Cipher d) v session DataLength
+        at-counters Encrypt None is fresh over = rw (there, is, over) refl
+        at-counters Decrypt None is fresh over = rw (there, is, over) refl
+        at-counters Encrypt (Some input) is fresh over = rw (there, is, fresh, over) refl
+        at-counters Decrypt (Some input) is fresh over = rw (there, is, fresh, over) refl
+
+      pub last-asks : IsTested None s Last (unwrap_or all [])
+          → cipher_last d v session all buffer_len
+          ≡ asks_within (last_function d all) session (Ciphers Last (operation_of s) (unwrap_or all []))
+          (wanted Last s (length (unwrap_or all []))) buffer_len v
+      last-asks told = at d all under_way fresh told.0 told.1 where
+        at : (d : Direction) (all : Option (List ℕ)) → operation_in (session_of v session) (place_for d) ≡ Some (operation_of s)
+            → (is_some all && has_taken (operation_of s)) ≡ false → ends_counters s (unwrap_or all []) ≡ false
+            → refuses_length Last s (length (unwrap_or all [])) ≡ false
+            → cipher_last d v session all buffer_len
+            ≡ asks_within (last_function d all) session (Ciphers Last (operation_of s) (unwrap_or all []))
+            (wanted Last s (length (unwrap_or all []))) buffer_len v
+        at Encrypt None is fresh counted even = rw (there, is, counted, even) refl
+        at Decrypt None is fresh counted even = rw (there, is, counted, even) refl
+        at Encrypt (Some input) is fresh counted even = rw (there, is, fresh, counted, even) refl
+        at Decrypt (Some input) is fresh counted even = rw (there, is, fresh, counted, even) refl
 
   module _ (input : List ℕ) (buffer_len : Option ℕ) where
+    pub update-over : ends_counters s input ≡ true
+        → cipher_update d v session input buffer_len ≡ operation_ends (Cipher d) v session CounterEnd
+    update-over over = at d under_way where
+      at : (d : Direction) → operation_in (session_of v session) (place_for d) ≡ Some (operation_of s)
+          → cipher_update d v session input buffer_len ≡ operation_ends (Cipher d) v session CounterEnd
+      at Encrypt is = rw (there, is, over) refl
+      at Decrypt is = rw (there, is, over) refl
+
     pub update-asks : IsTested None s Update input
         → cipher_update d v session input buffer_len
         ≡ asks_within (update_function d) session (Ciphers Update (operation_of s) input) (wanted Update s (length input)) buffer_len v
@@ -134,48 +163,3 @@ module _ (v : View) (session : ℕ) (d : Direction) (s : Streamed)
           ≡ asks_within (update_function d) session (Ciphers Update (operation_of s) input) (wanted Update s (length input)) buffer_len v
       at Encrypt is = rw (there, is, told.0) refl
       at Decrypt is = rw (there, is, told.0) refl
-
-  module _ (buffer_len : Option ℕ) where
-    pub final-refused : (fault : ModeFault) → IsTested (Some fault) s Last []
-        → cipher_final d v session buffer_len ≡ cipher_ends v session (place_for d) (refused_row d fault)
-    final-refused fault told = elim told [
-      | inl odd ↦ rw odd.0 (at-length d under_way odd.1 odd.2)
-      | inr over ↦ rw over.0 (at-counters d under_way over.1)
-    ] where
-      at-length : (d : Direction) → operation_in (session_of v session) (place_for d) ≡ Some (operation_of s)
-          → ends_counters s [] ≡ false → refuses_length Last s 0 ≡ true
-          → cipher_final d v session buffer_len ≡ cipher_ends v session (place_for d) (refused_row d LenRange)
-      at-length Encrypt is counted odd = rw (there, is, counted, odd) refl
-      at-length Decrypt is counted odd = rw (there, is, counted, odd) refl
-
-      at-counters : (d : Direction) → operation_in (session_of v session) (place_for d) ≡ Some (operation_of s)
-          → ends_counters s [] ≡ true → cipher_final d v session buffer_len ≡ cipher_ends v session (place_for d) DataLength
-      at-counters Encrypt is over = rw (there, is, over) refl
-      at-counters Decrypt is over = rw (there, is, over) refl
-
-    pub final-asks : IsTested None s Last []
-        → cipher_final d v session buffer_len
-        ≡ asks_within (final_function d) session (Ciphers Last (operation_of s) []) (wanted Last s 0) buffer_len v
-    final-asks told = at d under_way where
-      at : (d : Direction) → operation_in (session_of v session) (place_for d) ≡ Some (operation_of s)
-          → cipher_final d v session buffer_len
-          ≡ asks_within (final_function d) session (Ciphers Last (operation_of s) []) (wanted Last s 0) buffer_len v
-      at Encrypt is = rw (there, is, told.0, told.1) refl
-      at Decrypt is = rw (there, is, told.0, told.1) refl
-
--- an answer at the desk, written otherwise
-pub gives-is : (a b : Answer) (c : Contents) (d d' : DeskState) (said : Said) → a ≡ b → GivesAnswer b d.sessions.login c said c d'
-    → GivesAnswer a d.sessions.login c said c d'
-gives-is a b c d d' said is gives = subst (λ x. GivesAnswer x d.sessions.login c said c d') (sym is) gives
-
--- a call that ends its operation for a check of its table that fails
-pub ended-for : (given : Type 0) (f : View → Answer) (d : DeskState) (session : ℕ) (place : Place) (row : Condition)
-    → ((c : Contents) → f (view_of c d) ≡ cipher_ends (view_of c d) session place row)
-    → AtDeskIf given said_of f d (Ok (OutReply (Code (code_of rv.Ok row))))
-    (record d { sessions = in_sessions d.sessions session place None })
-ended-for given f d session place row is = record {
-  serves = λ c fits. gives-is _ (cipher_ends (view_of c d) session place row) c d _ _ (is c)
-      (gives-with c d session place None (Code (code_of rv.Ok row)) fits);
-  cause = search rules;
-  short = search rules;
-}

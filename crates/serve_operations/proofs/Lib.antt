@@ -1,5 +1,5 @@
 pub mod Ciphering
 mod Bounds
-pub mod CipherBeginning
 pub mod Signing
-pub mod MacBeginning
+pub mod Ending
+pub mod Beginning

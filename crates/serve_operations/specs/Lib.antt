@@ -1,3 +1,2 @@
 pub mod Steps
-pub mod CipherBeginning
-pub mod MacBeginning
+pub mod Beginning

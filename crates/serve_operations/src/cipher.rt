@@ -5,74 +5,26 @@ ghost use Rattle.std.specs.Prelude.{◌≡◌, ◌<◌, ◌^◌, IfOk, None, Som
 ghost use Rattle.ck_calls.specs.declared.reply.Output.TheVariants.{Data};
 ghost use Rattle.ck_calls.specs.declared.reply.Reply.TheVariants.{Code, Output as OutputReply};
 ghost use Rattle.ops.specs.Operations.{operation_of, table_with_operation};
-ghost use Rattle.precede.specs.Condition.{code_of};
 ghost use Rattle.ck_types.specs.declared.rv.Rv.TheVariants as rv;
-ghost use Rattle.serve_base.specs.declared.out.Out.TheVariants.{Reply as OutReply};
-ghost use Rattle.model_answers.specs.Cipher.{cipher_final, cipher_single, cipher_update};
+ghost use Rattle.model_answers.specs.Cipher.{cipher_last, cipher_update};
 ghost use Rattle.model_answers.specs.CipherInit.{place_for};
-ghost use Rattle.serve_base.specs.Refusing.{AtDesk, AtDeskIf};
+ghost use Rattle.serve_base.specs.Refusing.{AtDeskIf};
 ghost use Rattle.serve_base.specs.Short.{IsShortData};
 ghost use Rattle.serve_base.specs.Shown.{IsFor, RepliesAtOnce, said_of};
+ghost use Rattle.serve_operations.specs.Steps.{IsShortLast};
 
-use crate::directions::{final_function, place_for, refused_row, single_function, update_function};
+use crate::data::{is_late, or_empty};
+use crate::kinds::{end, last_function, place_for, refused_row, update_function};
 use aes_modes::Direction;
 use ck_calls::{Output, Reply};
 use ck_types::{Bytes, Rv};
 use desk::Desk;
 use mech::Work;
-use ops::Place;
+use ops::Kind;
 use precede::Condition;
 use serve_base::{Out, Refusal, ask_within};
 use std::alloc::Global;
 use streams::{Part, Stream};
-
-/// C_Encrypt, C_Decrypt (PKCS #11 v3.1, 5.8 and 5.10).
-/// Codes: the checks of C_Encrypt and C_Decrypt (`precede`). Returns a job for the output of `input`. Without a buffer it returns the
-/// output's length, in bytes; with a short one `CKR_BUFFER_TOO_SMALL`; then the operation stays. After earlier data, and for data that is
-/// no text of the mechanism, the operation ends.
-pub fn single(
-    alloc: Global,
-    app: u64,
-    desk: &mut Desk,
-    direction: Direction,
-    session: u64,
-    input: Bytes,
-    buffer_len: Option<u64>,
-) -> Result<Out, Refusal>
-    requires { desk.old.next_question < 2 ^ 63 }
-    ensures serves { AtDeskIf (IsShortData input buffer_len) said_of (λ v. cipher_single direction v session input buffer_len) desk.old result desk.new }
-    ensures asker { IfOk result (IsFor app) }
-    ensures small { buffer_len ≡ None → RepliesAtOnce Refusal.Memory result }
-{
-    let place = place_for(direction);
-    let _ = desk.state(session).ok_or(Condition::NoSession)?;
-    let operation = desk
-        .operation(session, place)
-        .ok_or(Condition::NoOperation)?;
-    if operation.has_taken() {
-        return Ok(end(desk, session, place, Condition::DataTaken));
-    }
-    let wanted = match operation.room_of(Part::Last, input.as_slice()) {
-        Ok(wanted) => wanted as u64,
-        Err(fault) => return Ok(end(desk, session, place, refused_row(direction, fault))),
-    };
-    let stream = operation.copied();
-    let work = Work::Cipher {
-        stream,
-        part: Part::Last,
-        input,
-    };
-    Ok(ask_within(
-        alloc,
-        app,
-        desk,
-        single_function(direction),
-        session,
-        work,
-        wanted,
-        buffer_len,
-    )?)
-}
 
 /// C_EncryptUpdate, C_DecryptUpdate (PKCS #11 v3.1, 5.8 and 5.10).
 /// Codes: the checks of C_EncryptUpdate and C_DecryptUpdate (`precede`). Returns a job for what a part of any length adds to the output.
@@ -92,13 +44,13 @@ pub fn update(
     ensures asker { IfOk result (IsFor app) }
     ensures small { buffer_len ≡ None → RepliesAtOnce Refusal.Memory result }
 {
-    let place = place_for(direction);
+    let kind = Kind::Cipher(direction);
     let _ = desk.state(session).ok_or(Condition::NoSession)?;
     let operation = desk
-        .operation(session, place)
+        .operation(session, place_for(direction))
         .ok_or(Condition::NoOperation)?;
     let Ok(wanted) = operation.room_of(Part::Update, input.as_slice()) else {
-        return Ok(end(desk, session, place, Condition::CounterEnd));
+        return Ok(Out::Reply(end(desk, kind, session, Condition::CounterEnd)));
     };
     let stream = operation.copied();
     let work = Work::Cipher {
@@ -118,56 +70,50 @@ pub fn update(
     )?)
 }
 
-/// C_EncryptFinal, C_DecryptFinal (PKCS #11 v3.1, 5.8 and 5.10).
-/// Codes: the checks of C_EncryptFinal and C_DecryptFinal (`precede`). Returns a job for the final part of the output. Without a buffer it
-/// returns the length of that, in bytes; with a short one `CKR_BUFFER_TOO_SMALL`. Data that is no text of the mechanism ends the operation.
+/// C_Encrypt, C_Decrypt with all data, and C_EncryptFinal, C_DecryptFinal with none (PKCS #11 v3.1, 5.8 and 5.10).
+/// Codes: the checks of each (`precede`). Returns a job for the output of the data, or for the final part of the output. Without a
+/// buffer it returns the length of that, in bytes; with a short one `CKR_BUFFER_TOO_SMALL`; then the operation stays. All data after
+/// earlier data, and data that is no text of the mechanism, ends the operation.
 pub fn last(
     alloc: Global,
     app: u64,
     desk: &mut Desk,
     direction: Direction,
     session: u64,
+    all: Option<Bytes>,
     buffer_len: Option<u64>,
 ) -> Result<Out, Refusal>
     requires { desk.old.next_question < 2 ^ 63 }
-    ensures serves { AtDesk said_of (λ v. cipher_final direction v session buffer_len) desk.old result desk.new }
+    ensures serves { AtDeskIf (IsShortLast all buffer_len) said_of (λ v. cipher_last direction v session all buffer_len) desk.old result desk.new }
     ensures asker { IfOk result (IsFor app) }
     ensures small { buffer_len ≡ None → RepliesAtOnce Refusal.Memory result }
 {
-    let place = place_for(direction);
+    let kind = Kind::Cipher(direction);
     let _ = desk.state(session).ok_or(Condition::NoSession)?;
     let operation = desk
-        .operation(session, place)
+        .operation(session, place_for(direction))
         .ok_or(Condition::NoOperation)?;
-    let wanted = match operation.room_of(Part::Last, b"") {
+    if is_late(&all, operation.has_taken()) {
+        return Ok(Out::Reply(end(desk, kind, session, Condition::DataTaken)));
+    }
+    let function = last_function(direction, &all);
+    let input = or_empty(alloc, all);
+    let wanted = match operation.room_of(Part::Last, input.as_slice()) {
         Ok(wanted) => wanted as u64,
-        Err(fault) => return Ok(end(desk, session, place, refused_row(direction, fault))),
+        Err(fault) => {
+            let row = refused_row(direction, fault);
+            return Ok(Out::Reply(end(desk, kind, session, row)));
+        }
     };
     let stream = operation.copied();
     let work = Work::Cipher {
         stream,
         part: Part::Last,
-        input: Bytes::from_vec(Vec::new(alloc)),
+        input,
     };
     Ok(ask_within(
-        alloc,
-        app,
-        desk,
-        final_function(direction),
-        session,
-        work,
-        wanted,
-        buffer_len,
+        alloc, app, desk, function, session, work, wanted, buffer_len,
     )?)
-}
-
-/// The operation at a place ends, with the code of a condition.
-fn end(desk: &mut Desk, session: u64, place: Place, row: Condition) -> Out
-    ensures out { result ≡ OutReply (Code (code_of rv.Ok row)) }
-    ensures ended { desk.new ≡ record desk.old { sessions = table_with_operation desk.old.sessions session place None } }
-{
-    desk.set_operation(session, place, None);
-    Out::Reply(Reply::Code(row.code(Rv::Ok)))
 }
 
 /// What a part adds to the output. The operation that has taken it continues.

@@ -7,161 +7,91 @@ ghost use Rattle.ck_calls.specs.declared.reply.Reply.TheVariants.{Code, Output a
 ghost use Rattle.macs.specs.Tags.{tag_length};
 ghost use Rattle.ops.specs.declared.place.MacPlace.TheVariants as places;
 ghost use Rattle.ops.specs.Operations.{mac_of, table_with_mac};
-ghost use Rattle.precede.specs.Condition.{code_of};
-ghost use Rattle.model_answers.specs.Mac.{mac_update, sign, sign_final, verify, verify_final};
-ghost use Rattle.serve_base.specs.declared.out.Out.TheVariants.{Reply as OutReply};
+ghost use Rattle.model_answers.specs.Mac.{mac_update, sign, verify};
 ghost use Rattle.serve_base.specs.Refusing.{AtDesk};
 ghost use Rattle.serve_base.specs.Shown.{IsFor, RepliesAtOnce, said_of};
 
-use crate::places::update_function;
-use ck_calls::{Function, Output, Reply};
+use crate::data::{is_late, or_empty};
+use crate::kinds::{end, mac_update_function, sign_function, verify_function};
+use ck_calls::{Output, Reply};
 use ck_types::{Bytes, Rv};
 use desk::Desk;
 use macs::Mac;
 use mech::Work;
-use ops::MacPlace;
+use ops::{Kind, MacPlace};
 use precede::Condition;
 use serve_base::{Out, Refusal, ask, ask_within};
 use std::alloc::Global;
 
-/// C_Sign (PKCS #11 v3.1, 5.13).
-/// Codes: the checks of C_Sign (`precede`). Returns a job for the signature of `input`, which is the only data of its operation. Without a
-/// buffer it returns the signature's length, in bytes; with a short one `CKR_BUFFER_TOO_SMALL`; then the operation stays. After earlier
-/// data the operation ends.
+/// C_Sign with all data, and C_SignFinal with none (PKCS #11 v3.1, 5.13).
+/// Codes: the checks of each (`precede`). Returns a job for the signature of the data. Without a buffer it returns the signature's
+/// length, in bytes; with a short one `CKR_BUFFER_TOO_SMALL`; then the operation stays. All data after earlier data ends the operation.
 pub fn sign(
     alloc: Global,
     app: u64,
     desk: &mut Desk,
     session: u64,
-    input: Bytes,
+    all: Option<Bytes>,
     buffer_len: Option<u64>,
 ) -> Result<Out, Refusal>
     requires { desk.old.next_question < 2 ^ 63 }
-    ensures serves { AtDesk said_of (λ v. sign v session input buffer_len) desk.old result desk.new }
+    ensures serves { AtDesk said_of (λ v. sign v session all buffer_len) desk.old result desk.new }
     ensures asker { IfOk result (IsFor app) }
     ensures small { buffer_len ≡ None → RepliesAtOnce Refusal.Memory result }
 {
+    let kind = Kind::Mac(MacPlace::Sign);
     let _ = desk.state(session).ok_or(Condition::NoSession)?;
     let mac = desk
         .mac(session, MacPlace::Sign)
         .ok_or(Condition::NoOperation)?;
-    if mac.has_taken() {
-        return Ok(end(desk, session, MacPlace::Sign, Condition::DataTaken));
+    if is_late(&all, mac.has_taken()) {
+        return Ok(Out::Reply(end(desk, kind, session, Condition::DataTaken)));
     }
     let wanted = mac.mechanism().tag_len() as u64;
     let mac = mac.copied();
+    let function = sign_function(&all);
+    let input = or_empty(alloc, all);
     let work = Work::Sign { mac, input };
     Ok(ask_within(
-        alloc,
-        app,
-        desk,
-        Function::Sign,
-        session,
-        work,
-        wanted,
-        buffer_len,
+        alloc, app, desk, function, session, work, wanted, buffer_len,
     )?)
 }
 
-/// C_SignFinal (PKCS #11 v3.1, 5.13).
-/// Codes: the checks of C_SignFinal (`precede`). Returns a job for the signature of all data. Without a buffer it returns the signature's
-/// length, in bytes; with a short one `CKR_BUFFER_TOO_SMALL`; then the operation stays.
-pub fn sign_final(
-    alloc: Global,
-    app: u64,
-    desk: &mut Desk,
-    session: u64,
-    buffer_len: Option<u64>,
-) -> Result<Out, Refusal>
-    requires { desk.old.next_question < 2 ^ 63 }
-    ensures serves { AtDesk said_of (λ v. sign_final v session buffer_len) desk.old result desk.new }
-    ensures asker { IfOk result (IsFor app) }
-    ensures small { buffer_len ≡ None → RepliesAtOnce Refusal.Memory result }
-{
-    let _ = desk.state(session).ok_or(Condition::NoSession)?;
-    let mac = desk
-        .mac(session, MacPlace::Sign)
-        .ok_or(Condition::NoOperation)?;
-    let wanted = mac.mechanism().tag_len() as u64;
-    let mac = mac.copied();
-    let work = Work::Sign {
-        mac,
-        input: Bytes::from_vec(Vec::new(alloc)),
-    };
-    Ok(ask_within(
-        alloc,
-        app,
-        desk,
-        Function::SignFinal,
-        session,
-        work,
-        wanted,
-        buffer_len,
-    )?)
-}
-
-/// C_Verify (PKCS #11 v3.1, 5.15).
-/// Codes: the checks of C_Verify (`precede`). Returns a job that compares a signature with that of `input`, which is the only data of its
-/// operation. After earlier data, or for a signature of another length than the mechanism's, the operation ends.
+/// C_Verify with all data, and C_VerifyFinal with none (PKCS #11 v3.1, 5.15).
+/// Codes: the checks of each (`precede`). Returns a job that compares a signature with that of the data. All data after earlier data,
+/// and a signature of another length than the mechanism's, ends the operation.
 pub fn verify(
     alloc: Global,
     app: u64,
     desk: &mut Desk,
     session: u64,
-    input: Bytes,
+    all: Option<Bytes>,
     signature: Bytes,
 ) -> Result<Out, Refusal>
     requires { desk.old.next_question < 2 ^ 63 }
-    ensures serves { AtDesk said_of (λ v. verify v session input signature) desk.old result desk.new }
+    ensures serves { AtDesk said_of (λ v. verify v session all signature) desk.old result desk.new }
     ensures asker { IfOk result (IsFor app) }
 {
+    let kind = Kind::Mac(MacPlace::Verify);
     let _ = desk.state(session).ok_or(Condition::NoSession)?;
     let mac = desk
         .mac(session, MacPlace::Verify)
         .ok_or(Condition::NoOperation)?;
-    if mac.has_taken() {
-        return Ok(end(desk, session, MacPlace::Verify, Condition::DataTaken));
+    if is_late(&all, mac.has_taken()) {
+        return Ok(Out::Reply(end(desk, kind, session, Condition::DataTaken)));
     }
     if !has_its_length(mac, signature.as_slice()) {
-        return Ok(end(desk, session, MacPlace::Verify, Condition::SignatureLength));
+        return Ok(Out::Reply(end(desk, kind, session, Condition::SignatureLength)));
     }
     let mac = mac.copied();
+    let function = verify_function(&all);
+    let input = or_empty(alloc, all);
     let work = Work::Verify {
         mac,
         input,
         signature,
     };
-    Ok(Out::Ask(ask(alloc, app, desk, Function::Verify, session, work)?))
-}
-
-/// C_VerifyFinal (PKCS #11 v3.1, 5.15).
-/// Codes: the checks of C_VerifyFinal (`precede`). Returns a job that compares a signature with that of all data. For a signature of
-/// another length than the mechanism's the operation ends.
-pub fn verify_final(
-    alloc: Global,
-    app: u64,
-    desk: &mut Desk,
-    session: u64,
-    signature: Bytes,
-) -> Result<Out, Refusal>
-    requires { desk.old.next_question < 2 ^ 63 }
-    ensures serves { AtDesk said_of (λ v. verify_final v session signature) desk.old result desk.new }
-    ensures asker { IfOk result (IsFor app) }
-{
-    let _ = desk.state(session).ok_or(Condition::NoSession)?;
-    let mac = desk
-        .mac(session, MacPlace::Verify)
-        .ok_or(Condition::NoOperation)?;
-    if !has_its_length(mac, signature.as_slice()) {
-        return Ok(end(desk, session, MacPlace::Verify, Condition::SignatureLength));
-    }
-    let mac = mac.copied();
-    let work = Work::Verify {
-        mac,
-        input: Bytes::from_vec(Vec::new(alloc)),
-        signature,
-    };
-    Ok(Out::Ask(ask(alloc, app, desk, Function::VerifyFinal, session, work)?))
+    Ok(Out::Ask(ask(alloc, app, desk, function, session, work)?))
 }
 
 /// C_SignUpdate, C_VerifyUpdate (PKCS #11 v3.1, 5.13 and 5.15).
@@ -182,7 +112,7 @@ pub fn update(
     let mac = desk.mac(session, place).ok_or(Condition::NoOperation)?;
     let mac = mac.copied();
     let work = Work::Take { place, mac, input };
-    Ok(Out::Ask(ask(alloc, app, desk, update_function(place), session, work)?))
+    Ok(Out::Ask(ask(alloc, app, desk, mac_update_function(place), session, work)?))
 }
 
 /// Whether a signature is as long as those of an operation.
@@ -190,15 +120,6 @@ fn has_its_length(mac: &Mac, signature: &[u8]) -> bool
     ensures { result ≡ (length signature.now == tag_length mac.now.mechanism) }
 {
     signature.len() == mac.mechanism().tag_len()
-}
-
-/// The operation at a place ends, with the code of a condition.
-fn end(desk: &mut Desk, session: u64, place: MacPlace, row: Condition) -> Out
-    ensures out { result ≡ OutReply (Code (code_of rv.Ok row)) }
-    ensures ended { desk.new ≡ record desk.old { sessions = table_with_mac desk.old.sessions session place None } }
-{
-    desk.set_mac(session, place, None);
-    Out::Reply(Reply::Code(row.code(Rv::Ok)))
 }
 
 /// A part was taken. The operation that has taken it continues.

@@ -36,7 +36,7 @@ pub(crate) fn begun(mechanism: Mechanism, key: &Object) -> Mac
     requires aes { mechanism ≡ AesCmac → is_aes (key_type_of key.now) ≡ true }
     ensures { mac_of result ≡ mac_started mechanism (attribute_of key.now attr.Value) }
 {
-    let _entries = key.entries();
+    let _entries = key.entries(); // brings its clause
     match Mac::new(mechanism, key.value()) {
         Some(mac) => mac,
         None => unreachable!(),

@@ -58,7 +58,7 @@ pub(crate) fn run_all<S: Alter, T: Statements<S>>(
     let mut tx = conn.transaction();
     let done = statements.run(&mut tx);
     finish(tx, done)?;
-    let _ended = conn.is_autocommit();
+    let _ended = conn.is_autocommit(); // brings its clause
     Ok(true)
 }
 

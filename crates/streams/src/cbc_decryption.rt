@@ -55,7 +55,7 @@ fn decrypted_blocks(
     ensures chain { IfOk result (λ r. r.1 ≡ chained key.now start r.0.items blocks) }
     ensures bytes { IfOk result (λ r. AreBytes r.0.items) }
 {
-    let _size = key.size();
+    let _size = key.size(); // brings its clause
     let front = kept.as_slice();
     are_bytes(front);
     are_bytes(piece);
@@ -84,7 +84,7 @@ impl CbcDecryption {
         requires { held ≤ 1 }
         ensures { result ≡ begun iv key held }
     {
-        let _size = key.size();
+        let _size = key.size(); // brings its clause
         are_bytes(&iv);
         let mut start = GhostBytes::new();
         start.push(&iv);
@@ -127,7 +127,7 @@ impl CbcDecryption {
     pub(crate) fn gives(&self)
         ensures { IsCbcDecrypted self.now }
     {
-        let _passed = &self.passed;
+        let _passed = &self.passed; // brings its clause
     }
 
     /// How many bytes are buffered: at most 16.

@@ -106,7 +106,7 @@ impl CbcEncryption {
     pub(crate) fn gives(&self)
         ensures { IsCbcEncrypted self.now }
     {
-        let _passed = &self.passed;
+        let _passed = &self.passed; // brings its clause
     }
 
     /// How many bytes are buffered: at most 16.

@@ -51,7 +51,7 @@ fn joined_counters(
     ensures size { IfOk result (λ out. length out.items ≡ length kept.now + length piece.now) }
     ensures value { IfOk result (λ out. out.items ≡ numbered key.now number (kept.now ++ piece.now)) }
 {
-    let _size = key.size();
+    let _size = key.size(); // brings its clause
     let whole = (kept.len() + piece.len()) / BLOCK_SIZE;
     let mut out = Vec::with_capacity(alloc, kept.len() + piece.len())?;
     push_counted(alloc, &mut out, key, number, kept.as_slice(), piece, whole)?;
@@ -70,7 +70,7 @@ impl CtrStream {
     pub(crate) fn new(key: Key, bits: CounterBits, start: Block) -> CtrStream
         ensures { result ≡ begun_counting bits start key }
     {
-        let _size = key.size();
+        let _size = key.size(); // brings its clause
         let low_bits = u128::MAX >> (128 - bits.number());
         let number = u128::from_be_bytes(start);
         let left = low_bits - (number & low_bits);
@@ -145,6 +145,6 @@ impl CtrStream {
         ensures key { IsKey self.now.key }
         ensures bytes { AreBytes (ctr_output self.now) }
     {
-        let _kept = &self.kept;
+        let _kept = &self.kept; // brings its clause
     }
 }

@@ -46,7 +46,7 @@ fn decrypted_blocks(
         ecb_blocks key.now out.items blocks ≡ take (16 * blocks) (kept.now ++ piece.now)) }
     ensures bytes { IfOk result (λ out. AreBytes out.items) }
 {
-    let _size = key.size();
+    let _size = key.size(); // brings its clause
     let front = kept.as_slice();
     are_bytes(front);
     are_bytes(piece);
@@ -61,7 +61,7 @@ impl EcbDecryption {
     pub(crate) fn new(key: Key) -> EcbDecryption
         ensures { result ≡ begun [] key 0 }
     {
-        let _size = key.size();
+        let _size = key.size(); // brings its clause
         EcbDecryption {
             key,
             passed: Passed::new(),
@@ -93,7 +93,7 @@ impl EcbDecryption {
     pub(crate) fn gives(&self)
         ensures { IsEcbDecrypted self.now }
     {
-        let _passed = &self.passed;
+        let _passed = &self.passed; // brings its clause
     }
 
     /// How many bytes are buffered: at most 16.

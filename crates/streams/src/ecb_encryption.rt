@@ -43,7 +43,7 @@ fn encrypted_blocks(
     ensures size { IfOk result (λ out. length out.items ≡ 16 * blocks) }
     ensures value { IfOk result (λ out. out.items ≡ ecb_blocks key.now (kept.now ++ piece.now) blocks) }
 {
-    let _size = key.size();
+    let _size = key.size(); // brings its clause
     let front = kept.as_slice();
     are_bytes(front);
     are_bytes(piece);
@@ -88,7 +88,7 @@ impl EcbEncryption {
     pub(crate) fn gives(&self)
         ensures { IsEcbEncrypted self.now }
     {
-        let _passed = &self.passed;
+        let _passed = &self.passed; // brings its clause
     }
 
     /// How many bytes are buffered: at most 16.

@@ -1,5 +1,6 @@
 pub mod Outcomes
 mod Shortness
+mod Revealing
 pub mod Endings
 pub mod Dispatching
 pub mod Refused

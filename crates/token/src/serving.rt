@@ -17,7 +17,7 @@ use ck_types::Rv;
 use desk::Desk;
 use keep::Keep;
 use model_views::Fault;
-use ops::MacPlace;
+use ops::{Kind, MacPlace};
 use precede::Condition;
 use serve_base::{Caller, Out, Store, settle};
 use serve_keys::unwrap_key::Wrapped;
@@ -26,7 +26,7 @@ use serve_objects::{
     copy_object, create_object, destroy_object, find_objects, find_objects_init,
     get_attribute_value, get_object_size, set_attribute_value,
 };
-use serve_operations::{cipher, cipher_init, mac, mac_init};
+use serve_operations::{cipher, init, mac};
 use serve_sessions::{
     close_session, get_mechanism_info, get_mechanism_list, get_session_info, get_token_info,
     init_pin, init_token, login, logout, open_session, set_pin,
@@ -184,11 +184,11 @@ fn dispatch<K: Keep>(
             session,
             mechanism,
             key,
-        } => settle(cipher_init::serve(
+        } => settle(init::serve(
             alloc,
             desk,
             store,
-            Direction::Encrypt,
+            Kind::Cipher(Direction::Encrypt),
             session,
             mechanism,
             key,
@@ -197,13 +197,13 @@ fn dispatch<K: Keep>(
             session,
             data,
             buffer_len,
-        } => settle(cipher::single(
+        } => settle(cipher::last(
             alloc,
             app,
             desk,
             Direction::Encrypt,
             session,
-            data,
+            Some(data),
             buffer_len,
         )),
         Call::EncryptUpdate {
@@ -222,17 +222,27 @@ fn dispatch<K: Keep>(
         Call::EncryptFinal {
             session,
             buffer_len,
-        } => { settle(cipher::last(alloc, app, desk, Direction::Encrypt, session, buffer_len)) }
+        } => {
+            settle(cipher::last(
+                alloc,
+                app,
+                desk,
+                Direction::Encrypt,
+                session,
+                None,
+                buffer_len,
+            ))
+        }
         // Decryption (5.10).
         Call::DecryptInit {
             session,
             mechanism,
             key,
-        } => settle(cipher_init::serve(
+        } => settle(init::serve(
             alloc,
             desk,
             store,
-            Direction::Decrypt,
+            Kind::Cipher(Direction::Decrypt),
             session,
             mechanism,
             key,
@@ -241,13 +251,13 @@ fn dispatch<K: Keep>(
             session,
             encrypted_data,
             buffer_len,
-        } => settle(cipher::single(
+        } => settle(cipher::last(
             alloc,
             app,
             desk,
             Direction::Decrypt,
             session,
-            encrypted_data,
+            Some(encrypted_data),
             buffer_len,
         )),
         Call::DecryptUpdate {
@@ -266,35 +276,53 @@ fn dispatch<K: Keep>(
         Call::DecryptFinal {
             session,
             buffer_len,
-        } => { settle(cipher::last(alloc, app, desk, Direction::Decrypt, session, buffer_len)) }
+        } => {
+            settle(cipher::last(
+                alloc,
+                app,
+                desk,
+                Direction::Decrypt,
+                session,
+                None,
+                buffer_len,
+            ))
+        }
         // Signing and MACing (5.13).
         Call::SignInit {
             session,
             mechanism,
             key,
-        } => settle(mac_init::serve(alloc, desk, store, MacPlace::Sign, session, mechanism, key)),
+        } => settle(init::serve(
+            alloc,
+            desk,
+            store,
+            Kind::Mac(MacPlace::Sign),
+            session,
+            mechanism,
+            key,
+        )),
         Call::Sign {
             session,
             data,
             buffer_len,
-        } => settle(mac::sign(alloc, app, desk, session, data, buffer_len)),
+        } => settle(mac::sign(alloc, app, desk, session, Some(data), buffer_len)),
         Call::SignUpdate { session, part } => {
             settle(mac::update(alloc, app, desk, MacPlace::Sign, session, part))
         }
         Call::SignFinal {
             session,
             buffer_len,
-        } => { settle(mac::sign_final(alloc, app, desk, session, buffer_len)) }
+        } => { settle(mac::sign(alloc, app, desk, session, None, buffer_len)) }
         // Verifying signatures and MACs (5.15).
         Call::VerifyInit {
             session,
             mechanism,
             key,
-        } => settle(mac_init::serve(
+        } => settle(init::serve(
             alloc,
             desk,
             store,
-            MacPlace::Verify,
+            Kind::Mac(MacPlace::Verify),
             session,
             mechanism,
             key,
@@ -303,12 +331,12 @@ fn dispatch<K: Keep>(
             session,
             data,
             signature,
-        } => settle(mac::verify(alloc, app, desk, session, data, signature)),
+        } => settle(mac::verify(alloc, app, desk, session, Some(data), signature)),
         Call::VerifyUpdate { session, part } => {
             settle(mac::update(alloc, app, desk, MacPlace::Verify, session, part))
         }
         Call::VerifyFinal { session, signature } => {
-            settle(mac::verify_final(alloc, app, desk, session, signature))
+            settle(mac::verify(alloc, app, desk, session, None, signature))
         }
         // Key management (5.18), and random numbers (5.19).
         Call::GenerateKey {

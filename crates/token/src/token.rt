@@ -24,6 +24,7 @@ ghost use Rattle.model_worlds.specs.Worlds.{World, called, checks_of, goes, is_i
 ghost use Rattle.model_worlds.specs.Tries.{IsSoundWorld};
 ghost use Rattle.serve_base.specs.Shown.{IsFor, IsReply, RepliesAtOnce, said_of};
 ghost use Rattle.serve_base.specs.Short.{IsShortCall, IsShortSaid};
+ghost use Rattle.token.specs.Endings.{under_way_of};
 ghost use Rattle.token.specs.Dispatching.{DeskStands};
 ghost use Rattle.token.specs.Memory.{takes_no_memory};
 ghost use Rattle.token.specs.Turns.{TokenCalled, TokenFinished};
@@ -496,14 +497,29 @@ fn finish_app<K: Keep>(
         (desk_at desks.old.entries app) result (desk_at desks.new.entries app) }
     ensures others { (b : ℕ) → b ≢ app → desk_at desks.new.entries b ≡ desk_at desks.old.entries b }
 {
-    let others = Others {
-        so_checks: others_checking(checks, app, UserType::So),
-        user_checks: others_checking(checks, app, UserType::User),
-        others_have_sessions: are_others_in_session(desks, app),
-    };
+    let others = others_for(desks, checks, app, &done);
     match desks.get_mut(&app) {
         Some(desk) => finish_at(desk, store, done, &others),
         None => Ok(Reply::Code(Rv::FunctionFailed)),
+    }
+}
+
+/// What the other applications have in progress, where the answer to a result may depend on it: that of work on a PIN.
+fn others_for(desks: &BTreeMap<u64, Desk>, checks: &[Check], app: u64, done: &Done) -> Others
+    ensures { reveal_by_job done.now.job.value (under_way_of result) result.others_have_sessions
+        ≡ reveal_by_job done.now.job.value (others_checking checks.now app) (are_others_in_session desks.now.entries app) }
+{
+    if !done.was_on_pin() {
+        return Others {
+            so_checks: 0,
+            user_checks: 0,
+            others_have_sessions: false,
+        };
+    }
+    Others {
+        so_checks: others_checking(checks, app, UserType::So),
+        user_checks: others_checking(checks, app, UserType::User),
+        others_have_sessions: are_others_in_session(desks, app),
     }
 }
 

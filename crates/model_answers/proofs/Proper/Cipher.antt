@@ -1,5 +1,5 @@
 -- The calls that encrypt and decrypt.
-use Rattle.std.specs.Option.{option_map}
+use Rattle.std.specs.Option.{option_map, unwrap_or}
 use Rattle.std.proofs.Common.{length, ◌≡◌, ℕ, true, List, [], Option, Some, None, refl, ◌∙◌, ap}
 use Rattle.ck_calls.specs.declared.function.Function.{Function}
 use Rattle.ck_calls.specs.declared.reply.Output.TheVariants as output
@@ -16,7 +16,7 @@ use Rattle.model_views.specs.Views.{Ciphers}
 use Rattle.model_views.specs.Refusals.{resource_error}
 use Rattle.model_views.specs.Answering.{asks, answered, with_operation}
 use Rattle.model_answers.specs.CipherInit.{cipher_ends, place_for}
-use Rattle.model_answers.specs.Cipher.{further_by, single_function, update_function, final_function, operation_or, cipher_refused, cipher_row, cipher_says, ciphers, cipher, cipher_single, cipher_update, cipher_final, ciphered_reply, operation_after, ciphered}
+use Rattle.model_answers.specs.Cipher.{further_by, update_function, last_function, operation_or, cipher_refused, cipher_row, cipher_says, ciphers, cipher, cipher_update, cipher_last, ciphered_reply, operation_after, ciphered}
 use Rattle.model_answers.proofs.Proper.CipherInit.{with_operation-mask, operation-mask, blind-ends}
 use Rattle.model_views.proofs.Checks.{Condition, View, mask, shown, replies, session_of, tokens-twice, own-twice, sessions-twice, record-twice, IsProper, IsFair, blind-reply, blind-becomes, fair, blind-row, fair-row, blind-checked_by, fair-checked_by, row-session}
 
@@ -95,16 +95,13 @@ proper-cipher f d part s input buffer_len = record {
       (fair-says d v s part input (wanted part (text_of (operation_or o)) (length input))) (fair v {a = a} refl refl refl refl refl);
 }
 
-pub proper-single : (d : Direction) (s : ℕ) (input : List ℕ) (buffer_len : Option ℕ)
-    → IsProper (λ v r. cipher_single d v s input buffer_len) true
-proper-single d s input buffer_len = proper-cipher (single_function d) d Last s input buffer_len
-
 pub proper-update : (d : Direction) (s : ℕ) (input : List ℕ) (buffer_len : Option ℕ)
     → IsProper (λ v r. cipher_update d v s input buffer_len) true
 proper-update d s input buffer_len = proper-cipher (update_function d) d Update s input buffer_len
 
-pub proper-final : (d : Direction) (s : ℕ) (buffer_len : Option ℕ) → IsProper (λ v r. cipher_final d v s buffer_len) true
-proper-final d s buffer_len = proper-cipher (final_function d) d Last s [] buffer_len
+pub proper-last : (d : Direction) (s : ℕ) (all : Option (List ℕ)) (buffer_len : Option ℕ)
+    → IsProper (λ v r. cipher_last d v s all buffer_len) true
+proper-last d s all buffer_len = proper-cipher (last_function d all) d Last s (unwrap_or all []) buffer_len
 
 -- ---- the result
 

@@ -1,8 +1,7 @@
 -- The calls that sign and verify.
-use Rattle.std.specs.Option.{option_map}
+use Rattle.std.specs.Option.{option_map, unwrap_or}
 use Rattle.std.proofs.Common.{◌≡◌, ℕ, true, List, [], Option, Some, None, refl, ◌∙◌, ap}
 use Rattle.ck_calls.specs.declared.function.Function.{Function}
-use Rattle.ck_calls.specs.declared.function.Function.TheVariants as functions
 use Rattle.ck_calls.specs.declared.reply.Output.TheVariants as output
 use Rattle.ck_calls.specs.declared.reply.Reply.TheVariants as replied
 use Rattle.ck_types.specs.declared.rv.Rv.TheVariants.{Ok, FunctionFailed}
@@ -17,7 +16,7 @@ use Rattle.model_views.specs.Refusals.{resource_error}
 use Rattle.model_views.specs.Answering.{asks, answered, refuses_by, with_mac}
 use Rattle.model_views.proofs.Blind.{blind-asks}
 use Rattle.model_answers.specs.MacInit.{mac_ends}
-use Rattle.model_answers.specs.Mac.{mac_update_function, mac_or, signature_length, mac_row, sign_row, verify_row, sign_says, verify_says, signs, verifies, takes, sign, sign_final, verify, verify_final, mac_update, mac_taken, signed_reply, signed, verified_reply, verified}
+use Rattle.model_answers.specs.Mac.{mac_update_function, mac_or, signature_length, mac_row, sign_row, verify_row, sign_says, verify_says, signs, verifies, takes, sign_function, verify_function, sign, verify, mac_update, mac_taken, signed_reply, signed, verified_reply, verified}
 use Rattle.model_session_answers.proofs.Over.{IsOver}
 use Rattle.model_answers.proofs.Proper.MacInit.{with_mac-mask, mac-mask, blind-mac_ends}
 use Rattle.model_views.proofs.Checks.{Condition, View, mask, shown, replies, session_of, IsProper, IsFair, blind-reply, blind-becomes, fair, blind-row, fair-row, blind-checked_by, fair-checked_by, row-session}
@@ -128,17 +127,11 @@ proper-verifies f s input signature = record {
       fair-checked_by f v (verify_row v s o signature) (verify_says v s) a (fair-verify_says v s) (fair v {a = a} refl refl refl refl refl);
 }
 
-pub proper-sign : (s : ℕ) (input : List ℕ) (buffer_len : Option ℕ) → IsProper (λ v r. sign v s input buffer_len) true
-proper-sign s input buffer_len = proper-signs functions.Sign s input buffer_len
+pub proper-sign : (s : ℕ) (all : Option (List ℕ)) (buffer_len : Option ℕ) → IsProper (λ v r. sign v s all buffer_len) true
+proper-sign s all buffer_len = proper-signs (sign_function all) s (unwrap_or all []) buffer_len
 
-pub proper-sign_final : (s : ℕ) (buffer_len : Option ℕ) → IsProper (λ v r. sign_final v s buffer_len) true
-proper-sign_final s buffer_len = proper-signs functions.SignFinal s [] buffer_len
-
-pub proper-verify : (s : ℕ) (input signature : List ℕ) → IsProper (λ v r. verify v s input signature) true
-proper-verify s input signature = proper-verifies functions.Verify s input signature
-
-pub proper-verify_final : (s : ℕ) (signature : List ℕ) → IsProper (λ v r. verify_final v s signature) true
-proper-verify_final s signature = proper-verifies functions.VerifyFinal s [] signature
+pub proper-verify : (s : ℕ) (all : Option (List ℕ)) (signature : List ℕ) → IsProper (λ v r. verify v s all signature) true
+proper-verify s all signature = proper-verifies (verify_function all) s (unwrap_or all []) signature
 
 pub proper-mac_update : (p : MacPlace) (s : ℕ) (input : List ℕ) → IsProper (λ v r. mac_update p v s input) true
 proper-mac_update p s input = record {

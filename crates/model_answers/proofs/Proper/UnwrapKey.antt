@@ -4,7 +4,7 @@ use Rattle.std.specs.Prelude.{◌&&◌, is_some, nat_lt}
 use Rattle.std.specs.Option.{unwrap_or, option_map}
 use Rattle.ck_types.specs.declared.attr_type.AttrType.TheVariants as attr
 use Rattle.ck_types.specs.declared.rv.Rv.{Rv}
-use Rattle.ck_types.specs.declared.rv.Rv.TheVariants.{Ok, FunctionFailed, WrappedKeyInvalid}
+use Rattle.ck_types.specs.declared.rv.Rv.TheVariants.{FunctionFailed, WrappedKeyInvalid}
 use Rattle.ck_types.specs.declared.session_state.SessionState.{SessionState}
 use Rattle.ck_calls.specs.declared.fields.Mechanism.{Mechanism}
 use Rattle.ck_calls.specs.declared.function.Function.TheVariants as functions
@@ -22,16 +22,16 @@ use Rattle.model_views.specs.Changes.{recorded}
 use Rattle.model_views.specs.TaskResults.{TaskResult, Unwrapped, BadWrapping, mask_outcome}
 use Rattle.model_views.specs.Views.{UnwrapsKey}
 use Rattle.model_views.specs.Answering.{Answer, asks, answered, refuses}
-use Rattle.model_views.specs.Checked.{by_rows, state_in}
+use Rattle.model_views.specs.Checked.{by_rows, state_in, is_aes}
 use Rattle.model_views.proofs.Blind.{blind-asks, IsPlainFault}
 use Rattle.model_answers.specs.CreateObject.{makes_row, adds, adds_token_object, adds_session_object, adds_where}
 use Rattle.model_answers.specs.UnwrapKey.{key_ahead, template_row, unwrap_row, unwrap_says, unwraps, unwrap_key, may_add, unwrapped_result}
 use Rattle.model_session_answers.proofs.Over.{IsOver, over-if, over-refused}
 use Rattle.model_answers.proofs.Templates.{fault-plain}
-use Rattle.model_answers.proofs.Proper.CipherInit.{type-masked}
+use Rattle.model_answers.proofs.Proper.OperationInit.{type-masked}
 use Rattle.model_answers.proofs.Proper.CreateObject.{blind-adds, makes-mask, makes-told, makes-fair}
 use Rattle.model_answers.proofs.Proper.WrapKey.{no_key-mask}
-use Rattle.model_views.proofs.Checks.{Entry, mask_object, Condition, View, mask, mask_session, shown, refuses_by, session_of, session-mask, object_at, object-mask, IsProper, IsFair, blind-refusal, blind-if, fair, blind-row, blind-rows, fair-row, plain-row, blind-checked_by, fair-checked_by, row-session, state-mask, none-masked, flag-masked}
+use Rattle.model_views.proofs.Checks.{Entry, mask_object, Condition, View, mask, mask_session, shown, refuses_by, session_of, session-mask, object_at, object-mask, IsProper, IsFair, blind-refusal, blind-if, fair, blind-row, blind-rows, fair-row, plain-row, blind-checked_by, fair-checked_by, row-session, state-mask, flag-masked}
 
 template-mask : (v : View) (state : SessionState) (fault : Option Rv) (o : List Entry) (row : Condition)
     → template_row (mask v) state fault o row ≡ template_row v state fault o row
@@ -46,7 +46,7 @@ module _ (v : View) (s : ℕ) (m : Mechanism) (wrapped : List ℕ) (template : L
   row-mask key fault o WrongMechanism = refl
   row-mask key fault o WrongParameter = refl
   row-mask key fault o NoUnwrappingKey = no_key-mask key
-  row-mask key fault o WrongUnwrappingKeyType = ap not (type-masked key)
+  row-mask key fault o WrongUnwrappingKeyType = ap (λ t. not (is_aes t)) (type-masked key)
   row-mask key fault o KeyNotPermitted = ap not (flag-masked key attr.Unwrap (λ e. absurd (omega (arith, e))))
   row-mask key fault o WrappedLength = refl
   row-mask key fault o row = ap (λ state. template_row (mask v) state fault o row) (state-mask v s)

@@ -1,6 +1,5 @@
 -- C_WrapKey.
 use Rattle.std.proofs.Common.{◌≡◌, ◌+◌, ℕ, true, not, List, [], Option, Some, None, refl, ◌∙◌, ap, arith}
-use Rattle.std.specs.Prelude.{◌&&◌, ◌||◌}
 use Rattle.std.specs.Option.{unwrap_or, option_map}
 use Rattle.ck_types.specs.declared.attr_type.AttrType.TheVariants as attr
 use Rattle.ck_calls.specs.declared.fields.Mechanism.{Mechanism}
@@ -15,12 +14,12 @@ use Rattle.model_views.specs.Changes.{Stays}
 use Rattle.model_views.specs.TaskResults.{TaskResult, Output}
 use Rattle.model_views.specs.Views.{WrapsKey}
 use Rattle.model_views.specs.Answering.{asks, answered}
-use Rattle.model_views.specs.Checked.{checked_by}
+use Rattle.model_views.specs.Checked.{checked_by, is_aes}
 use Rattle.model_views.proofs.Blind.{blind-asks}
 use Rattle.model_answers.specs.WrapKey.{is_no_key, key_len, wrapped_len, wrap_row, wrap_says, wraps, wrap_key, wrapped_result}
 use Rattle.model_session_answers.proofs.Over.{IsOver, over-refused}
 use Rattle.model_answers.proofs.Sizes.{value_len-mask}
-use Rattle.model_answers.proofs.Proper.CipherInit.{class-masked, type-masked}
+use Rattle.model_answers.proofs.Proper.OperationInit.{class-masked, type-masked}
 use Rattle.model_views.proofs.Checks.{Entry, mask_object, Condition, View, mask, shown, replies, object_at, object-mask, IsProper, IsFair, blind-reply, blind-refusal, fair, blind-row, fair-row, blind-checked_by, fair-checked_by, row-session, none-masked, flag-masked}
 
 pub no_key-mask : (o : Option (List Entry)) → is_no_key (option_map mask_object o) ≡ is_no_key o
@@ -37,7 +36,7 @@ module _ (v : View) (s : ℕ) (m : Mechanism) where
   row-mask wrapping key buffer_len NoSession = row-session v s
   row-mask wrapping key buffer_len NoWrappingKey = no_key-mask wrapping
   row-mask wrapping key buffer_len NoKey = no_key-mask key
-  row-mask wrapping key buffer_len WrongWrappingKeyType = ap not (type-masked wrapping)
+  row-mask wrapping key buffer_len WrongWrappingKeyType = ap (λ t. not (is_aes t)) (type-masked wrapping)
   row-mask wrapping key buffer_len KeyNotPermitted = ap not (flag-masked wrapping attr.Wrap (λ e. absurd (omega (arith, e))))
   row-mask wrapping key buffer_len KeyUnextractable = ap not (flag-masked key attr.Extractable (λ e. absurd (omega (arith, e))))
   row-mask wrapping key buffer_len KeyNotWrappable =

@@ -67,9 +67,14 @@ fn seen_in(object: &Object) -> [bool; 5] {
     STATES.map(|state| visible(state, object))
 }
 
+/// Whether it is written in a state: it is seen, and in a R/W session where it is a token object.
+fn may_write(state: SessionState, object: &Object) -> bool {
+    visible(state, object) && !needs_read_write(is_read_write(state), object.flag(AttrType::Token))
+}
+
 /// In which of the states it is written.
 fn written_in(object: &Object) -> [bool; 5] {
-    STATES.map(|state| writable(state, object))
+    STATES.map(|state| may_write(state, object))
 }
 
 /// What the key has, and whether its value is masked.

@@ -9,7 +9,8 @@ use Rattle.model_answers.specs.Cipher.{update_function}
 use Rattle.serve_base.specs.Shown.{view_of}
 use Rattle.serve_base.specs.Asking.{asks_within}
 use Rattle.serve_operations.proofs.Bounds.{buffer_len-short, update-short}
-use Rattle.serve_operations.proofs.Ciphering.{under-way, tested, update-asks, gives-is}
+use Rattle.serve_operations.proofs.Ciphering.{under-way, tested, update-asks}
+use Rattle.serve_operations.proofs.Ending.{gives-is}
 use Rattle.serve_operations.proofs.cipher.update.Goals as goal
 
 pub returns-clause-serves : goal.returns-clause-serves
@@ -20,7 +21,7 @@ returns-clause-serves c = record {
       let s = c.in_ok-operation.operation.now in
       let way : operation_in (session_at d.sessions.sessions c.args.session) (place_for c.args.direction) ≡ Some (operation_of s) =
       under-way c.operation.result _ c.in_ok-operation.operation
-      (rw c.place_for-place.ensures at c.operation.ensures) c.in_ok-operation.ensures.ok_part in
+      (rw c.place_for.ensures at c.operation.ensures) c.in_ok-operation.ensures.ok_part in
       let told = rw c.as_slice.ensures at
       (tested s Update c.as_slice.result.now c.room_of.result c.room_of.ensures.len_range c.room_of.ensures.counter_end
       c.room_of.ensures.faults) in

@@ -7,7 +7,8 @@ use Rattle.model_views.specs.Views.{Takes}
 use Rattle.model_views.specs.Answering.{asks}
 use Rattle.model_answers.specs.Mac.{mac_update_function}
 use Rattle.serve_base.specs.Shown.{view_of}
-use Rattle.serve_operations.proofs.Signing.{update-asks, gives-is}
+use Rattle.serve_operations.proofs.Signing.{update-asks}
+use Rattle.serve_operations.proofs.Ending.{gives-is}
 use Rattle.serve_operations.proofs.mac.update.Goals as goal
 
 pub returns-clause-serves : goal.returns-clause-serves

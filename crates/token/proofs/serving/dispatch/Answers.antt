@@ -93,8 +93,8 @@ unfolding answer_to
 returns-in-Encrypt-clause-served g c =
     call-asking g.K.Keep.terms c.args.app c.args.others_have_sessions c.args.call
     (call.Encrypt c.in-Encrypt.session c.in-Encrypt.data c.in-Encrypt.buffer_len) c.args.random.now c.in-Encrypt.is c.args.store.now
-    c.args.desk.now _ c.single.result c.settle-in-Encrypt.result refl c.settle-in-Encrypt.ensures
-    c.single.ensures.asker c.single.ensures.serves
+    c.args.desk.now _ c.last.result c.settle-in-Encrypt.result refl c.settle-in-Encrypt.ensures
+    c.last.ensures.asker c.last.ensures.serves
 
 pub returns-in-EncryptUpdate-clause-served : goal.returns-in-EncryptUpdate-clause-served
 unfolding answer_to
@@ -109,8 +109,8 @@ unfolding answer_to
 returns-in-EncryptFinal-clause-served g c =
     call-asking g.K.Keep.terms c.args.app c.args.others_have_sessions c.args.call
     (call.EncryptFinal c.in-EncryptFinal.session c.in-EncryptFinal.buffer_len) c.args.random.now c.in-EncryptFinal.is
-    c.args.store.now c.args.desk.now _ c.last.result c.settle-in-EncryptFinal.result refl
-    c.settle-in-EncryptFinal.ensures c.last.ensures.asker c.last.ensures.serves
+    c.args.store.now c.args.desk.now _ c.last-in-EncryptFinal.result c.settle-in-EncryptFinal.result refl
+    c.settle-in-EncryptFinal.ensures c.last-in-EncryptFinal.ensures.asker c.last-in-EncryptFinal.ensures.serves
 
 pub returns-in-DecryptInit-clause-served : goal.returns-in-DecryptInit-clause-served
 unfolding answer_to
@@ -125,8 +125,8 @@ unfolding answer_to
 returns-in-Decrypt-clause-served g c =
     call-asking g.K.Keep.terms c.args.app c.args.others_have_sessions c.args.call
     (call.Decrypt c.in-Decrypt.session c.in-Decrypt.encrypted_data c.in-Decrypt.buffer_len) c.args.random.now c.in-Decrypt.is
-    c.args.store.now c.args.desk.now _ c.single-in-Decrypt.result c.settle-in-Decrypt.result refl
-    c.settle-in-Decrypt.ensures c.single-in-Decrypt.ensures.asker c.single-in-Decrypt.ensures.serves
+    c.args.store.now c.args.desk.now _ c.last-in-Decrypt.result c.settle-in-Decrypt.result refl
+    c.settle-in-Decrypt.ensures c.last-in-Decrypt.ensures.asker c.last-in-Decrypt.ensures.serves
 
 pub returns-in-DecryptUpdate-clause-served : goal.returns-in-DecryptUpdate-clause-served
 unfolding answer_to
@@ -269,8 +269,8 @@ unfolding answer_to
 returns-in-SignFinal-clause-served g c =
     call-asking g.K.Keep.terms c.args.app c.args.others_have_sessions c.args.call
     (call.SignFinal c.in-SignFinal.session c.in-SignFinal.buffer_len) c.args.random.now c.in-SignFinal.is c.args.store.now
-    c.args.desk.now _ c.sign_final.result c.settle-in-SignFinal.result refl c.settle-in-SignFinal.ensures
-    c.sign_final.ensures.asker c.sign_final.ensures.serves
+    c.args.desk.now _ c.sign-in-SignFinal.result c.settle-in-SignFinal.result refl c.settle-in-SignFinal.ensures
+    c.sign-in-SignFinal.ensures.asker c.sign-in-SignFinal.ensures.serves
 
 pub returns-in-Verify-clause-served : goal.returns-in-Verify-clause-served
 unfolding answer_to
@@ -293,8 +293,8 @@ unfolding answer_to
 returns-in-VerifyFinal-clause-served g c =
     call-asking g.K.Keep.terms c.args.app c.args.others_have_sessions c.args.call
     (call.VerifyFinal c.in-VerifyFinal.session c.in-VerifyFinal.signature) c.args.random.now c.in-VerifyFinal.is c.args.store.now
-    c.args.desk.now _ c.verify_final.result c.settle-in-VerifyFinal.result refl c.settle-in-VerifyFinal.ensures
-    c.verify_final.ensures.asker c.verify_final.ensures.serves
+    c.args.desk.now _ c.verify-in-VerifyFinal.result c.settle-in-VerifyFinal.result refl c.settle-in-VerifyFinal.ensures
+    c.verify-in-VerifyFinal.ensures.asker c.verify-in-VerifyFinal.ensures.serves
 
 pub returns-in-WrapKey-clause-served : goal.returns-in-WrapKey-clause-served
 unfolding answer_to
@@ -355,8 +355,8 @@ returns-in-VerifyInit-clause-small g c =
 
 pub returns-in-Encrypt-clause-small : goal.returns-in-Encrypt-clause-small
 returns-in-Encrypt-clause-small g c =
-    λ small. asked-at-once c.single.result c.settle-in-Encrypt.result c.settle-in-Encrypt.ensures
-    (c.single.ensures.small (none-is c.in-Encrypt.buffer_len (ap takes_no_memory (sym c.in-Encrypt.is) ∙ small)))
+    λ small. asked-at-once c.last.result c.settle-in-Encrypt.result c.settle-in-Encrypt.ensures
+    (c.last.ensures.small (none-is c.in-Encrypt.buffer_len (ap takes_no_memory (sym c.in-Encrypt.is) ∙ small)))
 
 pub returns-in-EncryptUpdate-clause-small : goal.returns-in-EncryptUpdate-clause-small
 returns-in-EncryptUpdate-clause-small g c =
@@ -365,13 +365,13 @@ returns-in-EncryptUpdate-clause-small g c =
 
 pub returns-in-EncryptFinal-clause-small : goal.returns-in-EncryptFinal-clause-small
 returns-in-EncryptFinal-clause-small g c =
-    λ small. asked-at-once c.last.result c.settle-in-EncryptFinal.result c.settle-in-EncryptFinal.ensures
-    (c.last.ensures.small (none-is c.in-EncryptFinal.buffer_len (ap takes_no_memory (sym c.in-EncryptFinal.is) ∙ small)))
+    λ small. asked-at-once c.last-in-EncryptFinal.result c.settle-in-EncryptFinal.result c.settle-in-EncryptFinal.ensures
+    (c.last-in-EncryptFinal.ensures.small (none-is c.in-EncryptFinal.buffer_len (ap takes_no_memory (sym c.in-EncryptFinal.is) ∙ small)))
 
 pub returns-in-Decrypt-clause-small : goal.returns-in-Decrypt-clause-small
 returns-in-Decrypt-clause-small g c =
-    λ small. asked-at-once c.single-in-Decrypt.result c.settle-in-Decrypt.result c.settle-in-Decrypt.ensures
-    (c.single-in-Decrypt.ensures.small (none-is c.in-Decrypt.buffer_len (ap takes_no_memory (sym c.in-Decrypt.is) ∙ small)))
+    λ small. asked-at-once c.last-in-Decrypt.result c.settle-in-Decrypt.result c.settle-in-Decrypt.ensures
+    (c.last-in-Decrypt.ensures.small (none-is c.in-Decrypt.buffer_len (ap takes_no_memory (sym c.in-Decrypt.is) ∙ small)))
 
 pub returns-in-DecryptUpdate-clause-small : goal.returns-in-DecryptUpdate-clause-small
 returns-in-DecryptUpdate-clause-small g c =
@@ -393,5 +393,5 @@ returns-in-Sign-clause-small g c =
 
 pub returns-in-SignFinal-clause-small : goal.returns-in-SignFinal-clause-small
 returns-in-SignFinal-clause-small g c =
-    λ small. asked-at-once c.sign_final.result c.settle-in-SignFinal.result c.settle-in-SignFinal.ensures
-    (c.sign_final.ensures.small (none-is c.in-SignFinal.buffer_len (ap takes_no_memory (sym c.in-SignFinal.is) ∙ small)))
+    λ small. asked-at-once c.sign-in-SignFinal.result c.settle-in-SignFinal.result c.settle-in-SignFinal.ensures
+    (c.sign-in-SignFinal.ensures.small (none-is c.in-SignFinal.buffer_len (ap takes_no_memory (sym c.in-SignFinal.is) ∙ small)))

@@ -68,8 +68,8 @@ returns-clause-ids g c = λ has. elim c.events-test.branch [
   ) (c.events.invariant.4 has)
   | then-events-test+in-Err b ↦ rw (
     c.reverse-2.ensures.items,
-    length-reverse c.events-test.events.items,
     b.replies-is,
+    length-reverse c.events-test.events.items,
     b.events-is,
     b.out-is,
     b.self-is,
@@ -77,5 +77,6 @@ returns-clause-ids g c = λ has. elim c.events-test.branch [
     b.in-Err.ensures.err.1,
     b.in-Err.ensures.err.2,
     b.in-Err.ensures.err.3,
-  ) (c.events.invariant.4 has)
+  )
+      (c.events.invariant.4 has)
 ]
