@@ -236,8 +236,8 @@ def mechanisms_of_the_profile_are_those_of_the_table():
 
 
 def commands():
-    """Of each command its options with their help, and which must be given, as crates/programs/src/command.rt has them."""
-    source = text("crates/programs/src/command.rt")
+    """Of each command its options with their help, and which must be given, as crates/commands/src/command.rt has them."""
+    source = text("crates/commands/src/command.rt")
     bodies = dict(re.findall(r"\nfn (\w+)<'a>\(alloc: Global\) -> (?:Result<Command|Arg).*?\{\n(.*?)\n\}\n", source, re.S))
     found = {}
     for body in bodies.values():
@@ -293,14 +293,14 @@ def documents_name_no_other_options():
 @check
 def exit_statuses_are_the_same():
     manual = page("share/man/tokend.1").split(".SH EXIT STATUS", 1)[1].split(".SH ENVIRONMENT", 1)[0]
-    defined = text("crates/programs/specs/Statuses.antt").split("IsStatus n =", 1)[1]
+    defined = text("crates/commands/specs/Statuses.antt").split("IsStatus n =", 1)[1]
     same("exit statuses", definitions=set(re.findall(r"n ≡ (\d)", defined)), README=set(re.findall(r"^\| (\d) \|", text("README.md"), re.M)),
          page=set(re.findall(r"^\.TP\n\.B (\d)$", manual, re.M)))
 
 
 @check
 def the_version_is_the_same():
-    same("version", command=re.search(r'VERSION: &str = "(.*)"', text("crates/programs/src/command.rt")).group(1),
+    same("version", command=re.search(r'VERSION: &str = "(.*)"', text("crates/commands/src/command.rt")).group(1),
          CHANGELOG=re.search(r"^## ([0-9][0-9.]*)", text("CHANGELOG.md"), re.M).group(1),
          library=re.search(r'^version = "(.*)"$', text("clients/pkcs11/Cargo.toml"), re.M).group(1))
 

@@ -1,9 +1,7 @@
 //! A thread that looks after the daemon once a second while it serves: for a service manager, and for the log.
 
-use crate::cause::Cause;
-use crate::failure::{Failure, Fault};
 use crate::health::Health;
-use crate::notify::Manager;
+use commands::{Cause, Failure, Fault, Manager};
 use crossbeam_channel::{Receiver, RecvTimeoutError, Sender, bounded};
 use hall_sockets::Loads;
 use journal::Journal;

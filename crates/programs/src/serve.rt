@@ -3,20 +3,16 @@
 ghost use Rattle.std.specs.Prelude.{◌≡◌, ◌<◌, ◌≤◌, IfOk};
 ghost use Rattle.hall_sockets.specs.Staying.{AreNew, IsNew};
 
-use crate::cause::Cause;
-use crate::command::{MAX_CONNECTIONS, VERSION};
-use crate::cores::leave_cores_empty;
-use crate::failure::{Failure, Fault};
 use crate::health::Health;
-use crate::listening::{daemon_sockets, socket_names};
 use crate::monitor::{Monitor, Watching};
-use crate::notify::Manager;
-use crate::options::{level_in, mode_in};
 use crate::reported::Reported;
-use crate::seed::daemon_seed;
 use cache::Cached;
 use clap::ArgMatches;
-use hall::Gate;
+use commands::{
+    Cause, Failure, Fault, MAX_CONNECTIONS, Manager, VERSION, daemon_seed, daemon_sockets,
+    leave_cores_empty, level_in, mode_in, socket_names,
+};
+use hall::{Gate, HallFault};
 use hall_sockets::{
     Loads, MAX_CLIENTS, Seats, Settings, Shared, SocketSeat, Sockets, hold_sockets,
 };
@@ -182,7 +178,9 @@ impl<R: Threads + Wait + Clock + Copy + Send + Drop + 'static, O: Write, E: Writ
     /// Serves a token over a keeper, and returns the keeper at a clean end.
     fn over<K: Keep>(&mut self, keep: K) -> Result<K, Fault> {
         let alloc = self.rt.alloc();
-        let token = token_over(alloc, keep)?;
+        let mut token = token_over(alloc, keep)?;
+        // (an object that can't be read is so for the first who asks for it)
+        let _ = token.note_marks(alloc);
         let Ok(gate) = Arc::new(alloc, OpenGate) else {
             return Err(Failure::Memory.into());
         };
@@ -199,9 +197,17 @@ impl<R: Threads + Wait + Clock + Copy + Send + Drop + 'static, O: Write, E: Writ
             }
             Err((fault, token)) => {
                 drop(token);
-                Err(fault.into())
+                Err(not_held(fault))
             }
         }
+    }
+}
+
+/// Why the seats could not be held.
+fn not_held(fault: HallFault) -> Fault {
+    match fault {
+        HallFault::Memory => Failure::Memory.into(),
+        HallFault::Thread => Failure::Socket.because(Cause::Thread),
     }
 }
 

@@ -1,93 +1,16 @@
 ghost use Rattle.std.specs.Prelude.{None};
 
-mod clients;
 mod daemon;
-mod full;
-mod idle;
-mod largest;
-mod lost;
-mod many;
-mod neighbours;
 mod operating;
 mod options;
-mod peers;
-mod randomness;
 mod statuses;
-mod unread;
 
-use programs::{ask, refuse_args, tokend_with};
-use std::alloc::{AllocError, Global};
+use commands::{ask, refuse_args};
+use std::alloc::Global;
 use std::io::{self, Error, ErrorKind, Read, Write};
-use std::sync::Wait;
 use std::test::*;
-use std::thread::Threads;
-use std::time::Clock;
+use test_daemons::{OPEN_SESSION, SESSION_ONE, expect_refusal, expect_run, run};
 use test_scripts::{FIRST_REPLIES, FIRST_RUN};
-
-/// What a command line answered and wrote.
-#[derive(Drop)]
-struct Ended {
-    status: u8,
-    output: Vec<u8>,
-    errors: Vec<u8>,
-}
-
-/// The words of a command line, after the program's name.
-fn args_of(alloc: Global, words: &[&str]) -> Result<Vec<String>, AllocError> {
-    let mut args = Vec::new(alloc);
-    args.push(String::from_str(alloc, "tokend")?)?;
-    for word in words {
-        args.push(String::from_str(alloc, word)?)?;
-    }
-    Ok(args)
-}
-
-fn run<R: Threads + Wait + Clock + Copy + Send + Drop + 'static>(
-    rt: &HostRuntime,
-    threads: R,
-    words: &[&str],
-    mut input: &[u8],
-) -> Result<Ended, AllocError> {
-    let alloc = rt.alloc();
-    let args = args_of(alloc, words)?;
-    let mut output = Vec::<u8>::new(alloc);
-    let mut errors = Vec::<u8>::new(alloc);
-    let status = tokend_with(rt, threads, &args, &mut input, &mut output, &mut errors);
-    Ok(Ended {
-        status,
-        output,
-        errors,
-    })
-}
-
-/// Whether a run ended with this status, and wrote this.
-fn has_ended_so(ended: &Ended, status: u8, output: &[u8], errors: &[u8]) -> bool {
-    ended.status == status && ended.output.as_slice() == output && ended.errors.as_slice() == errors
-}
-
-/// Sees that a command line with this input ends with this status, and writes this output and these errors.
-fn expect_run<R: Threads + Wait + Clock + Copy + Send + Drop + 'static>(
-    rt: &HostRuntime,
-    threads: R,
-    words: &[&str],
-    input: &[u8],
-    (status, output, errors): (u8, &[u8], &[u8]),
-) -> Result<(), Fail> {
-    let ended = run(rt, threads, words, input)?;
-    if has_ended_so(&ended, status, output, errors) {
-        return Ok(());
-    }
-    Err(Fail::new(format_args!(
-        "{words:?}: status {}, not {status}, or other texts",
-        ended.status
-    )))
-}
-
-const OPEN_SESSION: &[u8] =
-    b"\x00\x00\x00\x12\x00\x07\x00\x00\x00\x00\x00\x00\x00\x00\x00\x00\x00\x00\x00\x00\x00\x06";
-
-const SESSION_ONE: &[u8] =
-    b"\x00\x00\x00\x10\x00\x00\x00\x00\x00\x00\x00\x00\x00\x00\x00\x00\x00\x00\x00\x01";
 
 #[test]
 fn stdio_answers_the_first_run_byte_for_byte(rt: HostRuntime) -> Result<(), Fail> {
@@ -113,24 +36,6 @@ fn stdio_answers_the_size_and_the_identifier_of_a_key(rt: HostRuntime) -> Result
     let mut replies = Vec::from_slice(rt.alloc(), FIRST_REPLIES)?;
     replies.extend_from_slice(KEY_REPLIES)?;
     expect_run(&rt, rt, &["stdio"], &calls, (0, &replies, b""))
-}
-
-/// Sees that a command line with this input ends with this status and output, and reports this failure and this cause.
-fn expect_refusal<R: Threads + Wait + Clock + Copy + Send + Drop + 'static>(
-    rt: &HostRuntime,
-    threads: R,
-    words: &[&str],
-    input: &[u8],
-    (status, output, failure, because): (u8, &[u8], &str, &str),
-) -> Result<(), Fail> {
-    let errors = format!(in rt.alloc(); "tokend: {failure}\ntokend: because {because}\n")?;
-    expect_run(
-        rt,
-        threads,
-        words,
-        input,
-        (status, output, errors.as_bytes()),
-    )
 }
 
 /// A frame that is cut, and lengths above the limit, and what is reported of each.

@@ -2,7 +2,8 @@
 //! process's own arguments and streams.
 #![tactic(auto)]
 
-use programs::{refuse_args, tokend_with};
+use commands::refuse_args;
+use programs::tokend_with;
 use std::process::ExitCode;
 use std::{env, io};
 

@@ -1,14 +1,13 @@
 //! What an operator asks for and gets: modes, lines on standard error, a look through a store, a copy of it.
 
-use super::daemon::{
-    NEW_OBJECT, NEW_OBJECT_REPLIES, SEARCH, SEARCH_REPLIES, clear, expect, expect_end,
-    expect_ended, expect_refusal, start,
-};
-use super::run;
 use std::fs;
 use std::fs::Permissions;
 use std::os::unix::fs::PermissionsExt;
 use std::test::*;
+use test_daemons::{
+    NEW_OBJECT, NEW_OBJECT_REPLIES, SEARCH, SEARCH_REPLIES, clear, expect, expect_end,
+    expect_ended, expect_refused, run, start,
+};
 
 /// The files of each test.
 const COPIED: &[&str] = &[
@@ -40,7 +39,7 @@ fn a_mode_is_an_octal_number_up_to_777(rt: HostRuntime) -> Result<(), Fail> {
         ];
         let ended = run(&rt, rt, &words, b"")?;
         let because = "--socket-mode is not a number of up to 777 in octal digits";
-        expect_refusal(&rt, ended, 2, "the command line is refused", because)?;
+        expect_refused(&rt, ended, 2, "the command line is refused", because)?;
     }
     Ok(())
 }
@@ -152,7 +151,7 @@ fn a_store_is_looked_through_and_copied_whole(rt: HostRuntime) -> Result<(), Fai
     }
     let taken = "copied.copy: --to cannot be written: File exists (os error 17)";
     let ended = run(&rt, rt, &words, b"")?;
-    expect_refusal(&rt, ended, 3, "cannot write the copy", taken)?;
+    expect_refused(&rt, ended, 3, "cannot write the copy", taken)?;
     let daemon = start(&rt, rt, "copied.copy", "copied.sock", "copied.seed")?;
     for _ in 0..4 {
         expect(&rt, "copied.sock", SEARCH, SEARCH_REPLIES)?;
@@ -166,7 +165,7 @@ fn a_store_is_looked_through_and_copied_whole(rt: HostRuntime) -> Result<(), Fai
 fn a_look_through_no_store_says_why(rt: HostRuntime) -> Result<(), Fail> {
     let ended = run(&rt, rt, &["check", "--store", "none.store"], b"")?;
     let missing = "none.store: --store cannot be used: No such file or directory (os error 2)";
-    expect_refusal(&rt, ended, 3, "cannot open the store", missing)?;
+    expect_refused(&rt, ended, 3, "cannot open the store", missing)?;
     assert!(rt; fs::metadata(&rt, "none.store").is_err());
     fs::write(&rt, "empty.store", b"".as_slice())?;
     let ended = run(&rt, rt, &["check", "--store", "empty.store"], b"")?;

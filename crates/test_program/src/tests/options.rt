@@ -1,7 +1,7 @@
 //! How many connections there are at once, and how long one may be idle, on the command line.
 
-use super::run;
 use std::test::*;
+use test_daemons::run;
 
 /// An option, its text, and the status: 5 where the command line is taken, since the file of the seed is not there.
 const OPTIONS: &[(&str, &str, u8)] = &[

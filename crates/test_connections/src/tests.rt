@@ -1,0 +1,9 @@
+mod full;
+mod idle;
+mod largest;
+mod lost;
+mod many;
+mod neighbours;
+mod peers;
+mod randomness;
+mod unread;
