@@ -12,6 +12,7 @@ use Rattle.attrs.specs.Objects.{attribute, attribute_of, flag, is_true}
 use Rattle.attrs.specs.Masking.{mask, reveals}
 use Rattle.attrs.specs.MaskingLaws.{attribute-mask, flag-mask}
 use Rattle.find.specs.Matching.{entry_matches, template_matches, has_value}
+use Rattle.find.specs.CodeLaws.{codes_of-mask}
 use Rattle.find.specs.Marks.{excludes, hash_in, hash_of, is_other_hash, is_other_truth, mark_of, truth_of, wanted_of}
 
 -- a value that is found is the value that was wanted
@@ -85,4 +86,5 @@ mark_of-mask o = λ i. record {
   label = ap hash_in (attribute-mask o (attr_type_number attr.Label) (λ e. absurd (omega (arith, e)))) i;
   id = ap hash_in (attribute-mask o (attr_type_number attr.Id) (λ e. absurd (omega (arith, e)))) i;
   application = ap hash_in (attribute-mask o (attr_type_number attr.Application) (λ e. absurd (omega (arith, e)))) i;
+  codes = codes_of-mask o i;
 }

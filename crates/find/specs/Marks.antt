@@ -5,12 +5,12 @@ use Rattle.std.specs.Bool.{beq}
 use Rattle.std.specs.List.{fold}
 use Rattle.std.specs.Option.{option_map}
 use Rattle.ck_types.specs.declared.entry.Entry.{Entry}
-use Rattle.ck_types.specs.declared.attr_type.AttrType.{AttrType}
 use Rattle.ck_types.specs.declared.attr_type.AttrType.TheVariants as attr
 use Rattle.find.specs.declared.marks.TheConstants.{HASH_FACTOR, HASH_START}
 use Rattle.attrs.specs.Objects.{attribute_of, flag, is_true}
+use Rattle.find.specs.Codes.{are_decided, codes_of}
 
--- what a mark has of an object: whether it is private, and a hash of 16 bits of each of five attributes
+-- what a mark has of an object: whether it is private, a hash of 16 bits of each of five attributes, and codes
 pub record ObjectMark : Type 0 where
   pub private : Bool
   pub class : ℕ
@@ -18,6 +18,7 @@ pub record ObjectMark : Type 0 where
   pub label : ℕ
   pub id : ℕ
   pub application : ℕ
+  pub codes : List ℕ
 
 -- a byte more: it is joined by exclusive or, and the product has 16 bits
 abbrev pub hash_step : ℕ → ℕ → ℕ
@@ -40,9 +41,10 @@ mark_of object = record {
   label = hash_in (attribute_of object attr.Label);
   id = hash_in (attribute_of object attr.Id);
   application = hash_in (attribute_of object attr.Application);
+  codes = codes_of object;
 }
 
--- What a template wants of marks: of each attribute that marks have, what its first entry of that type makes of a mark. A template
+-- What a template wants of marks, and whether their codes decide all of it: of each attribute that marks have, what its first entry of that type makes of a mark. A template
 -- that has no such entry wants nothing there.
 pub record WantedMarks : Type 0 where
   pub private : Option Bool
@@ -51,6 +53,7 @@ pub record WantedMarks : Type 0 where
   pub label : Option ℕ
   pub id : Option ℕ
   pub application : Option ℕ
+  pub is_decided : Bool
 
 -- a value as a truth value
 abbrev pub truth_of : List ℕ → Bool
@@ -64,6 +67,7 @@ wanted_of template = record {
   label = option_map hash_of (attribute_of template attr.Label);
   id = option_map hash_of (attribute_of template attr.Id);
   application = option_map hash_of (attribute_of template attr.Application);
+  is_decided = are_decided template;
 }
 
 -- a hash is wanted, and it isn't this one

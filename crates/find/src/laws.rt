@@ -6,6 +6,7 @@ ghost use Rattle.ck_types.specs.declared.entry.Entry.{Entry as AnEntry};
 ghost use Rattle.attrs.specs.Objects.{flag};
 ghost use Rattle.attrs.specs.Masking.{mask};
 ghost use Rattle.find.specs.Matching.{template_matches};
+ghost use Rattle.find.specs.Codes.{are_decided, codes_match};
 ghost use Rattle.find.specs.Marks.{excludes, mark_of, wanted_of};
 
 /// An object whose mark is excluded by what a template wants is one that the template doesn't find, so a search may pass over
@@ -13,6 +14,11 @@ ghost use Rattle.find.specs.Marks.{excludes, mark_of, wanted_of};
 pub fn marks_pass_over()
     ensures excluded { (o template : List AnEntry) → excludes (wanted_of template) (mark_of o) ≡ true → template_matches template o ≡ false }
     ensures found { (o template : List AnEntry) → template_matches template o ≡ true → excludes (wanted_of template) (mark_of o) ≡ false }
+{}
+
+/// Where a template has nothing but truth values, classes and key types, a mark says whether it finds the object.
+pub fn marks_decide()
+    ensures { (o template : List AnEntry) → are_decided template ≡ true → codes_match (mark_of o).codes template ≡ template_matches template o }
 {}
 
 /// A mark has nothing of a value that is masked: it is that of what may be seen of the object.

@@ -9,15 +9,17 @@
 //! `search` reads one object at a time, and keeps no more of it than a note.
 //!
 //! Proved, by the names of contracts: `search` takes an object just where it matches (`searched`), the same where a masked value is taken
-//! away. A `Mark` is of what may be seen (`marks_are_blind`), and excludes no object that a template finds (`marks_pass_over`).
+//! away. A `Mark` is of what may be seen (`marks_are_blind`), excludes no object that a template finds (`marks_pass_over`), and decides of
+//! truth values, classes and key types (`marks_decide`).
 #![tactic(auto)]
 
+mod codes;
 mod laws;
 mod marks;
 mod matching;
 mod searching;
 
-pub use laws::{marks_are_blind, marks_pass_over, marks_tell_privacy};
+pub use laws::{marks_are_blind, marks_decide, marks_pass_over, marks_tell_privacy};
 pub use marks::{Mark, Wanted};
 pub use matching::matches;
 pub use searching::search;

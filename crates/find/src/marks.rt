@@ -6,8 +6,10 @@ ghost use Rattle.ck_types.specs.declared.entry.Entry.{Entry as AnEntry};
 ghost use Rattle.attrs.specs.Masking.{mask};
 ghost use Rattle.attrs.specs.Objects.{attribute_of};
 ghost use Rattle.find.specs.Matching.{template_matches};
+ghost use Rattle.find.specs.Codes.{are_decided, codes_match};
 ghost use Rattle.find.specs.Marks.{excludes, hash_in, hash_of, is_other_hash, is_other_truth, mark_of, truth_of, wanted_of};
 
+use crate::codes::{CODED_LEN, are_decided, codes_match, codes_of};
 use attrs::{Object, find_attribute};
 use ck_types::{AttrType, Entry, Template};
 use std::marker::Model;
@@ -18,11 +20,11 @@ const HASH_START: u16 = 0x9dc5;
 /// What a hash is multiplied by after each byte: an odd number, so that no bit of it is lost.
 const HASH_FACTOR: u16 = 0x193;
 
-/// What a search knows of an object without reading it (PKCS #11 v3.1, 5.7.7): whether it is private, and hashes of some
-/// of its attributes, 12 bytes in all. It has nothing of CKA_VALUE.
+/// What a search knows of an object without reading it (PKCS #11 v3.1, 5.7.7): whether it is private, hashes of some of its attributes,
+/// and codes of others, 32 bytes in all. It has nothing of CKA_VALUE.
 ///
 /// Each hash has 16 bits, and that of an attribute which the object doesn't have is 0. It is no secret and no check: two
-/// values may have the same hash.
+/// values may have the same hash. A code stands for one value, so codes decide (`codes`).
 #[derive(Clone, Copy, Debug, PartialEq, Eq)]
 pub struct Mark {
     private: bool,
@@ -31,6 +33,7 @@ pub struct Mark {
     label: u16,
     id: u16,
     application: u16,
+    codes: [u8; CODED_LEN],
 }
 
 impl Model for Mark {
@@ -38,9 +41,9 @@ impl Model for Mark {
 
     ghost Value = { ObjectMark };
 
-    ghost view = { λ m. record { private = m.private; class = m.class; key_type = m.key_type; label = m.label; id = m.id; application = m.application } };
+    ghost view = { λ m. record { private = m.private; class = m.class; key_type = m.key_type; label = m.label; id = m.id; application = m.application; codes = m.codes } };
 
-    ghost inverse = { λ m. record { private = m.private; class = m.class; key_type = m.key_type; label = m.label; id = m.id; application = m.application } };
+    ghost inverse = { λ m. record { private = m.private; class = m.class; key_type = m.key_type; label = m.label; id = m.id; application = m.application; codes = m.codes } };
 }
 
 impl Mark {
@@ -56,6 +59,7 @@ impl Mark {
             label: hash_at(object, AttrType::Label),
             id: hash_at(object, AttrType::Id),
             application: hash_at(object, AttrType::Application),
+            codes: codes_of(object),
         }
     }
 
@@ -65,11 +69,27 @@ impl Mark {
     {
         self.private
     }
+
+    /// Whether the template finds the object, where marks decide that (`Wanted::is_decided`).
+    pub fn is_found(&self, template: &Template) -> bool
+        ensures value { result ≡ codes_match self.now.codes template.now }
+        ensures decides { (object : List AnEntry) → self.now ≡ mark_of object → are_decided template.now ≡ true
+            → result ≡ template_matches template.now object }
+    {
+        self.has_codes_of(template)
+    }
+
+    /// Whether the object has each value that is wanted, by its codes.
+    fn has_codes_of(&self, template: &Template) -> bool
+        ensures { result ≡ codes_match self.now.codes template.now }
+    {
+        codes_match(&self.codes, template.as_slice())
+    }
 }
 
 /// What a template wants of marks: the hash of its first entry of each type that marks have, and what it says of CKA_PRIVATE
 /// (PKCS #11 v3.1, 5.7.7). It is computed once for a search, so that a mark is tested by six comparisons.
-#[derive(Clone, Copy, Debug, PartialEq, Eq)]
+#[derive(Clone, Copy)]
 pub struct Wanted {
     private: Option<bool>,
     class: Option<u16>,
@@ -77,6 +97,7 @@ pub struct Wanted {
     label: Option<u16>,
     id: Option<u16>,
     application: Option<u16>,
+    is_decided: bool,
 }
 
 impl Model for Wanted {
@@ -84,9 +105,9 @@ impl Model for Wanted {
 
     ghost Value = { WantedMarks };
 
-    ghost view = { λ w. record { private = w.private; class = w.class; key_type = w.key_type; label = w.label; id = w.id; application = w.application } };
+    ghost view = { λ w. record { private = w.private; class = w.class; key_type = w.key_type; label = w.label; id = w.id; application = w.application; is_decided = w.is_decided } };
 
-    ghost inverse = { λ w. record { private = w.private; class = w.class; key_type = w.key_type; label = w.label; id = w.id; application = w.application } };
+    ghost inverse = { λ w. record { private = w.private; class = w.class; key_type = w.key_type; label = w.label; id = w.id; application = w.application; is_decided = w.is_decided } };
 }
 
 impl Wanted {
@@ -102,7 +123,16 @@ impl Wanted {
             label: wanted_hash(entries, AttrType::Label),
             id: wanted_hash(entries, AttrType::Id),
             application: wanted_hash(entries, AttrType::Application),
+            is_decided: are_decided(entries),
         }
+    }
+
+    /// Whether a mark decides all of what is wanted, so that no object is read: the template has nothing but truth values, classes and key
+    /// types. An empty one is so.
+    pub fn is_decided(&self) -> bool
+        ensures { result ≡ self.now.is_decided }
+    {
+        self.is_decided
     }
 
     /// Whether a search may pass over each object with this mark, since the template finds none of them (PKCS #11 v3.1,

@@ -10,6 +10,7 @@ pub mod Seeing
 pub mod InSession
 pub mod Listing
 mod Searched
+mod Decided
 pub mod Lengths
 pub mod Reading
 pub mod NewObjects

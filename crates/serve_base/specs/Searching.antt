@@ -5,6 +5,7 @@ use Rattle.ck_types.specs.declared.attr_type.AttrType.TheVariants as attr
 use Rattle.ck_types.specs.declared.user_type.UserType.{UserType}
 use Rattle.attrs.specs.Objects.{flag}
 use Rattle.find.specs.Matching.{template_matches}
+use Rattle.find.specs.Codes.{codes_match}
 use Rattle.find.specs.Marks.{ObjectMark, WantedMarks, excludes}
 use Rattle.guard.specs.Access.{is_user_in}
 use Rattle.keep.specs.Contents.{Kept}
@@ -42,6 +43,10 @@ module _ (login : Option UserType) (template : List Entry) where
 -- One who is logged in so doesn't see an object with this mark, or what is wanted excludes it.
 abbrev pub passes_over : Option UserType → WantedMarks → ObjectMark → Bool
 passes_over login wanted mark = (mark.private && not (is_user_in login)) || excludes wanted mark
+
+-- what is found of an object that isn't passed over, where its mark decides that
+abbrev pub marked_match : List Entry → ℕ → ObjectMark → List Match
+marked_match template id mark = if codes_match mark.codes template then TokenObject id mark.private ∷ [] else []
 
 -- private objects are found for the user alone
 abbrev pub MayFind : Option UserType → Match → Type 0

@@ -1,13 +1,15 @@
 //! Searching the token objects.
 
-ghost use Rattle.std.specs.Prelude.{◌≡◌, ◌++◌, false, None, Some, IsErrOf, IsSome, OnOk};
+ghost use Rattle.std.specs.Prelude.{◌≡◌, ◌++◌, true, false, None, Some, Option, IsErrOf, IsSome, OnOk};
 ghost use Rattle.std.specs.List.{AllByRecursion};
 ghost use Rattle.keep.specs.Contents.{Contents, object_at};
 ghost use Rattle.keep.specs.Keeping.{Counted, HasCause, Stays};
 ghost use Rattle.keep.specs.declared.keep.KeepFault.TheVariants.{Device};
 ghost use Rattle.find.specs.Marks.{wanted_of};
 ghost use Rattle.serve_base.specs.Listing.{AreMarks, IsMarkOf, all_ids, listed_ids};
-ghost use Rattle.serve_base.specs.Searching.{found_at, found_in, found_of, passes_over, MayFind};
+ghost use Rattle.guard.specs.Access.{is_user_in};
+ghost use Rattle.serve_base.specs.Searching.{found_at, found_in, found_of, marked_match, passes_over, MayFind};
+ghost use Rattle.ck_types.specs.declared.user_type.UserType.{UserType as AnUser};
 
 use crate::finding::{sees, sees_private};
 use crate::listed::Listed;
@@ -26,8 +28,8 @@ pub enum Match {
     SessionObject { handle: u64 },
 }
 
-/// Finds the token objects among those of the list. An object whose mark is known and excludes it is passed over. Each other one is
-/// read, its mark is noted, and no copy is kept.
+/// Finds the token objects among those of the list. An object whose mark is known and excludes it is passed over. Where marks decide all
+/// that the template wants, it is found or not by its mark. Each other one is read, its mark is noted, and no copy is kept.
 pub(crate) fn search_kept<K: Keep>(
     alloc: Global,
     keep: &mut K,
@@ -37,7 +39,7 @@ pub(crate) fn search_kept<K: Keep>(
     found: &mut Vec<Match>,
 ) -> Result<(), KeepFault>
     ensures found { K.terms.doubt keep.new ≡ 0 → (c : Contents) → K.terms.holds keep.old c → AreMarks c listed.old
-        → OnOk result (found.new.items ≡ found.old.items ++ found_at login template.now (object_at c) (listed_ids listed.old)) }
+        → AllByRecursion (λ id. IsSome (object_at c id)) (listed_ids listed.old) → OnOk result (found.new.items ≡ found.old.items ++ found_at login template.now (object_at c) (listed_ids listed.old)) }
     ensures may { AllByRecursion (MayFind login) found.old.items → OnOk result (AllByRecursion (MayFind login) found.new.items) }
     ensures ids { listed_ids listed.new ≡ listed_ids listed.old }
     ensures all { all_ids listed.new ≡ all_ids listed.old }
@@ -67,7 +69,7 @@ fn search_next<K: Keep>(
 ) -> Result<(), KeepFault>
     requires { wanted.now ≡ wanted_of template.now }
     ensures found { K.terms.doubt keep.new ≡ 0 → (c : Contents) → K.terms.holds keep.old c → IsMarkOf (object_at c entry.old.id) entry.old.mark
-        → OnOk result (found.new.items ≡ found.old.items ++ found_in login template.now (object_at c) entry.old) }
+        → (entry.old.removed ≡ false → IsSome (object_at c entry.old.id)) → OnOk result (found.new.items ≡ found.old.items ++ found_in login template.now (object_at c) entry.old) }
     ensures may { AllByRecursion (MayFind login) found.old.items → OnOk result (AllByRecursion (MayFind login) found.new.items) }
     ensures id { entry.new.id ≡ entry.old.id }
     ensures removed { entry.new.removed ≡ entry.old.removed }
@@ -86,6 +88,9 @@ fn search_next<K: Keep>(
         if passes_over(login, wanted, &mark) {
             return Ok(());
         }
+        if wanted.is_decided() {
+            return Ok(find_by_mark(template, entry.id, &mark, found)?);
+        }
     }
     let object = keep.object(alloc, entry.id)?;
     entry.mark = Some(Mark::of(&object));
@@ -99,6 +104,27 @@ fn passes_over(login: Option<UserType>, wanted: &Wanted, mark: &Mark) -> bool
     ensures { result ≡ passes_over login wanted.now mark.now }
 {
     (mark.is_private() && !sees_private(login)) || wanted.excludes(mark)
+}
+
+/// Adds a token object that isn't passed over to what was found, where its mark says that the template finds it.
+fn find_by_mark(
+    template: &Template,
+    id: u64,
+    mark: &Mark,
+    found: &mut Vec<Match>,
+) -> Result<(), AllocError>
+    ensures found { OnOk result (found.new.items ≡ found.old.items ++ marked_match template.now id mark.now) }
+    ensures may { (login : Option AnUser) → (mark.now.private ≡ true → is_user_in login ≡ true)
+        → AllByRecursion (MayFind login) found.old.items → OnOk result (AllByRecursion (MayFind login) found.new.items) }
+{
+    if mark.is_found(template) {
+        found.reserve(1)?;
+        found.push_reserved(Match::TokenObject {
+            id,
+            private: mark.is_private(),
+        });
+    }
+    Ok(())
 }
 
 /// Adds a token object to what was found, where it is seen and the template finds it.

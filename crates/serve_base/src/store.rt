@@ -117,7 +117,8 @@ impl<K: Keep> Store<K> {
     }
 
     /// Finds the token objects that one who is logged in so sees and the template finds. Appends them to what was found before, in
-    /// the order of their creation. An object whose mark excludes it is not read, and each other one is read once.
+    /// the order of their creation. An object whose mark excludes it is not read, nor is one whose mark decides. Each other one is read
+    /// once.
     pub fn search(
         &mut self,
         alloc: Global,
@@ -142,6 +143,24 @@ impl<K: Keep> Store<K> {
             login,
             template,
             found,
+        )
+    }
+
+    /// Reads the objects whose marks aren't known and notes these, up to the first that can't be read. So no search has to. The list of all
+    /// objects is allocated meanwhile.
+    pub fn note_marks(&mut self, alloc: Global) -> Result<(), KeepFault>
+        ensures same { Stays K.terms self.old.keep self.new.keep }
+        ensures ids { SameIds K.terms self.old self.new }
+        ensures steady { K.terms.is_steady self.old.keep → IsErrOf result Device → (c : Contents) → StoreHas K.terms self.old c → ⊥ }
+        ensures counts { Counted K.terms self.old.keep self.new.keep 0 0 }
+        ensures cause { HasCause (K.terms.failures self.old.keep) (K.terms.failures self.new.keep) result }
+    {
+        let mut found = Vec::new(alloc);
+        self.search(
+            alloc,
+            Some(UserType::User),
+            &Template::new(alloc),
+            &mut found,
         )
     }
 

@@ -12,7 +12,7 @@ ghost use Rattle.desk.specs.Desks.{SameDesk, empty_desk, over};
 ghost use Rattle.keep.specs.Contents.{Contents};
 ghost use Rattle.pin_record.specs.Charges.{is_same_user};
 ghost use Rattle.pin_record.specs.Records.{tries_limit, tries_of};
-ghost use Rattle.keep.specs.Keeping.{Counted, Rises, Stays};
+ghost use Rattle.keep.specs.Keeping.{Counted, HasCause, Rises, Stays};
 ghost use Rattle.keep.specs.declared.keep.KeepFault.TheVariants as keep_faults;
 ghost use Rattle.model_worlds.specs.declared.event.Event.TheVariants.{Finish, Gone};
 ghost use Rattle.model_worlds.specs.Events.{HasRandom};
@@ -30,7 +30,7 @@ ghost use Rattle.token.specs.Memory.{takes_no_memory};
 ghost use Rattle.token.specs.Turns.{TokenCalled, TokenFinished};
 ghost use Rattle.model_runs.specs.Applications.{Finishes, HasJobs, reveal_by_job, checks_after, has_session_at, are_others_in_session, TakesJob, desk_at, is_answer, opening, or_fault_code, Shows, ShowsAfter};
 ghost use Rattle.serve_base.specs.Refusing.{IsServedIf};
-ghost use Rattle.serve_base.specs.Stores.{FailsForIds, Served};
+ghost use Rattle.serve_base.specs.Stores.{FailsForIds, SameIds, Served};
 ghost use Rattle.model_runs.specs.Runs.{AccountsFor, RunAdvances, BlamesForIds, HasIds, IsRun, IsStep, MayLeave, blames};
 
 use crate::ending::{Others, finish_at};
@@ -91,6 +91,19 @@ impl<K: Keep> Token<K> {
             desks: BTreeMap::new(alloc),
             checks: Vec::new(alloc),
         })
+    }
+
+    /// Reads the objects that no search has read yet, so that none has to, up to the first that can't be read. Nobody is told another reply
+    /// for it.
+    pub fn note_marks(&mut self, alloc: Global) -> Result<(), KeepFault>
+        ensures same { Stays K.terms self.old.store.keep self.new.store.keep }
+        ensures ids { SameIds K.terms self.old.store self.new.store }
+        ensures desks { self.new.desks ≡ self.old.desks }
+        ensures checks { self.new.checks ≡ self.old.checks }
+        ensures counts { Counted K.terms self.old.store.keep self.new.store.keep 0 0 }
+        ensures cause { HasCause (K.terms.failures self.old.store.keep) (K.terms.failures self.new.store.keep) result }
+    {
+        self.store.note_marks(alloc)
     }
 
     /// The keeper, with all that was acknowledged. All applications are disconnected.

@@ -16,6 +16,14 @@ returns-in_err-search_next-clause-all g c =
     all-noted c.loop-entry.listed c.loop-entry.entry-index c.entry-item.result c.search_next.new.entry
     (omega arith) c.search_next.ensures.id ∙ c.loop-entry.invariant.all
 
+pub returns-in_err-search_next-clause-marks : goal.returns-in_err-search_next-clause-marks
+returns-in_err-search_next-clause-marks g c = λ sure k held known.
+    let inv = c.loop-entry.invariant in
+    let clean : g.K.Keep.terms.doubt c.loop-entry.keep ≡ 0 = omega (arith, c.search_next.ensures.counts.doubt, sure) in
+    let marks = inv.marks clean k held known in
+    marks-noted k c.loop-entry.listed c.loop-entry.entry-index c.entry-item.result c.search_next.new.entry c.search_next.ensures.id marks
+    (c.search_next.ensures.mark sure k (inv.same.held k held) (marks c.loop-entry.entry-index c.entry-item.result (omega arith)))
+
 pub returns-in_err-search_next-clause-steady : goal.returns-in_err-search_next-clause-steady
 returns-in_err-search_next-clause-steady g c = λ steady device k held there.
     let inv = c.loop-entry.invariant in
@@ -46,12 +54,14 @@ loop-entry-preserved g c =
           let marks = inv.marks clean k held known in
           marks-noted k xs at d c.search_next.new.entry c.search_next.ensures.id marks
           (c.search_next.ensures.mark sure k (inv.same.held k held) (marks at d (omega arith)));
-      found = λ sure k held known.
+      found = λ sure k held known there.
           let clean : g.K.Keep.terms.doubt c.loop-entry.keep ≡ 0 = omega (arith, c.search_next.ensures.counts.doubt, sure) in
           let marks = inv.marks clean k held known in
           walked c.args.login c.args.template.now
           (object_at k) xs at d c.search_next.new.entry c.loop-entry.found.items c.search_next.new.found.items _ (omega arith)
-          (inv.found clean k held known)
-          (c.in_ok-search_next.ensures.found sure k (inv.same.held k held) (marks at d (omega arith)));
+          (inv.found clean k held known there)
+          (c.in_ok-search_next.ensures.found sure k (inv.same.held k held) (marks at d (omega arith))
+          (λ live. each-id (λ i. IsSome (object_at k i)) xs at d (omega arith) live
+          (subst (AllByRecursion (λ i. IsSome (object_at k i))) (sym inv.ids) there)));
       may = search rules;
     }

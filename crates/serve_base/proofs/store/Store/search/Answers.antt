@@ -17,7 +17,8 @@ returns-clause-found g c = λ sure k h.
     let clean : g.K.Keep.terms.doubt c.self.inside.keep ≡ 0 = omega (arith, c.search_kept.ensures.counts.doubt, sure) in
     rw (ap (λ xs. found_at c.args.login c.args.template.now (object_at k) (listed_ids xs)) c.deref_mut.ensures.value
     ∙ ap (found_at c.args.login c.args.template.now (object_at k)) t.ids ∙ found-objects c.args.login c.args.template.now k h.sound) at
-    (c.search_kept.ensures.found sure k t.held (subst (AreMarks k) (sym c.deref_mut.ensures.value) (t.marks.right clean)))
+    (c.search_kept.ensures.found sure k t.held (subst (AreMarks k) (sym c.deref_mut.ensures.value) (t.marks.right clean))
+    (subst (AllByRecursion (λ id. IsSome (object_at k id))) (sym (ap listed_ids c.deref_mut.ensures.value ∙ t.ids)) (all-there k)))
 
 pub returns-clause-ids : goal.returns-clause-ids
 returns-clause-ids g c =
