@@ -26,6 +26,8 @@ base.CHECKS.clear()
 
 BACKUPS = int(os.environ.get("BACKUPS", "20"))
 OBJECTS = int(os.environ.get("OBJECTS", "20000"))
+# How many objects a client may make, at most, beside each copy.
+EACH = 2000
 BESIDE = {"token.db", "token.db-wal", "token.db-clean", "token.db-reserve"}
 
 
@@ -137,16 +139,21 @@ def a_copy_has_what_stood_when_it_began_and_maybe_what_came_later_in_order(folde
     with Daemon(folder) as daemon:
         client = daemon.client()
         client.expect(OPEN_SESSION)
-        acknowledged, is_over = [0], [False]
+        acknowledged, most, is_over = [0], [0], [False]
 
         def make():
             while not is_over[0]:
+                # (without end a larger store makes the next copy longer, and that one the store)
+                if acknowledged[0] >= most[0]:
+                    time.sleep(0.001)
+                    continue
                 client.expect(data_object(b"number %09d" % acknowledged[0] + bytes(900)))
                 acknowledged[0] += 1
 
         thread = threading.Thread(target=make, daemon=True)
         thread.start()
         for turn in range(30):
+            most[0] += EACH
             before = acknowledged[0]
             copy = backed_up(folder, "copy")
             after = acknowledged[0]
@@ -156,6 +163,7 @@ def a_copy_has_what_stood_when_it_began_and_maybe_what_came_later_in_order(folde
             os.remove(copy)
         is_over[0] = True
         thread.join()
+        see(acknowledged[0] > EACH, "objects", acknowledged[0])
 
 
 @check

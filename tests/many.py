@@ -200,27 +200,55 @@ def flags_of(client):
     return struct.unpack(">Q", client.expect(call(1, number(0)))[32:40])[0] & 0x70000
 
 
-@check
-def checks_of_connections_that_are_lost_stay_tries(folder):
+@contextlib.contextmanager
+def with_one_place(folder):
+    """A daemon of a token with both PINs. Three of its four places are taken. So others come to the fourth one after the other."""
     with Daemon(folder, store=":memory:") as daemon:
-        # Three of the four places are taken. So the others come to the fourth one after the other.
         staying = [daemon.client() for _ in range(3)]
         staying[0].expect(call(4, number(0), data(b"officer"), data(b" " * 32)))
         play_all(staying, FIRST_RUN[:1])
         for payload in (call(11, SESSION, number(0), data(b"officer")), call(5, SESSION, data(b"secret")), call(12, SESSION)):
             staying[0].expect(payload)
+        yield daemon
+
+
+def lose(daemon, pin):
+    """A connection that has a PIN checked, and is gone before the reply."""
+    lost = daemon.client()
+    lost.expect(OPEN_SESSION)
+    lost.send(login(pin))
+    lost.close()
+
+
+@check
+def checks_of_connections_that_are_lost_stay_tries(folder):
+    with with_one_place(folder) as daemon:
         for count, flags, code, left in ((1, 0x10000, OK, 0), (9, 0x30000, OK, 0), (10, 0x50000, PIN_LOCKED, 0x50000)):
             for _ in range(count):
-                lost = daemon.client()
-                lost.expect(OPEN_SESSION)
-                lost.send(login(b"wrong"))
-                lost.close()
+                lose(daemon, b"wrong")
             client = daemon.client()
             see(flags_of(client) == flags, "after", count, "flags", hex(flags_of(client)))
             client.expect(OPEN_SESSION)
             client.expect(login(b"secret"), code)
             see(flags_of(client) == left, "after the right PIN flags", hex(flags_of(client)))
             client.close()
+
+
+@check
+def a_right_check_of_a_connection_that_is_lost_ends_and_sets_the_tries(folder):
+    with with_one_place(folder) as daemon:
+        for _ in range(9):
+            lose(daemon, b"wrong")
+        client = daemon.client()
+        see(flags_of(client) == 0x30000, "flags", hex(flags_of(client)))
+        client.close()
+        lose(daemon, b"secret")
+        client = daemon.client()
+        see(flags_of(client) == 0, "after the right PIN flags", hex(flags_of(client)))
+        # (nobody is logged in by it)
+        client.expect(OPEN_SESSION)
+        state = struct.unpack(">Q", client.expect(call(10, SESSION))[8:16])[0]
+        see(state == 2, "state", state)
 
 
 @check

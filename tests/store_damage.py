@@ -5,14 +5,15 @@
 
 makes a small store with the program TOKEND, and then starts it on copies of which a bit is flipped, a file is cut, or a file is gone.
 Every STEP-th bit of the file is flipped, and every STEP-th length of it is a cut (1: each; without it 199), and of the log every
-STEP_OF_LOG-th (without it as of the file).
+STEP_OF_LOG-th (without it as of the file). Of a store with 20,000 objects it tries a sample, by chance but the same each time: SAMPLE bits
+and lengths (200 if it isn't set).
 
 A start has to end with status 3 and leave both files byte for byte. Or the store has to be the whole one, the one at its last checkpoint
 where the log was touched, or the one before its last commits. Each kind of damage is one test, and a line, `ok KIND: N starts: ..` or
 `FAILED KIND: ..`: how many of how many starts were which. It has failed where one start was anything else, or where there was none. The
 last line is the sum, `N passed, M failed`. As many starts run side by side as there are processors, each in a folder of its own.
 """
-import concurrent.futures, itertools, os, shutil, socket, struct, subprocess, sys, tempfile, threading
+import concurrent.futures, itertools, os, random, shutil, socket, struct, subprocess, sys, tempfile, threading
 
 sys.dont_write_bytecode = True
 
@@ -48,6 +49,12 @@ class Token:
                 raise OSError("the daemon closed the connection")
             data += piece
         return data
+
+    def some(self):
+        piece = self.socket.recv(65_536)
+        if not piece:
+            raise OSError("the daemon closed the connection")
+        return piece
 
     def contents(self):
         """The objects' values and the token's label, or the code of a refusal."""
@@ -97,6 +104,76 @@ def files(folder):
     return found
 
 
+# The objects of the larger store, how many calls are sent at once, and how many of its last objects may be in the log alone.
+OBJECTS, AT_ONCE, LATEST = 20_000, 200, 100
+SAMPLE = int(os.environ.get("SAMPLE", "200"))
+
+
+def value_of(at):
+    return b"the value of object %012d" % at
+
+
+def in_parts(last):
+    return [range(first, min(first + AT_ONCE, last + 1)) for first in range(1, last + 1, AT_ONCE)]
+
+
+def told(token, asked, answers):
+    """Sends frames. None where these answers come, and else the code of the first that is another one."""
+    token.socket.sendall(asked)
+    got = b""
+    while got != answers:
+        if not answers.startswith(got):
+            return first_other(token, got, answers)
+        got += token.some()
+    return None
+
+
+def first_other(token, got, answers):
+    at = 0
+    while True:
+        while len(got) < at + 12:
+            got += token.some()
+        length, code = struct.unpack(">IQ", got[at:at + 12])
+        end = at + 4 + length
+        while len(got) < end:
+            got += token.some()
+        if got[at:end] != answers[at:end]:
+            return code
+        at = end
+
+
+def add_many(token):
+    for part in in_parts(OBJECTS):
+        payloads = (frames.call(13, number(1), template((0, number(0)), (1, b"\1"), (2, b"\0"), (0x11, value_of(at)))) for at in part)
+        answers = (frames.data(number(0) + number(at)) for at in part)
+        other = told(token, b"".join(map(frames.data, payloads)), b"".join(answers))
+        assert other is None, other
+
+
+def count_in(token):
+    """How many of the objects there are, the first ones, each as it was made; the code of a refusal; or what is wrong."""
+    code, _ = token.call(7, number(0), number(6))
+    if not code:
+        code, _ = token.call(19, number(1), template())
+    count, found = 0, 1024
+    while not code and found == 1024:
+        code, reply = token.call(20, number(1), number(1024))
+        if not code:
+            found = struct.unpack(">I", reply[:4])[0]
+            if reply[4:] != b"".join(number(count + at) for at in range(1, found + 1)):
+                return "other handles"
+            count += found
+    if code:
+        return "code", code
+    for part in in_parts(count):
+        payloads = (frames.call(17, number(1), number(at), struct.pack(">I", 1) + number(0x11) + buffer(64)) for at in part)
+        answers = (frames.data(number(0) + struct.pack(">I", 1) + number(32) + b"\1" + value_of(at)) for at in part)
+        code = told(token, b"".join(map(frames.data, payloads)), b"".join(answers))
+        if code is not None:
+            return ("code", code) if code else "another value"
+    return count
+
+
 def put(folder, db, log):
     for name, data in (("token.db", db), ("token.db-wal", log)):
         path = os.path.join(folder, name)
@@ -108,13 +185,13 @@ def put(folder, db, log):
                 file.write(data)
 
 
-def start(program, folder, db, log):
-    """What a start on these files comes to: 'refused', or the contents."""
+def start(program, folder, db, log, read=Token.contents):
+    """What a start on these files comes to: 'refused', or what is read."""
     put(folder, db, log)
     token = Token(program, folder)
     if token.is_ready:
         try:
-            return token.contents()
+            return read(token)
         finally:
             token.kill()
     error = token.process.stderr.read()
@@ -138,14 +215,47 @@ def cuts(data, step):
         yield "cut to %d" % length, data[:length]
 
 
-def main():
-    program = os.path.abspath(sys.argv[1])
-    step = int(sys.argv[2]) if len(sys.argv) > 2 else 199
-    step_of_log = int(sys.argv[3]) if len(sys.argv) > 3 else step
-    room = tempfile.mkdtemp()
-    folder = os.path.join(room, "first")
-    os.mkdir(folder)
-    pool, own = concurrent.futures.ThreadPoolExecutor(os.cpu_count()), threading.local()
+class Starts:
+    """Starts on changed files, some side by side, and what came of them."""
+
+    def __init__(self, program, room):
+        self.program, self.room = program, room
+        self.pool, self.own = concurrent.futures.ThreadPoolExecutor(os.cpu_count()), threading.local()
+        self.sums = {"ok": 0, "FAILED": 0, "skipped": 0}
+
+    def try_one(self, change, read):
+        if not hasattr(self.own, "folder"):
+            self.own.folder = tempfile.mkdtemp(dir=self.room)
+        try:
+            return change[0], start(self.program, self.own.folder, *change[1], read)
+        except OSError as error:
+            return change[0], "%s" % error
+
+    def outcomes(self, changes, read):
+        # (some at a time, since each is a copy of both files)
+        while some := list(itertools.islice(changes, 500)):
+            yield from self.pool.map(lambda it: self.try_one(it, read), some)
+
+    def run(self, name, changes, kind_of, read=Token.contents):
+        counts, bad = {}, 0
+        for what, found in self.outcomes(iter(changes), read):
+            kind = "refused, unchanged" if found == "refused" else kind_of(found)
+            if kind.startswith("WRONG") or kind.startswith("code"):
+                bad += 1
+                print("%s, %s: %s" % (name, what, kind))
+            counts[kind] = counts.get(kind, 0) + 1
+        outcome = "ok" if counts and not bad else "FAILED"
+        self.sums[outcome] += 1
+        found = ", ".join("%d %s" % (counts[k], k) for k in sorted(counts))
+        print("%s %s: %d starts: %s" % (outcome, name, sum(counts.values()), found), flush=True)
+
+
+def of_code(code):
+    return "CKR_DEVICE_ERROR" if code == 0x30 else "code %#x" % code
+
+
+def small_store(program, folder):
+    """Makes a store in two runs, and returns what it had after each change."""
     states = []
     for values in ([b"one", b"two"], [b"three", b"four", b"five"]):
         token = Token(program, folder)
@@ -155,52 +265,34 @@ def main():
             add(token, value)
             states.append(token.contents())
         token.kill()
-    whole, copied, new = states[-1], states[2], states[0]
-    later = states[4:-1]
+    return states
+
+
+def damage_small(starts, folder, step, step_of_log):
+    states = small_store(starts.program, folder)
+    whole, copied, new, later = states[-1], states[2], states[0], states[4:-1]
     db, log = files(folder)
     print("database file %d bytes, log %d bytes" % (len(db), len(log)))
-    sums = {"ok": 0, "FAILED": 0, "skipped": 0}
 
-    def try_one(change):
-        if not hasattr(own, "folder"):
-            own.folder = tempfile.mkdtemp(dir=room)
-        return change[0], start(program, own.folder, *change[1])
+    def of_file(found):
+        if isinstance(found, int):
+            return of_code(found)
+        if found == whole:
+            return "whole"
+        return "WRONG: a new token" if found == new else "WRONG: %s" % (found,)
 
-    def outcomes(changes):
-        # (some at a time, since each is a copy of both files)
-        while some := list(itertools.islice(changes, 500)):
-            yield from pool.map(try_one, some)
+    def of_log(found):
+        if found == copied:
+            return "at its last checkpoint"
+        return "before its last commits" if found in later else of_file(found)
 
-    def run(name, changes, is_log):
-        counts, bad = {}, 0
-        for what, found in outcomes(iter(changes)):
-            if found == "refused":
-                kind = "refused, unchanged"
-            elif isinstance(found, int):
-                kind = "CKR_DEVICE_ERROR" if found == 0x30 else "code %#x" % found
-            elif found == whole:
-                kind = "whole"
-            elif found == copied and is_log:
-                kind = "at its last checkpoint"
-            elif found in later and is_log:
-                kind = "before its last commits"
-            else:
-                kind = "WRONG: a new token" if found == new else "WRONG: %s" % (found,)
-            if kind.startswith("WRONG") or kind.startswith("code"):
-                bad += 1
-                print("%s, %s: %s" % (name, what, kind))
-            counts[kind] = counts.get(kind, 0) + 1
-        outcome = "ok" if counts and not bad else "FAILED"
-        sums[outcome] += 1
-        found = ", ".join("%d %s" % (counts[k], k) for k in sorted(counts))
-        print("%s %s: %d starts: %s" % (outcome, name, sum(counts.values()), found), flush=True)
-
-    run("flips of the file", ((w, (d, log)) for w, d in flips(db, step)), False)
-    run("flips of the log", ((w, (db, d)) for w, d in flips(log, step_of_log)), True)
-    run("cuts of the file", ((w, (d, log)) for w, d in cuts(db, step)), False)
-    run("cuts of the log", ((w, (db, d)) for w, d in cuts(log, step_of_log)), True)
-    run("the file gone", [("gone", (None, log))], False)
-    run("the log gone", [("gone", (db, None))], True)
+    starts.run("flips of the file", ((w, (d, log)) for w, d in flips(db, step)), of_file)
+    starts.run("flips of the log", ((w, (db, d)) for w, d in flips(log, step_of_log)), of_log)
+    starts.run("cuts of the file", ((w, (d, log)) for w, d in cuts(db, step)), of_file)
+    starts.run("cuts of the log", ((w, (db, d)) for w, d in cuts(log, step_of_log)), of_log)
+    starts.run("the file gone", [("gone", (None, log))], of_file)
+    starts.run("the log gone", [("gone", (db, None))], of_log)
+    starts.run("a text", [("whole", (b"no database at all\n" * 40, None))], of_file)
     other = os.path.join(folder, "other.db")
     try:
         import sqlite3
@@ -209,14 +301,59 @@ def main():
         connection.execute("insert into note (text) values ('somebody else')")
         connection.commit()
         connection.close()
-        run("another program's file", [("whole", (open(other, "rb").read(), None))], False)
+        starts.run("another program's file", [("whole", (open(other, "rb").read(), None))], of_file)
     except ImportError:
-        sums["skipped"] += 1
+        starts.sums["skipped"] += 1
         print("skipped another program's file: Python has no sqlite3 here")
-    run("a text", [("whole", (b"no database at all\n" * 40, None))], False)
-    shutil.rmtree(room)
-    print("%d passed, %d failed, %d skipped" % tuple(sums.values()))
-    return 1 if sums["FAILED"] else 0
+
+
+def damage_large(starts, folder):
+    token = Token(starts.program, folder)
+    assert token.is_ready and token.call(7, number(0), number(6))[0] == 0
+    add_many(token)
+    token.kill()
+    db, log = files(folder)
+    print("database file %d bytes, log %d bytes, %d objects" % (len(db), len(log), OBJECTS))
+    by_chance = random.Random(1)
+
+    def flipped(bytes_):
+        at, bit = by_chance.randrange(len(bytes_)), by_chance.randrange(8)
+        return "byte %d, bit %d" % (at, bit), bytes_[:at] + bytes([bytes_[at] ^ 1 << bit]) + bytes_[at + 1:]
+
+    def cut(bytes_):
+        length = by_chance.randrange(len(bytes_))
+        return "cut to %d" % length, bytes_[:length]
+
+    def of_file(found):
+        if isinstance(found, tuple):
+            return of_code(found[1])
+        return "whole" if found == OBJECTS else "WRONG: %s" % (found,)
+
+    def of_log(found):
+        is_earlier = isinstance(found, int) and OBJECTS - LATEST < found < OBJECTS
+        return "before its last commits" if is_earlier else of_file(found)
+
+    for name, change, bytes_, kind_of in (("flips", flipped, db, of_file), ("cuts", cut, db, of_file), ("flips", flipped, log, of_log),
+                                          ("cuts", cut, log, of_log)):
+        changes = (change(bytes_) for _ in range(SAMPLE // 4))
+        which = ((w, (d, log) if bytes_ is db else (db, d)) for w, d in changes)
+        starts.run("%s of the larger %s" % (name, "file" if bytes_ is db else "log"), which, kind_of, count_in)
+
+
+def main():
+    program = os.path.abspath(sys.argv[1])
+    step = int(sys.argv[2]) if len(sys.argv) > 2 else 199
+    step_of_log = int(sys.argv[3]) if len(sys.argv) > 3 else step
+    with tempfile.TemporaryDirectory() as room:
+        starts = Starts(program, room)
+        for name, damage in (("small", lambda folder: damage_small(starts, folder, step, step_of_log)),
+                             ("large", lambda folder: damage_large(starts, folder))):
+            folder = os.path.join(room, name)
+            os.mkdir(folder)
+            damage(folder)
+        starts.pool.shutdown()
+    print("%d passed, %d failed, %d skipped" % tuple(starts.sums.values()))
+    return 1 if starts.sums["FAILED"] else 0
 
 
 if __name__ == "__main__":

@@ -238,12 +238,12 @@ def mechanisms_of_the_profile_are_those_of_the_table():
 def commands():
     """Of each command its options with their help, and which must be given, as crates/commands/src/command.rt has them."""
     source = text("crates/commands/src/command.rt")
-    bodies = dict(re.findall(r"\nfn (\w+)<'a>\(alloc: Global\) -> (?:Result<Command|Arg).*?\{\n(.*?)\n\}\n", source, re.S))
+    bodies = dict(re.findall(r"\nfn (\w+)<'a>\(alloc: Global(?:, \w+: u64)?\) -> (?:Result<Command|Arg).*?\{\n(.*?)\n\}\n", source, re.S))
     found = {}
     for body in bodies.values():
         name = re.search(r'Command::new\(alloc, "(\w+)"\)', body)
         if name:
-            whole = re.sub(r"\.arg\((\w+)\(alloc\)\)", lambda it: bodies[it.group(1)], body)
+            whole = re.sub(r"\.arg\((\w+)\(alloc(?:, \w+)?\)\)", lambda it: bodies[it.group(1)], body)
             options = re.findall(r'(needed|chosen)\(\s*alloc,\s*"([\w-]+)",\s*"((?:[^"\\]|\\.)*)"', whole)
             found[name.group(1)] = {option: (kind == "needed", help_.replace('\\"', '"')) for kind, option, help_ in options}
     return found

@@ -184,14 +184,26 @@ fn no_seat_is_asked_where_a_thread_is_not_started(rt: HostRuntime) -> Result<(),
     expect_asked(rt, alloc, keep, (0, 0, 0, 0), None)
 }
 
-/// `rt try --test --fail-alloc N` refuses an allocation. Where it is one of `hold`'s, that is returned, no seat was asked, and the token
-/// is as it was. Where it is one before, the test fails by it.
-#[test]
-fn no_seat_is_asked_where_memory_is_refused(rt: HostRuntime) -> Result<(), Fail> {
-    let alloc = rt.alloc();
+/// Whether silent seats were held. Where an allocation of `hold` was refused, that is returned, no seat was asked, and the token is as it
+/// was.
+fn is_held<R: Threads + Wait + Clock + Copy + Send + Drop + 'static>(
+    rt: R,
+    alloc: Global,
+) -> Result<bool, Fail> {
     let keep = ListKeep::new(alloc, Record::new());
     let (fault, is_asked, has_session) = held_silent(rt, alloc, keep, (0, 0, 0, 0))?;
-    assert_eq!(rt; is_asked, fault.is_none());
-    assert!(rt; has_session || fault.is_none());
+    if is_asked == fault.is_none() && (has_session || fault.is_none()) {
+        Ok(fault.is_none())
+    } else {
+        Err("a seat was asked, or the token is another one".into())
+    }
+}
+
+/// `rt try --test --fail-alloc N` refuses one allocation, so seats are held one time of two. Where it is one before, the test fails by it.
+#[test]
+fn no_seat_is_asked_where_memory_is_refused(rt: HostRuntime) -> Result<(), Fail> {
+    let first = is_held(rt, rt.alloc())?;
+    let second = is_held(rt, rt.alloc())?;
+    assert!(rt; first || second);
     Ok(())
 }

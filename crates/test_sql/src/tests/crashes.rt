@@ -1,6 +1,6 @@
 //! What a crash leaves, over files in memory that fail after so many calls.
 
-use super::disks::{MANY, OverStore, endings, new_files, store_in};
+use super::disks::{FRAMES, MANY, OverStore, endings, new_files, store_in};
 use super::given::{Change, are_same, make};
 use Change::{Insert, Remove, Replace, Reset, SetRecord};
 use keep::{Keep, KeepFault, ListKeep};
@@ -110,9 +110,6 @@ fn is_whole(
     }
     Ok(made.changes == CHANGES.len())
 }
-
-/// How many frames the log has before it is copied: as the daemon has it, and few, so that it is copied between the changes.
-const FRAMES: [usize; 2] = [64, 3];
 
 #[test]
 fn a_stop_of_the_log_leaves_whole_changes(rt: HostRuntime) -> Result<(), Fail> {

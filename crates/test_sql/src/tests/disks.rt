@@ -11,6 +11,9 @@ use std::test::Fail;
 /// More calls than a run makes.
 pub(super) const MANY: u64 = 1 << 40;
 
+/// How many frames the log has before it is copied: as the daemon has it, and few, so that it is copied between the changes.
+pub(super) const FRAMES: [usize; 2] = [64, 3];
+
 /// What is done over a connection to a store, which comes back.
 pub(super) trait Work {
     fn over<S: Alter + Drop>(
@@ -62,13 +65,6 @@ fn copied(alloc: Global, disk: &Memory) -> Result<Memory, Fail> {
     copy.write_at(0, disk.bytes())?;
     copy.sync()?;
     Ok(copy)
-}
-
-/// The files as a crash leaves them.
-pub(super) fn crashed(mut files: Files<Fuse<Memory>>) -> Files<Fuse<Memory>> {
-    files.log.crash();
-    files.db.crash();
-    files
 }
 
 /// What is done over a keeper, which comes back.

@@ -1,8 +1,8 @@
-//! A stop of the machine while a store of format 1 is taken over.
+//! A stop of the machine while a store of format 1 is taken over, as the daemon opens it.
 
-use super::disks::{MANY, Work, crashed, fused, new_files, work_in};
+use super::disks::{FRAMES, MANY, OverStore, Work, endings, fused, new_files, store_in, work_in};
 use super::old::{bodies_in, new_bodies, old_bodies, stored};
-use keep_sql::SqlKeep;
+use keep::Keep;
 use sqlite::{Alter, Connection, Files};
 use sqlite_disk::{Fuse, Memory};
 use std::alloc::Global;
@@ -28,91 +28,112 @@ fn old_files(alloc: Global) -> Result<Files<Fuse<Memory>>, Fail> {
     work_in(alloc, new_files(alloc, MANY, MANY), &mut Old)
 }
 
-/// Takes the store over: whether that went well.
+/// Whether the store was opened, and so taken over.
 #[derive(Clone, Copy)]
 struct TakenOver(bool);
 
-impl Work for TakenOver {
-    fn over<S: Alter + Drop>(
-        &mut self,
-        alloc: Global,
-        conn: Connection<S>,
-    ) -> Result<Connection<S>, Fail> {
-        match SqlKeep::from_connection(alloc, conn) {
-            Ok(keep) => {
-                self.0 = true;
-                Ok(keep.close())
-            }
-            Err((_, conn)) => Ok(conn),
-        }
+impl OverStore for TakenOver {
+    fn over<K: Keep>(&mut self, _alloc: Global, keep: K) -> Result<K, Fail> {
+        self.0 = true;
+        Ok(keep)
     }
 }
 
-/// Whether the bodies are all as they were, or all in format 2, and these where the store was opened; and whether it is taken
-/// over at last, and then has each body in format 2.
+/// Whether the bodies are all as they were, and whether they are all in format 2.
 #[derive(Clone, Copy)]
-struct Whole {
-    was_open: bool,
-    is_whole: bool,
-    is_new: bool,
+struct Formats {
+    are_old: bool,
+    are_new: bool,
 }
 
-impl Work for Whole {
+impl Work for Formats {
     fn over<S: Alter + Drop>(
         &mut self,
         alloc: Global,
         mut conn: Connection<S>,
     ) -> Result<Connection<S>, Fail> {
-        self.is_whole = are_whole(alloc, &mut conn, self.was_open)?;
-        let mut taken = TakenOver(false);
-        let mut conn = taken.over(alloc, conn)?;
-        self.is_new = taken.0 && bodies_in(alloc, &mut conn)? == new_bodies(alloc)?;
+        let found = bodies_in(alloc, &mut conn)?;
+        self.are_old = found == old_bodies(alloc)?;
+        self.are_new = found == new_bodies(alloc)?;
         Ok(conn)
     }
 }
 
-fn are_whole<S: Alter>(
-    alloc: Global,
-    conn: &mut Connection<S>,
-    was_open: bool,
-) -> Result<bool, Fail> {
-    let found = bodies_in(alloc, conn)?;
-    Ok(found == new_bodies(alloc)? || (!was_open && found == old_bodies(alloc)?))
+/// The files, and the formats of the bodies in them.
+fn formats_in(alloc: Global, files: Files<Memory>) -> Result<(Files<Memory>, Formats), Fail> {
+    let mut found = Formats {
+        are_old: false,
+        are_new: false,
+    };
+    let files = work_in(alloc, files, &mut found)?;
+    Ok((files, found))
 }
 
-/// Sees what a stop leaves, and what the next open finds. Whether nothing stopped.
-fn expect_whole(rt: &impl Abort, alloc: Global, log: u64, db: u64) -> Result<bool, Fail> {
+/// Whether files have one format, format 2 if the store was opened, and the next opening takes it over.
+fn have_one_format(
+    alloc: Global,
+    files: Files<Memory>,
+    frames: usize,
+    was_open: bool,
+) -> Result<bool, Fail> {
+    let (files, found) = formats_in(alloc, files)?;
+    let mut again = TakenOver(false);
+    let (files, _) = store_in(alloc, files, frames, &mut again)?;
+    let (_files, at_last) = formats_in(alloc, files)?;
+    let is_one = found.are_new || (found.are_old && !was_open);
+    Ok(is_one && again.0 && at_last.are_new)
+}
+
+/// Sees what a stop leaves, however the machine ends. Whether nothing stopped.
+fn expect_whole(
+    rt: &impl Abort,
+    alloc: Global,
+    frames: usize,
+    log: u64,
+    db: u64,
+) -> Result<bool, Fail> {
     let mut taken = TakenOver(false);
     let files = fused(alloc, &old_files(alloc)?, log, db)?;
-    let files = work_in(alloc, files, &mut taken)?;
-    let mut found = Whole {
-        was_open: taken.0,
-        is_whole: false,
-        is_new: false,
-    };
-    work_in(alloc, crashed(files), &mut found)?;
-    assert!(rt; found.is_whole, "log {log}, db {db}");
-    assert!(rt; found.is_new, "log {log}, db {db}");
+    let (left, _) = store_in(alloc, files, frames, &mut taken)?;
+    for (ending, files) in endings(alloc, left)?.into_iter().enumerate() {
+        let is_so = have_one_format(alloc, files, frames, taken.0)?;
+        assert!(rt; is_so, "log {log}, db {db}, ending {ending}");
+    }
     Ok(taken.0)
 }
 
 #[test]
 fn a_stop_of_the_log_leaves_one_format(rt: HostRuntime) -> Result<(), Fail> {
-    for calls in 0..1000 {
-        if expect_whole(&rt, rt.alloc(), calls, MANY)? {
-            assert!(rt; calls > 3, "{calls} calls");
-            return Ok(());
+    let alloc = rt.alloc();
+    for frames in FRAMES {
+        let mut stops = None;
+        for calls in 0..1000 {
+            if stops.is_none() && expect_whole(&rt, alloc, frames, calls, MANY)? {
+                stops = Some(calls);
+            }
         }
+        assert!(rt;
+            stops.is_some_and(|stops| stops > 3),
+            "{frames} frames: {stops:?}"
+        );
     }
-    Err("each open stopped".into())
+    Ok(())
 }
 
 #[test]
 fn a_stop_of_the_database_leaves_one_format(rt: HostRuntime) -> Result<(), Fail> {
-    for calls in 0..1000 {
-        if expect_whole(&rt, rt.alloc(), MANY, calls)? {
-            return Ok(());
+    let alloc = rt.alloc();
+    for frames in FRAMES {
+        let mut stops = None;
+        for calls in 0..1000 {
+            if stops.is_none() && expect_whole(&rt, alloc, frames, MANY, calls)? {
+                stops = Some(calls);
+            }
         }
+        assert!(rt;
+            stops.is_some_and(|stops| stops > 1),
+            "{frames} frames: {stops:?}"
+        );
     }
-    Err("each open stopped".into())
+    Ok(())
 }
