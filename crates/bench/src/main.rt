@@ -52,8 +52,8 @@
 //!   is C_FindObjectsInit, C_FindObjects and C_FindObjectsFinal, whose floor is three echoes. The first of each stands apart;
 //! - C_DestroyObject of keys from the beginning, the middle and the end, with a floor as C_CreateObject has.
 //!
-//! With the arguments `searches SOCKET` it does those searches alone, as after a new start of the daemon: its first search reads
-//! all keys and learns their marks.
+//! With the arguments `searches SOCKET` it does those searches alone, as after a new start of the daemon, which notes all marks
+//! before it serves.
 //!
 //! With the arguments `opens STORE` it opens a store that no daemon has open, as a daemon does when it starts. The floor is reading
 //! the file.

@@ -264,7 +264,7 @@ fn search_all<T: Threads>(
     Ok(())
 }
 
-/// Searches the keys that the token has. The first search of a daemon learns their marks.
+/// Searches the keys that the token has. The first search of each kind stands apart.
 pub(crate) fn print_key_searches<T: Threads>(
     rt: &HostRuntime,
     threads: &T,

@@ -41,9 +41,25 @@ impl Model for Mark {
 
     ghost Value = { ObjectMark };
 
-    ghost view = { λ m. record { private = m.private; class = m.class; key_type = m.key_type; label = m.label; id = m.id; application = m.application; codes = m.codes } };
+    ghost view = { λ m. record {
+      private = m.private;
+      class = m.class;
+      key_type = m.key_type;
+      label = m.label;
+      id = m.id;
+      application = m.application;
+      codes = m.codes;
+    } };
 
-    ghost inverse = { λ m. record { private = m.private; class = m.class; key_type = m.key_type; label = m.label; id = m.id; application = m.application; codes = m.codes } };
+    ghost inverse = { λ m. record {
+      private = m.private;
+      class = m.class;
+      key_type = m.key_type;
+      label = m.label;
+      id = m.id;
+      application = m.application;
+      codes = m.codes;
+    } };
 }
 
 impl Mark {
@@ -105,9 +121,25 @@ impl Model for Wanted {
 
     ghost Value = { WantedMarks };
 
-    ghost view = { λ w. record { private = w.private; class = w.class; key_type = w.key_type; label = w.label; id = w.id; application = w.application; is_decided = w.is_decided } };
+    ghost view = { λ w. record {
+      private = w.private;
+      class = w.class;
+      key_type = w.key_type;
+      label = w.label;
+      id = w.id;
+      application = w.application;
+      is_decided = w.is_decided;
+    } };
 
-    ghost inverse = { λ w. record { private = w.private; class = w.class; key_type = w.key_type; label = w.label; id = w.id; application = w.application; is_decided = w.is_decided } };
+    ghost inverse = { λ w. record {
+      private = w.private;
+      class = w.class;
+      key_type = w.key_type;
+      label = w.label;
+      id = w.id;
+      application = w.application;
+      is_decided = w.is_decided;
+    } };
 }
 
 impl Wanted {

@@ -364,7 +364,10 @@ fn seed_from<E: Write>(
 fn token_over<K: Keep>(alloc: Global, keep: K) -> Result<Token<K>, Fault> {
     match Token::new(alloc, keep) {
         Ok(token) => Ok(token),
-        Err((fault, _)) => Err(fault.into()),
+        Err((fault, keep)) => {
+            drop(keep);
+            Err(fault.into())
+        }
     }
 }
 

@@ -39,7 +39,8 @@ pub(crate) fn search_kept<K: Keep>(
     found: &mut Vec<Match>,
 ) -> Result<(), KeepFault>
     ensures found { K.terms.doubt keep.new ≡ 0 → (c : Contents) → K.terms.holds keep.old c → AreMarks c listed.old
-        → AllByRecursion (λ id. IsSome (object_at c id)) (listed_ids listed.old) → OnOk result (found.new.items ≡ found.old.items ++ found_at login template.now (object_at c) (listed_ids listed.old)) }
+        → AllByRecursion (λ id. IsSome (object_at c id)) (listed_ids listed.old)
+        → OnOk result (found.new.items ≡ found.old.items ++ found_at login template.now (object_at c) (listed_ids listed.old)) }
     ensures may { AllByRecursion (MayFind login) found.old.items → OnOk result (AllByRecursion (MayFind login) found.new.items) }
     ensures ids { listed_ids listed.new ≡ listed_ids listed.old }
     ensures all { all_ids listed.new ≡ all_ids listed.old }
@@ -69,7 +70,8 @@ fn search_next<K: Keep>(
 ) -> Result<(), KeepFault>
     requires { wanted.now ≡ wanted_of template.now }
     ensures found { K.terms.doubt keep.new ≡ 0 → (c : Contents) → K.terms.holds keep.old c → IsMarkOf (object_at c entry.old.id) entry.old.mark
-        → (entry.old.removed ≡ false → IsSome (object_at c entry.old.id)) → OnOk result (found.new.items ≡ found.old.items ++ found_in login template.now (object_at c) entry.old) }
+        → (entry.old.removed ≡ false → IsSome (object_at c entry.old.id))
+        → OnOk result (found.new.items ≡ found.old.items ++ found_in login template.now (object_at c) entry.old) }
     ensures may { AllByRecursion (MayFind login) found.old.items → OnOk result (AllByRecursion (MayFind login) found.new.items) }
     ensures id { entry.new.id ≡ entry.old.id }
     ensures removed { entry.new.removed ≡ entry.old.removed }
