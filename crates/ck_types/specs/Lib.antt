@@ -4,3 +4,4 @@ pub mod Canonical
 pub mod Coding
 pub mod Entry
 pub mod Numbered
+pub mod Limits

@@ -8,10 +8,11 @@
 //! - `Codec` is a value's encoding. One definition, a `Format`, is both how a value is encoded and
 //!   how it is decoded. Each format is canonical: what is decoded is encoded by just the bytes that
 //!   were taken, and what is encoded is decoded again, whatever follows.
-//! - `RW_SESSION`, `SERIAL_SESSION` and others are numbers that are no codes.
+//! - `RW_SESSION`, `SERIAL_SESSION` and others are numbers that are no codes. Limits are among them.
 //!
 //! Proved, by the names of contracts: numbers and variants are each other's inverse (`IsInverse`). Each `Codec` decodes and encodes as
-//! its `Format` says, unless an allocation fails (`Decodes`, `Encodes`), and each format is canonical (`IsCanonical`).
+//! its `Format` says, unless an allocation fails (`Decodes`, `Encodes`), and each format is canonical (`IsCanonical`). Limits are as defined
+//! (`limits_are_as_defined`).
 #![tactic(auto)]
 
 mod attr_type;
@@ -22,6 +23,7 @@ mod fault;
 mod items;
 mod key_type;
 mod label;
+mod laws;
 mod list;
 mod mech_type;
 mod numbered;
@@ -42,6 +44,7 @@ pub use fault::CodecFault;
 pub use items::Items;
 pub use key_type::KeyType;
 pub use label::Label;
+pub use laws::limits_are_as_defined;
 pub use list::ListItem;
 pub use mech_type::MechType;
 pub use object_class::ObjectClass;
