@@ -252,6 +252,31 @@ def a_right_check_of_a_connection_that_is_lost_ends_and_sets_the_tries(folder):
 
 
 @check
+def short_calls_are_answered_before_logins_that_came_first(folder):
+    with Daemon(folder, "--clients", "8", store=":memory:") as daemon:
+        clients = [daemon.client() for _ in range(32)]
+        clients[0].expect(call(4, number(0), data(b"officer"), data(b" " * 32)))
+        play_all(clients, FIRST_RUN[:1])
+        for payload in (call(11, SESSION, number(0), data(b"officer")), call(5, SESSION, data(b"secret")), call(12, SESSION)):
+            clients[0].expect(payload)
+        # (each of the four workers has four of each kind, and at least three logins wait)
+        slow, quick = clients[:16], clients[16:]
+        for client in slow:
+            client.send(login(b"secret"))
+        for client in quick:
+            client.send(call(10, SESSION))
+        waiting, logins = {client.stream: client for client in clients}, 0
+        while any(client in quick for client in waiting.values()):
+            for stream in select.select(list(waiting), [], [], SECONDS)[0]:
+                client = waiting.pop(stream)
+                see(client.hear()[0] == OK, "a call is refused")
+                logins += client in slow
+        see(logins <= 8, "logins that were answered before the last short call:", logins)
+        for client in waiting.values():
+            see(client.hear()[0] == OK, "a login is refused")
+
+
+@check
 def numbers_of_clients_and_seconds_that_are_none_are_refused(folder):
     for words in (("--clients", "0"), ("--clients", "65"), ("--clients", "x"), ("--idle", "0"), ("--idle", "x")):
         status, output, errors = ran(folder, "serve", "--store", ":memory:", "--socket", "s", *words)

@@ -1,9 +1,12 @@
 /*
- * load SOCKET IDLE ACTIVE CALLS [LOGINS]: what a client of the daemon on SOCKET sees beside others.
+ * load SOCKET IDLE ACTIVE CALLS [LOGINS [SEARCHES [PAUSE]]]: what a client of the daemon on SOCKET sees beside others.
  *
  * IDLE connections open a session each and then do nothing. ACTIVE ones make CALLS calls of C_GetSessionInfo each, once all of them are
- * served. LOGINS ones log in and out over and over meanwhile; the token is initialised for them. It prints the nanoseconds a call of the
- * active clients, and with one of them or with logins also how long half of its calls took at most, 99 of 100, and the longest.
+ * served, with PAUSE microseconds between two, or none. LOGINS ones log in and out over and over meanwhile; the token is initialised for
+ * them. SEARCHES ones begin a search for all objects and end it, over and over.
+ *
+ * It prints the nanoseconds a call of the active clients, and with one of them or beside others also how long half of its calls took at
+ * most, 99 of 100, and the longest. Beside others also how long a new connection waited for its first answer, the longest of twenty.
  * Frames: docs/PROTOCOL.md.
  *
  * cc -O2 -pthread tests/measure/load.c -o load
@@ -18,7 +21,7 @@
 #include <time.h>
 #include <unistd.h>
 
-enum { INIT_TOKEN = 4, INIT_PIN = 5, OPEN_SESSION = 7, SESSION_INFO = 10, LOGIN = 11, LOGOUT = 12 };
+enum { INIT_TOKEN = 4, INIT_PIN = 5, OPEN_SESSION = 7, SESSION_INFO = 10, LOGIN = 11, LOGOUT = 12, FIND_INIT = 19, FIND_FINAL = 21 };
 
 struct frame {
     unsigned char bytes[256];
@@ -30,7 +33,7 @@ struct timing {
 };
 
 static const char *path;
-static int calls;
+static int calls, pause_each;
 static volatile int is_over;
 static pthread_barrier_t all_there;
 
@@ -136,6 +139,20 @@ static void *log_in_and_out(void *count) {
     return NULL;
 }
 
+static void *search(void *count) {
+    int fd = dial();
+    uint64_t session = open_session(fd);
+    struct frame all = request(FIND_INIT, session);
+    put(&all, 0, 4);
+    while (!is_over) {
+        ask(fd, all);
+        ask(fd, request(FIND_FINAL, session));
+        ++*(long *)count;
+    }
+    close(fd);
+    return NULL;
+}
+
 static double now(void) {
     struct timespec time;
     clock_gettime(CLOCK_MONOTONIC, &time);
@@ -157,6 +174,8 @@ static void *call(void *result) {
         ask(fd, info);
     begun = now();
     for (int i = 0; i < calls; i++) {
+        if (pause_each)
+            usleep(pause_each);
         double before = now();
         ask(fd, info);
         took[i] = now() - before;
@@ -171,25 +190,41 @@ static void *call(void *result) {
     return NULL;
 }
 
+/* How long a new connection waits for its first answer, the longest of twenty. */
+static double longest_wait(void) {
+    double longest = 0;
+    for (int i = 0; i < 20; i++) {
+        double before = now();
+        int fd = dial();
+        open_session(fd);
+        if (now() - before > longest)
+            longest = now() - before;
+        close(fd);
+    }
+    return longest;
+}
+
 int main(int count, char **words) {
-    static pthread_t callers[64], others[64];
+    static pthread_t callers[64], others[128];
     static struct timing timings[64];
-    static long done[64];
+    static long done[128];
     long all = 0;
-    double sum = 0, begun;
+    double sum = 0, begun, waited = 0;
     if (count < 5)
-        fail("SOCKET IDLE ACTIVE CALLS [LOGINS]");
+        fail("SOCKET IDLE ACTIVE CALLS [LOGINS [SEARCHES [PAUSE]]]");
     int idle = atoi(words[2]), active = atoi(words[3]), logins = count > 5 ? atoi(words[5]) : 0;
+    int searches = count > 6 ? atoi(words[6]) : 0, beside = logins + searches;
     path = words[1];
     calls = atoi(words[4]);
-    if (active < 1 || active > 64 || logins > 64 || calls < 100)
-        fail("1 to 64 active ones, 64 logins at most, and 100 calls at least");
+    pause_each = count > 7 ? atoi(words[7]) : 0;
+    if (active < 1 || active > 64 || logins > 64 || searches > 64 || calls < 100)
+        fail("1 to 64 active ones, 64 logins and searches at most, and 100 calls at least");
     if (logins)
         initialise();
     for (int i = 0; i < idle; i++)
         open_session(dial());
-    for (int i = 0; i < logins; i++)
-        pthread_create(&others[i], NULL, log_in_and_out, &done[i]);
+    for (int i = 0; i < beside; i++)
+        pthread_create(&others[i], NULL, i < logins ? log_in_and_out : search, &done[i]);
     usleep(300000);
     pthread_barrier_init(&all_there, NULL, active);
     begun = now();
@@ -200,16 +235,18 @@ int main(int count, char **words) {
         sum += timings[i].mean;
     }
     begun = (now() - begun) / 1e9;
-    is_over = 1;
-    for (int i = 0; i < logins; i++) {
-        pthread_join(others[i], NULL);
+    for (int i = 0; i < beside; i++)
         all += done[i];
-    }
+    if (beside)
+        waited = longest_wait();
+    is_over = 1;
+    for (int i = 0; i < beside; i++)
+        pthread_join(others[i], NULL);
     printf("%.0f", sum / active);
-    for (int i = 0; i < active && (active == 1 || logins); i++)
+    for (int i = 0; i < active && (active == 1 || beside); i++)
         printf(" half %.0f 99%% %.0f longest %.0f", timings[i].half, timings[i].most, timings[i].longest);
-    if (logins)
-        printf(" logins a second %.1f", all / begun);
+    if (beside)
+        printf(" others a second %.1f a new connection %.0f", all / begun, waited);
     printf("\n");
     return 0;
 }

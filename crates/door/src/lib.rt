@@ -27,3 +27,4 @@ pub use notes::{Gave, Took};
 pub use pair::{Reader, Writer};
 pub use plain::Plain;
 pub use socket::{Outgoing, Socket};
+pub use unix::peek;

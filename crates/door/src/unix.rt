@@ -1,8 +1,11 @@
 //! Unix sockets. Contracts of std know nothing of their bytes: that one gives and takes what is noted is seen here, and trusted.
 
+ghost use Rattle.std.specs.Prelude.{◌≡◌, ◌≤◌, length};
+
 use crate::ends::Licence;
 use crate::notes::{Gave, Took};
 use crate::socket::{Outgoing, Socket};
+use libc::net::{MSG_DONTWAIT, MSG_PEEK, recv};
 use std::io::{self, Read, Write};
 use std::os::fd::{AsRawFd, RawFd};
 use std::os::unix::net::{UnixListener, UnixStream};
@@ -29,8 +32,7 @@ impl Socket for UnixStream {
     fn read(&self, gave: &mut Gave, buf: &mut [u8]) -> io::Result<usize> {
         let mut stream: &UnixStream = self;
         let count = Read::read(&mut stream, buf)?;
-        let (front, _) = buf.split_at(count);
-        gave.note(front);
+        gave.note(buf.split_at(count).0);
         Ok(count)
     }
 }
@@ -39,8 +41,7 @@ impl<L: Licence> Outgoing<L> for UnixStream {
     fn write(&self, _licence: &L, took: &mut Took, buf: &[u8]) -> io::Result<usize> {
         let mut stream: &UnixStream = self;
         let count = Write::write(&mut stream, buf)?;
-        let (front, _) = buf.split_at(count);
-        took.note(front);
+        took.note(buf.split_at(count).0);
         Ok(count)
     }
 
@@ -48,4 +49,12 @@ impl<L: Licence> Outgoing<L> for UnixStream {
         let mut stream: &UnixStream = self;
         Write::flush(&mut stream)
     }
+}
+
+/// Looks at what the next read of a socket gives, and leaves it there: how many bytes the buffer has of it now.
+pub fn peek(socket: RawFd, buf: &mut [u8]) -> usize
+    ensures { (result ≤ length buf.new) × (length buf.new ≡ length buf.old) }
+{
+    let count = unsafe { recv(socket, buf, MSG_PEEK | MSG_DONTWAIT) };
+    usize::try_from(count).unwrap_or(0)
 }

@@ -42,6 +42,7 @@ use Rattle.hall_channels.specs.contracts.messages.Answered as Answered
 use Rattle.hall_channels.specs.contracts.messages.Returned as Returned
 use Rattle.hall_channels.specs.contracts.messages.Inward as Inward
 use Rattle.hall_channels.specs.contracts.messages.Outward as Outward
+use Rattle.hall_channels.specs.contracts.patience.Patience as Patience
 use Rattle.hall_channels.specs.contracts.port.Port as Port
 use denote.Struct.Field.{row_field}
 use Rattle.std.specs.contracts.alloc.Global as Global
@@ -450,6 +451,18 @@ message_send = declared_send Message.the_type (event_send, (out_send, tt))
 option_send : (X : RattleType) → IsSend X → IsSend (Option.the_row X)
 option_send X x = variants_send (Option.enum X) (tt, ((as_row_send (row_field X) x, tt), tt))
 
+patience_send : IsSend Patience.the_row
+patience_send = declared_send Patience.the_type (
+  search sendable depth 8,
+  (
+    search sendable depth 8,
+    (
+      search sendable depth 8,
+      (search sendable depth 8, (search sendable depth 8, (search sendable depth 20, tt))),
+    ),
+  ),
+)
+
 module _ (J : RattleType) (n : _) where
   posted_send : IsSend (Posted.the_row J n)
   posted_send = declared_send (Posted.the_type J n) (Box-send Message.the_row message_send, (post_send J n, tt))
@@ -474,7 +487,7 @@ module _ (J : RattleType) (n : _) where
       putter_send J n,
       (
         sender_send (Inward.the_row J n) inward_send,
-        (receiver_send (Outward.the_row J n) outward_send, (search sendable depth 20, tt)),
+        (receiver_send (Outward.the_row J n) outward_send, (patience_send, tt)),
       ),
     ),
   )

@@ -35,27 +35,8 @@ impl<J: Naming> Inbox<J> {
         ))
     }
 
-    /// Takes the next message, and waits for it: first it yields, and then it sleeps. None where all seats have left the channel.
+    /// Takes the next message, and waits for it. None where all seats have left the channel.
     pub fn take<R: Wait + Clock>(&mut self, rt: &R) -> Option<Inward<J>> {
-        match self.take_patiently(rt) {
-            Some(message) => Some(message),
-            None => self.receiver.recv(rt),
-        }
-    }
-
-    /// Takes the next message, where it comes while this thread yields, at most `TURNS` times.
-    fn take_patiently<R: Wait + Clock>(&mut self, rt: &R) -> Option<Inward<J>> {
-        'turns: for turn in 0..TURNS {
-            if let Some(message) = self.receiver.try_recv(rt) {
-                if turn > 0 {
-                    self.patience.came_soon();
-                }
-                return Some(message);
-            }
-            if !self.patience.turn(rt, turn == 0) {
-                return None;
-            }
-        }
-        None
+        self.patience.receive(rt, &mut self.receiver, TURNS)
     }
 }

@@ -12,8 +12,9 @@
 //!   this event, and what the token answered.
 //! - `Outbox::answer` and `give_back` alone give an answer. They require its receipt, which only `Server::serve` makes.
 //!
-//! No clause says that a message comes, or that a call returns. A receive first yields to the other threads, the token at most 200
-//! times and a seat 40, and then sleeps. Where turns take long it sleeps at once (`patience`).
+//! No clause says that a message comes, or that a call returns. A receive first looks at once some hundred times. Then it yields to the
+//! other threads, the token at most 200 times and a seat 40, and then sleeps. Where looks are in vain it yields at once, and where turns
+//! take long it sleeps at once (`patience`).
 //!
 //! Proved, by the names of contracts: a message with an event carries the seat's post of just this event (`Posted`), and one with an
 //! answer the receipt of just this answer (`Answered`, `Returned`). So after `Port::ask` a seat's exchanges are those before, with this

@@ -155,32 +155,10 @@ impl<J: Naming> Port<J> {
         self.inward.send(rt, Inward::Put(Posted { message, post }))
     }
 
-    /// Gets the next message for this seat, and waits for it: first it yields, and then it sleeps. None where the channel has
-    /// ended.
+    /// Gets the next message for this seat, and waits for it. None where the channel has ended.
     fn receive<R: Wait + Clock>(&mut self, rt: &R) -> Option<Outward<J>>
         ensures { (self.new.putter ≡ self.old.putter) × (self.new.message ≡ self.old.message) }
     {
-        match self.get_patiently(rt) {
-            Some(message) => Some(message),
-            None => self.outward.recv(rt),
-        }
-    }
-
-    /// Gets the next message, where it comes while this thread yields, at most `TURNS` times.
-    fn get_patiently<R: Wait + Clock>(&mut self, rt: &R) -> Option<Outward<J>>
-        ensures { (self.new.putter ≡ self.old.putter) × (self.new.message ≡ self.old.message) }
-    {
-        'turns: for turn in 0..TURNS {
-            if let Some(message) = self.outward.try_recv(rt) {
-                if turn > 0 {
-                    self.patience.came_soon();
-                }
-                return Some(message);
-            }
-            if !self.patience.turn(rt, turn == 0) {
-                return None;
-            }
-        }
-        None
+        self.patience.receive(rt, &mut self.outward, TURNS)
     }
 }

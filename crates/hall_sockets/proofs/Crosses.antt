@@ -11,6 +11,7 @@ use Rattle.line_places.specs.contracts.places.Places as Places
 use Rattle.line_places.proofs.Crosses.{places_send}
 use Rattle.hall_sockets.specs.contracts.audit.Audited as Audited
 use Rattle.hall_sockets.specs.contracts.loads.Loads as Loads
+use Rattle.hall_sockets.specs.contracts.queue.Queue as Queue
 use Rattle.hall_sockets.specs.contracts.sockets.Sockets as Sockets
 use Rattle.hall_sockets.specs.contracts.seat.SocketSeat as SocketSeat
 
@@ -31,6 +32,33 @@ sockets_sync = search (sendable, crosses) depth 30
 
 audited_send : IsSend Audited.the_row
 audited_send = search sendable depth 20
+
+queue_send : IsSend Queue.the_row
+queue_send = declared_send Queue.the_type (
+  search (sendable, crosses) depth 30,
+  (
+    search (sendable, crosses) depth 30,
+    (
+      search (sendable, crosses) depth 30,
+      (
+        search (sendable, crosses) depth 30,
+        (
+          search (sendable, crosses) depth 30,
+          (
+            search (sendable, crosses) depth 30,
+            (
+              search (sendable, crosses) depth 30,
+              (
+                search (sendable, crosses) depth 30,
+                (search (sendable, crosses) depth 30, tt),
+              ),
+            ),
+          ),
+        ),
+      ),
+    ),
+  ),
+)
 
 pub seat_send : (S L C : RattleType) → IsSend S → IsSync S → IsSend L → IsSend C → IsSend (SocketSeat.the_row S L C)
 seat_send S L C send sync l c = declared_send (SocketSeat.the_type S L C) (
@@ -66,37 +94,34 @@ seat_send S L C send sync l c = declared_send (SocketSeat.the_type S L C) (
                               (
                                 search sendable depth 20,
                                 (
-                                  search (sendable, crosses) depth 30,
+                                  queue_send,
                                   (
-                                    search sendable depth 20,
+                                    search sendable depth 8,
                                     (
                                       search sendable depth 8,
                                       (
-                                        search sendable depth 8,
+                                        search (audited_send, sendable, crosses) depth 30,
                                         (
-                                          search (audited_send, sendable, crosses) depth 30,
+                                          search sendable depth 8,
                                           (
-                                            search sendable depth 8,
+                                            search (sendable, crosses) depth 30,
                                             (
-                                              search (sendable, crosses) depth 30,
+                                              search sendable depth 8,
                                               (
-                                                search sendable depth 8,
+                                                search (sendable, crosses) depth 30,
                                                 (
-                                                  search (sendable, crosses) depth 30,
+                                                  search sendable depth 20,
                                                   (
                                                     search sendable depth 20,
                                                     (
                                                       search sendable depth 20,
                                                       (
-                                                        search sendable depth 20,
+                                                        search sendable depth 8,
                                                         (
                                                           search sendable depth 8,
                                                           (
                                                             search sendable depth 8,
-                                                            (
-                                                              search sendable depth 8,
-                                                              (search sendable depth 8, tt),
-                                                            ),
+                                                            (search sendable depth 8, tt),
                                                           ),
                                                         ),
                                                       ),

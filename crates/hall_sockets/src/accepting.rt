@@ -184,6 +184,7 @@ impl<S: Socket + Drop, L: Log, C: Clock> SocketSeat<S, L, C> {
             *used = self.time;
             *came_by = self.door.last();
         }
+        self.queue.begin(place);
         self.left = self.left.saturating_sub(1);
         self.count = self.count.saturating_add(1);
         self.tell_load();

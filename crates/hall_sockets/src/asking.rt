@@ -6,6 +6,7 @@ ghost use Rattle.line_places.specs.Keeping.{HasGone};
 ghost use Rattle.hall_sockets.specs.Staying.{SeatGives, IsEmptyAt, IsNobodyLeft, IsStill, MayEnd, MayGoOnFrom, SeatStays};
 
 use crate::audit::Audited;
+use crate::kind::Kind;
 use crate::seat::SocketSeat;
 use crate::sockets::Title;
 use door::{Licence, Outgoing, Socket};
@@ -29,13 +30,13 @@ impl<S: Socket + Drop, L: Log, C: Clock> SocketSeat<S, L, C> {
         {
             Next::Call(call) => {
                 let audited = Audited::of(&call.call);
+                let kind = Kind::of(&call.call);
                 let event = SeatEvent::Call(call);
                 self.asked.push(&event);
                 self.answering = place;
                 self.audited = audited;
                 self.show_socket(place);
-                // Asked again until a read would block: its event may have been of what is still to come, as the end.
-                self.note(place);
+                self.begin_call(place, kind);
                 Some(event)
             }
             Next::Nothing => {

@@ -9,6 +9,9 @@
 //! `idle` is ended. One that ends within a frame, or because of a fault, is logged. Once the daemon is to end, a seat accepts and
 //! reads no more, and the applications of its connections disconnect.
 //!
+//! A call that takes long, as a login, stands behind the short ones of its seat's connections for some milliseconds (`Queue`). While
+//! connections with short calls are served, at most half of the seats are at long ones (`Crowd`).
+//!
 //! The four seats have the same listeners, one or more. `Loads` has how many connections each has: a seat accepts one only while no
 //! other has fewer.
 //!
@@ -38,12 +41,16 @@
 mod accepting;
 mod asking;
 mod audit;
+mod crowd;
 mod holding;
 mod idling;
+mod kind;
 pub mod laws;
 mod leave;
 mod loads;
+mod long;
 mod opening;
+mod queue;
 mod seat;
 mod serving;
 mod sockets;

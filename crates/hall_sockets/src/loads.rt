@@ -1,5 +1,6 @@
 //! What the seats show of themselves.
 
+use crate::crowd::Crowd;
 use crate::tally::Tally;
 use std::sync::atomic::{AtomicBool, AtomicU64, AtomicUsize, Ordering};
 
@@ -12,6 +13,7 @@ pub struct Loads {
     is_closed: [AtomicBool; 4],
     /// Seconds of the seats' clock.
     looks: [AtomicU64; 4],
+    pub(crate) crowd: Crowd,
     /// Connections that were refused for their frames.
     pub refused: Tally,
     /// Connections that were not accepted.
@@ -40,6 +42,7 @@ impl Loads {
                 AtomicU64::new(0),
                 AtomicU64::new(0),
             ],
+            crowd: Crowd::new(),
             refused: Tally::new(),
             unaccepted: Tally::new(),
         }

@@ -4,6 +4,7 @@ ghost use Rattle.std.specs.Prelude.{◌≡◌, ◌<◌, ◌≤◌, [], IfOk};
 ghost use Rattle.hall_sockets.specs.Staying.{IsNew};
 
 use crate::loads::Loads;
+use crate::queue::Queue;
 use crate::seat::{MAX_CLIENTS, READ_LEN, Settings, SocketSeat};
 use crate::sockets::Sockets;
 use crate::waiting::LISTENER;
@@ -14,7 +15,6 @@ use log::Log;
 use mio::unix::SourceFd;
 use mio::{Events, Interest, Poll, Token};
 use std::alloc::Global;
-use std::collections::VecDeque;
 use std::io;
 use std::net::Net;
 use std::os::fd::AsRawFd;
@@ -90,8 +90,6 @@ impl<S: Drop, L: Log + Drop, C: Clock + Drop> SocketSeat<S, L, C> {
             came_by: [0; MAX_CLIENTS],
             is_stuck: [false; MAX_CLIENTS],
             used: [Duration::ZERO; MAX_CLIENTS],
-            due: VecDeque::with_capacity(alloc, MAX_CLIENTS)?,
-            is_due: [false; MAX_CLIENTS],
             asked_since: 0,
             answering: 0,
             audited: None,
@@ -106,6 +104,7 @@ impl<S: Drop, L: Log + Drop, C: Clock + Drop> SocketSeat<S, L, C> {
             was_told: false,
             has_failed: false,
             asked: GhostList::new(),
+            queue: Queue::new(alloc)?,
         })
     }
 }

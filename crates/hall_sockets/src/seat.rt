@@ -6,6 +6,7 @@ ghost use Rattle.hall_sockets.specs.Telling.{calls_in, gone_in, apps_of};
 
 use crate::audit::Audited;
 use crate::loads::Loads;
+use crate::queue::Queue;
 use crate::sockets::Sockets;
 use door::{Door, Reader, Writer};
 use hall::SeatEvent;
@@ -13,7 +14,6 @@ use line_places::Places;
 use lists::GhostList;
 use mio::{Events, Poll};
 use std::alloc::Global;
-use std::collections::VecDeque;
 use std::sync::Arc;
 use std::sync::atomic::AtomicBool;
 use std::time::Duration;
@@ -63,10 +63,9 @@ pub struct SocketSeat<S, L, C> {
     pub(crate) is_stuck: [bool; MAX_CLIENTS],
     /// When something last came of it.
     pub(crate) used: [Duration; MAX_CLIENTS],
-    /// The places that are to be asked, in their order, each once.
-    pub(crate) due: VecDeque<usize>,
-    pub(crate) is_due: [bool; MAX_CLIENTS],
-    /// How many were asked since the last wait.
+    /// The places that are to be asked.
+    pub(crate) queue: Queue,
+    /// How many places were asked since the last wait.
     pub(crate) asked_since: usize,
     /// The place of the last call.
     pub(crate) answering: usize,

@@ -13,7 +13,7 @@ use std::time::{Clock, Duration};
 /// After how many turns of its connections a seat looks who else has something, or waits to be accepted.
 const TURNS: usize = 16;
 
-/// For how many milliseconds a seat with nothing to do leaves who waits to another one before it looks again.
+/// For how many milliseconds a seat with nothing to do leaves who waits to another one, or a long call to wait, before it looks again.
 const SHORT_WAIT: u64 = 1;
 
 impl<S: Socket + Drop, L: Log, C: Clock> SocketSeat<S, L, C> {
@@ -74,26 +74,24 @@ impl<S: Socket + Drop, L: Log, C: Clock> SocketSeat<S, L, C> {
         if self.asked_since >= TURNS {
             return self.look_round(Duration::ZERO);
         }
-        match self.next_due() {
+        match self.next_place() {
             Some(place) => self.event_at(licence, place),
             None => self.turn_round(licence),
         }
     }
 
-    /// The next place that is to be asked.
-    fn next_due(&mut self) -> Option<usize>
-        ensures { Rests self.old self.new }
-    {
-        let place = self.due.pop_front()?;
-        if let Some(is_due) = self.is_due.get_mut(place) {
-            *is_due = false;
-        }
-        Some(place)
-    }
-
     /// Whether there is one place, whose connection is there and took all that was written to it.
     fn is_alone(&self) -> bool {
         self.is_single() && self.count == 1 && !self.is_stuck[0]
+    }
+
+    /// For how long the seat waits for something, at most: a moment while a long call waits for other seats.
+    fn longest_wait(&self) -> Duration {
+        if self.queue.has_late() {
+            Duration::from_millis(SHORT_WAIT)
+        } else {
+            Duration::from_secs(PATIENCE)
+        }
     }
 
     /// Asks the only connection, for which a read waits. Otherwise, and where nothing came of it, looks round.
@@ -104,7 +102,7 @@ impl<S: Socket + Drop, L: Log, C: Clock> SocketSeat<S, L, C> {
         ensures { SeatGives S.given self.old self.new result }
     {
         if !self.is_alone() {
-            return self.look_round(Duration::from_secs(PATIENCE));
+            return self.look_round(self.longest_wait());
         }
         match self.event_at(licence, 0) {
             Some(event) => Some(event),

@@ -6,7 +6,6 @@ ghost use Rattle.hall_sockets.specs.Staying.{Rests};
 use crate::seat::{MAX_CLIENTS, SocketSeat};
 use mio::unix::SourceFd;
 use mio::{Events, Interest, Token};
-use std::collections::VecDeque;
 use std::io::ErrorKind;
 use std::time::{Clock, Duration};
 
@@ -22,7 +21,7 @@ impl<S, L, C: Clock> SocketSeat<S, L, C> {
         ensures rests { Rests self.old self.new }
         ensures answering { self.new.answering ≡ self.old.answering }
     {
-        if !note_place(place, &mut self.due, &mut self.is_due) {
+        if !self.queue.note(place) {
             self.has_failed = true;
         }
     }
@@ -62,7 +61,7 @@ impl<S, L, C: Clock> SocketSeat<S, L, C> {
                 if let Some(used) = self.used.get_mut(place) {
                     *used = self.time;
                 }
-                if !note_place(place, &mut self.due, &mut self.is_due) {
+                if !self.queue.note(place) {
                     self.has_failed = true;
                 }
             }
@@ -93,16 +92,5 @@ impl<S, L, C: Clock> SocketSeat<S, L, C> {
         if registered.is_err() {
             self.has_failed = true;
         }
-    }
-}
-
-/// Notes a place that is to be asked, once. False where there is no memory for that.
-fn note_place(place: usize, due: &mut VecDeque<usize>, is_due: &mut [bool; MAX_CLIENTS]) -> bool {
-    match is_due.get_mut(place) {
-        Some(noted) if !*noted => {
-            *noted = true;
-            due.push_back(place).is_ok()
-        }
-        _ => true,
     }
 }

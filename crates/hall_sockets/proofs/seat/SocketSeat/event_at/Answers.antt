@@ -25,18 +25,18 @@ pub returns-in-Call : goal.returns-in-Call
 returns-in-Call g c =
     let was = c.args.self.now in
     let e = c.in-Call.ensures in
-    let n = c.note.ensures.rests in (
+    let n = c.begin_call.ensures.rests in (
       ap (λ k. k.number) n.0 ∙ e.same.number,
       ap (λ k. k.seed) n.0 ∙ e.same.seed,
       ap (λ k. k.told.items) n.0 ∙ e.gives.2,
       n.1 ∙ c.push.ensures,
       e.gives.0,
       (
-        owed-as c.note.new.self.clients.places.items c.next_call.new.self.places.items c.note.new.self.answering c.args.place
-            c.in-Call.call.app (ap (λ x. x.places.items) n.0) c.note.ensures.answering e.gives.3,
+        owed-as c.begin_call.new.self.clients.places.items c.next_call.new.self.places.items c.begin_call.new.self.answering c.args.place
+            c.in-Call.call.app (ap (λ x. x.places.items) n.0) c.begin_call.ensures.answering e.gives.3,
         e.short,
       ),
-      gone-same was.clients.past.items c.note.new.self.clients.past.items (ap (λ k. k.past.items) n.0 ∙ e.past),
+      gone-same was.clients.past.items c.begin_call.new.self.clients.past.items (ap (λ k. k.past.items) n.0 ∙ e.past),
       λ tied. subst (λ k. ∥ AllTied g.S.Socket.given (λ r. r) (λ w. w) k.places.items k.past.items ∥₁) (sym n.0) (∥∥₁_map tied e.tied),
     )
 
