@@ -271,7 +271,7 @@ def short_calls_are_answered_before_logins_that_came_first(folder):
                 client = waiting.pop(stream)
                 see(client.hear()[0] == OK, "a call is refused")
                 logins += client in slow
-        see(logins <= 8, "logins that were answered before the last short call:", logins)
+        see(logins <= 10, "logins that were answered before the last short call:", logins)
         for client in waiting.values():
             see(client.hear()[0] == OK, "a login is refused")
 
