@@ -6,7 +6,7 @@ use ck_calls::{Call, Function};
 const LONG_TEXT: usize = 16_384;
 
 /// A longer frame has a long text: that, and the call's other fields.
-const LONG_FRAME: u32 = 16_384 + 64;
+const LONG_FRAME: u32 = LONG_TEXT as u32 + 64;
 
 /// How long a call takes.
 #[derive(Clone, Copy, Drop)]

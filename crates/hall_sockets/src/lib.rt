@@ -9,8 +9,8 @@
 //! `idle` is ended. One that ends within a frame, or because of a fault, is logged. Once the daemon is to end, a seat accepts and
 //! reads no more, and the applications of its connections disconnect.
 //!
-//! A call that takes long, as a login, stands behind the short ones of its seat's connections for some milliseconds (`Queue`). While
-//! connections with short calls are served, at most half of the seats are at long ones (`Crowd`).
+//! A call that takes long, as a login, stands behind the short ones of its seat's connections (`Queue`). While connections with short
+//! calls are served, a seat begins none where half of the seats are at long ones (`Crowd`). With one place a seat does neither.
 //!
 //! The four seats have the same listeners, one or more. `Loads` has how many connections each has: a seat accepts one only while no
 //! other has fewer.
