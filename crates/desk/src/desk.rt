@@ -4,6 +4,7 @@ ghost use Rattle.std.specs.Prelude.{◌≡◌, ℕ, ◌+◌, ◌<◌, ◌^◌, �
 ghost use Rattle.fips_197.specs.KeyExpansion.{IsKey, IsKeyLength};
 ghost use Rattle.std.specs.Option.{option_copied};
 ghost use Rattle.std.specs.List.{position};
+ghost use Rattle.ck_types.specs.declared.constants.TheConstants.{MAX_SESSION_COUNT};
 ghost use Rattle.ck_types.specs.declared.user_type.UserType.TheVariants.{So};
 ghost use Rattle.handles.specs.Handles.{object_of, handle_number, with_handle, handles_without, HasRoomFor};
 ghost use Rattle.handles.specs.Handles.{IsHandleTable as IsHandleTable};
@@ -109,7 +110,7 @@ impl Desk {
 
     /// Whether there are as many sessions as an application may have.
     pub fn has_all_sessions(&self) -> bool
-        ensures { result ≡ nat_le 64 (length self.now.sessions.sessions) }
+        ensures { result ≡ nat_le MAX_SESSION_COUNT (length self.now.sessions.sessions) }
     {
         self.sessions.is_full()
     }
@@ -159,7 +160,7 @@ impl Desk {
     /// Opens a session (C_OpenSession). It fails only if an allocation fails, and then nothing changes.
     pub fn open_session(&mut self, read_write: bool) -> Result<u64, AllocError>
         requires numbers { self.old.sessions.next_number < 2 ^ 63 }
-        requires room { length self.old.sessions.sessions < 64 }
+        requires room { length self.old.sessions.sessions < MAX_SESSION_COUNT }
         requires access { self.old.sessions.login ≡ Some So → IsTrue read_write }
         ensures number { IfOk result (λ n. n ≡ self.old.sessions.next_number) }
         ensures opened { OnOk result (self.new ≡ record self.old { sessions = with_session no_operations self.old.sessions read_write }) }

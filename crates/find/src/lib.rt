@@ -6,9 +6,9 @@
 //! search reveals anything of its value. An attribute of an unknown type matches nothing, and an empty
 //! template matches every object.
 //!
-//! `search` reads one object at a time, and keeps no more of it than a note.
+//! `push_if_matches` reads one object at a time, and keeps no more of it than a note.
 //!
-//! Proved, by the names of contracts: `search` takes an object just where it matches (`searched`), the same where a masked value is taken
+//! Proved, by the names of contracts: `push_if_matches` takes an object just where it matches (`searched`), the same where a masked value is taken
 //! away. A `Mark` is of what may be seen (`marks_are_blind`), excludes no object that a template finds (`marks_pass_over`), and decides of
 //! truth values, classes and key types (`marks_decide`).
 #![tactic(auto)]
@@ -22,4 +22,4 @@ mod searching;
 pub use laws::{marks_are_blind, marks_decide, marks_pass_over, marks_tell_privacy};
 pub use marks::{Mark, Wanted};
 pub use matching::matches;
-pub use searching::search;
+pub use searching::push_if_matches;

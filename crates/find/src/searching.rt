@@ -13,7 +13,7 @@ use std::alloc::AllocError;
 /// doesn't match is left out. The result is the same for what may be seen of the object.
 ///
 /// It fails only if an allocation fails, and then the list is as it was.
-pub fn search<T: Copy>(
+pub fn push_if_matches<T: Copy>(
     template: &Template,
     object: &Object,
     note: T,

@@ -103,8 +103,8 @@ turn-app c more app reply turn heard = ⊎_elim
 
 module _ {S L C : Type 0} (given : ℕ → List ℕ → Type 0) (a : SocketSeat S L C) (now : List Exchange) (app : ℕ) (reply : ReplyType)
     (is : IsAwaitedReply (WaitsFor given a) now app reply) where
-  pub owed-by : IsOwed a.clients.places.items a.answering app
-  owed-by = subst (IsOwed a.clients.places.items a.answering) (turn-app is.call is.more app reply is.turn is.heard) is.waits_for.2
+  pub owed-by : IsOwed a.clients.places.items a.called_place app
+  owed-by = subst (IsOwed a.clients.places.items a.called_place) (turn-app is.call is.more app reply is.turn is.heard) is.waits_for.2
 
   -- with the reply, it gave and took what it did by these
   pub asked-by : a.asked.items ≡ asked_in now

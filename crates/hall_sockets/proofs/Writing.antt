@@ -162,18 +162,18 @@ module _ (named_given given : ℕ → List ℕ → Type 0) (gives : (app : ℕ) 
       pub may-take : AnswerLaw → HistorySuits history → (app : ℕ) (reply : Reply)
           → IsAwaitedReply (WaitsFor given seat) (of seat.clients.number history) app reply
           → MayTakeAt (λ app taken bytes. P × ∥ MayWrite named_given seed app history taken bytes ∥₁)
-          (λ w. w) seat.clients.places.items seat.answering reply
+          (λ w. w) seat.clients.places.items seat.called_place reply
       may-take answer suited app reply turn c at going = (
         short-reply given seat history app reply turn suited,
         λ front bytes rest parts_is.
             let now = of seat.clients.number history in
             let owed = owed-by given seat now app reply turn in
-            let same : owed.client ≡ c = one-client seat.clients.places.items seat.answering owed.is.place at.place owed.client c
+            let same : owed.client ≡ c = one-client seat.clients.places.items seat.called_place owed.is.place at.place owed.client c
             owed.is.at at.at owed.is.client at.client in
             let named : c.app ≡ app = sym (ap (λ x. x.app) same) ∙ owed.app_is in (
               p,
               map3 seat.clients.kept turn.waits_for.3 c.stands (λ k all h.
-                  let life : IsLife seat.clients.places.items seat.clients.past.items c = inr (seat.answering, at) in
+                  let life : IsLife seat.clients.places.items seat.clients.past.items c = inr (seat.called_place, at) in
                   let parts = k.parts c life in
                   let owes : Owes c.first.value c.connection (asks_in c.asked.items) c.told.items =
                   subst (λ b. Stands c.first.value c.connection b c.asked.items c.told.items)
@@ -222,7 +222,7 @@ module _ (named_given given : ℕ → List ℕ → Type 0) (gives : (app : ℕ) 
       let owed = waits.2 in
       let it = owed.client in
       map3 seat.clients.kept waits.3 it.stands (λ k all h.
-      let life : IsLife seat.clients.places.items seat.clients.past.items it = inr (seat.answering, owed.is) in
+      let life : IsLife seat.clients.places.items seat.clients.past.items it = inr (seat.called_place, owed.is) in
       let parts = k.parts it life in
       let t = all it life in
       let lived = leave it.first.value it.connection (asks_in it.asked.items) it.told.items

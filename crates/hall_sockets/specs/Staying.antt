@@ -54,7 +54,7 @@ SeatStays given old new =
 
 -- It may end: it failed, or was told to, or has had its connections.
 abbrev pub MayEnd : {S L C : Type 0} → SocketSeat S L C → Type 0
-MayEnd seat = (seat.has_failed ≡ true) ⊎ ((seat.was_told ≡ true) ⊎ ((seat.left ≡ 0) × (seat.count ≡ 0)))
+MayEnd seat = (seat.has_failed ≡ true) ⊎ ((seat.was_told ≡ true) ⊎ ((seat.accepts_left ≡ 0) × (seat.count ≡ 0)))
 
 -- it has ended: it might, and nobody is left
 abbrev pub SeatIsDone : {S L C : Type 0} → SocketSeat S L C → Type 0
@@ -70,7 +70,7 @@ SeatHasApp seat app = (app % 4 ≡ seat.clients.number) × (¬ HasGone seat.clie
 
 -- after a call, which has data that fits into a frame, the seat may take its reply, and after a disconnect the application is there no more
 abbrev pub EventIsNoted : {S L C : Type 0} → SocketSeat S L C → SeatEvent → Type 0
-EventIsNoted seat (Call c) = IsOwed seat.clients.places.items seat.answering c.app × IsShortCall c.call
+EventIsNoted seat (Call c) = IsOwed seat.clients.places.items seat.called_place c.app × IsShortCall c.call
 EventIsNoted seat (Gone app) = HasGone seat.clients.past.items app
 
 -- an event is given, which the seat keeps, or nothing
@@ -104,7 +104,7 @@ abbrev pub WaitsFor : {S L C : Type 0} → (ℕ → List ℕ → Type 0) → Soc
 WaitsFor given seat before c =
     (seat.asked.items ≡ asked_in before ++ Call c ∷ [])
     × (seat.clients.told.items ≡ heard_in before)
-    × IsOwed seat.clients.places.items seat.answering c.app
+    × IsOwed seat.clients.places.items seat.called_place c.app
     × IsTied given seat
     × IsShortCall c.call
 

@@ -34,14 +34,14 @@ impl<S: Socket + Drop, L: Log, C: Clock> SocketSeat<S, L, C> {
 
     /// Whether no connection is there, and none comes any more.
     pub(crate) fn is_over(&self) -> bool
-        ensures { IsTrue result → (self.now.left ≡ 0) × (self.now.count ≡ 0) }
+        ensures { IsTrue result → (self.now.accepts_left ≡ 0) × (self.now.count ≡ 0) }
     {
-        self.left == 0 && self.count == 0
+        self.accepts_left == 0 && self.count == 0
     }
 
     /// A place where a connection may come to.
     fn free_place(&self) -> Option<usize> {
-        if self.left == 0 {
+        if self.accepts_left == 0 {
             return None;
         }
         'places: for place in 0..self.clients.len() {
@@ -177,7 +177,7 @@ impl<S: Socket + Drop, L: Log, C: Clock> SocketSeat<S, L, C> {
         }
         if let (Some(stuck), Some(used), Some(came_by)) = (
             self.is_stuck.get_mut(place),
-            self.used.get_mut(place),
+            self.last_used.get_mut(place),
             self.came_by.get_mut(place),
         ) {
             *stuck = false;
@@ -185,7 +185,7 @@ impl<S: Socket + Drop, L: Log, C: Clock> SocketSeat<S, L, C> {
             *came_by = self.door.last();
         }
         self.queue.begin(place);
-        self.left = self.left.saturating_sub(1);
+        self.accepts_left = self.accepts_left.saturating_sub(1);
         self.count = self.count.saturating_add(1);
         self.tell_load();
         self.note(place);
@@ -203,7 +203,7 @@ impl<S: Socket + Drop, L: Log, C: Clock> SocketSeat<S, L, C> {
     /// Shows the other seats how many connections there are.
     pub(crate) fn tell_load(&self) {
         self.loads.set(self.clients.number, self.count);
-        if self.left == 0 {
+        if self.accepts_left == 0 {
             self.loads.close(self.clients.number);
         }
     }

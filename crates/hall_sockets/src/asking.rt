@@ -33,7 +33,7 @@ impl<S: Socket + Drop, L: Log, C: Clock> SocketSeat<S, L, C> {
                 let kind = Kind::of(&call.call);
                 let event = SeatEvent::Call(call);
                 self.asked.push(&event);
-                self.answering = place;
+                self.called_place = place;
                 self.audited = audited;
                 self.show_socket(place);
                 self.begin_call(place, kind);
@@ -109,7 +109,7 @@ impl<S: Socket + Drop, L: Log, C: Clock> SocketSeat<S, L, C> {
         ensures { SeatGives S.given self.old self.new result }
     {
         let Some(place) = self.idle_place() else {
-            self.looked = self.time;
+            self.idle_checked = self.time;
             return None;
         };
         self.say_idle(place);

@@ -9,7 +9,7 @@ impl<S: Drop, L, C: Clock> SocketSeat<S, L, C> {
     pub(crate) fn idle_place(&self) -> Option<usize> {
         let idle = self.idle?;
         'places: for place in 0..self.clients.len() {
-            if let (Some(_), Some(used)) = (self.clients.client(place), self.used.get(place)) {
+            if let (Some(_), Some(used)) = (self.clients.client(place), self.last_used.get(place)) {
                 if self.time.saturating_sub(*used) > idle {
                     return Some(place);
                 }
@@ -21,6 +21,6 @@ impl<S: Drop, L, C: Clock> SocketSeat<S, L, C> {
     /// Whether a second has passed since idle connections were looked for.
     pub(crate) fn must_look(&self) -> bool {
         self.idle.is_some()
-            && self.time.saturating_sub(self.looked) >= Duration::from_secs(PATIENCE)
+            && self.time.saturating_sub(self.idle_checked) >= Duration::from_secs(PATIENCE)
     }
 }

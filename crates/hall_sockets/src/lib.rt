@@ -60,8 +60,9 @@ mod waiting;
 
 pub use holding::{Seats, hold_over, hold_sockets};
 pub use leave::Leave;
+pub use line_places::MAX_CLIENTS;
 pub use loads::Loads;
 pub use opening::Shared;
-pub use seat::{MAX_CLIENTS, Settings, SocketSeat};
+pub use seat::{Settings, SocketSeat};
 pub use sockets::{Sockets, Title};
 pub use tally::Tally;

@@ -123,7 +123,7 @@ impl<S: Socket + Drop, L: Log, C: Clock> SocketSeat<S, L, C> {
     /// is still to come, as the end.
     pub(crate) fn begin_call(&mut self, place: usize, kind: Kind)
         ensures rests { Rests self.old self.new }
-        ensures answering { self.new.answering ≡ self.old.answering }
+        ensures called_place { self.new.called_place ≡ self.old.called_place }
     {
         let time = millis(self.time);
         if self.queue.is_admitted(place) || self.is_long(kind) {

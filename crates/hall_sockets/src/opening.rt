@@ -5,11 +5,11 @@ ghost use Rattle.hall_sockets.specs.Staying.{IsNew};
 
 use crate::loads::Loads;
 use crate::queue::Queue;
-use crate::seat::{MAX_CLIENTS, READ_LEN, Settings, SocketSeat};
+use crate::seat::{READ_LEN, Settings, SocketSeat};
 use crate::sockets::Sockets;
 use crate::waiting::LISTENER;
 use door::Door;
-use line_places::Places;
+use line_places::{MAX_CLIENTS, Places};
 use lists::GhostList;
 use log::Log;
 use mio::unix::SourceFd;
@@ -61,7 +61,7 @@ impl<S: Drop, L: Log + Drop, C: Clock + Drop> SocketSeat<S, L, C> {
         number: u64,
     ) -> io::Result<SocketSeat<S, L, C>>
         requires number { number < 4 }
-        requires clients { settings.now.clients ≤ 64 }
+        requires clients { settings.now.clients ≤ MAX_CLIENTS }
         ensures { IfOk result (λ seat. IsNew seat settings.now.seed number) }
     {
         let poll = Poll::new(net)?;
@@ -85,20 +85,20 @@ impl<S: Drop, L: Log + Drop, C: Clock + Drop> SocketSeat<S, L, C> {
             door: Door::new(listeners),
             clients: Places::new(alloc, settings.seed, number, settings.clients)?,
             count: 0,
-            left: settings.connections,
+            accepts_left: settings.connections,
             descriptors: [-1; MAX_CLIENTS],
             came_by: [0; MAX_CLIENTS],
             is_stuck: [false; MAX_CLIENTS],
-            used: [Duration::ZERO; MAX_CLIENTS],
+            last_used: [Duration::ZERO; MAX_CLIENTS],
             asked_since: 0,
-            answering: 0,
+            called_place: 0,
             audited: None,
             may_accept: true,
             left_since: None,
             is_leaving: false,
             idle: settings.idle,
             time,
-            looked: time,
+            idle_checked: time,
             piece: [0; READ_LEN],
             has_ended: false,
             was_told: false,

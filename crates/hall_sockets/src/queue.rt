@@ -1,6 +1,6 @@
 //! The places that a seat is to ask, in their order.
 
-use crate::seat::MAX_CLIENTS;
+use line_places::MAX_CLIENTS;
 use std::alloc::{AllocError, Global};
 use std::collections::VecDeque;
 use std::time::Duration;

@@ -10,16 +10,13 @@ use crate::queue::Queue;
 use crate::sockets::Sockets;
 use door::{Door, Reader, Writer};
 use hall::SeatEvent;
-use line_places::Places;
+use line_places::{MAX_CLIENTS, Places};
 use lists::GhostList;
 use mio::{Events, Poll};
 use std::alloc::Global;
 use std::sync::Arc;
 use std::sync::atomic::AtomicBool;
 use std::time::Duration;
-
-/// How many connections a seat has at once, at most.
-pub const MAX_CLIENTS: usize = 64;
 
 /// How many bytes are read at once.
 pub(crate) const READ_LEN: usize = 32_768;
@@ -54,7 +51,7 @@ pub struct SocketSeat<S, L, C> {
     /// How many connections there are.
     pub(crate) count: usize,
     /// How many may be accepted yet.
-    pub(crate) left: u64,
+    pub(crate) accepts_left: u64,
     /// The descriptor of each connection, by its place.
     pub(crate) descriptors: [i32; MAX_CLIENTS],
     /// The listener by which it came.
@@ -62,13 +59,13 @@ pub struct SocketSeat<S, L, C> {
     /// Whether its peer is waited for until it takes more.
     pub(crate) is_stuck: [bool; MAX_CLIENTS],
     /// When something last came of it.
-    pub(crate) used: [Duration; MAX_CLIENTS],
+    pub(crate) last_used: [Duration; MAX_CLIENTS],
     /// The places that are to be asked.
     pub(crate) queue: Queue,
     /// How many places were asked since the last wait.
     pub(crate) asked_since: usize,
     /// The place of the last call.
-    pub(crate) answering: usize,
+    pub(crate) called_place: usize,
     /// What the last call is, if its outcome may be a line.
     pub(crate) audited: Option<Audited>,
     /// Somebody may wait to be accepted.
@@ -80,7 +77,7 @@ pub struct SocketSeat<S, L, C> {
     pub(crate) idle: Option<Duration>,
     pub(crate) time: Duration,
     /// When idle connections were last looked for.
-    pub(crate) looked: Duration,
+    pub(crate) idle_checked: Duration,
     /// A buffer for what is read at once.
     pub(crate) piece: [u8; READ_LEN],
     pub(crate) has_ended: bool,

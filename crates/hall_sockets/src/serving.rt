@@ -56,11 +56,11 @@ impl<S: Socket + Drop, L: Log, C: Clock> SocketSeat<S, L, C> {
     pub fn take_reply<N: Licence>(&mut self, licence: &N, app: u64, reply: Reply)
     where
         S: Outgoing<N>,
-        requires owed { IsOwed self.old.clients.places.items self.old.answering app }
-        requires may { MayTakeAt (N.allows licence.now) (λ w. w) self.old.clients.places.items self.old.answering reply }
+        requires owed { IsOwed self.old.clients.places.items self.old.called_place app }
+        requires may { MayTakeAt (N.allows licence.now) (λ w. w) self.old.clients.places.items self.old.called_place reply }
         ensures { SeatHears S.given self.old self.new app reply }
     {
-        let place = self.answering;
+        let place = self.called_place;
         if let Some(call) = self.audited {
             self.log_outcome(app, call, &reply);
         }

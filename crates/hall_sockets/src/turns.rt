@@ -72,11 +72,11 @@ impl<S: Socket + Drop, L: Log, C: Clock> SocketSeat<S, L, C> {
         ensures { SeatGives S.given self.old self.new result }
     {
         if self.asked_since >= TURNS {
-            return self.look_round(Duration::ZERO);
+            return self.accept_or_wait(Duration::ZERO);
         }
         match self.next_place() {
             Some(place) => self.event_at(licence, place),
-            None => self.turn_round(licence),
+            None => self.serve_idle_turn(licence),
         }
     }
 
@@ -95,24 +95,24 @@ impl<S: Socket + Drop, L: Log, C: Clock> SocketSeat<S, L, C> {
     }
 
     /// Asks the only connection, for which a read waits. Otherwise, and where nothing came of it, looks round.
-    fn turn_round<N: Licence>(&mut self, licence: &N) -> Option<SeatEvent>
+    fn serve_idle_turn<N: Licence>(&mut self, licence: &N) -> Option<SeatEvent>
     where
         S: Outgoing<N>,
         requires may { MayGoOnFrom S.given (N.allows licence.now) self.old }
         ensures { SeatGives S.given self.old self.new result }
     {
         if !self.is_alone() {
-            return self.look_round(self.longest_wait());
+            return self.accept_or_wait(self.longest_wait());
         }
         match self.event_at(licence, 0) {
             Some(event) => Some(event),
-            None => self.look_round(Duration::ZERO),
+            None => self.accept_or_wait(Duration::ZERO),
         }
     }
 
     /// Looks who has something, for so long at most. Ends a connection that is idle, or accepts one who waits.
     #[inline(never)]
-    fn look_round(&mut self, longest: Duration) -> Option<SeatEvent>
+    fn accept_or_wait(&mut self, longest: Duration) -> Option<SeatEvent>
         ensures { SeatGives S.given self.old self.new result }
     {
         self.look(longest);

@@ -3,7 +3,8 @@
 ghost use Rattle.std.specs.Prelude.{◌≡◌};
 ghost use Rattle.hall_sockets.specs.Staying.{Rests};
 
-use crate::seat::{MAX_CLIENTS, SocketSeat};
+use crate::seat::SocketSeat;
+use line_places::MAX_CLIENTS;
 use mio::unix::SourceFd;
 use mio::{Events, Interest, Token};
 use std::io::ErrorKind;
@@ -19,7 +20,7 @@ impl<S, L, C: Clock> SocketSeat<S, L, C> {
     /// A place is to be asked.
     pub(crate) fn note(&mut self, place: usize)
         ensures rests { Rests self.old self.new }
-        ensures answering { self.new.answering ≡ self.old.answering }
+        ensures called_place { self.new.called_place ≡ self.old.called_place }
     {
         if !self.queue.note(place) {
             self.has_failed = true;
@@ -58,7 +59,7 @@ impl<S, L, C: Clock> SocketSeat<S, L, C> {
             if place >= LISTENER {
                 self.may_accept = true;
             } else {
-                if let Some(used) = self.used.get_mut(place) {
+                if let Some(used) = self.last_used.get_mut(place) {
                     *used = self.time;
                 }
                 if !self.queue.note(place) {

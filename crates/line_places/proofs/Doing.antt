@@ -17,6 +17,7 @@ use Rattle.line_places.specs.declared.client.Client.{Client}
 use Rattle.line_places.specs.declared.place.Place.{Place}
 use Rattle.line_places.specs.Coming.{ClientGave, SameApp, ClientTakes}
 use Rattle.line_places.specs.Keeping.{calls_of, HasGone, IsClientAt, IsFree, IsOwed, PlacesKeep}
+use Rattle.line_places.specs.declared.places.TheConstants.{MAX_CLIENTS}
 use Rattle.line_places.proofs.Keeping.{kept-did, asked-own, asked-other, told-own, told-other, get_same, not_gone, same_some}
 use Rattle.line_places.proofs.Changing.{own-app}
 
@@ -24,7 +25,7 @@ use Rattle.line_places.proofs.Changing.{own-app}
 pub at-index : {A : Type 0} (xs : List A) (j : ℕ) (p : A) → j < length xs → p ≡ get_or xs j p → slice_get xs j ≡ Some p
 at-index xs j p within is = slice_get-get_or xs j p within ∙ ap Some (sym is)
 
-pub count-set : {A : Type 0} (xs : List A) (j : ℕ) (p : A) → length xs ≤ 64 → length (set xs j p) ≤ 64
+pub count-set : {A : Type 0} (xs : List A) (j : ℕ) (p : A) → length xs ≤ MAX_CLIENTS → length (set xs j p) ≤ MAX_CLIENTS
 count-set xs j p le = omega (arith, length-set xs j p, le)
 
 module _ {R W : Type 0} (seed : List ℕ) (s : ℕ) (places : List (Place R W)) (past : List (Client R W)) (asked : List AppCall)

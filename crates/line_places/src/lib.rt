@@ -32,4 +32,4 @@ mod placing;
 pub use client::Client;
 pub use law::dues;
 pub use place::Place;
-pub use places::Places;
+pub use places::{MAX_CLIENTS, Places};

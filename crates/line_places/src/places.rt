@@ -1,12 +1,16 @@
 //! The clients of one worker.
 
 ghost use Rattle.std.specs.Prelude.{◌<◌, ◌≤◌, length};
+ghost use Rattle.line_places.specs.declared.places.TheConstants.{MAX_CLIENTS};
 ghost use Rattle.line_places.specs.Keeping.{PlacesKeep};
 
 use crate::client::Client;
 use crate::place::Place;
 use ck_calls::{AppCall, Reply};
 use lists::GhostList;
+
+/// How many clients a worker has at once, at most.
+pub const MAX_CLIENTS: usize = 64;
 
 /// The clients of one worker, at most one at each of its places, and for contracts alone all that it ever had, with what they
 /// gave and took, in the order in which they did.
@@ -22,6 +26,6 @@ pub struct Places<R, W> {
     pub asked: GhostList<AppCall>,
     pub told: GhostList<(u64, Reply)>,
     pub ghost worker: { number < 4 },
-    pub ghost count: { length places.items ≤ 64 },
+    pub ghost count: { length places.items ≤ MAX_CLIENTS },
     pub ghost kept: { ∥ PlacesKeep seed number places.items past.items asked.items told.items ∥₁ },
 }

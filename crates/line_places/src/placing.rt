@@ -1,6 +1,7 @@
 //! What becomes of the clients of one worker.
 
 ghost use Rattle.std.specs.Prelude.{◌≡◌, ◌<◌, ◌≤◌, ◌∷◌, [], ◌++◌, length, ℕ, IfOk, IfSome, IfNone, IsTrue, IsFalse};
+ghost use Rattle.line_places.specs.declared.places.TheConstants.{MAX_CLIENTS};
 ghost use Rattle.line_places.specs.Arriving.{HasCome, IsNext, KeepsCome, OthersStay};
 ghost use Rattle.line_places.specs.Coming.{IsShortNext};
 ghost use Rattle.line_places.specs.Happening.{Closes, ClientComes, PlaceGives, PlacesAreQuiet, SameWorker, SentAt, WentAt};
@@ -21,7 +22,7 @@ use std::alloc::{AllocError, Global};
 const TURNS: u64 = 1 << 55;
 
 impl<R: Drop, W: Drop> Places<R, W> {
-    /// The places of the worker with a number from 0 to 3, with no client. There are 1 to 64.
+    /// The places of the worker with a number from 0 to 3, with no client. There are 1 to `MAX_CLIENTS`.
     pub fn new(
         alloc: Global,
         seed: [u8; 32],
@@ -29,7 +30,7 @@ impl<R: Drop, W: Drop> Places<R, W> {
         count: usize,
     ) -> Result<Places<R, W>, AllocError>
         requires number { number < 4 }
-        requires count { count ≤ 64 }
+        requires count { count ≤ MAX_CLIENTS }
         ensures worker { IfOk result (λ p. (p.seed ≡ seed) × (p.number ≡ number) × (length p.places.items ≡ count)) }
         ensures none { IfOk result (λ p. (p.past.items ≡ []) × (p.asked.items ≡ []) × (p.told.items ≡ [])) }
         ensures empty { IfOk result (λ p. (j : ℕ) (c : Client R W) → ¬ IsClientAt p.places.items j c) }

@@ -176,7 +176,7 @@ fn token_reset(label: Label, verifier: &Verifier, pin: &[u8]) -> Outcome
 
 /// Does any work, or returns it if an allocation fails. The work of PINs allocates nothing.
 #[inline(never)]
-fn other_done(alloc: Global, work: Work) -> Result<Outcome, Work>
+fn run_other(alloc: Global, work: Work) -> Result<Outcome, Work>
     requires { IsTrue (is_runnable work) }
     ensures value { IfOk result (λ o. o ≡ outcome_of work) }
     ensures room { IfOk result (λ o. HasRoom work o) }
@@ -238,7 +238,7 @@ fn work_done(alloc: Global, work: Work) -> Result<Outcome, Work>
             part,
             input,
         } => ciphered(alloc, stream, part, input),
-        other => other_done(alloc, other),
+        other => run_other(alloc, other),
     }
 }
 

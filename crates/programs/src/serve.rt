@@ -2,6 +2,7 @@
 
 ghost use Rattle.std.specs.Prelude.{◌≡◌, ◌<◌, ◌≤◌, IfOk};
 ghost use Rattle.hall_sockets.specs.Staying.{AreNew, IsNew};
+ghost use Rattle.line_places.specs.declared.places.TheConstants.{MAX_CLIENTS};
 
 use crate::health::Health;
 use crate::monitor::{Monitor, Watching};
@@ -72,7 +73,7 @@ struct Served<'a> {
     loads: Arc<Loads, Global>,
     health: Arc<Health, Global>,
     sockets: Arc<Sockets, Global>,
-    ghost few: { settings.clients ≤ 64 },
+    ghost few: { settings.clients ≤ MAX_CLIENTS },
 }
 
 /// Serves as the command line asks, until each seat has had its connections. `threads` is a handle on which the seats' threads
@@ -331,7 +332,7 @@ fn paths_in<'a>(alloc: Global, matches: &ArgMatches<'a>) -> Result<Vec<&'a str>,
 /// What the seats have in common, by the command line.
 fn settings_of(matches: &ArgMatches<'_>, seed: [u8; 32]) -> Settings
     ensures seed { result.seed ≡ seed }
-    ensures clients { result.clients ≤ 64 }
+    ensures clients { result.clients ≤ MAX_CLIENTS }
 {
     let clients: u64 = matches.get_one("clients").unwrap_or(1);
     let idle: Option<u64> = matches.get_one("idle");
@@ -449,9 +450,9 @@ fn seats_on<L: Log + Copy + Drop>(
 ) -> Result<Seats<UnixStream, L, HostRuntime>, Fault>
     ensures { IfOk result (λ seats. AreNew served.now.settings.seed seats) }
 {
-    let second = again(rt.alloc(), &listeners)?;
-    let third = again(rt.alloc(), &listeners)?;
-    let fourth = again(rt.alloc(), &listeners)?;
+    let second = cloned(rt.alloc(), &listeners)?;
+    let third = cloned(rt.alloc(), &listeners)?;
+    let fourth = cloned(rt.alloc(), &listeners)?;
     Ok((
         seat_on(rt, log, listeners, 0, served)?,
         seat_on(rt, log, second, 1, served)?,
@@ -491,7 +492,7 @@ fn seat_on<L: Log + Drop>(
 }
 
 /// The same sockets once more.
-fn again(alloc: Global, listeners: &[UnixListener]) -> Result<Vec<UnixListener>, Fault> {
+fn cloned(alloc: Global, listeners: &[UnixListener]) -> Result<Vec<UnixListener>, Fault> {
     let mut same = Vec::new(alloc);
     for listener in listeners {
         match listener.try_clone() {

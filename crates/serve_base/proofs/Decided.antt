@@ -10,7 +10,7 @@ use Rattle.find.specs.CodeLaws.{codes_match-decided}
 use Rattle.find.specs.Marks.{ObjectMark, excludes, mark_of, wanted_of}
 use Rattle.find.specs.Matching.{template_matches}
 use Rattle.guard.specs.Access.{is_user_in}
-use Rattle.serve_base.specs.declared.listed.Listed.{Listed}
+use Rattle.serve_base.specs.declared.listed.ObjectEntry.{ObjectEntry}
 use Rattle.serve_base.specs.declared.searching.Match.{Match}
 use Rattle.serve_base.specs.Listing.{IsMarkOf}
 use Rattle.serve_base.specs.Searching.{finds, found_in, found_of, marked_match, passes_over, token_match}
@@ -34,7 +34,7 @@ module _ (login : Option UserType) (template : List Entry) where
       ∙ ap (λ b. cond b (token_match login template id o ∷ []) [])
       (finds-decided o (ap (passes_over login (wanted_of template)) (sym is) ∙ shown) decided)
 
-  pub found-decided : (object_of : ℕ → Option (List Entry)) (e : Listed) (found : List Match) (mark : ObjectMark) → e.removed ≡ false
+  pub found-decided : (object_of : ℕ → Option (List Entry)) (e : ObjectEntry) (found : List Match) (mark : ObjectMark) → e.removed ≡ false
       → passes_over login (wanted_of template) mark ≡ false → are_decided template ≡ true → is_some (object_of e.id) ≡ true
       → IsMarkOf (object_of e.id) (Some mark)
       → found ++ marked_match template e.id mark ≡ found ++ found_in login template object_of e

@@ -12,16 +12,16 @@ use Rattle.lists.proofs.ListLemmas.{All-push as All-last}
 use Rattle.handles.proofs.LiveLemmas.{live-push, live-taken}
 use Rattle.keep.specs.Contents.{Contents, Kept, IdsRise, IsSound, ids_of, object_at, with_object, with_replacement, without_object}
 use Rattle.keep.specs.ObjectLaws.{object_at-with_object, object_at-with_object_other, object_at-with_replacement, object_at-with_replacement_none, object_at-with_replacement_other, object_at-without_object, object_at-without_object_other}
-use Rattle.serve_base.specs.declared.listed.Listed.{Listed}
+use Rattle.serve_base.specs.declared.listed.ObjectEntry.{ObjectEntry}
 use Rattle.serve_base.specs.Listing.{AreListed, AreMarks, IsMarkOf, AreRemovedTaken, all_ids, id_in, listed_ids, marked_at, listed_removed_at, unread}
 
 -- ---- ids
 
-by-ids : (P : ℕ → Type 0) (xs : List Listed) → AllByRecursion P (all_ids xs) → AllByRecursion (λ e. P e.id) xs
+by-ids : (P : ℕ → Type 0) (xs : List ObjectEntry) → AllByRecursion P (all_ids xs) → AllByRecursion (λ e. P e.id) xs
 by-ids P [] all = tt
 by-ids P (x ∷ xs) all = (all.0, by-ids P xs all.1)
 
-pub ids-rise-in : (xs : List Listed) → KeysRise (λ i. i) (all_ids xs) → KeysRise id_in xs
+pub ids-rise-in : (xs : List ObjectEntry) → KeysRise (λ i. i) (all_ids xs) → KeysRise id_in xs
 ids-rise-in [] rise = tt
 ids-rise-in (x ∷ xs) rise = (by-ids (λ i. x.id < i) xs rise.0, ids-rise-in xs rise.1)
 
@@ -33,10 +33,10 @@ all-unread : (ids : List ℕ) → all_ids (map unread ids) ≡ ids
 all-unread [] = refl
 all-unread (id ∷ ids) = ap (λ (xs : List ℕ). id ∷ xs) (all-unread ids)
 
-pub ids-push : (xs : List Listed) (e : Listed) → e.removed ≡ false → listed_ids (xs ++ e ∷ []) ≡ listed_ids xs ++ e.id ∷ []
+pub ids-push : (xs : List ObjectEntry) (e : ObjectEntry) → e.removed ≡ false → listed_ids (xs ++ e ∷ []) ≡ listed_ids xs ++ e.id ∷ []
 ids-push xs e there = live-push (λ x. x.removed) id_in e xs there
 
-pub ids-marked : (id : ℕ) (mark : ObjectMark) (xs : List Listed) → listed_ids (map (marked_at id mark) xs) ≡ listed_ids xs
+pub ids-marked : (id : ℕ) (mark : ObjectMark) (xs : List ObjectEntry) → listed_ids (map (marked_at id mark) xs) ≡ listed_ids xs
 ids-marked id mark [] = refl
 ids-marked id mark (x ∷ xs) = step (eqb x.id id) (ids-marked id mark xs) where
   step : (b : Bool) → listed_ids (map (marked_at id mark) xs) ≡ listed_ids xs
@@ -44,7 +44,7 @@ ids-marked id mark (x ∷ xs) = step (eqb x.id id) (ids-marked id mark xs) where
   step true rest = ap (λ (ids : List ℕ). cond x.removed ids (x.id ∷ ids)) rest
   step false rest = ap (λ (ids : List ℕ). cond x.removed ids (x.id ∷ ids)) rest
 
-all-marked : (id : ℕ) (mark : ObjectMark) (xs : List Listed) → all_ids (map (marked_at id mark) xs) ≡ all_ids xs
+all-marked : (id : ℕ) (mark : ObjectMark) (xs : List ObjectEntry) → all_ids (map (marked_at id mark) xs) ≡ all_ids xs
 all-marked id mark [] = refl
 all-marked id mark (x ∷ xs) = step (eqb x.id id) (all-marked id mark xs) where
   step : (b : Bool) → all_ids (map (marked_at id mark) xs) ≡ all_ids xs
@@ -53,7 +53,7 @@ all-marked id mark (x ∷ xs) = step (eqb x.id id) (all-marked id mark xs) where
   step true rest = ap (λ (ids : List ℕ). x.id ∷ ids) rest
   step false rest = ap (λ (ids : List ℕ). x.id ∷ ids) rest
 
-pub ids-removed : (id : ℕ) (xs : List Listed) → listed_ids (map (listed_removed_at id) xs) ≡ filter (λ i. not (i == id)) (listed_ids xs)
+pub ids-removed : (id : ℕ) (xs : List ObjectEntry) → listed_ids (map (listed_removed_at id) xs) ≡ filter (λ i. not (i == id)) (listed_ids xs)
 ids-removed id [] = refl
 ids-removed id (x ∷ xs) = step (eqb x.id id) x.removed refl (ids-removed id xs) where
   step : (b r : Bool) → eqb x.id id ≡ b → listed_ids (map (listed_removed_at id) xs) ≡ filter (λ i. not (i == id)) (listed_ids xs)
@@ -64,7 +64,7 @@ ids-removed id (x ∷ xs) = step (eqb x.id id) x.removed refl (ids-removed id xs
   step false true is rest = rest
   step false false is rest = rw is (ap (λ (ids : List ℕ). x.id ∷ ids) rest)
 
-all-removed : (id : ℕ) (xs : List Listed) → all_ids (map (listed_removed_at id) xs) ≡ all_ids xs
+all-removed : (id : ℕ) (xs : List ObjectEntry) → all_ids (map (listed_removed_at id) xs) ≡ all_ids xs
 all-removed id [] = refl
 all-removed id (x ∷ xs) = step (eqb x.id id) (all-removed id xs) where
   step : (b : Bool) → all_ids (map (listed_removed_at id) xs) ≡ all_ids xs
@@ -72,26 +72,26 @@ all-removed id (x ∷ xs) = step (eqb x.id id) (all-removed id xs) where
   step true rest = ap (λ (ids : List ℕ). x.id ∷ ids) rest
   step false rest = ap (λ (ids : List ℕ). x.id ∷ ids) rest
 
-pub ids-taken : (old new : List Listed) → AreRemovedTaken old new → listed_ids new ≡ listed_ids old
+pub ids-taken : (old new : List ObjectEntry) → AreRemovedTaken old new → listed_ids new ≡ listed_ids old
 ids-taken old new (inl is) = ap listed_ids is
 ids-taken old new (inr is) = ap listed_ids is ∙ live-taken (λ e. e.removed) id_in old
 
 -- ---- their order
 
 -- the ids of all entries are as they were
-pub order-same : (last : ℕ) (old new : List Listed) → all_ids new ≡ all_ids old → AreListed last old → AreListed last new
+pub order-same : (last : ℕ) (old new : List ObjectEntry) → all_ids new ≡ all_ids old → AreListed last old → AreListed last new
 order-same last old new same order = record {
   rise = subst (KeysRise (λ i. i)) (sym same) order.rise;
   within = subst (AllByRecursion (λ i. i ≤ last)) (sym same) order.within;
 }
 
-pub order-marked : (last id : ℕ) (mark : ObjectMark) (xs : List Listed) → AreListed last xs → AreListed last (map (marked_at id mark) xs)
+pub order-marked : (last id : ℕ) (mark : ObjectMark) (xs : List ObjectEntry) → AreListed last xs → AreListed last (map (marked_at id mark) xs)
 order-marked last id mark xs order = order-same last xs (map (marked_at id mark) xs) (all-marked id mark xs) order
 
-pub order-removed : (last id : ℕ) (xs : List Listed) → AreListed last xs → AreListed last (map (listed_removed_at id) xs)
+pub order-removed : (last id : ℕ) (xs : List ObjectEntry) → AreListed last xs → AreListed last (map (listed_removed_at id) xs)
 order-removed last id xs order = order-same last xs (map (listed_removed_at id) xs) (all-removed id xs) order
 
-all-left : (P : ℕ → Type 0) (t : Listed → Bool) (xs : List Listed) → AllByRecursion P (all_ids xs)
+all-left : (P : ℕ → Type 0) (t : ObjectEntry → Bool) (xs : List ObjectEntry) → AllByRecursion P (all_ids xs)
     → AllByRecursion P (all_ids (filter t xs))
 all-left P t [] all = tt
 all-left P t (x ∷ xs) all = let rest = all-left P t xs all.1 in elim (cases_Bool (t x)) [
@@ -99,14 +99,14 @@ all-left P t (x ∷ xs) all = let rest = all-left P t xs all.1 in elim (cases_Bo
   | inr fails ↦ rw fails rest
 ]
 
-rise-left : (t : Listed → Bool) (xs : List Listed) → KeysRise (λ i. i) (all_ids xs) → KeysRise (λ i. i) (all_ids (filter t xs))
+rise-left : (t : ObjectEntry → Bool) (xs : List ObjectEntry) → KeysRise (λ i. i) (all_ids xs) → KeysRise (λ i. i) (all_ids (filter t xs))
 rise-left t [] rise = tt
 rise-left t (x ∷ xs) rise = let rest = rise-left t xs rise.1 in elim (cases_Bool (t x)) [
   | inl passes ↦ rw passes (all-left (λ i. x.id < i) t xs rise.0, rest)
   | inr fails ↦ rw fails rest
 ]
 
-pub order-taken : (last : ℕ) (old new : List Listed) → AreRemovedTaken old new → AreListed last old → AreListed last new
+pub order-taken : (last : ℕ) (old new : List ObjectEntry) → AreRemovedTaken old new → AreListed last old → AreListed last new
 order-taken last old new (inl is) order = subst (AreListed last) (sym is) order
 order-taken last old new (inr is) order = subst (AreListed last) (sym is) (record {
   rise = rise-left (λ e. not e.removed) old order.rise;
@@ -125,7 +125,7 @@ within-push : (last : ℕ) (ids : List ℕ) → AllByRecursion (λ i. i ≤ last
 within-push last [] within = (omega arith, tt)
 within-push last (i ∷ ids) within = (let le : i ≤ last = within.0 in omega (arith, le), within-push last ids within.1)
 
-pub order-push : (last id : ℕ) (xs : List Listed) (e : Listed) → e.id ≡ last + 1 → AreListed last xs → AreListed (last + 1) (xs ++ e ∷ [])
+pub order-push : (last id : ℕ) (xs : List ObjectEntry) (e : ObjectEntry) → e.id ≡ last + 1 → AreListed last xs → AreListed (last + 1) (xs ++ e ∷ [])
 order-push last id xs e is order =
     let ids : all_ids (xs ++ e ∷ []) ≡ all_ids xs ++ (last + 1) ∷ [] =
     map-append id_in xs (e ∷ []) ∙ ap (λ (i : ℕ). all_ids xs ++ i ∷ []) is in
@@ -167,7 +167,7 @@ unmarked (Some o) = tt
 pub mark-read : (found : Option (List Entry)) (o : List Entry) → found ≡ Some o → IsMarkOf found (Some (mark_of o))
 mark-read found o is = subst (λ x. IsMarkOf x (Some (mark_of o))) (sym is) refl
 
-same-object : (c d : Contents) (e : Listed) → object_at d e.id ≡ object_at c e.id → IsMarkOf (object_at c e.id) e.mark
+same-object : (c d : Contents) (e : ObjectEntry) → object_at d e.id ≡ object_at c e.id → IsMarkOf (object_at c e.id) e.mark
     → IsMarkOf (object_at d e.id) e.mark
 same-object c d e same was = subst (λ x. IsMarkOf x e.mark) (sym same) was
 
@@ -177,7 +177,7 @@ marks-unread c ids = All-from_recursion (λ e. IsMarkOf (object_at c e.id) e.mar
   each [] = tt
   each (id ∷ ids) = (unmarked (object_at c id), each ids)
 
-module _ (c : Contents) (xs : List Listed) (marks : AreMarks c xs) where
+module _ (c : Contents) (xs : List ObjectEntry) (marks : AreMarks c xs) where
   pub marks-inserted : (o : List Entry) (id : ℕ) → IsSound c → AreListed c.last_id xs → id ≡ c.last_id + 1
       → AreMarks (with_object o c) (xs ++ record { id = id; mark = Some (mark_of o); removed = false } ∷ [])
   marks-inserted o id sound order is =
@@ -186,7 +186,7 @@ module _ (c : Contents) (xs : List Listed) (marks : AreMarks c xs) where
         within : All (λ e. e.id ≤ c.last_id) xs
         within = All-from_recursion (λ e. e.id ≤ c.last_id) xs (by-ids (λ i. i ≤ c.last_id) xs order.within)
 
-        stays : (e : Listed) → e.id ≤ c.last_id → IsMarkOf (object_at c e.id) e.mark → IsMarkOf (object_at (with_object o c) e.id) e.mark
+        stays : (e : ObjectEntry) → e.id ≤ c.last_id → IsMarkOf (object_at c e.id) e.mark → IsMarkOf (object_at (with_object o c) e.id) e.mark
         stays e le was = same-object c (with_object o c) e (object_at-with_object_other o c e.id (λ k. omega (arith, k, le))) was
 
         others : AreMarks (with_object o c) xs
@@ -204,7 +204,7 @@ module _ (c : Contents) (xs : List Listed) (marks : AreMarks c xs) where
         there None none = subst (λ x. IsMarkOf x (Some (mark_of o))) (sym (object_at-with_replacement_none id id o c none)) tt
         there (Some old) some = mark-read (object_at (with_replacement id o c) id) o (object_at-with_replacement id o c (ap is_some some))
 
-        each : (e : Listed) → IsMarkOf (object_at c e.id) e.mark
+        each : (e : ObjectEntry) → IsMarkOf (object_at c e.id) e.mark
             → IsMarkOf (object_at (with_replacement id o c) (marked_at id (mark_of o) e).id) (marked_at id (mark_of o) e).mark
         each e was = elim (cases_eq e.id id) [
           | inl is ↦ rw (eq-eqb e.id id is)
@@ -217,7 +217,7 @@ module _ (c : Contents) (xs : List Listed) (marks : AreMarks c xs) where
   marks-removed id = All-map (λ e. IsMarkOf (object_at (without_object id c) e.id) e.mark) (listed_removed_at id) xs
       (All-weaker (λ e. IsMarkOf (object_at c e.id) e.mark)
       (λ e. IsMarkOf (object_at (without_object id c) (listed_removed_at id e).id) (listed_removed_at id e).mark) each xs marks) where
-        each : (e : Listed) → IsMarkOf (object_at c e.id) e.mark
+        each : (e : ObjectEntry) → IsMarkOf (object_at c e.id) e.mark
             → IsMarkOf (object_at (without_object id c) (listed_removed_at id e).id) (listed_removed_at id e).mark
         each e was = elim (cases_eq e.id id) [
           | inl is ↦ rw (eq-eqb e.id id is)
@@ -226,7 +226,7 @@ module _ (c : Contents) (xs : List Listed) (marks : AreMarks c xs) where
               (same-object c (without_object id c) e (object_at-without_object_other id e.id c differ) was)
         ]
 
-pub marks-taken : (c : Contents) (old new : List Listed) → AreRemovedTaken old new → AreMarks c old → AreMarks c new
+pub marks-taken : (c : Contents) (old new : List ObjectEntry) → AreRemovedTaken old new → AreMarks c old → AreMarks c new
 marks-taken c old new (inl is) marks = subst (AreMarks c) (sym is) marks
 marks-taken c old new (inr is) marks =
     subst (AreMarks c) (sym is) (All-filter (λ e. not e.removed) (λ e. IsMarkOf (object_at c e.id) e.mark) old marks)

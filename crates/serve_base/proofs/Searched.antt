@@ -15,7 +15,7 @@ use Rattle.find.specs.Marks.{ObjectMark, excludes, mark_of, wanted_of}
 use Rattle.find.specs.MarkLaws.{template_matches-excluded}
 use Rattle.find.specs.Matching.{template_matches}
 use Rattle.guard.specs.Access.{is_user_in}
-use Rattle.serve_base.specs.declared.listed.Listed.{Listed}
+use Rattle.serve_base.specs.declared.listed.ObjectEntry.{ObjectEntry}
 use Rattle.serve_base.specs.declared.searching.Match.{Match}
 use Rattle.serve_base.specs.Listing.{AreMarks, IsMarkOf, all_ids, listed_ids}
 use Rattle.serve_base.specs.Searching.{finds, token_match, kept_found, found_of, found_in, found_at, passes_over}
@@ -64,7 +64,7 @@ module _ (login : Option UserType) (template : List Entry) where
       let hidden : finds login template o ≡ false = passed-hidden o (ap (passes_over login (wanted_of template)) (sym is) ∙ passes) in
       sym (ap (λ b. found ++ cond b (token_match login template id o ∷ []) []) hidden ∙ append-nil found)
 
-  pub found-passed : (object_of : ℕ → Option (List Entry)) (e : Listed) (found : List Match) (mark : ObjectMark) → e.removed ≡ false
+  pub found-passed : (object_of : ℕ → Option (List Entry)) (e : ObjectEntry) (found : List Match) (mark : ObjectMark) → e.removed ≡ false
       → passes_over login (wanted_of template) mark ≡ true → IsMarkOf (object_of e.id) (Some mark)
       → found ≡ found ++ found_in login template object_of e
   found-passed object_of e found mark there passes is =
@@ -73,7 +73,7 @@ module _ (login : Option UserType) (template : List Entry) where
 
   -- ---- from one object of the list to the next
 
-  found-next : (object_of : ℕ → Option (List Entry)) (xs : List Listed) (at : ℕ) (d e : Listed) → at < length xs
+  found-next : (object_of : ℕ → Option (List Entry)) (xs : List ObjectEntry) (at : ℕ) (d e : ObjectEntry) → at < length xs
       → found_at login template object_of (listed_ids (drop at xs)) ≡ found_in login template object_of (get_or xs at d)
       ++ found_at login template object_of (listed_ids (drop (suc at) (set xs at e)))
   found-next object_of [] at d e lt = absurd (omega (arith, lt))
@@ -84,7 +84,7 @@ module _ (login : Option UserType) (template : List Entry) where
     step false = refl
   found-next object_of (x ∷ xs) (suc at) d e lt = found-next object_of xs at d e (omega (arith, lt))
 
-  pub walked : (object_of : ℕ → Option (List Entry)) (xs : List Listed) (at : ℕ) (d e : Listed) (was now all : List Match) → at < length xs
+  pub walked : (object_of : ℕ → Option (List Entry)) (xs : List ObjectEntry) (at : ℕ) (d e : ObjectEntry) (was now all : List Match) → at < length xs
       → was ++ found_at login template object_of (listed_ids (drop at xs)) ≡ all
       → now ≡ was ++ found_in login template object_of (get_or xs at d)
       → now ++ found_at login template object_of (listed_ids (drop (at + 1) (set xs at e))) ≡ all
@@ -94,7 +94,7 @@ module _ (login : Option UserType) (template : List Entry) where
       ap (λ n. now ++ found_at login template object_of (listed_ids (drop n (set xs at e)))) (add-one at)
       ∙ ap (λ ms. ms ++ rest) is ∙ append_assoc was here rest ∙ ap (λ ms. was ++ ms) (sym (found-next object_of xs at d e lt)) ∙ before
 
-pub ids-noted : (xs : List Listed) (at : ℕ) (d e : Listed) → at < length xs → e.id ≡ (get_or xs at d).id
+pub ids-noted : (xs : List ObjectEntry) (at : ℕ) (d e : ObjectEntry) → at < length xs → e.id ≡ (get_or xs at d).id
     → e.removed ≡ (get_or xs at d).removed → listed_ids (set xs at e) ≡ listed_ids xs
 ids-noted [] at d e lt same gone = absurd (omega (arith, lt))
 ids-noted (x ∷ xs) zero d e lt same gone = ap (λ r. cond r (listed_ids xs) (e.id ∷ listed_ids xs)) gone
@@ -102,18 +102,18 @@ ids-noted (x ∷ xs) zero d e lt same gone = ap (λ r. cond r (listed_ids xs) (e
 ids-noted (x ∷ xs) (suc at) d e lt same gone =
     ap (λ ids. cond x.removed ids (x.id ∷ ids)) (ids-noted xs at d e (omega (arith, lt)) same gone)
 
-pub all-noted : (xs : List Listed) (at : ℕ) (d e : Listed) → at < length xs → e.id ≡ (get_or xs at d).id
+pub all-noted : (xs : List ObjectEntry) (at : ℕ) (d e : ObjectEntry) → at < length xs → e.id ≡ (get_or xs at d).id
     → all_ids (set xs at e) ≡ all_ids xs
 all-noted [] at d e lt same = absurd (omega (arith, lt))
 all-noted (x ∷ xs) zero d e lt same = ap (λ id. id ∷ all_ids xs) same
 all-noted (x ∷ xs) (suc at) d e lt same = ap (λ ids. x.id ∷ ids) (all-noted xs at d e (omega (arith, lt)) same)
 
-pub marks-noted : (c : Contents) (xs : List Listed) (at : ℕ) (d e : Listed) → e.id ≡ (get_or xs at d).id → AreMarks c xs
+pub marks-noted : (c : Contents) (xs : List ObjectEntry) (at : ℕ) (d e : ObjectEntry) → e.id ≡ (get_or xs at d).id → AreMarks c xs
     → IsMarkOf (object_at c (get_or xs at d).id) e.mark → AreMarks c (set xs at e)
 marks-noted c xs at d e same marks is =
     All-set (λ x. IsMarkOf (object_at c x.id) x.mark) xs at e (subst (λ id. IsMarkOf (object_at c id) e.mark) (sym same) is) marks
 
-pub each-id : (P : ℕ → Type 0) (xs : List Listed) (at : ℕ) (d : Listed) → at < length xs → (get_or xs at d).removed ≡ false
+pub each-id : (P : ℕ → Type 0) (xs : List ObjectEntry) (at : ℕ) (d : ObjectEntry) → at < length xs → (get_or xs at d).removed ≡ false
     → AllByRecursion P (listed_ids xs) → P (get_or xs at d).id
 each-id P [] at d lt there all = absurd (omega (arith, lt))
 each-id P (x ∷ xs) zero d lt there all = let one : AllByRecursion P (x.id ∷ listed_ids xs) = rw there at all in one.0

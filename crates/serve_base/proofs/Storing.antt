@@ -12,7 +12,7 @@ use Rattle.keep.specs.Keeping.{Stays, Terms}
 use Rattle.keep.specs.ContentsLaws.{IsSound-after_reset, IsSound-with_object, IsSound-with_record, IsSound-with_replacement, IsSound-without_object}
 use Rattle.keep.specs.IdLaws.{ids_of-with_object, ids_of-with_replacement, ids_of-without_object, is_some-object_at}
 use Rattle.find.specs.Marks.{mark_of}
-use Rattle.serve_base.specs.declared.listed.Listed.{Listed}
+use Rattle.serve_base.specs.declared.listed.ObjectEntry.{ObjectEntry}
 use Rattle.serve_base.specs.Listing.{AreListed, AreMarks, IsMarkOf, AreRemovedTaken, id_in, listed_ids, marked_at, listed_removed_at, unread}
 use Rattle.serve_base.specs.Stores.{StoreState, StoreHas, SameIds}
 use Rattle.serve_base.proofs.Marking.{ids-marked, ids-push, ids-removed, ids-rise-in, ids-taken, ids-unread, marks-inserted, marks-removed, marks-replaced, marks-taken, marks-unread, order-marked, order-push, order-removed, order-taken, order-unread}
@@ -145,7 +145,7 @@ has-adopted terms new c ids held sound is list = record {
 }
 
 -- the entries of removed objects are taken out
-pub has-taken : {K : Type 0} (terms : Terms K) (keep : K) (old new : List Listed) (c : Contents) → AreRemovedTaken old new
+pub has-taken : {K : Type 0} (terms : Terms K) (keep : K) (old new : List ObjectEntry) (c : Contents) → AreRemovedTaken old new
     → StoreHas terms (record { keep = keep; listed = old }) c → StoreHas terms (record { keep = keep; listed = new }) c
 has-taken terms keep old new c taken h = record {
   held = h.held;
@@ -171,14 +171,14 @@ any-found id (i ∷ ids) = step (i == id) (any-found id ids) where
   step false h = h
 
 -- an entry has the id: its object is there, if it wasn't removed
-pub any-here : (xs : List Listed) (id : ℕ) (x : Listed) → KeysRise id_in xs → find (λ e. id_in e == id) xs ≡ Some x
+pub any-here : (xs : List ObjectEntry) (id : ℕ) (x : ObjectEntry) → KeysRise id_in xs → find (λ e. id_in e == id) xs ≡ Some x
     → not x.removed ≡ list_any (λ i. i == id) (listed_ids xs)
 any-here xs id x rise found = there x.removed (live-found (λ e. e.removed) id_in (λ i. i) id xs x rise found) where
   there : (r : Bool) → find (λ i. i == id) (listed_ids xs) ≡ cond r None (Some x.id) → not r ≡ list_any (λ i. i == id) (listed_ids xs)
   there true is = sym (any-found id (listed_ids xs) ∙ ap is_some is)
   there false is = sym (any-found id (listed_ids xs) ∙ ap is_some is)
 
-pub any-absent : (xs : List Listed) (id : ℕ) → find (λ e. id_in e == id) xs ≡ None → false ≡ list_any (λ i. i == id) (listed_ids xs)
+pub any-absent : (xs : List ObjectEntry) (id : ℕ) → find (λ e. id_in e == id) xs ≡ None → false ≡ list_any (λ i. i == id) (listed_ids xs)
 any-absent xs id none = sym (any-found id (listed_ids xs) ∙ ap is_some (live-absent (λ e. e.removed) id_in (λ i. i) id xs none))
 
 pub not_there : {K : Type 0} (terms : Terms K) (s : StoreState K) (c : Contents) (id : ℕ) → StoreHas terms s c

@@ -6,41 +6,41 @@ use Rattle.find.specs.Marks.{ObjectMark, mark_of}
 use Rattle.handles.specs.Live.{live}
 use Rattle.keep.specs.Contents.{Contents, object_at}
 use Rattle.lists.specs.Bisection.{KeysRise}
-use Rattle.serve_base.specs.declared.listed.Listed.{Listed}
+use Rattle.serve_base.specs.declared.listed.ObjectEntry.{ObjectEntry}
 
-abbrev pub id_in : Listed → ℕ
+abbrev pub id_in : ObjectEntry → ℕ
 id_in e = e.id
 
 -- the ids of the objects, without those that were removed
-abbrev pub listed_ids : List Listed → List ℕ
+abbrev pub listed_ids : List ObjectEntry → List ℕ
 listed_ids listed = live (λ e. e.removed) id_in listed
 
 -- the ids of all entries
-abbrev pub all_ids : List Listed → List ℕ
+abbrev pub all_ids : List ObjectEntry → List ℕ
 all_ids listed = map id_in listed
 
 -- the ids of all entries rise, and none is above the last that was given
-pub record AreListed (last : ℕ) (listed : List Listed) : Type 0 where
+pub record AreListed (last : ℕ) (listed : List ObjectEntry) : Type 0 where
   pub rise : KeysRise (λ i. i) (all_ids listed)
   pub within : AllByRecursion (λ i. i ≤ last) (all_ids listed)
 
 -- an object that wasn't read yet
-abbrev pub unread : ℕ → Listed
+abbrev pub unread : ℕ → ObjectEntry
 unread id = record { id = id; mark = None; removed = false }
 
 -- the mark is noted, if it is that of this object
-abbrev pub marked_at : ℕ → ObjectMark → Listed → Listed
+abbrev pub marked_at : ℕ → ObjectMark → ObjectEntry → ObjectEntry
 marked_at id mark e = if e.id == id then record { id = e.id; mark = Some mark; removed = e.removed } else e
 
 -- the object is removed, if it is this one
-abbrev pub listed_removed_at : ℕ → Listed → Listed
+abbrev pub listed_removed_at : ℕ → ObjectEntry → ObjectEntry
 listed_removed_at id e = if e.id == id then record { id = e.id; mark = e.mark; removed = true } else e
 
-abbrev pub without_removed : List Listed → List Listed
+abbrev pub without_removed : List ObjectEntry → List ObjectEntry
 without_removed listed = filter (λ e. not e.removed) listed
 
 -- the entries stay, or those of removed objects are taken out
-abbrev pub AreRemovedTaken : List Listed → List Listed → Type 0
+abbrev pub AreRemovedTaken : List ObjectEntry → List ObjectEntry → Type 0
 AreRemovedTaken old new = (new ≡ old) ⊎ (new ≡ without_removed old)
 
 -- a mark that is known is that of the object
@@ -50,5 +50,5 @@ IsMarkOf (Some object) None = Unit {0}
 IsMarkOf None mark = Unit {0}
 
 -- each mark that is known is that of the object under the id
-abbrev pub AreMarks : Contents → List Listed → Type 0
+abbrev pub AreMarks : Contents → List ObjectEntry → Type 0
 AreMarks c listed = All (λ e. IsMarkOf (object_at c e.id) e.mark) listed

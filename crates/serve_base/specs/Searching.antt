@@ -10,7 +10,7 @@ use Rattle.find.specs.Marks.{ObjectMark, WantedMarks, excludes}
 use Rattle.guard.specs.Access.{is_user_in}
 use Rattle.keep.specs.Contents.{Kept}
 use Rattle.model_views.specs.Views.{sees}
-use Rattle.serve_base.specs.declared.listed.Listed.{Listed}
+use Rattle.serve_base.specs.declared.listed.ObjectEntry.{ObjectEntry}
 use Rattle.serve_base.specs.declared.searching.Match.{Match}
 use Rattle.serve_base.specs.declared.searching.Match.TheVariants.{TokenObject, SessionObject}
 
@@ -33,7 +33,7 @@ module _ (login : Option UserType) (template : List Entry) where
   found_of id (Some o) = if finds o then token_match id o ∷ [] else []
 
   -- nothing is found of an object that was removed
-  abbrev pub found_in : (ℕ → Option (List Entry)) → Listed → List Match
+  abbrev pub found_in : (ℕ → Option (List Entry)) → ObjectEntry → List Match
   found_in object_of e = if e.removed then [] else found_of e.id (object_of e.id)
 
   abbrev pub found_at : (ℕ → Option (List Entry)) → List ℕ → List Match

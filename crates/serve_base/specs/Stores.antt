@@ -9,13 +9,13 @@ use Rattle.desk.specs.Desks.{DeskState, SameDesk}
 use Rattle.model_views.specs.Views.{View, sees}
 use Rattle.model_views.specs.Changes.{Change, Stays, Insert, in_list}
 use Rattle.model_views.specs.Answering.{Said, Answer}
-use Rattle.serve_base.specs.declared.listed.Listed.{Listed}
+use Rattle.serve_base.specs.declared.listed.ObjectEntry.{ObjectEntry}
 use Rattle.serve_base.specs.Listing.{AreListed, AreMarks, listed_ids}
 use Rattle.serve_base.specs.Shown.{view_of, objects_of, ChangesContents, GivesAnswer, Fits}
 
 pub record StoreState (K : Type 0) : Type 0 where
   pub keep : K
-  pub listed : List Listed
+  pub listed : List ObjectEntry
 
 -- The list is in order, and the marks that are known are right, as long as the disk is faithful. It is one member of `StoreHas` and
 -- of `SameIds`, since the search for proofs goes through each of their members.

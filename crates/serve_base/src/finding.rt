@@ -54,7 +54,7 @@ fn own_copy(desk: &Desk, handle: u64) -> Result<Option<Found>, AllocError>
 }
 
 /// A copy of the object under a handle, if the application sees one there.
-pub fn find<K: Keep>(
+pub fn object_by_handle<K: Keep>(
     alloc: Global,
     desk: &Desk,
     store: &mut Store<K>,

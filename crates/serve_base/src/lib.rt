@@ -1,7 +1,7 @@
 //! One desk over the store: what the crates that serve calls stand on.
 //!
 //! `Store` is the keeper of the token objects (a storage backend) with their ids in the order of their creation. It has their
-//! marks too, by which a search passes over objects without reading them. `find` copies the object that an application sees
+//! marks too, by which a search passes over objects without reading them. `object_by_handle` copies the object that an application sees
 //! under a handle, and `Store::search` collects those that a template finds. A call returns `Result<Reply, Refusal>` or, where
 //! it may return a job, `Result<Out, Refusal>`: an `Err` always means that nothing has changed. `settle` makes of it what the
 //! application gets.
@@ -16,7 +16,7 @@
 //! faithful or not.
 //!
 //! Proved, by the names of contracts: a `Store` allocates before it writes, and changes as the keeper does (`StoreHas`). It asks for no id
-//! that isn't listed, so over a steady keeper no read returns `Device` (`steady`). While the disk is faithful `find` returns what the
+//! that isn't listed, so over a steady keeper no read returns `Device` (`steady`). While the disk is faithful `object_by_handle` returns what the
 //! application sees under a handle (`IsFound`), and `Store::search` what a template finds (`kept_found`). Private objects are found for
 //! the user alone, faithful or not (`MayFind`). No clause says which objects are read. `ask_within` returns a length where no buffer is
 //! given, and never fails there (`length`). `add_object` makes at most one write.
@@ -49,7 +49,7 @@ mod store;
 pub use adding::add_object;
 pub use asking::{ask, ask_within, new_job, random_block};
 pub use caller::Caller;
-pub use finding::{Found, find};
+pub use finding::{Found, object_by_handle};
 pub use keys::{aes_key, is_aes, is_of_type, is_secret_key, operation_key};
 pub use out::{Out, Returned};
 pub use refusal::{Refusal, settle};

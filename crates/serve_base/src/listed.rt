@@ -14,18 +14,18 @@ use std::alloc::{AllocError, Global};
 
 /// A token object in the store's list: its id, once it was read or written its mark, and whether it was removed.
 #[derive(Clone, Copy, Debug, PartialEq, Eq)]
-pub struct Listed {
+pub struct ObjectEntry {
     pub id: u64,
     pub mark: Option<Mark>,
     pub removed: bool,
 }
 
 /// The list of the objects under these ids, of which none was read yet.
-pub(crate) fn list_unread(alloc: Global, ids: &[u64]) -> Result<Vec<Listed>, AllocError>
+pub(crate) fn list_unread(alloc: Global, ids: &[u64]) -> Result<Vec<ObjectEntry>, AllocError>
     ensures { IfOk result (λ listed. listed.items ≡ map unread ids.now) }
 {
     ids.iter()
-        .map(|id| Listed {
+        .map(|id| ObjectEntry {
             id: *id,
             mark: None,
             removed: false,
@@ -34,7 +34,7 @@ pub(crate) fn list_unread(alloc: Global, ids: &[u64]) -> Result<Vec<Listed>, All
 }
 
 /// Whether the list has the id, where the ids rise.
-pub(crate) fn has_id(listed: &[Listed], id: u64) -> bool
+pub(crate) fn has_id(listed: &[ObjectEntry], id: u64) -> bool
     ensures { KeysRise id_in listed.now → result ≡ list_any (λ i. i == id) (listed_ids listed.now) }
 {
     match index_of_id(listed, id) {
@@ -44,7 +44,7 @@ pub(crate) fn has_id(listed: &[Listed], id: u64) -> bool
 }
 
 /// Notes the mark of the object under an id, where the list has the id.
-pub(crate) fn set_mark(listed: &mut [Listed], id: u64, mark: Mark)
+pub(crate) fn set_mark(listed: &mut [ObjectEntry], id: u64, mark: Mark)
     ensures { KeysRise id_in listed.old → listed.new ≡ map (marked_at id mark) listed.old }
 {
     if let Ok(at) = index_of_id(listed, id) {
@@ -53,7 +53,7 @@ pub(crate) fn set_mark(listed: &mut [Listed], id: u64, mark: Mark)
 }
 
 /// Notes that the object under an id was removed, where the list has the id.
-pub(crate) fn remove_id(listed: &mut Vec<Listed>, id: u64)
+pub(crate) fn remove_id(listed: &mut Vec<ObjectEntry>, id: u64)
     ensures { KeysRise id_in listed.old.items → listed.new.items ≡ map (listed_removed_at id) listed.old.items }
 {
     if let Ok(at) = index_of_id(listed, id) {
@@ -62,7 +62,7 @@ pub(crate) fn remove_id(listed: &mut Vec<Listed>, id: u64)
 }
 
 /// Takes out the entries of removed objects, where they are more than half. `removed` is how many there are.
-pub(crate) fn take_out_many(listed: &mut Vec<Listed>, removed: &mut usize)
+pub(crate) fn compact(listed: &mut Vec<ObjectEntry>, removed: &mut usize)
     ensures { AreRemovedTaken listed.old.items listed.new.items }
 {
     if *removed > listed.len() / 2 {
@@ -72,14 +72,14 @@ pub(crate) fn take_out_many(listed: &mut Vec<Listed>, removed: &mut usize)
 }
 
 /// Takes out the entries of removed objects.
-fn take_out(listed: &mut Vec<Listed>)
+fn take_out(listed: &mut Vec<ObjectEntry>)
     ensures { listed.new.items ≡ without_removed listed.old.items }
 {
     listed.retain(|entry| !entry.removed);
 }
 
 /// The index of an id among ids that rise, or the index where it would be inserted.
-fn index_of_id(listed: &[Listed], id: u64) -> Result<usize, usize>
+fn index_of_id(listed: &[ObjectEntry], id: u64) -> Result<usize, usize>
     ensures within { IsSearchInRange result (length listed.now) }
     ensures index { KeysRise id_in listed.now → IsIndexOf id_in listed.now id result }
 {

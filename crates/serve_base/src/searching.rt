@@ -12,10 +12,10 @@ ghost use Rattle.serve_base.specs.Searching.{found_at, found_in, found_of, marke
 ghost use Rattle.ck_types.specs.declared.user_type.UserType.{UserType as AnUser};
 
 use crate::finding::{sees, sees_private};
-use crate::listed::Listed;
+use crate::listed::ObjectEntry;
 use attrs::Object;
 use ck_types::{AttrType, Template, UserType};
-use find::{Mark, Wanted, search};
+use find::{Mark, Wanted, push_if_matches};
 use keep::{Keep, KeepFault};
 use std::alloc::{AllocError, Global};
 
@@ -33,7 +33,7 @@ pub enum Match {
 pub(crate) fn search_kept<K: Keep>(
     alloc: Global,
     keep: &mut K,
-    listed: &mut [Listed],
+    listed: &mut [ObjectEntry],
     login: Option<UserType>,
     template: &Template,
     found: &mut Vec<Match>,
@@ -62,7 +62,7 @@ pub(crate) fn search_kept<K: Keep>(
 fn search_next<K: Keep>(
     alloc: Global,
     keep: &mut K,
-    entry: &mut Listed,
+    entry: &mut ObjectEntry,
     login: Option<UserType>,
     template: &Template,
     wanted: &Wanted,
@@ -147,5 +147,5 @@ fn search_one(
         id,
         private: object.flag(AttrType::Private),
     };
-    search(template, object, note, found)
+    push_if_matches(template, object, note, found)
 }

@@ -8,7 +8,7 @@ ghost use Rattle.keep.specs.declared.keep.KeepFault.TheVariants.{Device};
 ghost use Rattle.serve_base.specs.Searching.{kept_found, MayFind};
 ghost use Rattle.serve_base.specs.Stores.{StoreHas, SameIds, Wrote};
 
-use crate::listed::{Listed, has_id, list_unread, remove_id, set_mark, take_out_many};
+use crate::listed::{ObjectEntry, compact, has_id, list_unread, remove_id, set_mark};
 use crate::searching::{Match, search_kept};
 use attrs::Object;
 use ck_types::{Template, UserType};
@@ -23,7 +23,7 @@ use std::marker::Model;
 #[derive(Drop)]
 pub struct Store<K: Keep> {
     keep: K,
-    listed: Vec<Listed>,
+    listed: Vec<ObjectEntry>,
     /// How many entries of the list are of removed objects.
     removed: usize,
 }
@@ -135,7 +135,7 @@ impl<K: Keep> Store<K> {
         ensures counts { Counted K.terms self.old.keep self.new.keep 0 0 }
         ensures cause { HasCause (K.terms.failures self.old.keep) (K.terms.failures self.new.keep) result }
     {
-        take_out_many(&mut self.listed, &mut self.removed);
+        compact(&mut self.listed, &mut self.removed);
         search_kept(
             alloc,
             &mut self.keep,
@@ -173,10 +173,10 @@ impl<K: Keep> Store<K> {
         ensures wrote { Wrote K.terms (with_object object.now)
             ((c : Contents) → StoreHas K.terms self.old c → greatest_id ≤ c.last_id) self.old self.new result }
     {
-        take_out_many(&mut self.listed, &mut self.removed);
+        compact(&mut self.listed, &mut self.removed);
         self.listed.reserve(1)?;
         let id = self.keep.insert(object)?;
-        self.listed.push_reserved(Listed {
+        self.listed.push_reserved(ObjectEntry {
             id,
             mark: Some(Mark::of(object)),
             removed: false,

@@ -24,7 +24,8 @@ use lists::NUMBER_LIMIT;
 use mech::Work;
 use precede::Condition;
 use serve_base::{
-    Caller, Found, Out, Refusal, Store, add_object, aes_key, ask, find, is_aes, random_block,
+    Caller, Found, Out, Refusal, Store, add_object, aes_key, ask, is_aes, object_by_handle,
+    random_block,
 };
 use templates::{unwrap_fault, unwraps_private_key, unwraps_token_key};
 
@@ -60,7 +61,7 @@ pub fn serve<K: Keep>(
         unwrapping_key,
         bytes,
     } = wrapped;
-    let key = find(caller.alloc, desk, store, unwrapping_key)?;
+    let key = object_by_handle(caller.alloc, desk, store, unwrapping_key)?;
     ask_unwrapped(
         caller, desk, session, &mechanism, &key, bytes, template, random,
     )

@@ -25,7 +25,9 @@ use desk::Desk;
 use keep::{Keep, KeepFault};
 use mech::Work;
 use precede::Condition;
-use serve_base::{Caller, Found, Out, Refusal, Store, aes_key, ask_within, find, is_aes};
+use serve_base::{
+    Caller, Found, Out, Refusal, Store, aes_key, ask_within, is_aes, object_by_handle,
+};
 use std::alloc::Global;
 
 /// How many bytes a wrapped key is longer than its value.
@@ -76,8 +78,8 @@ fn find_both<K: Keep>(
     ensures counts { Counted K.terms store.old.keep store.new.keep 0 0 }
     ensures cause { HasCause (K.terms.failures store.old.keep) (K.terms.failures store.new.keep) result }
 {
-    let first = find(alloc, desk, store, first)?;
-    let second = find(alloc, desk, store, second)?;
+    let first = object_by_handle(alloc, desk, store, first)?;
+    let second = object_by_handle(alloc, desk, store, second)?;
     Ok((first, second))
 }
 

@@ -9,7 +9,7 @@ use ck_types::{AttrType, Template};
 use desk::Desk;
 use keep::Keep;
 use precede::Condition;
-use serve_base::{Refusal, Store, add_object, find};
+use serve_base::{Refusal, Store, add_object, object_by_handle};
 use std::alloc::Global;
 use templates::copied;
 
@@ -30,7 +30,7 @@ pub fn serve<K: Keep>(
     ensures { IsDone K.terms 1 (λ v. copy_object v session handle template.now random.now) store.old store.new desk.old result desk.new }
 {
     let state = desk.state(session).ok_or(Condition::NoSession)?;
-    let found = find(alloc, desk, store, handle)?.ok_or(Condition::NoObject)?;
+    let found = object_by_handle(alloc, desk, store, handle)?.ok_or(Condition::NoObject)?;
     if !found.object.flag(AttrType::Copyable) {
         return Err(Refusal::Condition(Condition::NotCopyable));
     }

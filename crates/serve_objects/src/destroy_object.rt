@@ -15,7 +15,7 @@ use desk::Desk;
 use guard::needs_read_write;
 use keep::Keep;
 use precede::Condition;
-use serve_base::{Refusal, Store, find};
+use serve_base::{Refusal, Store, object_by_handle};
 use std::alloc::Global;
 
 /// C_DestroyObject (PKCS #11 v3.1, 5.7.3).
@@ -30,7 +30,7 @@ pub fn serve<K: Keep>(
     ensures { IsDone K.terms 1 (λ v. destroy_object v session handle) store.old store.new desk.old result desk.new }
 {
     let read_write = desk.is_read_write(session).ok_or(Condition::NoSession)?;
-    let found = find(alloc, desk, store, handle)?.ok_or(Condition::NoObject)?;
+    let found = object_by_handle(alloc, desk, store, handle)?.ok_or(Condition::NoObject)?;
     if needs_read_write(read_write, found.object.flag(AttrType::Token)) {
         return Err(Refusal::Condition(Condition::TokenObjectReadOnly));
     }

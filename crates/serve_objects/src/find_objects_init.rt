@@ -15,7 +15,7 @@ use crate::giving::give_handles;
 use ck_calls::Reply;
 use ck_types::{Rv, Template};
 use desk::{Desk, OwnObject};
-use find::search;
+use find::push_if_matches;
 use keep::{Keep, KeepFault};
 use ops::Search;
 use precede::Condition;
@@ -79,7 +79,7 @@ fn search_own(
 {
     for own in objects {
         let note = Match::SessionObject { handle: own.handle };
-        search(template, &own.object, note, found)?;
+        push_if_matches(template, &own.object, note, found)?;
     }
     Ok(())
 }

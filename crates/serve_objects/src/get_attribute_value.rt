@@ -13,7 +13,7 @@ use desk::Desk;
 use guard::reveals_number;
 use keep::Keep;
 use precede::Condition;
-use serve_base::{Refusal, Store, find};
+use serve_base::{Refusal, Store, object_by_handle};
 use std::alloc::{AllocError, Global};
 
 /// C_GetAttributeValue (PKCS #11 v3.1, 5.7.5).
@@ -31,7 +31,7 @@ pub fn serve<K: Keep>(
         (λ c v. get_attribute_value v session handle query.now) store.old store.new desk.now result desk.now }
 {
     let _ = desk.state(session).ok_or(Condition::NoSession)?;
-    let found = find(alloc, desk, store, handle)?.ok_or(Condition::NoObject)?;
+    let found = object_by_handle(alloc, desk, store, handle)?.ok_or(Condition::NoObject)?;
     Ok(tell(alloc, &found.object, query.as_slice())?)
 }
 

@@ -10,7 +10,7 @@ use ck_calls::Reply;
 use desk::Desk;
 use keep::Keep;
 use precede::Condition;
-use serve_base::{Refusal, Store, find};
+use serve_base::{Refusal, Store, object_by_handle};
 use std::alloc::Global;
 
 /// C_GetObjectSize (PKCS #11 v3.1, 5.7.4).
@@ -25,7 +25,7 @@ pub fn serve<K: Keep>(
     ensures { IsDone K.terms 0 (λ v. get_object_size v session handle) store.old store.new desk.now result desk.now }
 {
     let _ = desk.state(session).ok_or(Condition::NoSession)?;
-    let found = find(alloc, desk, store, handle)?.ok_or(Condition::NoObject)?;
+    let found = object_by_handle(alloc, desk, store, handle)?.ok_or(Condition::NoObject)?;
     Ok(Reply::ObjectSize(size_of(&found.object)))
 }
 

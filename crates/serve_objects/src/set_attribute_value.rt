@@ -18,7 +18,7 @@ use desk::Desk;
 use guard::{is_read_write, needs_read_write};
 use keep::Keep;
 use precede::Condition;
-use serve_base::{Refusal, Store, find};
+use serve_base::{Refusal, Store, object_by_handle};
 use std::alloc::Global;
 use templates::changed;
 
@@ -35,7 +35,7 @@ pub fn serve<K: Keep>(
     ensures { IsDone K.terms 1 (λ v. set_attribute_value v session handle template.now) store.old store.new desk.old result desk.new }
 {
     let state = desk.state(session).ok_or(Condition::NoSession)?;
-    let found = find(alloc, desk, store, handle)?.ok_or(Condition::NoObject)?;
+    let found = object_by_handle(alloc, desk, store, handle)?.ok_or(Condition::NoObject)?;
     if needs_read_write(is_read_write(state), found.object.flag(AttrType::Token)) {
         return Err(Refusal::Condition(Condition::TokenObjectReadOnly));
     }

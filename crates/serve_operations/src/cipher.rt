@@ -49,7 +49,7 @@ pub fn update(
     let operation = desk
         .operation(session, place_for(direction))
         .ok_or(Condition::NoOperation)?;
-    let Ok(wanted) = operation.room_of(Part::Update, input.as_slice()) else {
+    let Ok(wanted) = operation.output_len(Part::Update, input.as_slice()) else {
         return Ok(Out::Reply(end(desk, kind, session, Condition::CounterEnd)));
     };
     let stream = operation.copied();
@@ -74,7 +74,7 @@ pub fn update(
 /// Codes: the checks of each (`precede`). Returns a job for the output of the data, or for the final part of the output. Without a
 /// buffer it returns the length of that, in bytes; with a short one `CKR_BUFFER_TOO_SMALL`; then the operation stays. All data after
 /// earlier data, and data that is no text of the mechanism, ends the operation.
-pub fn last(
+pub fn serve_final(
     alloc: Global,
     app: u64,
     desk: &mut Desk,
@@ -98,7 +98,7 @@ pub fn last(
     }
     let function = last_function(direction, &all);
     let input = or_empty(alloc, all);
-    let wanted = match operation.room_of(Part::Last, input.as_slice()) {
+    let wanted = match operation.output_len(Part::Last, input.as_slice()) {
         Ok(wanted) => wanted as u64,
         Err(fault) => {
             let row = refused_row(direction, fault);
@@ -117,7 +117,7 @@ pub fn last(
 }
 
 /// What a part adds to the output. The operation that has taken it continues.
-pub fn piece(desk: &mut Desk, session: u64, output: Bytes, stream: Stream) -> Reply
+pub fn update_done(desk: &mut Desk, session: u64, output: Bytes, stream: Stream) -> Reply
     ensures reply { result ≡ OutputReply (Data output) }
     ensures left { desk.new ≡ record desk.old {
       sessions = table_with_operation desk.old.sessions session (place_for stream.direction)
@@ -130,7 +130,7 @@ pub fn piece(desk: &mut Desk, session: u64, output: Bytes, stream: Stream) -> Re
 }
 
 /// The final part of the output. The operation ends.
-pub fn rest(desk: &mut Desk, session: u64, direction: Direction, output: Bytes) -> Reply
+pub fn final_done(desk: &mut Desk, session: u64, direction: Direction, output: Bytes) -> Reply
     ensures reply { result ≡ OutputReply (Data output) }
     ensures left { desk.new ≡ record desk.old { sessions = table_with_operation desk.old.sessions session (place_for direction) None } }
 {

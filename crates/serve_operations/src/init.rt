@@ -21,7 +21,7 @@ use desk::Desk;
 use keep::Keep;
 use ops::Kind;
 use precede::Condition;
-use serve_base::{Refusal, Store, find, is_of_type, is_secret_key, operation_key};
+use serve_base::{Refusal, Store, is_of_type, is_secret_key, object_by_handle, operation_key};
 use std::alloc::Global;
 use streams::Stream;
 
@@ -60,7 +60,7 @@ fn begin<K: Keep>(
         return Ok(end(desk, kind, session, Condition::NoMechanism));
     };
     let (mech_type, chosen) = choose(desk, kind, session, mechanism)?;
-    let found = find(alloc, desk, store, key)?.ok_or(Condition::NoKey)?;
+    let found = object_by_handle(alloc, desk, store, key)?.ok_or(Condition::NoKey)?;
     begin_under(alloc, desk, session, mech_type, chosen, &found.object)
 }
 

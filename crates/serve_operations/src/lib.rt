@@ -4,7 +4,7 @@
 //! Both kinds of operations begin in `init`; `cipher` and `mac` have the work on data. Each function returns the code of the first
 //! check of its call's table that fails. Its clauses say that the answer is the model's to what the application sees, or that it was
 //! refused and nothing has changed: `IsDone` where a key is read from the store, `AtDesk` where none is. Work with a key is a job: the
-//! call returns it, and `cipher::piece`, `cipher::rest`, `cipher::bad_padding`, `mac::taken`, `mac::signed` and `mac::verified` answer
+//! call returns it, and `cipher::update_done`, `cipher::final_done`, `cipher::bad_padding`, `mac::update_done`, `mac::sign_done` and `mac::verify_done` answer
 //! its outcome.
 //!
 //! Proved, by the names of contracts: Init calls with no write; all others at the desk alone. `reply` and `left` say what a result

@@ -123,7 +123,7 @@ fn has_its_length(mac: &Mac, signature: &[u8]) -> bool
 }
 
 /// A part was taken. The operation that has taken it continues.
-pub fn taken(desk: &mut Desk, session: u64, place: MacPlace, mac: Mac) -> Reply
+pub fn update_done(desk: &mut Desk, session: u64, place: MacPlace, mac: Mac) -> Reply
     ensures reply { result ≡ Code rv.Ok }
     ensures left { desk.new ≡ record desk.old { sessions = table_with_mac desk.old.sessions session place (Some (mac_of mac)) } }
 {
@@ -132,7 +132,7 @@ pub fn taken(desk: &mut Desk, session: u64, place: MacPlace, mac: Mac) -> Reply
 }
 
 /// The signature of all data. The operation ends.
-pub fn signed(desk: &mut Desk, session: u64, signature: Bytes) -> Reply
+pub fn sign_done(desk: &mut Desk, session: u64, signature: Bytes) -> Reply
     ensures reply { result ≡ OutputReply (Data signature) }
     ensures left { desk.new ≡ record desk.old { sessions = table_with_mac desk.old.sessions session places.Sign None } }
 {
@@ -141,7 +141,7 @@ pub fn signed(desk: &mut Desk, session: u64, signature: Bytes) -> Reply
 }
 
 /// Whether the signature is that of all data; if not, `CKR_SIGNATURE_INVALID`. The operation ends.
-pub fn verified(desk: &mut Desk, session: u64, right: bool) -> Reply
+pub fn verify_done(desk: &mut Desk, session: u64, right: bool) -> Reply
     ensures reply { result ≡ Code (if right then rv.Ok else rv.SignatureInvalid) }
     ensures left { desk.new ≡ record desk.old { sessions = table_with_mac desk.old.sessions session places.Verify None } }
 {

@@ -7,7 +7,7 @@ ghost use Rattle.model_session_answers.specs.Pins.{is_so};
 ghost use Rattle.serve_base.specs.Refusing.{AtDesk, IsDone};
 ghost use Rattle.serve_base.specs.Shown.{IsFor, said_of};
 
-use crate::recording::{is_pin_length, store_record};
+use crate::pin_checks::{is_pin_length, store_record};
 use ck_calls::{Function, Reply};
 use ck_types::{Bytes, Rv, UserType};
 use desk::Desk;
@@ -57,7 +57,7 @@ pub fn serve(
 
 /// The outcome of C_InitPIN: the user's PIN is set. As many of its tries are spent as other applications have checks of it in
 /// progress. `CKR_FUNCTION_FAILED` where the token isn't initialised any more.
-pub fn made<K: Keep>(
+pub fn store_pin<K: Keep>(
     desk: &Desk,
     store: &mut Store<K>,
     verifier: Verifier,

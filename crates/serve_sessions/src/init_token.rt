@@ -10,7 +10,7 @@ ghost use Rattle.serve_base.specs.Refusing.{IsDone, IsDoneAs};
 ghost use Rattle.serve_base.specs.Shown.{IsFor, said_of};
 
 use crate::SLOT;
-use crate::recording::{ask_charged, is_pin_length, reset_to, store_record};
+use crate::pin_checks::{ask_charged, is_pin_length, reset_to, store_record};
 use ck_calls::{Function, Reply};
 use ck_types::{Bytes, Label, Rv, UserType};
 use desk::Desk;
@@ -80,7 +80,7 @@ pub fn serve<K: Keep>(
 
 /// The outcome of C_InitToken where the token wasn't initialised: the SO's first PIN is set, and the token has this label.
 /// `CKR_FUNCTION_FAILED` where it was initialised meanwhile, `CKR_SESSION_EXISTS` where there is a session by now.
-pub fn made<K: Keep>(
+pub fn initialize<K: Keep>(
     desk: &Desk,
     store: &mut Store<K>,
     label: Label,
@@ -105,7 +105,7 @@ pub fn made<K: Keep>(
 
 /// The outcome of C_InitToken where the SO's PIN was right: the token has no objects, this label, the SO's PIN and no user's.
 /// `CKR_SESSION_EXISTS` where there is a session by now.
-pub fn reset<K: Keep>(
+pub fn reinitialize<K: Keep>(
     desk: &Desk,
     store: &mut Store<K>,
     label: Label,

@@ -6,8 +6,8 @@
 //! the answer depends on something in the store that the application doesn't see.
 //!
 //! A PIN is checked in two steps. `login::serve`, `set_pin::serve` and `init_token::serve` store the charge of the check and
-//! only then return its job. What its outcome does is defined by `login::right`, `set_pin::changed`, `init_pin::made`,
-//! `init_token::made` and `init_token::reset`, for a desk without the pending call. A wrong PIN changes nothing, since its
+//! only then return its job. What its outcome does is defined by `login::log_in`, `set_pin::store_pin`, `init_pin::store_pin`,
+//! `init_token::initialize` and `init_token::reinitialize`, for a desk without the pending call. A wrong PIN changes nothing, since its
 //! charge is stored already.
 //!
 //! Proved, by the names of contracts: C_Login, C_SetPIN and C_InitToken store the charge of their check, one write, and return their job
@@ -24,7 +24,7 @@ pub mod init_token;
 pub mod login;
 pub mod logout;
 pub mod open_session;
-mod recording;
+mod pin_checks;
 pub mod set_pin;
 
 /// The only slot.

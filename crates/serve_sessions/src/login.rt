@@ -12,7 +12,7 @@ ghost use Rattle.serve_sessions.specs.Recording.{right_reveal};
 ghost use Rattle.serve_base.specs.Refusing.{IsDoneAs};
 ghost use Rattle.serve_base.specs.Shown.{IsFor, said_of, view_of};
 
-use crate::recording::{ask_charged, store_record};
+use crate::pin_checks::{ask_charged, store_record};
 use ck_calls::{Function, Reply};
 use ck_types::{Bytes, Rv, UserType};
 use desk::Desk;
@@ -122,7 +122,7 @@ fn may_log_in(desk: &Desk, who: UserType) -> bool
 
 /// The outcome of C_Login where the PIN was right: this user is logged in. As many tries of the PIN are spent as other
 /// applications have checks of it in progress. `CKR_FUNCTION_FAILED` where the login is no longer possible.
-pub fn right<K: Keep>(
+pub fn log_in<K: Keep>(
     desk: &mut Desk,
     store: &mut Store<K>,
     who: UserType,

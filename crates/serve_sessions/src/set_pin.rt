@@ -6,7 +6,7 @@ ghost use Rattle.model_session_answers.specs.SetPin.{owner, pin_changed, set_pin
 ghost use Rattle.serve_base.specs.Refusing.{IsDone, IsDoneAs};
 ghost use Rattle.serve_base.specs.Shown.{IsFor, said_of};
 
-use crate::recording::{ask_charged, is_pin_length, store_record};
+use crate::pin_checks::{ask_charged, is_pin_length, store_record};
 use ck_calls::{Function, Reply};
 use ck_types::{Bytes, Rv, UserType};
 use desk::Desk;
@@ -80,7 +80,7 @@ pub fn serve<K: Keep>(
 
 /// The outcome of C_SetPIN where the old PIN was right: the new one is set. As many of its tries are spent as other applications
 /// have checks of the PIN in progress. `CKR_FUNCTION_FAILED` where the token isn't initialised any more.
-pub fn changed<K: Keep>(
+pub fn store_pin<K: Keep>(
     desk: &Desk,
     store: &mut Store<K>,
     who: UserType,

@@ -9,6 +9,7 @@ use Rattle.std.proofs.lemmas.List.{length-map}
 use Rattle.slab.specs.Slab.{Slab, get, entries_from, entries, slab_len}
 use Rattle.ck_types.specs.declared.user_type.UserType.{UserType}
 use Rattle.ck_types.specs.declared.user_type.UserType.TheVariants.{So}
+use Rattle.ck_types.specs.declared.constants.TheConstants.{MAX_SESSION_COUNT}
 use Rattle.sessions.specs.declared.Session.{Session}
 use Rattle.lists.specs.InOrder.{in_order, NumbersRise}
 use Rattle.sessions.specs.Sessions.{SessionTable, IsTable, session_at, has_read_only, with_session, login_among, without_session, busy_with, busy_at, with_work, table_logged_out}
@@ -62,7 +63,7 @@ module _ {W : Type 0} where
     logged_in = λ is. refl;
   }
 
-  pub IsTable-with_session : (idle : W) (read_write : Bool) (t : SessionTable W) → IsTable t → length t.sessions < 64
+  pub IsTable-with_session : (idle : W) (read_write : Bool) (t : SessionTable W) → IsTable t → length t.sessions < MAX_SESSION_COUNT
       → (t.login ≡ Some So → read_write ≡ true) → IsTable (with_session idle t read_write)
   IsTable-with_session idle read_write t table room access = record {
     rising = NumbersRise-push (λ s. s.handle) 1 t.next_number _ t.sessions refl table.rising;

@@ -4,6 +4,7 @@ use Rattle.std.specs.List.{list_any}
 use Rattle.ck_types.specs.declared.user_type.UserType.{UserType}
 use Rattle.ck_types.specs.declared.user_type.UserType.TheVariants.{So, User}
 use Rattle.ck_types.specs.declared.session_state.SessionState.{SessionState}
+use Rattle.ck_types.specs.declared.constants.TheConstants.{MAX_SESSION_COUNT}
 use Rattle.ck_types.specs.declared.session_state.SessionState.TheVariants as state
 use Rattle.sessions.specs.declared.Session.{Session}
 use Rattle.lists.specs.InOrder.{NumbersRise}
@@ -68,11 +69,11 @@ module _ {W : Type 0} where
   abbrev pub table_logged_out : W → SessionTable W → SessionTable W
   table_logged_out idle t = record t { sessions = map (busy_with idle) t.sessions; login = None }
 
-  -- What is true of every table: numbers count from 1 and were given once each, and there are 64
-  -- sessions at most. None is read-only while the SO is logged in, and nobody is logged in without
+  -- What is true of every table: numbers count from 1 and were given once each, and there are
+  -- no more sessions than an application may have. None is read-only while the SO is logged in, and nobody is logged in without
   -- a session.
   pub record IsTable (t : SessionTable W) : Type 0 where
     pub rising : NumbersRise (λ s. s.handle) 1 t.sessions t.next_number
-    pub few : length t.sessions ≤ 64
+    pub few : length t.sessions ≤ MAX_SESSION_COUNT
     pub so : t.login ≡ Some So → IsFalse (has_read_only t.sessions)
     pub logged_in : t.sessions ≡ [] → t.login ≡ None

@@ -10,7 +10,7 @@ ghost use Rattle.sql_statements.specs.Bodies.{new_bodies};
 ghost use Rattle.sql_statements.specs.Tables.{no_schema};
 ghost use Rattle.sql_statements.specs.Store.{HasTables, IsAtRows, IsReady, Sees, ShowsNow};
 
-use crate::transactions::{Three, run_all};
+use crate::transactions::{ThreeStatements, run_all};
 use sql_statements::{FIRST_RECORD, MAKE_OBJECTS, MAKE_RECORD};
 use sqlite::{Alter, Connection, Error};
 
@@ -31,7 +31,7 @@ pub fn make_tables<S: Alter>(conn: &mut Connection<S>, bytes: &[u8]) -> Result<b
 {
     run_all(
         conn,
-        &Three {
+        &ThreeStatements {
             first: MAKE_RECORD,
             second: MAKE_OBJECTS,
             third: FIRST_RECORD,

@@ -12,7 +12,7 @@ ghost use Rattle.sqlite.specs.Held.{state};
 ghost use Rattle.sql_statements.specs.Bodies.{Bodies, bodies_after_reset, greatest_row_id, with_body, with_body_at, bodies_with_record, without_body};
 ghost use Rattle.sql_statements.specs.Store.{Committed, HoldsRows, IsReady, RowsChanged, RowsFailed, RowsStayed, ShowsBody, Uncommitted, Unwritten};
 
-use crate::transactions::{Pair, run_all};
+use crate::transactions::{TwoStatements, run_all};
 use sql_statements::{
     CLEAR_OBJECTS, INSERT_OBJECT, READ_OBJECT, REMOVE_OBJECT, REPLACE_OBJECT, SET_RECORD,
 };
@@ -129,7 +129,7 @@ pub fn reset_rows<S: Alter>(conn: &mut Connection<S>, bytes: &[u8]) -> Result<bo
     ensure_open(conn, CLEAR_OBJECTS)?;
     run_all(
         conn,
-        &Pair {
+        &TwoStatements {
             first: CLEAR_OBJECTS,
             second: SET_RECORD,
             bytes,

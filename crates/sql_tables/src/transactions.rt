@@ -64,13 +64,13 @@ pub(crate) fn run_all<S: Alter, T: Statements<S>>(
 
 /// Two statements, of which the last has a parameter.
 #[derive(Drop)]
-pub(crate) struct Pair<'a> {
+pub(crate) struct TwoStatements<'a> {
     pub(crate) first: &'a str,
     pub(crate) second: &'a str,
     pub(crate) bytes: &'a [u8],
 }
 
-impl<S: Alter> Statements<S> for Pair<'_> {
+impl<S: Alter> Statements<S> for TwoStatements<'_> {
     ghost ran = { λ both. RanPair S.Store both.first.now both.second.now both.bytes.now };
 
     fn run(&self, tx: &mut Transaction<'_, S>) -> Result<usize, Error> {
@@ -81,14 +81,14 @@ impl<S: Alter> Statements<S> for Pair<'_> {
 
 /// Three statements, of which the last has a parameter.
 #[derive(Drop)]
-pub(crate) struct Three<'a> {
+pub(crate) struct ThreeStatements<'a> {
     pub(crate) first: &'a str,
     pub(crate) second: &'a str,
     pub(crate) third: &'a str,
     pub(crate) bytes: &'a [u8],
 }
 
-impl<S: Alter> Statements<S> for Three<'_> {
+impl<S: Alter> Statements<S> for ThreeStatements<'_> {
     ghost ran = { λ all. RanThree S.Store all.first.now all.second.now all.third.now all.bytes.now };
 
     fn run(&self, tx: &mut Transaction<'_, S>) -> Result<usize, Error> {

@@ -18,7 +18,7 @@
 //!   where a counter block would come again, before anything changes. `BadPad` comes only where no
 //!   text is encrypted to the data. But for these there is only `Memory`, for a failed allocation.
 //! - A refused call, and the last one, leaves the stream as it is.
-//! - `room_of` returns before any work how long a buffer a call needs, or why the call is refused.
+//! - `output_len` returns before any work how long a buffer a call needs, or why the call is refused.
 //! - A copy of a stream stands where the stream stands, and `has_taken` is whether it has taken a
 //!   byte.
 //!
@@ -26,7 +26,7 @@
 //! and, for a padding, at most two more. No read and no branch depends on the key or the data, as in `aes_vector`, but on
 //! their lengths and on whether a padding is right.
 //!
-//! Proved, by the names of contracts: SP 800-38A in parts (`IsRight`, `IsFinalPart`, `IsOnlyRest`), with the lengths that `room_of` returns
+//! Proved, by the names of contracts: SP 800-38A in parts (`IsRight`, `IsFinalPart`, `IsOnlyRest`), with the lengths that `output_len` returns
 //! before any work (`length`, `wanted`). Neither a refusal nor an allocation failure changes a stream (`err`).
 #![tactic(auto)]
 

@@ -159,7 +159,7 @@ impl Stream {
         ensures bad_pad_mechanism { IsErrOf result ModeFault.BadPad
             → TakesPaddingOff self.now.mechanism self.now.direction }
     {
-        self.room_of(Part::Last, input)?;
+        self.output_len(Part::Last, input)?;
         let mut stream = self.copied();
         let mut out = stream.update(alloc, input)?;
         let rest = stream.finish(alloc)?;
@@ -213,7 +213,7 @@ impl Stream {
     ///
     /// `LenRange` where with the last part the data has a length that no text has. `CounterEnd`
     /// where CTR has no counter for each block of the data.
-    pub fn room_of(&self, part: Part, input: &[u8]) -> Result<usize, ModeFault>
+    pub fn output_len(&self, part: Part, input: &[u8]) -> Result<usize, ModeFault>
         ensures room { IfOk result (λ room. room ≡ wanted part self.now (length input.now)) }
         ensures len_range { IsErrOf result ModeFault.LenRange ↔ (refuses_length part self.now (length input.now) ≡ true) }
         ensures counter_end { IsErrOf result ModeFault.CounterEnd ↔ (ends_counters self.now input.now ≡ true) }

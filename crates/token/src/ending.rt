@@ -71,30 +71,37 @@ fn serve_outcome<K: Keep>(
 {
     match outcome {
         // Encryption and decryption (PKCS #11 v3.1, 5.8 and 5.10).
-        Outcome::Piece { output, stream } => Ok(cipher::piece(desk, session, output, stream)),
-        Outcome::Rest { direction, output } => Ok(cipher::rest(desk, session, direction, output)),
+        Outcome::Piece { output, stream } => Ok(cipher::update_done(desk, session, output, stream)),
+        Outcome::Rest { direction, output } => Ok(cipher::final_done(
+            desk, session, direction, output,
+        )),
         Outcome::BadPadding(direction) => Ok(cipher::bad_padding(desk, session, direction)),
         // Signing and verifying (5.13 and 5.15).
-        Outcome::Taken { place, mac } => Ok(mac::taken(desk, session, place, mac)),
-        Outcome::Signature(signature) => Ok(mac::signed(desk, session, signature)),
-        Outcome::RightSignature => Ok(mac::verified(desk, session, true)),
-        Outcome::WrongSignature => Ok(mac::verified(desk, session, false)),
+        Outcome::Taken { place, mac } => Ok(mac::update_done(desk, session, place, mac)),
+        Outcome::Signature(signature) => Ok(mac::sign_done(desk, session, signature)),
+        Outcome::RightSignature => Ok(mac::verify_done(desk, session, true)),
+        Outcome::WrongSignature => Ok(mac::verify_done(desk, session, false)),
         // Key management (5.18).
         Outcome::Wrapped(bytes) => Ok(Reply::Output(Output::Data(bytes))),
         Outcome::Unwrapped(object) => unwrap_key::unwrapped(desk, store, session, object),
         Outcome::BadWrapping => Err(Refusal::Code(Rv::WrappedKeyInvalid)),
         // PINs (5.5 and 5.6).
         Outcome::WrongPin => Err(Refusal::Code(Rv::PinIncorrect)),
-        Outcome::RightPin(who) => login::right(desk, store, who, others.checks(who)),
-        Outcome::PinMade(verifier) => init_pin::made(desk, store, verifier, others.user_checks),
+        Outcome::RightPin(who) => login::log_in(desk, store, who, others.checks(who)),
+        Outcome::PinMade(verifier) => init_pin::store_pin(
+            desk,
+            store,
+            verifier,
+            others.user_checks,
+        ),
         Outcome::PinChanged { who, verifier } => {
-            set_pin::changed(desk, store, who, verifier, others.checks(who))
+            set_pin::store_pin(desk, store, who, verifier, others.checks(who))
         }
         Outcome::TokenMade { label, verifier } => {
-            init_token::made(desk, store, label, verifier, others.others_have_sessions)
+            init_token::initialize(desk, store, label, verifier, others.others_have_sessions)
         }
         Outcome::TokenReset { label } => {
-            init_token::reset(
+            init_token::reinitialize(
                 desk,
                 store,
                 label,

@@ -197,7 +197,7 @@ fn dispatch<K: Keep>(
             session,
             data,
             buffer_len,
-        } => settle(cipher::last(
+        } => settle(cipher::serve_final(
             alloc,
             app,
             desk,
@@ -223,7 +223,7 @@ fn dispatch<K: Keep>(
             session,
             buffer_len,
         } => {
-            settle(cipher::last(
+            settle(cipher::serve_final(
                 alloc,
                 app,
                 desk,
@@ -251,7 +251,7 @@ fn dispatch<K: Keep>(
             session,
             encrypted_data,
             buffer_len,
-        } => settle(cipher::last(
+        } => settle(cipher::serve_final(
             alloc,
             app,
             desk,
@@ -277,7 +277,7 @@ fn dispatch<K: Keep>(
             session,
             buffer_len,
         } => {
-            settle(cipher::last(
+            settle(cipher::serve_final(
                 alloc,
                 app,
                 desk,

@@ -165,7 +165,7 @@ impl<K: Keep> Token<K> {
         ensures others { (b : ℕ) → b ≢ app → desk_at self.new.desks b ≡ desk_at self.old.desks b }
         ensures checks { self.new.checks ≡ without_checks app self.old.checks }
     {
-        leave(&mut self.desks, app);
+        drop_desk(&mut self.desks, app);
         retain_others(&mut self.checks, app);
     }
 
@@ -318,7 +318,7 @@ fn serve_app<K: Keep>(
 {
     reserve_check(checks, &call)?;
     let others_have_sessions = is_in_use_for(desks, app, &call);
-    let outcome = serve_seated(alloc, app, desks, store, call, random, others_have_sessions);
+    let outcome = serve_at_desk(alloc, app, desks, store, call, random, others_have_sessions);
     if let Ok(out) = &outcome {
         note_check(checks, app, out);
     }
@@ -338,7 +338,7 @@ fn reserve_check(checks: &mut Vec<Check>, call: &Call) -> Result<(), AllocError>
 }
 
 /// One call, where it is known whether another application has a session.
-fn serve_seated<K: Keep>(
+fn serve_at_desk<K: Keep>(
     alloc: Global,
     app: u64,
     desks: &mut BTreeMap<u64, Desk>,
@@ -563,7 +563,7 @@ fn is_other_check(check: &Check, app: u64, who: UserType) -> bool
 }
 
 /// The application has no desk any more.
-fn leave(desks: &mut BTreeMap<u64, Desk>, app: u64)
+fn drop_desk(desks: &mut BTreeMap<u64, Desk>, app: u64)
     ensures own { desk_at desks.new.entries app ≡ empty_desk }
     ensures others { (b : ℕ) → b ≢ app → desk_at desks.new.entries b ≡ desk_at desks.old.entries b }
 {

@@ -44,7 +44,7 @@ fn in_pieces(
     let mut out = Vec::new(alloc);
     let (first, rest) = text.split_at(text.len().saturating_sub(last));
     for piece in first.chunks(length.max(1)) {
-        let room = stream.room_of(Part::Update, piece)?;
+        let room = stream.output_len(Part::Update, piece)?;
         let given = stream.update(alloc, piece)?;
         if given.len() == room {
             out.extend_from_slice(&given)?;
@@ -192,7 +192,7 @@ fn the_counter_ends_and_nothing_changes(rt: HostRuntime) -> Result<(), Fail> {
     let mechanism = Mechanism::Ctr { bits, start };
     let mut stream = Stream::new(mechanism, Direction::Encrypt, key_of(rt.alloc(), KEY)?);
     let first = stream.update(rt.alloc(), &[0; 40])?;
-    let is_refused = stream.room_of(Part::Update, &[0; 9]) == Err(ModeFault::CounterEnd)
+    let is_refused = stream.output_len(Part::Update, &[0; 9]) == Err(ModeFault::CounterEnd)
         && stream.update(rt.alloc(), &[0; 9]) == Err(ModeFault::CounterEnd);
     let rest = stream.update(rt.alloc(), &[0; 8])?;
     assert!(rt; is_refused && first.len() == 40 && rest.len() == 8);
@@ -205,11 +205,11 @@ fn a_length_of_no_text_is_refused(rt: HostRuntime) -> Result<(), Fail> {
     let mut stream = Stream::new(Mechanism::Ecb, Direction::Encrypt, key.copied());
     stream.update(rt.alloc(), &[0; 15])?;
     let is_refused = stream.last(rt.alloc(), b"") == Err(ModeFault::LenRange)
-        && stream.room_of(Part::Last, b"") == Err(ModeFault::LenRange);
+        && stream.output_len(Part::Last, b"") == Err(ModeFault::LenRange);
     let mechanism = Mechanism::CbcPad { iv: VECTOR };
     let none = Stream::new(mechanism, Direction::Decrypt, key);
     assert!(rt; is_refused && none.last(rt.alloc(), b"") == Err(ModeFault::LenRange));
-    assert_eq!(rt; stream.room_of(Part::Last, &[0; 17]), Ok(32));
+    assert_eq!(rt; stream.output_len(Part::Last, &[0; 17]), Ok(32));
     Ok(())
 }
 

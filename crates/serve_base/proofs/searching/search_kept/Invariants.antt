@@ -17,7 +17,8 @@ invariant-loop-entry g l = record {
   marks : g.K.Keep.terms.doubt l.keep ≡ 0 → (c : Contents) → g.K.Keep.terms.holds l.fn.keep c → AreMarks c l.fn.listed
       → AreMarks c l.listed;
   found : g.K.Keep.terms.doubt l.keep ≡ 0 → (c : Contents) → g.K.Keep.terms.holds l.fn.keep c → AreMarks c l.fn.listed
-      → AllByRecursion (λ id. IsSome (object_at c id)) (listed_ids l.fn.listed) → l.found.items ++ found_at l.login l.template (object_at c) (listed_ids (drop l.entry-index l.listed)) ≡ l.fn.found.items
-      ++ found_at l.login l.template (object_at c) (listed_ids l.fn.listed);
+      → AllByRecursion (λ id. IsSome (object_at c id)) (listed_ids l.fn.listed)
+      → l.found.items ++ found_at l.login l.template (object_at c) (listed_ids (drop l.entry-index l.listed))
+      ≡ l.fn.found.items ++ found_at l.login l.template (object_at c) (listed_ids l.fn.listed);
   may : AllByRecursion (MayFind l.login) l.fn.found.items → AllByRecursion (MayFind l.login) l.found.items;
 }

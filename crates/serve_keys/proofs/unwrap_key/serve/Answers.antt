@@ -19,8 +19,8 @@ returns-clause-done g c =
     (λ v. unwrap_key v c.args.session c.args.wrapped.mechanism c.args.wrapped.unwrapping_key c.args.wrapped.bytes c.args.template c.args.random.now)
     (λ v. unwraps v c.args.session c.args.wrapped.mechanism (object_in k) c.args.wrapped.bytes c.args.template c.args.random.now
     (state_in v c.args.session) (template_fault (Unwrap n) (state_in v c.args.session) [] c.args.template))
-    c.args.store.now c.find.new.store c.args.desk.now c.ask_unwrapped.new.desk c.ask_unwrapped.result
-    c.find.ensures.same c.find.ensures.ids c.find.ensures.counts
+    c.args.store.now c.object_by_handle.new.store c.args.desk.now c.ask_unwrapped.new.desk c.ask_unwrapped.result
+    c.object_by_handle.ensures.same c.object_by_handle.ensures.ids c.object_by_handle.ensures.counts
     (λ v. (fair-unwraps {quiet = true} v c.args.session c.args.wrapped.mechanism
     (object_in k) c.args.wrapped.bytes c.args.template c.args.random.now).still refl)
     (λ v. (fair-unwraps {quiet = true} v c.args.session c.args.wrapped.mechanism

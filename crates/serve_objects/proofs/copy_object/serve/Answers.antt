@@ -14,16 +14,16 @@ pub returns : goal.returns
 returns g c = record {
   serves = λ sure k h fits.
       let d = c.args.desk.now in
-      let clean : g.K.Keep.terms.doubt c.find.new.store.keep ≡ 0 = omega (arith, c.add_object.ensures.counts.doubt, sure) in
-      let found = subst (λ x. IsFound k d c.args.handle x) c.in_ok-found.ensures.ok_part (c.in_ok-find.ensures.found clean k h fits) in
-      let held = has-still _ _ _ k c.find.ensures.same c.find.ensures.ids h in
+      let clean : g.K.Keep.terms.doubt c.object_by_handle.new.store.keep ≡ 0 = omega (arith, c.add_object.ensures.counts.doubt, sure) in
+      let found = subst (λ x. IsFound k d c.args.handle x) c.in_ok-found.ensures.ok_part (c.in_ok-object_by_handle.ensures.found clean k h fits) in
+      let held = has-still _ _ _ k c.object_by_handle.ensures.same c.object_by_handle.ensures.ids h in
       let s = in_session _ _ c.state.result _ c.state.ensures c.in_ok-state.ensures.ok_part in
       let made = made-object _ _ c.in_ok-object.object c.in_ok-object.ensures.made in
       does-is _ _ _ k _ _ d c.add_object.new.desk c.add_object.result
       (copy-is (view_of k d) c.args.session c.args.template.now s.0 s.1 c.args.handle c.in_ok-found.found.object found.0
       c.args.random.now (ap not (sym c.flag.ensures ∙ c.if-not-flag.false)) c.in_ok-object.object (rw s.2 made.0) made.1)
-      (does-after _ _ k _ c.find.new.store _ d c.add_object.new.desk c.add_object.result
-      (λ left may. c.find.ensures.same.crash k left h.held may) c.find.ensures.counts.steady
+      (does-after _ _ k _ c.object_by_handle.new.store _ d c.add_object.new.desk c.add_object.result
+      (λ left may. c.object_by_handle.ensures.same.crash k left h.held may) c.object_by_handle.ensures.counts.steady
       (rw s.2 (c.add_object.ensures.serves sure k held fits)));
   counts = search rules;
   cause = search rules;

@@ -13,9 +13,9 @@ returns g c = record {
   serves = λ sure k h fits.
       let d = c.args.desk.now in
       let o = c.in_ok-found.found.object in
-      let clean : g.K.Keep.terms.doubt c.find.new.store.keep ≡ 0 = omega (arith, c.destroy.ensures.counts.doubt, sure) in
-      let found = subst (λ x. IsFound k d c.args.handle x) c.in_ok-found.ensures.ok_part (c.in_ok-find.ensures.found clean k h fits) in
-      let held = has-still _ _ _ k c.find.ensures.same c.find.ensures.ids h in
+      let clean : g.K.Keep.terms.doubt c.object_by_handle.new.store.keep ≡ 0 = omega (arith, c.destroy.ensures.counts.doubt, sure) in
+      let found = subst (λ x. IsFound k d c.args.handle x) c.in_ok-found.ensures.ok_part (c.in_ok-object_by_handle.ensures.found clean k h fits) in
+      let held = has-still _ _ _ k c.object_by_handle.ensures.same c.object_by_handle.ensures.ids h in
       let s = in_session _ _ c.is_read_write.result _ c.is_read_write.ensures c.in_ok-read_write.ensures.ok_part in
       let writable = sym c.needs_read_write.ensures ∙ c.if-needs_read_write.false in
       let free : IsFree o s.0.read_write = (
@@ -25,8 +25,8 @@ returns g c = record {
       ) in
       does-is _ _ _ k _ _ d c.destroy.new.desk c.destroy.result
       (destroy-is (view_of k d) c.args.session c.args.handle s.0 o s.1 found.0 free)
-      (does-after _ _ k _ c.find.new.store _ d c.destroy.new.desk c.destroy.result
-      (λ left may. c.find.ensures.same.crash k left h.held may) c.find.ensures.counts.steady
+      (does-after _ _ k _ c.object_by_handle.new.store _ d c.destroy.new.desk c.destroy.result
+      (λ left may. c.object_by_handle.ensures.same.crash k left h.held may) c.object_by_handle.ensures.counts.steady
       (c.destroy.ensures.serves sure k held fits (o, found.1)));
   counts = search rules;
   cause = search rules;

@@ -16,9 +16,9 @@ pub returns : goal.returns
 returns g c = record {
   serves = λ sure k h fits.
       let d = c.args.desk.now in
-      let clean : g.K.Keep.terms.doubt c.find.new.store.keep ≡ 0 = omega (arith, c.put.ensures.counts.doubt, sure) in
-      let found = subst (λ x. IsFound k d c.args.handle x) c.in_ok-found.ensures.ok_part (c.in_ok-find.ensures.found clean k h fits) in
-      let held = has-still _ _ _ k c.find.ensures.same c.find.ensures.ids h in
+      let clean : g.K.Keep.terms.doubt c.object_by_handle.new.store.keep ≡ 0 = omega (arith, c.put.ensures.counts.doubt, sure) in
+      let found = subst (λ x. IsFound k d c.args.handle x) c.in_ok-found.ensures.ok_part (c.in_ok-object_by_handle.ensures.found clean k h fits) in
+      let held = has-still _ _ _ k c.object_by_handle.ensures.same c.object_by_handle.ensures.ids h in
       let s = in_session _ _ c.state.result _ c.state.ensures c.in_ok-state.ensures.ok_part in
       let o = c.in_ok-found.found.object in
       let test = ap (λ b. c.flag.result && not b) (sym c.is_read_write.ensures) ∙ sym c.needs_read_write.ensures
@@ -28,8 +28,8 @@ returns g c = record {
       does-is _ _ _ k _ _ d c.put.new.desk c.put.result
       (set-is (view_of k d) c.args.session c.args.template.now s.0 s.1 c.args.handle o found.0 (rw s.2 writable)
       (ap not (sym c.flag-2.ensures ∙ c.if-not-flag.false)) c.in_ok-object.object (rw s.2 made.0) made.1)
-      (does-after _ _ k _ c.find.new.store _ d c.put.new.desk c.put.result
-      (λ left may. c.find.ensures.same.crash k left h.held may) c.find.ensures.counts.steady
+      (does-after _ _ k _ c.object_by_handle.new.store _ d c.put.new.desk c.put.result
+      (λ left may. c.object_by_handle.ensures.same.crash k left h.held may) c.object_by_handle.ensures.counts.steady
       (c.put.ensures.serves sure k held fits (o, ap not c.in_ok-object.ensures.placed.private, found.1)));
   counts = search rules;
   cause = search rules;

@@ -23,8 +23,8 @@ returns-clause-serves c = record {
       under-way c.operation.result _ c.in_ok-operation.operation
       (rw c.place_for.ensures at c.operation.ensures) c.in_ok-operation.ensures.ok_part in
       let told = rw c.as_slice.ensures at
-      (tested s Update c.as_slice.result.now c.room_of.result c.room_of.ensures.len_range c.room_of.ensures.counter_end
-      c.room_of.ensures.faults) in
+      (tested s Update c.as_slice.result.now c.output_len.result c.output_len.ensures.len_range c.output_len.ensures.counter_end
+      c.output_len.ensures.faults) in
       let buffer_len : c.in-Ok.wanted ≡ wanted Update s (length c.args.input) = rw c.as_slice.ensures at c.in-Ok.ensures.room in
       gives-is _ (asks_within (update_function c.args.direction) c.args.session (Ciphers Update (operation_of s) c.args.input)
       (wanted Update s (length c.args.input)) c.args.buffer_len v) k d _ _

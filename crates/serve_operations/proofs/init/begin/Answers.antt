@@ -39,16 +39,16 @@ returns-in_err-found-clause-done g c =
     let d = c.args.desk.now in
     let row = c.in_err-found.field-0.0 in
     done-row g.K.Keep.terms (λ x. Replies x)
-    (λ v. operation_init c.args.kind v c.args.session c.args.mechanism.now c.args.key) c.args.store.now c.find.new.store d
+    (λ v. operation_init c.args.kind v c.args.session c.args.mechanism.now c.args.key) c.args.store.now c.object_by_handle.new.store d
     c.from_residual-in_err-found.result row c.from_residual-in_err-found.ensures.1
-    c.find.ensures.same c.find.ensures.ids c.find.ensures.counts
+    c.object_by_handle.ensures.same c.object_by_handle.ensures.ids c.object_by_handle.ensures.counts
     (λ sure x h fits.
     let v = view_of x d in
-    let found = subst (λ o. IsFound x d c.args.key o) c.in_err-found.ensures.ok_part (c.in_ok-find.ensures.found sure x h fits) in
+    let found = subst (λ o. IsFound x d c.args.key o) c.in_err-found.ensures.ok_part (c.in_ok-object_by_handle.ensures.found sure x h fits) in
     chosen g (goal.at.returns-in_err-found-clause-done g c).After-choose x
     ∙ ap (λ r. begins_by v c.args.session r (object_at v c.args.key)) c.in_ok-mech_type.was
     ∙ ap (begins_by v c.args.session (Ok (c.in_ok-mech_type.mech_type, c.in_ok-mech_type.chosen))) found
-    ∙ ap (refuses_by v) (sym (row-of c.in_ok-find.field-0 NoKey row c.in_err-found.ensures.value)))
+    ∙ ap (refuses_by v) (sym (row-of c.in_ok-object_by_handle.field-0 NoKey row c.in_err-found.ensures.value)))
 
 pub begin_under-requires : goal.begin_under-requires
 begin_under-requires g c = choice-is c.args.kind (session_at c.args.desk.now.sessions.sessions c.args.session) c.in-Some.mechanism
@@ -62,14 +62,14 @@ returns-clause-done g c =
     let x = c.in_ok-mech_type.chosen in
     done-read g.K.Keep.terms (λ x. Replies x) (λ v. operation_init c.args.kind v c.args.session c.args.mechanism.now c.args.key)
     (λ v. by_key mech_type x v c.args.session o)
-    c.args.store.now c.find.new.store d c.begin_under.new.desk c.begin_under.result c.find.ensures.same c.find.ensures.ids
-    c.find.ensures.counts
+    c.args.store.now c.object_by_handle.new.store d c.begin_under.new.desk c.begin_under.result c.object_by_handle.ensures.same c.object_by_handle.ensures.ids
+    c.object_by_handle.ensures.counts
     (λ v. (quiet-key mech_type x c.args.session o v).0)
     (λ v. (quiet-key mech_type x c.args.session o v).1)
     (λ v. (alone-key mech_type x c.args.session o v).leaves)
     (λ sure y h fits.
     let v = view_of y d in
-    let found = subst (λ z. IsFound y d c.args.key z) c.in_ok-found.ensures.ok_part (c.in_ok-find.ensures.found sure y h fits) in
+    let found = subst (λ z. IsFound y d c.args.key z) c.in_ok-found.ensures.ok_part (c.in_ok-object_by_handle.ensures.found sure y h fits) in
     chosen g (goal.at.returns-clause-done g c).After-choose y
     ∙ ap (λ r. begins_by v c.args.session r (object_at v c.args.key)) c.in_ok-mech_type.was
     ∙ ap (begins_by v c.args.session (Ok (mech_type, x))) found.0)

@@ -32,7 +32,7 @@ returns-in-Piece g c =
     let p = place_for c.in-Piece.stream.direction in
     let o = Some (operation_of c.in-Piece.stream) in
     let reply = Output (Data c.in-Piece.output) in
-    rw (c.in-Piece.is, c.piece.ensures.reply, c.piece.ensures.left)
+    rw (c.in-Piece.is, c.update_done.ensures.reply, c.update_done.ensures.left)
     (ends-as g.K.Keep.terms s x c.args.others.now c.args.store.now _ c.args.desk.now _ _
     (done-at-desk g.K.Keep.terms (λ v. becomes reply
     (with_operation v s p o)) c.args.store.now c.args.desk.now _ reply c.requires refl (λ v. refl)
@@ -44,7 +44,7 @@ returns-in-Rest g c =
     let x = out.Rest c.in-Rest.direction c.in-Rest.output in
     let p = place_for c.in-Rest.direction in
     let reply = Output (Data c.in-Rest.output) in
-    rw (c.in-Rest.is, c.rest.ensures.reply, c.rest.ensures.left)
+    rw (c.in-Rest.is, c.final_done.ensures.reply, c.final_done.ensures.left)
     (ends-as g.K.Keep.terms s x c.args.others.now c.args.store.now _ c.args.desk.now _ _
     (done-at-desk g.K.Keep.terms (λ v. becomes reply
     (with_operation v s p None)) c.args.store.now c.args.desk.now _ reply c.requires refl (λ v. refl)
@@ -70,7 +70,7 @@ returns-in-Taken g c =
     let x = out.Taken c.in-Taken.place c.in-Taken.mac in
     let o = Some (mac_of c.in-Taken.mac) in
     let reply = Code rv.Ok in
-    rw (c.in-Taken.is, c.taken.ensures.reply, c.taken.ensures.left)
+    rw (c.in-Taken.is, c.update_done-in-Taken.ensures.reply, c.update_done-in-Taken.ensures.left)
     (ends-as g.K.Keep.terms s x c.args.others.now c.args.store.now _ c.args.desk.now _ _
     (done-at-desk g.K.Keep.terms (λ v. becomes reply
     (with_mac v s c.in-Taken.place o)) c.args.store.now c.args.desk.now _ reply c.requires refl (λ v. refl)
@@ -81,7 +81,7 @@ returns-in-Signature g c =
     let s = c.args.session in
     let x = out.Signature c.in-Signature.signature in
     let reply = Output (Data c.in-Signature.signature) in
-    rw (c.in-Signature.is, c.signed.ensures.reply, c.signed.ensures.left)
+    rw (c.in-Signature.is, c.sign_done.ensures.reply, c.sign_done.ensures.left)
     (ends-as g.K.Keep.terms s x c.args.others.now c.args.store.now _ c.args.desk.now _ _
     (done-at-desk g.K.Keep.terms (λ v. becomes reply
     (with_mac v s place.Sign None)) c.args.store.now c.args.desk.now _ reply c.requires refl (λ v. refl)
@@ -91,7 +91,7 @@ pub returns-in-RightSignature : goal.returns-in-RightSignature
 returns-in-RightSignature g c =
     let s = c.args.session in
     let reply = Code rv.Ok in
-    rw (c.in-RightSignature.is, c.verified.ensures.reply, c.verified.ensures.left)
+    rw (c.in-RightSignature.is, c.verify_done.ensures.reply, c.verify_done.ensures.left)
     (ends-as g.K.Keep.terms s out.RightSignature c.args.others.now c.args.store.now _ c.args.desk.now _ _
     (done-at-desk g.K.Keep.terms (λ v. becomes reply
     (with_mac v s place.Verify None)) c.args.store.now c.args.desk.now _ reply c.requires refl (λ v. refl)
@@ -101,7 +101,7 @@ pub returns-in-WrongSignature : goal.returns-in-WrongSignature
 returns-in-WrongSignature g c =
     let s = c.args.session in
     let reply = Code rv.SignatureInvalid in
-    rw (c.in-WrongSignature.is, c.verified-in-WrongSignature.ensures.reply, c.verified-in-WrongSignature.ensures.left)
+    rw (c.in-WrongSignature.is, c.verify_done-in-WrongSignature.ensures.reply, c.verify_done-in-WrongSignature.ensures.left)
     (ends-as g.K.Keep.terms s out.WrongSignature c.args.others.now c.args.store.now _ c.args.desk.now _ _
     (done-at-desk g.K.Keep.terms (λ v. becomes reply
     (with_mac v s place.Verify None)) c.args.store.now c.args.desk.now _ reply c.requires refl (λ v. refl)
@@ -140,7 +140,7 @@ returns-in-RightPin g c =
     (λ k v. right_pin (answered v) who (right_reveal who n k)) c.args.store.now _ d _ _
     (λ k. ap (right_pin (answered (view_of k d)) who)
     (ap (reveals_login (objects_of k) who) (sym c.checks.ensures) ∙ sym (right-is who n k)))
-    (done-over g.K.Keep.terms (λ k v. right_pin v who (right_reveal who n k)) c.args.store.now _ d _ _ c.requires c.right.ensures)))
+    (done-over g.K.Keep.terms (λ k v. right_pin v who (right_reveal who n k)) c.args.store.now _ d _ _ c.requires c.log_in.ensures)))
 
 pub returns-in-PinChanged : goal.returns-in-PinChanged
 returns-in-PinChanged g c =
@@ -152,4 +152,4 @@ returns-in-PinChanged g c =
     (done-is g.K.Keep.terms 1 (λ k v. pin_changed (answered v) who made (reveals_checks (under_way_of c.args.others.now who)))
     (λ k v. pin_changed (answered v) who made (reveals_checks n)) c.args.store.now _ d _ _
     (λ k. ap (λ m. pin_changed (answered (view_of k d)) who made (reveals_checks m)) (sym c.checks-in-PinChanged.ensures))
-    (done-over g.K.Keep.terms (λ k v. pin_changed v who made (reveals_checks n)) c.args.store.now _ d _ _ c.requires c.changed.ensures)))
+    (done-over g.K.Keep.terms (λ k v. pin_changed v who made (reveals_checks n)) c.args.store.now _ d _ _ c.requires c.store_pin-in-PinChanged.ensures)))

@@ -93,8 +93,8 @@ unfolding answer_to
 returns-in-Encrypt-clause-served g c =
     call-asking g.K.Keep.terms c.args.app c.args.others_have_sessions c.args.call
     (call.Encrypt c.in-Encrypt.session c.in-Encrypt.data c.in-Encrypt.buffer_len) c.args.random.now c.in-Encrypt.is c.args.store.now
-    c.args.desk.now _ c.last.result c.settle-in-Encrypt.result refl c.settle-in-Encrypt.ensures
-    c.last.ensures.asker c.last.ensures.serves
+    c.args.desk.now _ c.serve_final-in-Encrypt.result c.settle-in-Encrypt.result refl c.settle-in-Encrypt.ensures
+    c.serve_final-in-Encrypt.ensures.asker c.serve_final-in-Encrypt.ensures.serves
 
 pub returns-in-EncryptUpdate-clause-served : goal.returns-in-EncryptUpdate-clause-served
 unfolding answer_to
@@ -109,8 +109,8 @@ unfolding answer_to
 returns-in-EncryptFinal-clause-served g c =
     call-asking g.K.Keep.terms c.args.app c.args.others_have_sessions c.args.call
     (call.EncryptFinal c.in-EncryptFinal.session c.in-EncryptFinal.buffer_len) c.args.random.now c.in-EncryptFinal.is
-    c.args.store.now c.args.desk.now _ c.last-in-EncryptFinal.result c.settle-in-EncryptFinal.result refl
-    c.settle-in-EncryptFinal.ensures c.last-in-EncryptFinal.ensures.asker c.last-in-EncryptFinal.ensures.serves
+    c.args.store.now c.args.desk.now _ c.serve_final-in-EncryptFinal.result c.settle-in-EncryptFinal.result refl
+    c.settle-in-EncryptFinal.ensures c.serve_final-in-EncryptFinal.ensures.asker c.serve_final-in-EncryptFinal.ensures.serves
 
 pub returns-in-DecryptInit-clause-served : goal.returns-in-DecryptInit-clause-served
 unfolding answer_to
@@ -125,8 +125,8 @@ unfolding answer_to
 returns-in-Decrypt-clause-served g c =
     call-asking g.K.Keep.terms c.args.app c.args.others_have_sessions c.args.call
     (call.Decrypt c.in-Decrypt.session c.in-Decrypt.encrypted_data c.in-Decrypt.buffer_len) c.args.random.now c.in-Decrypt.is
-    c.args.store.now c.args.desk.now _ c.last-in-Decrypt.result c.settle-in-Decrypt.result refl
-    c.settle-in-Decrypt.ensures c.last-in-Decrypt.ensures.asker c.last-in-Decrypt.ensures.serves
+    c.args.store.now c.args.desk.now _ c.serve_final-in-Decrypt.result c.settle-in-Decrypt.result refl
+    c.settle-in-Decrypt.ensures c.serve_final-in-Decrypt.ensures.asker c.serve_final-in-Decrypt.ensures.serves
 
 pub returns-in-DecryptUpdate-clause-served : goal.returns-in-DecryptUpdate-clause-served
 unfolding answer_to
@@ -142,8 +142,8 @@ unfolding answer_to
 returns-in-DecryptFinal-clause-served g c =
     call-asking g.K.Keep.terms c.args.app c.args.others_have_sessions c.args.call
     (call.DecryptFinal c.in-DecryptFinal.session c.in-DecryptFinal.buffer_len) c.args.random.now c.in-DecryptFinal.is
-    c.args.store.now c.args.desk.now _ c.last-in-DecryptFinal.result c.settle-in-DecryptFinal.result refl
-    c.settle-in-DecryptFinal.ensures c.last-in-DecryptFinal.ensures.asker c.last-in-DecryptFinal.ensures.serves
+    c.args.store.now c.args.desk.now _ c.serve_final-in-DecryptFinal.result c.settle-in-DecryptFinal.result refl
+    c.settle-in-DecryptFinal.ensures c.serve_final-in-DecryptFinal.ensures.asker c.serve_final-in-DecryptFinal.ensures.serves
 
 pub returns-in-GetTokenInfo-clause-served : goal.returns-in-GetTokenInfo-clause-served
 unfolding answer_to
@@ -355,8 +355,8 @@ returns-in-VerifyInit-clause-small g c =
 
 pub returns-in-Encrypt-clause-small : goal.returns-in-Encrypt-clause-small
 returns-in-Encrypt-clause-small g c =
-    λ small. asked-at-once c.last.result c.settle-in-Encrypt.result c.settle-in-Encrypt.ensures
-    (c.last.ensures.small (none-is c.in-Encrypt.buffer_len (ap takes_no_memory (sym c.in-Encrypt.is) ∙ small)))
+    λ small. asked-at-once c.serve_final-in-Encrypt.result c.settle-in-Encrypt.result c.settle-in-Encrypt.ensures
+    (c.serve_final-in-Encrypt.ensures.small (none-is c.in-Encrypt.buffer_len (ap takes_no_memory (sym c.in-Encrypt.is) ∙ small)))
 
 pub returns-in-EncryptUpdate-clause-small : goal.returns-in-EncryptUpdate-clause-small
 returns-in-EncryptUpdate-clause-small g c =
@@ -365,13 +365,13 @@ returns-in-EncryptUpdate-clause-small g c =
 
 pub returns-in-EncryptFinal-clause-small : goal.returns-in-EncryptFinal-clause-small
 returns-in-EncryptFinal-clause-small g c =
-    λ small. asked-at-once c.last-in-EncryptFinal.result c.settle-in-EncryptFinal.result c.settle-in-EncryptFinal.ensures
-    (c.last-in-EncryptFinal.ensures.small (none-is c.in-EncryptFinal.buffer_len (ap takes_no_memory (sym c.in-EncryptFinal.is) ∙ small)))
+    λ small. asked-at-once c.serve_final-in-EncryptFinal.result c.settle-in-EncryptFinal.result c.settle-in-EncryptFinal.ensures
+    (c.serve_final-in-EncryptFinal.ensures.small (none-is c.in-EncryptFinal.buffer_len (ap takes_no_memory (sym c.in-EncryptFinal.is) ∙ small)))
 
 pub returns-in-Decrypt-clause-small : goal.returns-in-Decrypt-clause-small
 returns-in-Decrypt-clause-small g c =
-    λ small. asked-at-once c.last-in-Decrypt.result c.settle-in-Decrypt.result c.settle-in-Decrypt.ensures
-    (c.last-in-Decrypt.ensures.small (none-is c.in-Decrypt.buffer_len (ap takes_no_memory (sym c.in-Decrypt.is) ∙ small)))
+    λ small. asked-at-once c.serve_final-in-Decrypt.result c.settle-in-Decrypt.result c.settle-in-Decrypt.ensures
+    (c.serve_final-in-Decrypt.ensures.small (none-is c.in-Decrypt.buffer_len (ap takes_no_memory (sym c.in-Decrypt.is) ∙ small)))
 
 pub returns-in-DecryptUpdate-clause-small : goal.returns-in-DecryptUpdate-clause-small
 returns-in-DecryptUpdate-clause-small g c =
@@ -382,9 +382,9 @@ returns-in-DecryptUpdate-clause-small g c =
 
 pub returns-in-DecryptFinal-clause-small : goal.returns-in-DecryptFinal-clause-small
 returns-in-DecryptFinal-clause-small g c =
-    λ small. asked-at-once c.last-in-DecryptFinal.result c.settle-in-DecryptFinal.result
+    λ small. asked-at-once c.serve_final-in-DecryptFinal.result c.settle-in-DecryptFinal.result
     c.settle-in-DecryptFinal.ensures
-    (c.last-in-DecryptFinal.ensures.small (none-is c.in-DecryptFinal.buffer_len (ap takes_no_memory (sym c.in-DecryptFinal.is) ∙ small)))
+    (c.serve_final-in-DecryptFinal.ensures.small (none-is c.in-DecryptFinal.buffer_len (ap takes_no_memory (sym c.in-DecryptFinal.is) ∙ small)))
 
 pub returns-in-Sign-clause-small : goal.returns-in-Sign-clause-small
 returns-in-Sign-clause-small g c =

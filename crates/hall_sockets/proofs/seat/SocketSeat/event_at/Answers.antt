@@ -32,8 +32,8 @@ returns-in-Call g c =
       n.1 ∙ c.push.ensures,
       e.gives.0,
       (
-        owed-as c.begin_call.new.self.clients.places.items c.next_call.new.self.places.items c.begin_call.new.self.answering c.args.place
-            c.in-Call.call.app (ap (λ x. x.places.items) n.0) c.begin_call.ensures.answering e.gives.3,
+        owed-as c.begin_call.new.self.clients.places.items c.next_call.new.self.places.items c.begin_call.new.self.called_place c.args.place
+            c.in-Call.call.app (ap (λ x. x.places.items) n.0) c.begin_call.ensures.called_place e.gives.3,
         e.short,
       ),
       gone-same was.clients.past.items c.begin_call.new.self.clients.past.items (ap (λ k. k.past.items) n.0 ∙ e.past),

@@ -8,8 +8,8 @@ event_at-requires g c = record {
       c.requires.may;
 }
 
-pub turn_round-requires : goal.turn_round-requires
-turn_round-requires g c = record {
+pub serve_idle_turn-requires : goal.serve_idle_turn-requires
+serve_idle_turn-requires g c = record {
   may =
       from-rests g.S.Socket.given (g.N.Licence.allows c.args.licence.now) c.args.self.now c.next_place.new.self c.next_place.ensures
       c.requires.may;
@@ -20,5 +20,5 @@ returns-in-Some g c = rests-gives g.S.Socket.given c.args.self.now c.next_place.
     c.next_place.ensures c.event_at.ensures
 
 pub returns-in-None : goal.returns-in-None
-returns-in-None g c = rests-gives g.S.Socket.given c.args.self.now c.next_place.new.self c.turn_round.new.self c.turn_round.result
-    c.next_place.ensures c.turn_round.ensures
+returns-in-None g c = rests-gives g.S.Socket.given c.args.self.now c.next_place.new.self c.serve_idle_turn.new.self c.serve_idle_turn.result
+    c.next_place.ensures c.serve_idle_turn.ensures

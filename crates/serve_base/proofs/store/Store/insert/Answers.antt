@@ -7,7 +7,7 @@ pub returns-in_err-reserve-clause-wrote : goal.returns-in_err-reserve-clause-wro
 returns-in_err-reserve-clause-wrote g c = record {
   leaves = search rules;
   same = λ k h.
-      let t = has-taken _ c.self.inside.keep c.self.inside.listed.items c.take_out_many.new.listed.items k c.take_out_many.ensures
+      let t = has-taken _ c.self.inside.keep c.self.inside.listed.items c.compact.new.listed.items k c.compact.ensures
       (rw (← c.self.view_is) at h) in
       on_err c.from_residual.result (has-failed _ _ _ k (omega arith) t t.held c.reserve.ensures.items);
   leaves_or = search rules;
@@ -20,7 +20,7 @@ pub returns-in_err-id-clause-wrote : goal.returns-in_err-id-clause-wrote
 returns-in_err-id-clause-wrote g c = record {
   leaves = search rules;
   same = λ k h.
-      let t = has-taken _ c.self.inside.keep c.self.inside.listed.items c.take_out_many.new.listed.items k c.take_out_many.ensures
+      let t = has-taken _ c.self.inside.keep c.self.inside.listed.items c.compact.new.listed.items k c.compact.ensures
       (rw (← c.self.view_is) at h) in
       on_err c.from_residual-in_err-id.result
       (has-failed _ _ _ k c.insert.ensures.counts.doubt t (c.in_err-id.ensures.err.held k t.held) c.reserve.ensures.items);
@@ -32,7 +32,7 @@ returns-in_err-id-clause-wrote g c = record {
 
 pub returns-clause-has : goal.returns-clause-has
 returns-clause-has g c = λ sure k h.
-    let t = has-taken _ c.self.inside.keep c.self.inside.listed.items c.take_out_many.new.listed.items k c.take_out_many.ensures
+    let t = has-taken _ c.self.inside.keep c.self.inside.listed.items c.compact.new.listed.items k c.compact.ensures
     (rw (← c.self.view_is) at h) in
     has-inserted _ _ _ k c.insert.ensures.counts.doubt c.args.object.now c.in_ok-id.id c.requires t
     (c.in_ok-id.ensures.id sure k t.held) (c.in_ok-id.ensures.ok.held k t.held)

@@ -12,7 +12,7 @@ use Rattle.serve_base.proofs.store.Store.search.Goals as goal
 
 pub returns-clause-found : goal.returns-clause-found
 returns-clause-found g c = λ sure k h.
-    let t = has-taken _ c.self.inside.keep c.self.inside.listed.items c.take_out_many.new.listed.items k c.take_out_many.ensures
+    let t = has-taken _ c.self.inside.keep c.self.inside.listed.items c.compact.new.listed.items k c.compact.ensures
     (rw (← c.self.view_is) at h) in
     let clean : g.K.Keep.terms.doubt c.self.inside.keep ≡ 0 = omega (arith, c.search_kept.ensures.counts.doubt, sure) in
     rw (ap (λ xs. found_at c.args.login c.args.template.now (object_at k) (listed_ids xs)) c.deref_mut.ensures.value
@@ -22,11 +22,11 @@ returns-clause-found g c = λ sure k h.
 
 pub returns-clause-ids : goal.returns-clause-ids
 returns-clause-ids g c =
-    let left = c.take_out_many.new.listed in
+    let left = c.compact.new.listed in
     let back = written-back c.search_kept.new.listed left.items left.len
     (omega (arith, c.search_kept.auto.listed, c.deref_mut.ensures.len)) in
     let was = c.deref_mut.ensures.value in
-    let taken = c.take_out_many.ensures in
+    let taken = c.compact.ensures in
     rw (← c.self.view_is) (record {
       ids = ap listed_ids back ∙ c.search_kept.ensures.ids ∙ ap listed_ids was ∙ ids-taken c.self.inside.listed.items left.items taken;
       marks = λ k held knows. record {
@@ -43,7 +43,7 @@ returns-clause-ids g c =
 
 pub returns-clause-steady : goal.returns-clause-steady
 returns-clause-steady g c = λ steady device k h.
-    let t = has-taken _ c.self.inside.keep c.self.inside.listed.items c.take_out_many.new.listed.items k c.take_out_many.ensures
+    let t = has-taken _ c.self.inside.keep c.self.inside.listed.items c.compact.new.listed.items k c.compact.ensures
     (rw (← c.self.view_is) at h) in
     let was = rw (← c.self.view_is) at steady in
     c.search_kept.ensures.steady was device k t.held

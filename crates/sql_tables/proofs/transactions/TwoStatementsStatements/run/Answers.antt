@@ -1,5 +1,5 @@
 use Rattle.sql_tables.proofs.Inside.{pair_ran}
-use Rattle.sql_tables.proofs.transactions.PairStatements.run.Goals as goal
+use Rattle.sql_tables.proofs.transactions.TwoStatementsStatements.run.Goals as goal
 
 pub returns-clause-ran : goal.returns-clause-ran
 returns-clause-ran g c = λ clean before is.

@@ -6,7 +6,7 @@ use Rattle.serve_base.proofs.Plain.{plain-fault}
 use Rattle.serve_base.proofs.Refusals.{does-refused, device-of, fault-of}
 use Rattle.model_session_answers.specs.Pins.{resets}
 use Rattle.serve_sessions.proofs.Charging.{gives-reset, refused-reset}
-use Rattle.serve_sessions.proofs.recording.reset_to.Goals as goal
+use Rattle.serve_sessions.proofs.pin_checks.reset_to.Goals as goal
 
 pub returns : goal.returns
 returns g c = record {

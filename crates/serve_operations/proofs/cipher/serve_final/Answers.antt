@@ -16,8 +16,8 @@ use Rattle.serve_operations.specs.Steps.{refused_row}
 use Rattle.serve_operations.proofs.Bounds.{ending-short, not-late}
 use Rattle.serve_operations.proofs.Ciphering.{under-way, IsTested, fault_in, tested, last-late, last-refused, last-asks}
 use Rattle.serve_operations.proofs.Ending.{ended-for, gives-is}
-use Rattle.serve_operations.proofs.cipher.last.Goals as goal
-use Rattle.serve_operations.proofs.cipher.last.Goals.{After-is_late, After-room_of}
+use Rattle.serve_operations.proofs.cipher.serve_final.Goals as goal
+use Rattle.serve_operations.proofs.cipher.serve_final.Goals.{After-is_late, After-output_len}
 
 -- an operation is in progress
 going : (c : After-is_late)
@@ -31,10 +31,10 @@ late : (c : After-is_late)
     → (is_some c.args.all && has_taken (operation_of c.in_ok-operation.operation.now)) ≡ c.is_late.result
 late c = rw c.has_taken.ensures at (sym c.is_late.ensures)
 
-asked : (c : After-room_of)
-    → IsTested (fault_in c.room_of.result) c.in_ok-operation.operation.now Last (unwrap_or c.args.all [])
-asked c = rw (c.as_slice.ensures, c.or_empty-input.ensures) at (tested c.in_ok-operation.operation.now Last c.as_slice.result.now c.room_of.result
-    c.room_of.ensures.len_range c.room_of.ensures.counter_end c.room_of.ensures.faults)
+asked : (c : After-output_len)
+    → IsTested (fault_in c.output_len.result) c.in_ok-operation.operation.now Last (unwrap_or c.args.all [])
+asked c = rw (c.as_slice.ensures, c.or_empty-input.ensures) at (tested c.in_ok-operation.operation.now Last c.as_slice.result.now c.output_len.result
+    c.output_len.ensures.len_range c.output_len.ensures.counter_end c.output_len.ensures.faults)
 
 pub returns-then-is_late-clause-serves : goal.returns-then-is_late-clause-serves
 returns-then-is_late-clause-serves c =
@@ -51,7 +51,7 @@ returns-in-Err-clause-serves c =
     (ended-for c.args.desk.now c.args.session (refused_row c.args.direction c.in-Err.fault) _ _ (Cipher c.args.direction)
     (λ k. last-refused (view_of k c.args.desk.now) c.args.session c.args.direction c.in_ok-operation.operation.now
     (going met.After-is_late) c.args.all c.args.buffer_len (late met.After-is_late ∙ c.if-is_late.false) c.in-Err.fault
-    (rw c.in-Err.is at (asked met.After-room_of))))
+    (rw c.in-Err.is at (asked met.After-output_len))))
 
 pub returns-clause-serves : goal.returns-clause-serves
 returns-clause-serves c = record {
@@ -64,7 +64,7 @@ returns-clause-serves c = record {
       gives-is _ (asks_within (last_function c.args.direction c.args.all) c.args.session (Ciphers Last (operation_of s) input)
       (wanted Last s (length input)) c.args.buffer_len v) k c.args.desk.now _ _
       (last-asks v c.args.session c.args.direction s (going met.After-is_late) c.args.all c.args.buffer_len
-      (late met.After-is_late ∙ c.if-is_late.false) (rw c.in-Ok.is at (asked met.After-room_of)))
+      (late met.After-is_late ∙ c.if-is_late.false) (rw c.in-Ok.is at (asked met.After-output_len)))
       (rw (c.last_function-function.ensures, c.copied-stream.ensures, c.or_empty-input.ensures, room) at (c.in_ok-ask_within.ensures.gives k fits));
   cause = search rules;
   short = λ few. c.in_ok-ask_within.ensures.short (λ n is.

@@ -7,7 +7,7 @@ use Rattle.serve_base.specs.Shown.{view_of}
 use Rattle.serve_base.proofs.Gaves.{gave-change}
 use Rattle.serve_base.proofs.Refusals.{does-is}
 use Rattle.serve_sessions.proofs.LoggingIn.{gives-logged-in, right-refused}
-use Rattle.serve_sessions.proofs.login.right.Goals as goal
+use Rattle.serve_sessions.proofs.login.log_in.Goals as goal
 
 pub returns-then-not-may_log_in : goal.returns-then-not-may_log_in
 returns-then-not-may_log_in g c = record {

@@ -1,6 +1,6 @@
 use Rattle.std.proofs.Common.{sym, ◌∙◌}
 use Rattle.serve_base.proofs.Listing.{kept-found, own-found, missing-gone, missing-hidden, missing-none}
-use Rattle.serve_base.proofs.finding.find.Goals as goal
+use Rattle.serve_base.proofs.finding.object_by_handle.Goals as goal
 
 pub returns-then-sees-clause-found : goal.returns-then-sees-clause-found
 returns-then-sees-clause-found g c = λ sure k h fits.

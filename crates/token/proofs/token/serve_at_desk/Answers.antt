@@ -5,7 +5,7 @@ use Rattle.model_answers.specs.Answers.{answer}
 use Rattle.model_worlds.specs.Worlds.{reveal_by_call}
 use Rattle.model_runs.specs.Applications.{desk_at}
 use Rattle.token.proofs.Refused.{served-failed, served-from, stands-from}
-use Rattle.token.proofs.token.serve_seated.Goals as goal
+use Rattle.token.proofs.token.serve_at_desk.Goals as goal
 
 pub returns-clause-refused : goal.returns-clause-refused
 returns-clause-refused g c =

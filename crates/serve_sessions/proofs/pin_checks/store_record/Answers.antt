@@ -6,7 +6,7 @@ use Rattle.serve_base.proofs.Plain.{plain-fault}
 use Rattle.serve_base.proofs.Refusals.{does-refused, device-of, fault-of}
 use Rattle.serve_sessions.specs.Recording.{codes_with}
 use Rattle.serve_sessions.proofs.Charging.{gives-stored, refused-recorded}
-use Rattle.serve_sessions.proofs.recording.store_record.Goals as goal
+use Rattle.serve_sessions.proofs.pin_checks.store_record.Goals as goal
 
 pub returns : goal.returns
 returns g c = record {

@@ -1,6 +1,6 @@
 use Rattle.std.proofs.Common.{Some}
 use Rattle.hall_sockets.proofs.Staying.{rests-gives, rests-then, stays-stays}
-use Rattle.hall_sockets.proofs.seat.SocketSeat.look_round.Goals as goal
+use Rattle.hall_sockets.proofs.seat.SocketSeat.accept_or_wait.Goals as goal
 
 pub returns-in-Some : goal.returns-in-Some
 returns-in-Some g c = rests-gives g.S.Socket.given c.args.self.now c.look.new.self c.end_late.new.self

@@ -7,7 +7,7 @@ use Rattle.serve_base.proofs.Plain.{plain_as-fault}
 use Rattle.serve_base.proofs.Refusals.{does_as-refused, device-of, fault-of}
 use Rattle.serve_sessions.specs.Recording.{asks_charged}
 use Rattle.serve_sessions.proofs.Charging.{gives-charged, refused-recorded}
-use Rattle.serve_sessions.proofs.recording.ask_charged.Goals as goal
+use Rattle.serve_sessions.proofs.pin_checks.ask_charged.Goals as goal
 
 pub returns-clause-done : goal.returns-clause-done
 returns-clause-done g c = record {

@@ -1,5 +1,5 @@
 use Rattle.sql_tables.proofs.Inside.{three_ran}
-use Rattle.sql_tables.proofs.transactions.ThreeStatements.run.Goals as goal
+use Rattle.sql_tables.proofs.transactions.ThreeStatementsStatements.run.Goals as goal
 
 pub returns-clause-ran : goal.returns-clause-ran
 returns-clause-ran g c = λ clean before is.
