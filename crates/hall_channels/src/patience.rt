@@ -26,6 +26,9 @@ const MOST_SLEEPS: u32 = 4_096;
 /// After a wait that is timed so many are not, for the clock's own cost.
 const UNTIMED: u32 = 3;
 
+/// After so many turns each wait is timed.
+const UNTIMED_TURNS: u32 = 4;
+
 /// Whether a turn was short. Where the clock couldn't be read it was not.
 fn is_short(began: Duration, ended: Option<Duration>) -> bool {
     match ended {
@@ -119,7 +122,7 @@ impl Patience {
                 }
                 return Some(message);
             }
-            if !self.turn(rt, turn == 0) {
+            if !self.turn(rt, turn) {
                 return None;
             }
         }
@@ -137,13 +140,15 @@ impl Patience {
     }
 
     /// Yields once to the other threads. False where the wait is to sleep: in place of its first turn, or since a turn took long.
-    fn turn<R: Clock>(&mut self, rt: &R, is_first: bool) -> bool {
+    fn turn<R: Clock>(&mut self, rt: &R, number: u32) -> bool {
         if self.sleeps > 0 {
             self.sleeps -= 1;
             return false;
         }
-        if is_first {
+        if number == 0 {
             self.ended = self.begin(rt);
+        } else if number >= UNTIMED_TURNS && self.ended.is_none() {
+            self.ended = rt.monotonic().ok();
         }
         thread::yield_now();
         let Some(began) = self.ended else {
