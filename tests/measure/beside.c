@@ -83,7 +83,9 @@ struct functions {
     CK_ULONG (*login)(CK_ULONG, CK_ULONG, const CK_BYTE *, CK_ULONG);
     void *logout;
     CK_ULONG (*create_object)(CK_ULONG, const struct attribute *, CK_ULONG, CK_ULONG *);
-    void *copy_object[5];
+    void *copy_object;
+    CK_ULONG (*destroy_object)(CK_ULONG, CK_ULONG);
+    void *get_object_size[3];
     CK_ULONG (*find_objects_init)(CK_ULONG, const struct attribute *, CK_ULONG);
     CK_ULONG (*find_objects)(CK_ULONG, CK_ULONG *, CK_ULONG, CK_ULONG *);
     CK_ULONG (*find_objects_final)(CK_ULONG);
@@ -233,6 +235,13 @@ static CK_ULONG sign(struct client *client, const struct row *row) {
     return code ? code : client->calls->sign(client->session, client->text, row->length, client->output, &length);
 }
 
+/* A key of the token, which lasts, and its removal. */
+static CK_ULONG create_and_destroy(struct client *client, const struct row *row) {
+    CK_ULONG key, code = make_key(client, AES, 1, "passing", &key);
+    (void)row;
+    return code ? code : client->calls->destroy_object(client->session, key);
+}
+
 static const struct row rows[] = {
     {"C_GetSessionInfo", session_info, 0, 0},
     {"C_Encrypt ECB 16", encrypt, AES_ECB, 16},
@@ -242,8 +251,11 @@ static const struct row rows[] = {
     {"C_Encrypt CBC_PAD 16384", encrypt, AES_CBC_PAD, 16384},
     {"C_Encrypt CBC_PAD 64000", encrypt, AES_CBC_PAD, 64000},
     {"C_Encrypt CBC_PAD 1048528", encrypt, AES_CBC_PAD, LONGEST},
+    {"C_Sign CMAC 64", sign, AES_CMAC, 64},
     {"C_Sign CMAC 16384", sign, AES_CMAC, 16384},
+    {"C_Sign SHA256_HMAC 64", sign, SHA256_HMAC, 64},
     {"C_Sign SHA256_HMAC 16384", sign, SHA256_HMAC, 16384},
+    {"create and destroy a key of the token", create_and_destroy, 0, 0},
 };
 
 /* What a process writes for a round: how many calls a second, or the return value that ended it. */

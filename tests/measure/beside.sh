@@ -6,6 +6,7 @@
 #
 # It prints the medians of all turns as a table: what is called, by how many processes, calls a second of each, and how many times as many
 # as SoftHSM behind the server the daemon makes. A row that a library refuses has its return value. The columns have tabs between them.
+# Then it says which rows p11-kit refuses: its server forwards parameters of mechanisms from 0.26 on.
 #
 # It wants out/tokend-pkcs11.so (bin/build module), the program that TOKEND names or that an earlier run left, and Debian's softhsm2,
 # p11-kit and p11-kit-modules. Nothing else should run on the machine meanwhile.
@@ -118,5 +119,7 @@ awk -F '\t' '
             peer = median(name[i], 2)
             both = ours ~ /^[0-9.]+$/ && peer ~ /^[0-9.]+$/ && peer > 0
             print name[i] "\t" ours "\t" peer "\t" (both ? sprintf("%.2f", ours / peer) : "-") "\t" median(name[i], 3)
+            if (peer ~ /^0x/) missing[split(name[i], part, "\t") ? part[1] : ""]
         }
-    }' "$folder/rows"
+        for (row in missing) print "p11-kit " version " refuses: " row
+    }' version="$(dpkg-query -W -f '${Version}' p11-kit)" "$folder/rows"
