@@ -139,7 +139,7 @@ def a_copy_has_what_stood_when_it_began_and_maybe_what_came_later_in_order(folde
     with Daemon(folder) as daemon:
         client = daemon.client()
         client.expect(OPEN_SESSION)
-        acknowledged, most, is_over = [0], [0], [False]
+        acknowledged, most, is_over, beside = [0], [0], [False], 0
 
         def make():
             while not is_over[0]:
@@ -160,10 +160,12 @@ def a_copy_has_what_stood_when_it_began_and_maybe_what_came_later_in_order(folde
             numbers = [int(it[it.index(b"number ") + 7:][:9]) for it in values_in(copy)]
             see(numbers == list(range(len(numbers))), "turn", turn, "not the first ones")
             see(before <= len(numbers) <= after + 1, "turn", turn, before, len(numbers), after)
+            beside += before < after
             os.remove(copy)
         is_over[0] = True
         thread.join()
-        see(acknowledged[0] > EACH, "objects", acknowledged[0])
+        # (how many objects a copy lasts for is the machine's affair)
+        see(beside > 0, "no object was made beside a copy, of", acknowledged[0])
 
 
 @check
